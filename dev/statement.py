@@ -271,8 +271,8 @@ THEOREMS = (
             "What `export` answers, writes and tells, and what its program means. `nl_model/File` is the value of an .nl "
             "text, `nl_segments/Reader` (`IsNl`) says which texts are .nl texts and what they say, `file_meaning/Meaning` "
             "which assignments satisfy a file, `nl_meaning/Faults` and `file_meaning/FoldFaults` what does not fold, "
-            "`exported_program` which program is written, `mps_model/Mps` what a program means, `mps_model/Text` its "
-            "text, `bridge_tool/Export` and `Promise` what is promised of all that."),
+            "`scaled_program` what its linear program is scaled to, `exported_program` that as MPS, `mps_model/Mps` what "
+            "an MPS program means, `mps_model/Text` its text, `bridge_tool/Export` and `Promise` what is promised of all that."),
     Theorem("what an export means", ("bridge_tool/Export:MeansTheFile",),
             "The program that is written means what the file means: this much has to be read to believe only that."),
     Theorem("what an export is read as",

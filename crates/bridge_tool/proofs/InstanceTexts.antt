@@ -1,5 +1,5 @@
 -- The laws of written instances.
-use Rattle.std.proofs.Common.{◌≡◌, ℕ, zero, suc, ◌+◌, ◌-◌, ◌%◌, ◌<◌, ◌≤◌, ◌^◌, ◌==◌, Bool, true, false, List, [], ◌∷◌, length, map, pos, inl, inr, ◌⊎◌, refl, arith}
+use Rattle.std.proofs.Common.{◌≡◌, ℕ, zero, suc, ◌+◌, ◌-◌, ◌%◌, ◌<◌, ◌≤◌, ◌^◌, ◌==◌, Bool, true, false, List, [], ◌∷◌, length, map, pos, inl, inr, ◌⊎◌, refl, arith, ap, ◌∙◌}
 use Rattle.std.specs.Prelude.{IfSome, nat_lt, if◌then◌else◌, sum_by}
 use Rattle.std.specs.List.{AllByRecursion, range_with_len}
 use Rattle.std.specs.Option.{option_map_or}
@@ -12,7 +12,9 @@ use Rattle.nl_model.specs.declared.node.Node.TheVariants.{Num, Defined}
 use Rattle.nl_model.specs.File.{Term}
 use Rattle.nl_model.specs.declared.definition.Def.{Def as Definition}
 use Rattle.nl_model.specs.declared.objective.Objective.{Objective}
-use Rattle.nl_model.specs.Kinds.{Group, groups, kind_among, variable_kind}
+use Rattle.nl_model.specs.InsideKinds.{Run, kind_among, runs}
+use Rattle.nl_model.specs.Kinds.{variable_kind}
+use Rattle.nl_model.proofs.KindRuns.{variable_kind_by_runs}
 use Rattle.nl_model.specs.Nodes.{a_number, a_defined}
 use Rattle.nl_writer.specs.Written.{nl_text}
 use Rattle.nl_round_trip.specs.Writable.{AreTreesWritable, HasNodes, IsText, IsWithinLimits, IsWritable, IsWritableSuffix, linear_count, node_count}
@@ -70,10 +72,10 @@ nodes_few seed n le =
 -- ---- no variable is binary
 
 -- another kind, or no variables
-abbrev IsNotBinary : Group → Type 0
+abbrev IsNotBinary : Run → Type 0
 IsNotBinary g = (is_binary g.kind ≡ false) ⊎ (g.size ≡ 0)
 
-none_among : (gs : List Group) (j : ℕ) → AllByRecursion IsNotBinary gs → is_binary (kind_among gs j) ≡ false
+none_among : (gs : List Run) (j : ℕ) → AllByRecursion IsNotBinary gs → is_binary (kind_among gs j) ≡ false
 none_among [] j all = refl
 none_among (g ∷ gs) j all = by (nat_lt j g.size) refl all.0 (none_among gs (j - g.size) all.1)
   where
@@ -83,8 +85,7 @@ none_among (g ∷ gs) j all = by (nat_lt j g.size) refl all.0 (none_among gs (j 
     by false e h more = more
 
 never_binary : (n j : ℕ) → is_binary (variable_kind (counts_of n) j) ≡ false
-unfolding variable_kind
-never_binary n j = none_among (groups (counts_of n)) j (inl refl, (inl refl, (inl refl, (inl refl, (inl refl, (inl refl, (inl refl, (inr refl, (inl refl, tt)))))))))
+never_binary n j = ap is_binary (variable_kind_by_runs (counts_of n) j) ∙ none_among (runs (counts_of n)) j (inl refl, (inl refl, (inl refl, (inl refl, (inl refl, (inl refl, (inl refl, (inr refl, (inl refl, tt)))))))))
 
 -- ---- the laws
 

@@ -10,18 +10,18 @@ use Rattle.fractions.proofs.Arithmetic.{*ℚ_zero, *ℚ_one, *ℚ-neg, +ℚ-neg,
 use Rattle.fractions.proofs.Ring.{ring, v, num, ◌⊖◌, ◌⊗◌, opp}
 use Rattle.exact_numbers.specs.declared.dec.Dec.{Dec}
 use Rattle.exact_numbers.specs.Values.{FitsDec, dec_value}
-use Rattle.linear_programs.specs.Linear.{Form, Interval, Row, Variable, no_row}
+use Rattle.program_meaning.specs.Linear.{Form, Interval, Row, Variable, no_row}
 use Rattle.mps_model.specs.declared.kinds.RowKind.TheVariants.{N}
-use Rattle.exported_program.specs.Export.{IfBoth, IfSide, RangeFits, RowFits, ScaledFits, SideFits}
-use Rattle.exported_program.specs.Factor.{coefficients_below, objective_numbers}
-use Rattle.exported_program.specs.Program.{exported_rows, kind_of_row, nonzero, range_of, rhs_of, scaled_row, scaled_side, tie, two_sided, z_form, z_variable}
-use Rattle.exported_program.specs.Return.{is_exported}
+use Rattle.scaled_program.specs.Fits.{IfBoth, IfSide, RangeFits, RowFits, ScaledFits, SideFits}
+use Rattle.scaled_program.specs.Factor.{coefficients_below, objective_numbers}
+use Rattle.scaled_program.specs.Program.{exported_rows, nonzero, range_of, scaled_row, scaled_side, tie, z_form, z_variable, is_exported}
+use Rattle.exported_program.specs.Program.{kind_of_row, rhs_of, two_sided}
 use Rattle.linear_program.specs.declared.interval.Interval.{Interval as Sides}
 use Rattle.nl_model.specs.File.{File}
-use Rattle.linear_programs.specs.Elements.{elements_from}
+use Rattle.program_meaning.specs.Elements.{elements_from}
 use Rattle.file_meaning.specs.LinearFile.{linear_variable}
 use Rattle.linear_program.specs.Intervals.{interval_of, no_sides}
-use Rattle.linear_programs.proofs.Elements.{all_elements}
+use Rattle.program_meaning.proofs.Elements.{all_elements}
 use Rattle.exact_numbers.proofs.Fitting.{dec_fits, neg_fits, one_fits, whole_fits, zero_fits}
 use Rattle.export_round_trip.proofs.ProgramParts.{HasDecimalBounds, exported_all}
 use Rattle.export_round_trip.proofs.Whole.{IfFits, IsWritten}

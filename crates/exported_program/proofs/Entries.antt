@@ -4,9 +4,10 @@ use Rattle.std.proofs.lemmas.Bool.{eq-eqb, ne_eqb}
 use Rattle.fractions.specs.Rational.{ℚ, zero_ℚ, ◌+ℚ◌, ◌*ℚ◌, is_zero}
 use Rattle.fractions.specs.Sums.{sum_over}
 use Rattle.fractions.proofs.Arithmetic.{+ℚ_zero, zero-+ℚ, zero-*ℚ, is_zero-true}
-use Rattle.linear_programs.specs.Linear.{Form, Variable}
+use Rattle.program_meaning.specs.Linear.{Form, Variable}
 use Rattle.mps_model.specs.Mps.{Entry, at_row, part_of_row, or_zero, no_column}
-use Rattle.exported_program.specs.Program.{ScaledRow, nonzero, with_entry, entries_of, or_obj_zero, column_entries, columns_of}
+use Rattle.scaled_program.specs.Program.{ScaledRow, nonzero}
+use Rattle.exported_program.specs.Program.{with_entry, entries_of, or_obj_zero, column_entries, columns_of}
 
 same_row : (i : ℕ) → nat_eq i i ≡ true
 same_row i = eq-eqb i i refl

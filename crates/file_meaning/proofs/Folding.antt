@@ -1,20 +1,20 @@
 -- A file without a fold fault is linear.
 use Rattle.std.proofs.Common.{◌≡◌, ℕ, zero, suc, ◌+◌, ◌<◌, ◌∙◌, ap, refl, subst, arith, Bool, true, false, if◌then◌else◌, Option, Some, None, List, [], ◌∷◌, ◌++◌, slice_get, take}
 use Rattle.std.specs.Option.{option_or}
-use Rattle.linear_programs.specs.Linear.{value_at}
+use Rattle.program_meaning.specs.Linear.{value_at}
 use Rattle.nl_meaning.specs.declared.Fault.{Fault}
 use Rattle.nl_meaning.specs.Faults.{expression_fault, definitions_fault, tree_line, line_with_terms, expression_line}
 use Rattle.nl_meaning.specs.Parts.{IsPart, IsLinearTree}
-use Rattle.nl_meaning.specs.Trees.{Tree, Known, nothing_known, with_value, Expression, Definition, expression_value, known_values, expression_val, IsExpressionFormed, AreDefined, IsOneOf, indices_of}
-use Rattle.linear_programs.specs.Lines.{Point, line_value}
-use Rattle.linear_programs.proofs.LineLemmas.{line_by_lem}
+use Rattle.nl_meaning.specs.Trees.{Tree, Known, nothing_known, with_value, Expression, Definition, expression_given, known_values, expression_value, IsExpressionFormed, AreDefined, IsOneOf, indices_of}
+use Rattle.program_meaning.specs.Lines.{Point, line_value}
+use Rattle.program_meaning.proofs.LineLemmas.{line_by_lem}
 use Rattle.fractions.proofs.Tests.{option_or-none}
 use Rattle.nl_meaning.proofs.Linear.{AreLinear, HasValues, known_linear, none_linear, expression_linear}
 use Rattle.nl_meaning.proofs.PartLemmas.{definition_parts, part_linear}
 use Rattle.nl_model.specs.File.{File}
 use Rattle.file_meaning.specs.Expressions.{definitions_of, body_of, objective_of}
 use Rattle.file_meaning.specs.FoldFaults.{Owner, definition, FoldFault, no_such_objective, Owned, owned_line, coefficient_count, at_owner, owners_fault, owned_definitions, owned_body, owned_objective, defined_line, owners_of, has_objective, fold_fault}
-use Rattle.linear_programs.specs.Elements.{elements_from}
+use Rattle.program_meaning.specs.Elements.{elements_from}
 use Rattle.file_meaning.specs.LinearFile.{HasLines, IsFormedFile}
 use Rattle.file_meaning.proofs.Plain.{form_value_lem}
 
@@ -34,7 +34,7 @@ rest_clean n count o os e = (count + coefficient_count n (owned_line o), (option
 definitions_clean : (n : ℕ) (known : Point → Known) (i : ℕ) (ds : List Definition) (os : List Owned) (count : ℕ) → owners_fault n count (owned_definitions known i ds ++ os) ≡ None → (definitions_fault known n ds ≡ None) × (m : ℕ) × (owners_fault n m os ≡ None)
 definitions_clean n known i [] os count e = (refl, count, e)
 definitions_clean n known i (d ∷ ds) os count e =
-    let later : Point → Known = λ at. with_value (known at) d.index (expression_value (known at) at d.expression) in
+    let later : Point → Known = λ at. with_value (known at) d.index (expression_given (known at) d.expression at) in
     let o : Owned = record { owner = definition i; known = known; expression = d.expression } in
     let tail = owned_definitions later (suc i) ds ++ os in
     let first = expression_clean n count o tail e in
@@ -61,9 +61,9 @@ with_objective true r k e = e
 with_objective false r k e = cc
 
 -- an expression without a fault, over defined variables without one, has the values of its line
-clean_line : (n : ℕ) (ds : List Definition) → AreDefined n [] ds → definitions_fault (λ at. nothing_known) n ds ≡ None → (x : Expression) → IsExpressionFormed n (indices_of ds) x → expression_fault (known_values ds) n x ≡ None → HasValues n (expression_val ds x) (expression_line ds x)
+clean_line : (n : ℕ) (ds : List Definition) → AreDefined n [] ds → definitions_fault (λ at. nothing_known) n ds ≡ None → (x : Expression) → IsExpressionFormed n (indices_of ds) x → expression_fault (known_values ds) n x ≡ None → HasValues n (expression_value ds x) (expression_line ds x)
 clean_line n ds above clean x formed fault =
-    line_by_lem n (expression_val ds x) (line_with_terms (tree_line (known_values ds) x.tree) x.terms)
+    line_by_lem n (expression_value ds x) (line_with_terms (tree_line (known_values ds) x.tree) x.terms)
     (expression_linear n (known_values ds) (indices_of ds) (known_linear n ds above clean) x formed fault)
 
 -- nothing that is folded has a fault

@@ -7,11 +7,11 @@ use Rattle.fractions.specs.Sums.{sum_over}
 use Rattle.fractions.proofs.Arithmetic.{*ℚ_zero, *ℚ_one, +ℚ_zero}
 use Rattle.fractions.proofs.Adding.{sum_over-map, sum_over_same, sum_over-zero}
 use Rattle.fractions.proofs.Ring.{ring, v, ◌⊕◌, ◌⊖◌}
-use Rattle.linear_programs.specs.Linear.{value_at, linear_part, form_value}
+use Rattle.program_meaning.specs.Linear.{value_at, linear_part, form_value}
 use Rattle.nl_meaning.specs.Faults.{expression_line, line_with_terms}
-use Rattle.linear_programs.specs.Lines.{constant_line, Line, line_value, origin, unit_point, one_if, Point, form_of_line}
-use Rattle.nl_meaning.specs.Trees.{Tree, number, variable, defined, operator, Expression, Definition, known_values, val, expression_val, AreTermsBelow}
-use Rattle.linear_programs.proofs.LineLemmas.{line_by_lem}
+use Rattle.program_meaning.specs.Lines.{constant_line, Line, line_value, origin, unit_point, one_if, Point, form_of_line}
+use Rattle.nl_meaning.specs.Trees.{Tree, number, variable, defined, operator, Expression, Definition, known_values, tree_value, expression_value, AreTermsBelow}
+use Rattle.program_meaning.proofs.LineLemmas.{line_by_lem}
 use Rattle.nl_meaning.proofs.Linear.{HasValues, constant_value, terms_added}
 use Rattle.nl_model.specs.File.{Term, File}
 use Rattle.file_meaning.specs.Expressions.{linear_term, linear_terms, definitions_of, body_of, objective_of}
@@ -19,23 +19,23 @@ use Rattle.file_meaning.specs.LinearFile.{HasLines, IsFormedFile, IsNumber, numb
 use Rattle.linear_program.specs.Decimals.{coefficient_of}
 
 -- a tree that is one number has its value everywhere
-number_val : (ds : List Definition) (t : Tree) → IsNumber t → (at : Point) → val ds t at ≡ Some (number_value t)
+number_val : (ds : List Definition) (t : Tree) → IsNumber t → (at : Point) → tree_value ds t at ≡ Some (number_value t)
 number_val ds (number m e) h at = refl
 number_val ds (variable j) h at = absurd h
 number_val ds (defined i) h at = absurd h
 number_val ds (operator c ts) h at = absurd h
 
-number_line : (n : ℕ) (ds : List Definition) (t : Tree) → IsNumber t → HasValues n (val ds t) (constant_line (number_value t))
+number_line : (n : ℕ) (ds : List Definition) (t : Tree) → IsNumber t → HasValues n (tree_value ds t) (constant_line (number_value t))
 number_line n ds t h at = number_val ds t h at ∙ ap Some (sym (constant_value n (number_value t) at))
 
 -- an expression whose tree is one number has the values of its line
-pub plain_line : (n : ℕ) (ds : List Definition) (x : Expression) → IsNumber x.tree → AreTermsBelow n x.terms → HasValues n (expression_val ds x) (expression_line ds x)
+pub plain_line : (n : ℕ) (ds : List Definition) (x : Expression) → IsNumber x.tree → AreTermsBelow n x.terms → HasValues n (expression_value ds x) (expression_line ds x)
 plain_line n ds x h below =
-    line_by_lem n (expression_val ds x) (line_with_terms (constant_line (number_value x.tree)) x.terms)
+    line_by_lem n (expression_value ds x) (line_with_terms (constant_line (number_value x.tree)) x.terms)
     (terms_added n (known_values ds) x (constant_line (number_value x.tree)) below (number_line n ds x.tree h))
 
 -- its value: the number and its terms
-plain_value : (ds : List Definition) (t : Tree) (ts : List Term) → IsNumber t → (at : Point) → expression_val ds (record { tree = t; terms = linear_terms ts }) at ≡ Some (number_value t +ℚ sum_over (λ s. dec_value s.1 *ℚ at s.0) ts)
+plain_value : (ds : List Definition) (t : Tree) (ts : List Term) → IsNumber t → (at : Point) → expression_value ds (record { tree = t; terms = linear_terms ts }) at ≡ Some (number_value t +ℚ sum_over (λ s. dec_value s.1 *ℚ at s.0) ts)
 plain_value ds (number m e) ts h at = ap (λ s. Some (decimal_value m e +ℚ s)) (sum_over-map (λ u. u.factor *ℚ at u.variable) linear_term ts)
 plain_value ds (variable j) ts h at = absurd h
 plain_value ds (defined i) ts h at = absurd h

@@ -13,9 +13,12 @@ linear_term t = record { variable = t.0; factor = dec_value t.1 }
 abbrev pub linear_terms : List Term → List LinearTerm
 linear_terms ts = map linear_term ts
 
+-- a tree with its linear terms
+abbrev pub expression_of : Tree → List Term → Expression
+expression_of t ts = record { tree = t; terms = linear_terms ts }
+
 abbrev pub definition_of : FileDefinition → Definition
-definition_of d =
-    record { index = d.index; expression = record { tree = d.tree; terms = linear_terms d.terms } }
+definition_of d = record { index = d.index; expression = expression_of d.tree d.terms }
 
 -- the defined variables, in file order
 abbrev pub definitions_of : File → List Definition
@@ -31,11 +34,7 @@ tree_or_zero (Some t) = t
 -- body i: its expression (segment C of the text), 0 where none was given, and its linear terms
 -- (segment J)
 abbrev pub body_of : File → ℕ → Expression
-body_of f i =
-    record {
-      tree = tree_or_zero (get_or f.bodies i None);
-      terms = linear_terms (get_or f.terms i []);
-    }
+body_of f i = expression_of (tree_or_zero (get_or f.bodies i None)) (get_or f.terms i [])
 
 -- a file without objectives minimises 0
 abbrev pub no_objective : Objective
@@ -46,8 +45,7 @@ objective_at f k = get_or f.objectives k no_objective
 
 -- objective k: the O expression and the G terms
 abbrev pub objective_of : File → ℕ → Expression
-objective_of f k =
-    record { tree = (objective_at f k).tree; terms = linear_terms (get_or f.slopes k []) }
+objective_of f k = expression_of (objective_at f k).tree (get_or f.slopes k [])
 
 abbrev pub maximises : File → ℕ → Bool
 maximises f k = (objective_at f k).maximise

@@ -1,13 +1,13 @@
 -- The first fault of folding an .nl file to its linear program (own profile).
-use Rattle.std.specs.Prelude.{ℕ, zero, suc, ◌+◌, ◌^◌, ◌==◌, ◌&&◌, ◌||◌, nat_lt, Bool, if◌then◌else◌, List, [], ◌∷◌, ◌++◌, Option, Some, None}
+use Rattle.std.specs.Prelude.{ℕ, zero, suc, ◌+◌, ◌^◌, ◌==◌, ◌&&◌, ◌||◌, nat_lt, Bool, if◌then◌else◌, List, [], ◌∷◌, ◌++◌, Option, Some, None, option_map}
 use Rattle.std.specs.Option.{option_or}
 use Rattle.nl_meaning.specs.declared.Fault.{Fault}
 use Rattle.nl_meaning.specs.Faults.{expression_fault}
-use Rattle.linear_programs.specs.Lines.{Line, line_by, is_zero, Point}
-use Rattle.nl_meaning.specs.Trees.{Known, nothing_known, with_value, Expression, Definition, expression_value, known_values}
+use Rattle.program_meaning.specs.Lines.{Line, line_by, is_zero, Point}
+use Rattle.nl_meaning.specs.Trees.{Known, nothing_known, with_value, Expression, Definition, expression_given, known_values}
 use Rattle.nl_model.specs.File.{File}
 use Rattle.file_meaning.specs.Expressions.{definitions_of, body_of, objective_of}
-use Rattle.linear_programs.specs.Elements.{elements_from}
+use Rattle.program_meaning.specs.Elements.{elements_from}
 
 -- a defined variable by its position in the file, a constraint, or an objective
 pub data Owner : Type 0 where
@@ -29,7 +29,7 @@ pub record Owned : Type 0 where
   pub expression : Expression
 
 abbrev pub owned_line : Owned → Line
-owned_line o = line_by (λ at. expression_value (o.known at) at o.expression)
+owned_line o = line_by (λ at. expression_given (o.known at) o.expression at)
 
 -- how many of the first n coefficients are not 0
 abbrev pub coefficient_count : ℕ → Line → ℕ
@@ -41,8 +41,7 @@ abbrev pub most_coefficients : ℕ
 most_coefficients = 2 ^ 23
 
 abbrev pub at_owner : Owner → Option Fault → Option FoldFault
-at_owner o None = None
-at_owner o (Some f) = Some (at_place o f)
+at_owner o fault = option_map (at_place o) fault
 
 abbrev pub head_fault : Owner → ℕ → Option FoldFault
 head_fault o count = (if nat_lt most_coefficients count then Some (fold_too_large o) else None)
@@ -67,28 +66,22 @@ owned_definitions known i [] = []
 owned_definitions known i (d ∷ ds) =
     record { owner = definition i; known = known; expression = d.expression }
     ∷ owned_definitions
-    (λ at. with_value (known at) d.index (expression_value (known at) at d.expression))
+    (λ at. with_value (known at) d.index (expression_given (known at) d.expression at))
     (suc i) ds
 
 -- the line of defined variable i, by its values
 abbrev pub defined_line : File → ℕ → Line
 defined_line f i = line_by (λ at. known_values (definitions_of f) at i)
 
+-- with all defined variables
+abbrev pub owned_by : File → Owner → Expression → Owned
+owned_by f o x = record { owner = o; known = known_values (definitions_of f); expression = x }
+
 abbrev pub owned_body : File → ℕ → Owned
-owned_body f i =
-    record {
-      owner = constraint i;
-      known = known_values (definitions_of f);
-      expression = body_of f i;
-    }
+owned_body f i = owned_by f (constraint i) (body_of f i)
 
 abbrev pub owned_objective : File → ℕ → Owned
-owned_objective f k =
-    record {
-      owner = objective k;
-      known = known_values (definitions_of f);
-      expression = objective_of f k;
-    }
+owned_objective f k = owned_by f (objective k) (objective_of f k)
 
 -- the defined variables in file order, the constraints by number, and objective k
 abbrev pub owners_of : File → ℕ → List Owned

@@ -2,8 +2,8 @@
 -- assignments are feasible.
 use Rattle.std.specs.Prelude.{ℕ, ◌<◌, Bool, true, false, IsTrue, List, get_or, Option, Some, None}
 use Rattle.fractions.specs.Rational.{ℚ, ◌<ℚ◌, IsWhole}
-use Rattle.linear_programs.specs.Linear.{Interval, IsInside, value_at}
-use Rattle.nl_meaning.specs.Trees.{expression_val}
+use Rattle.program_meaning.specs.Linear.{Interval, IsInside, value_at}
+use Rattle.nl_meaning.specs.Trees.{expression_value}
 use Rattle.nl_model.specs.File.{File}
 use Rattle.nl_model.specs.Kinds.{variable_kind}
 use Rattle.file_meaning.specs.Expressions.{definitions_of, body_of, objective_of, maximises}
@@ -12,11 +12,11 @@ use Rattle.linear_program.specs.Intervals.{interval_of, no_sides, is_whole_kind}
 -- ---- values
 -- the value of body i at an assignment, which lists a number for each variable
 abbrev pub body_value : File → ℕ → List ℚ → Option ℚ
-body_value f i xs = expression_val (definitions_of f) (body_of f i) (value_at xs)
+body_value f i xs = expression_value (definitions_of f) (body_of f i) (value_at xs)
 
 -- the value of objective k
 abbrev pub objective_value : File → ℕ → List ℚ → Option ℚ
-objective_value f k xs = expression_val (definitions_of f) (objective_of f k) (value_at xs)
+objective_value f k xs = expression_value (definitions_of f) (objective_of f k) (value_at xs)
 
 -- ---- sides and kinds
 -- the sides of constraint i, and of variable j

@@ -1,10 +1,10 @@
 // Each law is proved by a function with an empty body.
 ghost use Rattle.std.specs.Prelude.{◌≡◌, ◌<◌, ◌↔◌, ℕ, List, [], None, Some, get_or, slice_get, take};
 ghost use Rattle.fractions.specs.Rational.{ℚ};
-ghost use Rattle.linear_programs.specs.Linear.{IsLinear, IsFeasible as IsFeasibleProgram, IsRelaxed as IsRelaxedProgram, objective_value as program_objective};
-ghost use Rattle.linear_programs.specs.Lines.{line_value, Point};
+ghost use Rattle.program_meaning.specs.Linear.{IsLinear, IsFeasible as IsFeasibleProgram, IsRelaxed as IsRelaxedProgram, objective_value as program_objective};
+ghost use Rattle.program_meaning.specs.Lines.{line_value, Point};
 ghost use Rattle.nl_meaning.specs.Parts.{IsLinearTree, IsPart};
-ghost use Rattle.nl_meaning.specs.Trees.{Definition, IsOneOf, Tree, indices_of, known_values, val};
+ghost use Rattle.nl_meaning.specs.Trees.{Definition, IsOneOf, Tree, indices_of, known_values, tree_value};
 ghost use Rattle.nl_model.specs.File.{File};
 ghost use Rattle.nl_model.specs.Rules.{IsFile};
 ghost use Rattle.file_meaning.specs.Expressions.{body_of, definitions_of, maximises, objective_of};
@@ -72,7 +72,7 @@ pub fn parts_are_linear()
 pub fn definitions_are_linear()
     ensures values { (f : File) → IsFile f → (i : ℕ) (d : Definition)
         → slice_get (definitions_of f) i ≡ Some d → (u : Tree) → IsPart u d.expression.tree
-        → (at : Point) → val (take i (definitions_of f)) u at ≡ val (definitions_of f) u at }
+        → (at : Point) → tree_value (take i (definitions_of f)) u at ≡ tree_value (definitions_of f) u at }
     ensures linear { (f : File) (k : ℕ) → IsFile f → fold_fault f k ≡ None → (i : ℕ)
         (d : Definition) → slice_get (definitions_of f) i ≡ Some d → (u : Tree)
         → IsPart u d.expression.tree → IsLinearTree f.counts.n_var (definitions_of f) u }

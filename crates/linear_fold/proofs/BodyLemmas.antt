@@ -11,8 +11,8 @@ use Rattle.std.proofs.lemmas.List.Sums.{sum_by-append, sum_by-set, sum_by-take-l
 use Rattle.std.proofs.lemmas.List.Folds.{list_any-append}
 use Rattle.texts.specs.declared.stop.Stop.{Stop}
 use Rattle.texts.specs.declared.stop.Stop.TheVariants.{Fault, Memory}
-use Rattle.linear_programs.specs.Lines.{line_value, Point, constant_line, form_of_line}
-use Rattle.nl_meaning.specs.Trees.{Known, nothing_known, with_value, Definition as Meaning, expression_value, tree_size, values_after, Tree}
+use Rattle.program_meaning.specs.Lines.{line_value, Point, constant_line, form_of_line}
+use Rattle.nl_meaning.specs.Trees.{Known, nothing_known, with_value, Definition as Meaning, expression_given, tree_size, values_after, Tree}
 use Rattle.nl_model.specs.File.{File, Term}
 use Rattle.nl_model.specs.declared.definition.Def.{Def as Definition}
 use Rattle.nl_model.specs.HeaderRules.{defined_count, AreCounts}
@@ -20,7 +20,7 @@ use Rattle.nl_model.specs.Rules.{IsDefinition, is_defined, IsFile}
 use Rattle.nl_model.specs.declared.at.Owner.TheVariants.{Def, Con, Obj}
 use Rattle.file_meaning.specs.Expressions.{definition_of, linear_terms, tree_or_zero, no_objective, zero_tree, maximises}
 use Rattle.file_meaning.specs.FoldFaults.{Owned, owners_fault, definition, constraint, objective, owned_body, owned_definitions, owned_objective, most_coefficients, owners_of, fold_fault, has_objective, no_such_objective, owned_line}
-use Rattle.linear_programs.specs.Elements.{elements_from}
+use Rattle.program_meaning.specs.Elements.{elements_from}
 use Rattle.linear_fold.specs.declared.fold_fault.FoldFault.{FoldFault}
 use Rattle.linear_program.specs.declared.form.Form.{Form}
 use Rattle.linear_fold.specs.FoldedFaults.{named_fault, nodes_in_all, step_bound, term_total, first_fold_fault}
@@ -37,24 +37,24 @@ use Rattle.fractions.specs.Rational.{zero_ℚ}
 use Rattle.nl_model.specs.FilePlaces.{terms_at, tree_at}
 use Rattle.linear_fold.proofs.Expressions.{no_terms, zero_folded}
 use Rattle.linear_fold.proofs.Folding.{constant_within}
-use Rattle.linear_programs.specs.Linear.{Row}
+use Rattle.program_meaning.specs.Linear.{Row}
 use Rattle.linear_program.specs.declared.interval.Interval.{Interval}
 use Rattle.linear_program.specs.declared.kind.Kind.{Kind}
 use Rattle.nl_model.specs.Kinds.{variable_kind}
 use Rattle.linear_program.specs.Intervals.{IsOrdered, no_sides}
-use Rattle.linear_programs.proofs.Elements.{elements_length}
+use Rattle.program_meaning.proofs.Elements.{elements_length}
 use Rattle.file_meaning.specs.LinearFile.{linear_of, linear_row, linear_variable, HasLines}
 use Rattle.linear_program.specs.Programs.{IsFormOver, IsLinear, LinearValue, linear_value, rows_from, variables_from}
 use Rattle.file_meaning.proofs.Folding.{clean_has_lines}
 use Rattle.file_meaning.proofs.Formed.{file_formed}
 
 -- ---- values of definitions
-values_push : (known : Known) (at : Point) (ds : List Meaning) (d : Meaning) → values_after known at (ds ++ d ∷ []) ≡ with_value (values_after known at ds) d.index (expression_value (values_after known at ds) at d.expression)
+values_push : (known : Known) (at : Point) (ds : List Meaning) (d : Meaning) → values_after known (ds ++ d ∷ []) at ≡ with_value (values_after known ds at) d.index (expression_given (values_after known ds at) d.expression at)
 values_push known at [] d = refl
-values_push known at (x ∷ ds) d = values_push (with_value known x.index (expression_value known at x.expression)) at ds d
+values_push known at (x ∷ ds) d = values_push (with_value known x.index (expression_given known x.expression at)) at ds d
 
-pub known_push : (ds : List Definition) (d : Definition) (at : Point) → known_by (ds ++ d ∷ []) at ≡ with_value (known_by ds at) d.index (expression_value (known_by ds at) at (definition_of d).expression)
-known_push ds d at = ap (values_after nothing_known at) (map_push definition_of ds d) ∙ values_push nothing_known at (map definition_of ds) (definition_of d)
+pub known_push : (ds : List Definition) (d : Definition) (at : Point) → known_by (ds ++ d ∷ []) at ≡ with_value (known_by ds at) d.index (expression_given (known_by ds at) (definition_of d).expression at)
+known_push ds d at = ap (λ es. values_after nothing_known es at) (map_push definition_of ds d) ∙ values_push nothing_known at (map definition_of ds) (definition_of d)
 
 -- ---- one more form
 some-inj : (x y : Form) → Some x ≡ Some y → x ≡ y
@@ -64,7 +64,7 @@ or-false : (a b : Bool) → a || b ≡ false → (a ≡ false) × (b ≡ false)
 or-false true b e = cc
 or-false false b e = (refl, e)
 
-module _ (f : File) (ds : List Definition) (d : Definition) (slots : List (Option Form)) (form : Form) (fine : IsDefinition f.counts.n_var (defined_count f.counts) ds d) (s : AreSlotsOf f ds slots) (within : IsWithin f.counts.n_var form) (values : HasLineOf f.counts.n_var (λ at. expression_value (known_by ds at) at (definition_of d).expression) form) where
+module _ (f : File) (ds : List Definition) (d : Definition) (slots : List (Option Form)) (form : Form) (fine : IsDefinition f.counts.n_var (defined_count f.counts) ds d) (s : AreSlotsOf f ds slots) (within : IsWithin f.counts.n_var form) (values : HasLineOf f.counts.n_var (λ at. expression_given (known_by ds at) (definition_of d).expression at) form) where
   abbrev n : ℕ
   n = f.counts.n_var
 
@@ -92,11 +92,11 @@ module _ (f : File) (ds : List Definition) (d : Definition) (slots : List (Optio
       (λ (same : k ≡ place). subst (IsWithin n) (some-inj form x (sym here ∙ subst (λ j. get_or slots_now j None ≡ Some x) same e)) within)
       (λ (apart : k ≢ place). s.within k x (sym (other k apart) ∙ e)) (cases_eq k place)
 
-  known_same : (at : Point) → known_by (ds ++ d ∷ []) at d.index ≡ expression_value (known_by ds at) at (definition_of d).expression
-  known_same at = ap (λ w. w d.index) (known_push ds d at) ∙ ap (λ b. if b then expression_value (known_by ds at) at (definition_of d).expression else known_by ds at d.index) (eq-eqb d.index d.index refl)
+  known_same : (at : Point) → known_by (ds ++ d ∷ []) at d.index ≡ expression_given (known_by ds at) (definition_of d).expression at
+  known_same at = ap (λ w. w d.index) (known_push ds d at) ∙ ap (λ b. if b then expression_given (known_by ds at) (definition_of d).expression at else known_by ds at d.index) (eq-eqb d.index d.index refl)
 
   known_other : (at : Point) (i : ℕ) → i ≢ d.index → known_by (ds ++ d ∷ []) at i ≡ known_by ds at i
-  known_other at i e = ap (λ w. w i) (known_push ds d at) ∙ ap (λ b. if b then expression_value (known_by ds at) at (definition_of d).expression else known_by ds at i) (ne_eqb i d.index e)
+  known_other at i e = ap (λ w. w i) (known_push ds d at) ∙ ap (λ b. if b then expression_given (known_by ds at) (definition_of d).expression at else known_by ds at i) (ne_eqb i d.index e)
 
   known_now : AreKnown n (known_by (ds ++ d ∷ [])) slots_now
   known_now k x e =
@@ -175,7 +175,7 @@ module _ (f : File) (file : IsFile f) (i : ℕ) (d : Definition) (is : slice_get
   definition_folded slots form s h =
       subst (λ ds. AreSlotsOf f ds (set slots (d.index - f.counts.n_var) (Some form))) (sym (take_next f.definitions i d is))
       (one_more_slot f (take i f.definitions) d slots form definition_here s h.within
-      (subst (λ x. HasLineOf f.counts.n_var (λ at. expression_value (known_by (take i f.definitions) at) at (record { tree = tree_or_zero (option_map (λ y. y.tree) x); terms = linear_terms (option_map_or (λ y. y.terms) x []) })) form) is h.values))
+      (subst (λ x. HasLineOf f.counts.n_var (λ at. expression_given (known_by (take i f.definitions) at) (record { tree = tree_or_zero (option_map (λ y. y.tree) x); terms = linear_terms (option_map_or (λ y. y.terms) x []) }) at) form) is h.values))
 
   pub definition_owner : owner_size f (Def i) ≡ tree_size d.tree + length d.terms
   definition_owner = ap (λ x. option_map_or tree_size (option_map (λ y. y.tree) x) 0 + length (option_map_or (λ y. y.terms) x [])) is
@@ -279,7 +279,7 @@ module _ (f : File) where
   definition_owned : (i : ℕ) (d : Definition) → slice_get all i ≡ Some d → (record { owner = definition i; known = known_by (take i all); expression = (definition_of d).expression }) ≡ owned_at f (Def i)
   definition_owned i d e = λ q. record { owner = definition i; known = known_by (take i all); expression = record { tree = tree_or_zero (option_map (λ x. x.tree) (sym e q)); terms = linear_terms (option_map_or (λ x. x.terms) (sym e q) []) } }
 
-  next_known : (i : ℕ) (d : Definition) → slice_get all i ≡ Some d → (λ (at : Point). with_value (known_by (take i all) at) d.index (expression_value (known_by (take i all) at) at (definition_of d).expression)) ≡ known_by (take (i + 1) all)
+  next_known : (i : ℕ) (d : Definition) → slice_get all i ≡ Some d → (λ (at : Point). with_value (known_by (take i all) at) d.index (expression_given (known_by (take i all) at) (definition_of d).expression at)) ≡ known_by (take (i + 1) all)
   next_known i d e = sym (ap known_by (take_next all i d e) ∙ (λ q at. known_push (take i all) d at q))
 
   definitions_are : (m i : ℕ) → i + m ≡ length all → owned_definitions (known_by (take i all)) i (map definition_of (drop i all)) ≡ elements_from (λ j. owned_at f (Def j)) i m

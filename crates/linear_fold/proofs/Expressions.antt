@@ -10,8 +10,8 @@ use Rattle.fractions.proofs.Arithmetic.{zero-+ℚ, *ℚ_zero, +ℚ_zero}
 use Rattle.nl_meaning.specs.declared.Fault.{Fault}
 use Rattle.nl_meaning.specs.declared.Reason.TheVariants.{TooWide}
 use Rattle.nl_meaning.specs.Faults.{fault_at, too_wide_unless, line_with_terms, terms_fault, tree_fault}
-use Rattle.linear_programs.specs.Lines.{line_with, Line, line_value, constant_line, products_fit, Point}
-use Rattle.nl_meaning.specs.Trees.{LinearTerm, Known, Tree, Trees, AreTermsBelow, tree_size, trees_size, tree_value}
+use Rattle.program_meaning.specs.Lines.{line_with, Line, line_value, constant_line, products_fit, Point}
+use Rattle.nl_meaning.specs.Trees.{LinearTerm, Known, Tree, Trees, AreTermsBelow, tree_size, trees_size, tree_given}
 use Rattle.nl_model.specs.File.{Term as FileTerm}
 use Rattle.file_meaning.specs.Expressions.{linear_terms, zero_tree}
 use Rattle.linear_program.specs.Coefs.{Term, found, value_or_zero, coef_in, AreAscending, AreBelow}
@@ -28,7 +28,7 @@ use Rattle.texts.specs.declared.stop.Stop.{Stop}
 use Rattle.texts.specs.declared.stop.Stop.TheVariants.{Fault as Stopped}
 use Rattle.exact_numbers.proofs.Bridge.{zero_decimal}
 use Rattle.nl_meaning.proofs.Linear.{terms_added}
-use Rattle.linear_programs.proofs.LineLemmas.{apart-eqb}
+use Rattle.program_meaning.proofs.LineLemmas.{apart-eqb}
 use Rattle.nl_model.specs.declared.node.Node.{Node}
 use Rattle.nl_model.specs.Nodes.{IsPrefix, a_number, a_variable, a_defined, an_operation, ArePrefixes, no_tree, one_more}
 use Rattle.nl_model.specs.Rules.{AreTermsBelow as AreFileTermsBelow}
@@ -191,7 +191,7 @@ terms_zero n a (t ∷ ts) z b =
     (λ j g. let low = b.0 in ap₂ (λ x y. x +ℚ t.factor *ℚ y) (z j g) (apart-eqb j t.variable (λ e. omega arith)) ∙ ap (λ x. zero_ℚ +ℚ x) (*ℚ_zero t.factor) ∙ +ℚ_zero zero_ℚ) b.1
 
 -- ---- a tree with its terms
-module _ (known : Point → Known) (n : ℕ) (tree : Tree) (form : Form) (folded : (tree_fault known n 0 tree ≡ None) × HasLineOf n (λ at. tree_value (known at) at tree) form) where
+module _ (known : Point → Known) (n : ℕ) (tree : Tree) (form : Form) (folded : (tree_fault known n 0 tree ≡ None) × HasLineOf n (λ at. tree_given (known at) tree at) form) where
   pub no_terms : (ts : List FileTerm) → ts ≡ [] → IsExpressionFolded known n (record { tree = tree; terms = linear_terms ts }) (Linear form)
   no_terms ts e =
       subst (λ us. IsExpressionFolded known n (record { tree = tree; terms = linear_terms us }) (Linear form)) (sym e)
@@ -199,12 +199,12 @@ module _ (known : Point → Known) (n : ℕ) (tree : Tree) (form : Form) (folded
 
   pub some_terms : (ts : List LinearTerm) (first : ℕ) (e : Entry) → IsWithin n form → tree_size tree ≡ first → AreTermsBelow n ts → ComesToTerms (form_line form) first ts e → IsExpressionFolded known n (record { tree = tree; terms = ts }) e
   some_terms ts first (Linear g) within size below h =
-      let line = is_line_of n (λ at. tree_value (known at) at tree) form within folded.1 in (
+      let line = is_line_of n (λ at. tree_given (known at) tree at) form within folded.1 in (
         ap₂ option_or folded.0 (ap₂ (λ l i. terms_fault l i ts) (sym line) size ∙ h.0),
         λ at. terms_added n known (record { tree = tree; terms = ts }) (form_line form) below folded.1 at ∙ ap (λ l. Some (line_value n l at)) (sym h.1),
       )
   some_terms ts first (Broken f) within size below h =
-      let line = is_line_of n (λ at. tree_value (known at) at tree) form within folded.1 in
+      let line = is_line_of n (λ at. tree_given (known at) tree at) form within folded.1 in
       ap₂ option_or folded.0 (ap₂ (λ l i. terms_fault l i ts) (sym line) size ∙ h)
 
 pub entry_within : (n : ℕ) (a : Line) (i : ℕ) (ts : List LinearTerm) (e : Entry) → IsZeroFrom n a → AreTermsBelow n ts → ComesToTerms a i ts e → IsEntryWithin n e

@@ -11,11 +11,11 @@ use Rattle.fractions.specs.Rational.{ℚ, zero_ℚ, one_ℚ, ◌+ℚ◌, ◌*ℚ
 use Rattle.fractions.proofs.Arithmetic.{*ℚ_zero, +ℚ_zero, neg_zero}
 use Rattle.nl_meaning.specs.declared.Fault.{Fault}
 use Rattle.nl_meaning.specs.declared.Reason.{Reason}
-use Rattle.linear_programs.specs.Lines.{Line, some_values, line_value, line_by, is_constant, line_with, line_sum, line_scaled, line_neg, running_line, constant_line, Point}
+use Rattle.program_meaning.specs.Lines.{Line, line_values, line_value, line_by, is_constant, line_with, line_sum, line_scaled, line_neg, running_line, constant_line, Point}
 use Rattle.nl_meaning.specs.Faults.{operator_fault, operator_line, fault_at, trees_lines, tree_fault, trees_fault}
-use Rattle.nl_meaning.specs.Trees.{Known, Tree, operator, Trees, none, more, on_values, operator_value, tree_value, trees_values, HasCount, tree_size, trees_size, first_trees}
-use Rattle.linear_programs.proofs.LineLemmas.{same_constant, same_coef, no_coef}
-use Rattle.nl_meaning.proofs.Linear.{all_there-some, constant_value, variable_value, operator_has_line}
+use Rattle.nl_meaning.specs.Trees.{Known, Tree, operator, Trees, none, more, applied, rule_of, tree_given, trees_given, Takes, tree_size, trees_size, first_trees}
+use Rattle.program_meaning.proofs.LineLemmas.{same_constant, same_coef, no_coef}
+use Rattle.nl_meaning.proofs.Linear.{both_there, constant_value, variable_value, operator_has_line}
 use Rattle.linear_fold.specs.declared.entries.Entry.{Entry}
 use Rattle.linear_fold.specs.declared.entries.Entry.TheVariants.{Linear as Whole, Broken as Faulty}
 use Rattle.linear_program.specs.declared.form.Form.{Form}
@@ -74,12 +74,12 @@ AreZeroLines n (l ∷ ls) = IsZeroFrom n l × AreZeroLines n ls
 module _ (known : Point → Known) (n : ℕ) where
   lines_are : (ts : Trees) (ls : List Line) → AreZeroLines n ls → AreLinesOf known n ts ls → ls ≡ trees_lines known ts
   lines_are none [] w h = refl
-  lines_are (more t ts) (l ∷ ls) w h = ap₂ ◌∷◌ (is_line_by n (λ at. tree_value (known at) at t) l w.0 h.0) (lines_are ts ls w.1 h.1)
+  lines_are (more t ts) (l ∷ ls) w h = ap₂ ◌∷◌ (is_line_by n (λ at. tree_given (known at) t at) l w.0 h.0) (lines_are ts ls w.1 h.1)
   lines_are ts ls w h = absurd h
 
-  pub values_are : (ts : Trees) (ls : List Line) → AreLinesOf known n ts ls → (at : Point) → trees_values (known at) at ts ≡ some_values n at ls
+  pub values_are : (ts : Trees) (ls : List Line) → AreLinesOf known n ts ls → (at : Point) → trees_given (known at) ts at ≡ Some (line_values n at ls)
   values_are none [] h at = refl
-  values_are (more t ts) (l ∷ ls) h at = ap₂ ◌∷◌ (h.0 at) (values_are ts ls h.1 at)
+  values_are (more t ts) (l ∷ ls) h at = both_there (tree_given (known at) t at) (trees_given (known at) ts at) _ _ (h.0 at) (values_are ts ls h.1 at)
   values_are ts ls h at = absurd h
 
 lines_zero : (n : ℕ) (ps : List PartialForm) → AreOperands n ps → AreZeroLines n (lines_of_parts ps)
@@ -103,7 +103,7 @@ chosen_zero : (n : ℕ) (b : Bool) (x y : Line) → IsZeroFrom n x → IsZeroFro
 chosen_zero n true x y p q = p
 chosen_zero n false x y p q = q
 
-pub operator_zero : (n : ℕ) (c : OpClass) (ls : List Line) → HasCount c (length ls) → AreZeroLines n ls → IsZeroFrom n (operator_line n c ls)
+pub operator_zero : (n : ℕ) (c : OpClass) (ls : List Line) → Takes (rule_of c) (length ls) → AreZeroLines n ls → IsZeroFrom n (operator_line n c ls)
 operator_zero n Sum (a ∷ b ∷ []) h z = sum_zero n a b z.0 z.1.0
 operator_zero n Difference (a ∷ b ∷ []) h z = sum_zero n a (line_neg b) z.0 (neg_zero_from n b z.1.0)
 operator_zero n Product (a ∷ b ∷ []) h z = chosen_zero n (is_constant n a) _ _ (scaled_zero n a.constant b z.1.0) (scaled_zero n b.constant a z.0)
@@ -120,14 +120,14 @@ operator_zero n Refused ls h z = absurd h
 operator_zero n c ls h z = absurd (omega arith)
 
 -- ---- an operator
-pub operator_within : (n : ℕ) (c : OpClass) (ps : List PartialForm) (p : PartialForm) → HasCount c (length ps) → AreOperands n ps → part_line p ≡ operator_line n c (lines_of_parts ps) → IsSound n p → IsOperand n p
+pub operator_within : (n : ℕ) (c : OpClass) (ps : List PartialForm) (p : PartialForm) → Takes (rule_of c) (length ps) → AreOperands n ps → part_line p ≡ operator_line n c (lines_of_parts ps) → IsSound n p → IsOperand n p
 operator_within n c ps p count w e sound =
     record {
       sound = sound;
-      zero_from = λ j g. ap (λ l. l.coef j) e ∙ operator_zero n c (lines_of_parts ps) (subst (HasCount c) (sym (length-map ps part_line)) count) (lines_zero n ps w) j g;
+      zero_from = λ j g. ap (λ l. l.coef j) e ∙ operator_zero n c (lines_of_parts ps) (subst (Takes (rule_of c)) (sym (length-map ps part_line)) count) (lines_zero n ps w) j g;
     }
 
-module _ (known : Point → Known) (n i : ℕ) (c : OpClass) (ts : Trees) (ps : List PartialForm) (whole_one : first_broken ps ≡ None) (count : HasCount c (length ps)) (within : AreOperands n ps) (operands : AreOperandsOf known n (i + 1) ts ps) where
+module _ (known : Point → Known) (n i : ℕ) (c : OpClass) (ts : Trees) (ps : List PartialForm) (whole_one : first_broken ps ≡ None) (count : Takes (rule_of c) (length ps)) (within : AreOperands n ps) (operands : AreOperandsOf known n (i + 1) ts ps) where
   fault_here : (r : Option Reason) → operator_fault n c (lines_of_parts ps) ≡ r → tree_fault known n i (operator c ts) ≡ fault_at i r
   fault_here r h =
       ap₂ option_or (sym operands.fault ∙ whole_one) (ap (λ ls. fault_at i (operator_fault n c ls)) (sym (lines_are known n ts (lines_of_parts ps) (lines_zero n ps within) (operands.lines whole_one))) ∙ ap (fault_at i) h)
@@ -135,11 +135,11 @@ module _ (known : Point → Known) (n i : ℕ) (c : OpClass) (ts : Trees) (ps : 
   operator_lined : (l : Line) → operator_fault n c (lines_of_parts ps) ≡ None → l ≡ operator_line n c (lines_of_parts ps) → IsLined known n i (operator c ts) l
   operator_lined l clean line =
       let lines = operands.lines whole_one in
-      let many : HasCount c (length (lines_of_parts ps)) = subst (HasCount c) (sym (length-map ps part_line)) count in (
+      let many : Takes (rule_of c) (length (lines_of_parts ps)) = subst (Takes (rule_of c)) (sym (length-map ps part_line)) count in (
         fault_here None clean,
         same_values n _ l _ line
             (λ at.
-            ap (operator_value c) (values_are known n ts (lines_of_parts ps) lines at) ∙ ap (option_and_then (on_values c)) (all_there-some n at (lines_of_parts ps))
+            ap (option_and_then (applied (rule_of c))) (values_are known n ts (lines_of_parts ps) lines at)
             ∙ operator_has_line n c (lines_of_parts ps) many clean at),
       )
 

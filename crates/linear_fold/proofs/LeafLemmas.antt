@@ -15,14 +15,13 @@ use Rattle.fractions.specs.Functions.{is_zero}
 use Rattle.fractions.specs.Rational.{ℚ, whole, zero_ℚ, one_ℚ, ◌+ℚ◌, ◌*ℚ◌}
 use Rattle.fractions.proofs.Arithmetic.{zero-+ℚ, +ℚ_zero, *ℚ_one}
 use Rattle.fractions.proofs.Values.{own_value, same_value}
-use Rattle.fractions.proofs.Adding.{sum_over_nil}
-use Rattle.linear_programs.specs.Lines.{Line, Point, constant_line, is_constant, line_scaled, line_sum, line_value, one_if, products_fit, running_line, running_sums_fit, sums_fit}
+use Rattle.program_meaning.specs.Lines.{Line, Point, constant_line, is_constant, line_scaled, line_sum, line_value, one_if, products_fit, running_line, running_sums_fit, sums_fit}
 use Rattle.nl_meaning.specs.Faults.{fault_at, operator_fault, operator_line, too_wide_unless, trees_fault, trees_lines, tree_line}
-use Rattle.nl_meaning.specs.Trees.{Known, Tree, Trees, number, variable, operator, none, more, first_trees, operator_value, tree_size, tree_value, on_values}
-use Rattle.nl_meaning.proofs.Linear.{all_there-some, constant_value, operator_has_line}
+use Rattle.nl_meaning.specs.Trees.{Known, Tree, Trees, number, variable, operator, none, more, first_trees, count_of, tree_size, tree_given, Takes, applied, rule_of}
+use Rattle.nl_meaning.proofs.Linear.{operator_has_line}
 use Rattle.nl_model.specs.declared.node.Node.{Node}
 use Rattle.nl_model.specs.declared.node.Node.TheVariants.{Num, Var, Defined, Op}
-use Rattle.nl_model.specs.Nodes.{first_of_trees, trees_of}
+use Rattle.nl_model.specs.Nodes.{IsTreeFormed, first_of_trees, trees_of}
 use Rattle.linear_program.specs.declared.form.Form.{Form}
 use Rattle.linear_program.specs.Coefs.{AreBelow, Term, coef_in, value_or_zero}
 use Rattle.linear_program.specs.Decimals.{AreDecimals, DecimalTerm, frac_of, frac_where, fraction_term, fraction_terms}
@@ -287,18 +286,18 @@ nothing_more known n i l = record { clean = refl; lines = tt; fit = refl; sum = 
 -- a leaf before trees
 one_more : (known : Point → Known) (n i : ℕ) (t : Tree) (ts : Trees) (a b l leaf : Line) → IsLined known n i t leaf → IsZeroFrom n leaf → sums_fit n a leaf ≡ true → b ≡ line_sum a leaf → SumsUpTo known n (i + tree_size t) ts b l → SumsUpTo known n i (more t ts) a l
 one_more known n i t ts a b l leaf lined zero_from fit line rest =
-    let same : leaf ≡ tree_line known t = is_line_by n (λ at. tree_value (known at) at t) leaf zero_from lined.1 in
+    let same : leaf ≡ tree_line known t = is_line_by n (λ at. tree_given (known at) t at) leaf zero_from lined.1 in
     record {
       clean = ap (λ o. option_or o (trees_fault known n (i + tree_size t) ts)) lined.0 ∙ rest.clean;
-      lines = (same_values n (λ at. tree_value (known at) at t) (tree_line known t) leaf (sym same) lined.1, rest.lines);
+      lines = (same_values n (λ at. tree_given (known at) t at) (tree_line known t) leaf (sym same) lined.1, rest.lines);
       fit = subst (λ m. sums_fit n a m && running_sums_fit n (line_sum a m) (trees_lines known ts) ≡ true) same (and_from _ _ fit (ap (λ m. running_sums_fit n m (trees_lines known ts)) (sym line) ∙ rest.fit));
       sum = subst (λ m. running_line (line_sum a m) (trees_lines known ts) ≡ l) same (ap (λ m. running_line m (trees_lines known ts)) (sym line) ∙ rest.sum);
     }
 
 -- a sum of trees that begins at 0
-pub sum_folded : (known : Point → Known) (n : ℕ) (ts : Trees) (l : Line) (form : Form) → SumsUpTo known n 1 ts zero_line l → form_line form ≡ l → IsFolded known n 0 (operator SumOfAll ts) (Whole form)
-sum_folded known n none l form s is = (refl, λ at. ap Some (sum_over_nil (λ x. x) ∙ sym (ap (λ m. line_value n m at) (is ∙ sym s.sum) ∙ constant_value n zero_ℚ at)))
-sum_folded known n (more t ts) l form s is =
+pub sum_folded : (known : Point → Known) (n : ℕ) (ts : Trees) (l : Line) (form : Form) → 1 ≤ count_of ts → SumsUpTo known n 1 ts zero_line l → form_line form ≡ l → IsFolded known n 0 (operator SumOfAll ts) (Whole form)
+sum_folded known n none l form some s is = absurd (omega arith)
+sum_folded known n (more t ts) l form some s is =
     let first = tree_line known t in
     let rest = trees_lines known ts in
     let same : line_sum zero_line first ≡ first = zero_line_sum first in
@@ -307,7 +306,7 @@ sum_folded known n (more t ts) l form s is =
       ap₂ option_or s.clean (ap (fault_at 0) clean),
       same_values n _ (form_line form) _ line
           (λ at.
-          ap (operator_value SumOfAll) (values_are known n (more t ts) (first ∷ rest) s.lines at) ∙ ap (option_and_then (on_values SumOfAll)) (all_there-some n at (first ∷ rest))
+          ap (option_and_then (applied (rule_of SumOfAll))) (values_are known n (more t ts) (first ∷ rest) s.lines at)
           ∙ operator_has_line n SumOfAll (first ∷ rest) (omega arith) clean at),
     )
 
@@ -347,11 +346,12 @@ pub few_leaves : (n : ℕ) (s : LeafSum) → AreLeaves n s → seen s ≤ n + 1
 few_leaves n s h = (let a = h.few in let b = one_number s.number in omega arith)
 
 -- ---- the form
-pub list_folded : (known : Point → Known) (n : ℕ) (ns : List Node) (k : ℕ) (l : Line) (form : Form) (t : Tree) → IsListOf ns k → trees_of ns ≡ t ∷ [] → SumsUpTo known n 1 (first_trees k (trees_of (drop 1 ns))) zero_line l → form_line form ≡ l → IsFolded known n 0 t (Whole form)
-list_folded known n ns k l form t list one s is =
+pub list_folded : (known : Point → Known) (n : ℕ) (ns : List Node) (k : ℕ) (l : Line) (form : Form) (t : Tree) → IsTreeFormed t → IsListOf ns k → trees_of ns ≡ t ∷ [] → SumsUpTo known n 1 (first_trees k (trees_of (drop 1 ns))) zero_line l → form_line form ≡ l → IsFolded known n 0 t (Whole form)
+list_folded known n ns k l form t formed list one s is =
     let ts = first_trees k (trees_of (drop 1 ns)) in
     let same : operator (class_of 54) ts ≡ t = sym (ap (λ xs. first_of_trees (trees_of xs)) list.first) ∙ ap first_of_trees one in
-    subst (λ u. IsFolded known n 0 u (Whole form)) (ap (λ c. operator c ts) (sym list_class) ∙ same) (sum_folded known n ts l form s is)
+    let some : 1 ≤ count_of ts = subst (λ c. Takes (rule_of c) (count_of ts)) list_class (subst IsTreeFormed (sym same) formed).0 in
+    subst (λ u. IsFolded known n 0 u (Whole form)) (ap (λ c. operator c ts) (sym list_class) ∙ same) (sum_folded known n ts l form some s is)
 
 pub leaves_within : (n : ℕ) (s : LeafSum) (form : Form) → AreLeaves n s → form_line form ≡ leaves_line s → IsWithin n form
 leaves_within n s form held line j g = ap (λ l. l.coef j) line ∙ ap value_or_zero (found_beyond s.least (fraction_terms s.terms) j held.below (let h = held.few in omega arith))

@@ -10,11 +10,11 @@ use Rattle.exact_numbers.proofs.Bridge.{zero_decimal}
 use Rattle.nl_meaning.specs.declared.Fault.{Fault}
 use Rattle.nl_meaning.specs.declared.Reason.{Reason}
 use Rattle.nl_meaning.specs.declared.Reason.TheVariants.{Nonlinear as IsNonlinear}
-use Rattle.linear_programs.specs.Lines.{Line, constant_line, line_with, Point}
+use Rattle.program_meaning.specs.Lines.{Line, constant_line, line_with, Point}
 use Rattle.nl_meaning.specs.Faults.{fault_at, too_wide_unless, tree_fault, trees_fault, terms_fault, expression_fault, tree_line, trees_lines, operator_fault}
-use Rattle.nl_meaning.specs.Trees.{Known, Tree, number, variable, defined, operator, Trees, none, more, Expression, expression_value, tree_size, trees_size}
+use Rattle.nl_meaning.specs.Trees.{Known, Tree, number, variable, defined, operator, Trees, none, more, Expression, expression_given, tree_size, trees_size}
 use Rattle.nl_meaning.proofs.Linear.{terms_added}
-use Rattle.linear_programs.proofs.LineLemmas.{same_coef}
+use Rattle.program_meaning.proofs.LineLemmas.{same_coef}
 use Rattle.nl_model.specs.declared.at.At.{At}
 use Rattle.nl_model.specs.declared.at.At.TheVariants.{Node, Term as TermOf, Head}
 use Rattle.nl_model.specs.declared.at.Owner.{Owner}
@@ -232,15 +232,15 @@ head_of None (t ∷ ts) h = ap not (apart_test (length (t ∷ ts)) 0 (λ e. omeg
 head_of (Some t) ts h = refl
 
 -- a missing tree without terms has no coefficients
-nothing_counted : (known : Point → Known) (n : ℕ) (t : Option Tree) (ts : List Term) (form : Form) → t ≡ None → ts ≡ [] → IsWithin n form → HasLineOf n (λ at. expression_value (known at) at (record { tree = tree_or_zero t; terms = linear_terms ts })) form → coefficient_count n (form_line form) ≡ 0
+nothing_counted : (known : Point → Known) (n : ℕ) (t : Option Tree) (ts : List Term) (form : Form) → t ≡ None → ts ≡ [] → IsWithin n form → HasLineOf n (λ at. expression_given (known at) (record { tree = tree_or_zero t; terms = linear_terms ts }) at) form → coefficient_count n (form_line form) ≡ 0
 nothing_counted known n t ts form e g within values =
     let empty : Expression = record { tree = zero_tree; terms = [] } in
-    let here : HasLineOf n (λ at. expression_value (known at) at empty) form = subst₂ (λ u us. HasLineOf n (λ at. expression_value (known at) at (record { tree = tree_or_zero u; terms = linear_terms us })) form) e g values in
+    let here : HasLineOf n (λ at. expression_given (known at) empty at) form = subst₂ (λ u us. HasLineOf n (λ at. expression_given (known at) (record { tree = tree_or_zero u; terms = linear_terms us }) at) form) e g values in
     let constant = terms_added n known empty (constant_line (decimal_value (pos 0) (pos 0))) tt (constant_lined n (decimal_value (pos 0) (pos 0))) in
     count_zero n (form_line form)
-    (λ j h. ap (λ l. l.coef j) (is_line_of n (λ at. expression_value (known at) at empty) form within here) ∙ same_coef n (λ at. expression_value (known at) at empty) (constant_line (decimal_value (pos 0) (pos 0))) constant j h)
+    (λ j h. ap (λ l. l.coef j) (is_line_of n (λ at. expression_given (known at) empty at) form within here) ∙ same_coef n (λ at. expression_given (known at) empty at) (constant_line (decimal_value (pos 0) (pos 0))) constant j h)
 
-pub head_placed : (f : File) (o : Owner) (form : Form) (before : ℕ) → IsWithin f.counts.n_var form → AreAscending 0 (form_terms form) → HasLineOf f.counts.n_var (λ at. expression_value (known_by (definitions_before f o) at) at (expression_at f o)) form → before ≤ most_coefficients → most_coefficients < before + length (form_terms form) → HasFaultPlace f (FoldTooLarge (Head o))
+pub head_placed : (f : File) (o : Owner) (form : Form) (before : ℕ) → IsWithin f.counts.n_var form → AreAscending 0 (form_terms form) → HasLineOf f.counts.n_var (λ at. expression_given (known_by (definitions_before f o) at) (expression_at f o) at) form → before ≤ most_coefficients → most_coefficients < before + length (form_terms form) → HasFaultPlace f (FoldTooLarge (Head o))
 head_placed f o form before within ascending values few many =
     head_of (tree_at f o) (terms_at f o)
     (λ e g.
@@ -251,9 +251,9 @@ head_placed f o form before within ascending values few many =
 
 -- the line of the form of an owner is that of its values
 pub owner_line : (f : File) (o : Owner) (form : Form) → IsFormOf f o form → form_line form ≡ owned_line (owned_at f o)
-owner_line f o form h = is_line_of f.counts.n_var (λ at. expression_value (known_by (definitions_before f o) at) at (expression_at f o)) form h.within h.values
+owner_line f o form h = is_line_of f.counts.n_var (λ at. expression_given (known_by (definitions_before f o) at) (expression_at f o) at) form h.within h.values
 
-pub owner_count : (f : File) (o : Owner) (form : Form) → IsWithin f.counts.n_var form → AreAscending 0 (form_terms form) → HasLineOf f.counts.n_var (λ at. expression_value (known_by (definitions_before f o) at) at (expression_at f o)) form → coefficient_count f.counts.n_var (owned_line (owned_at f o)) ≡ length (form_terms form)
+pub owner_count : (f : File) (o : Owner) (form : Form) → IsWithin f.counts.n_var form → AreAscending 0 (form_terms form) → HasLineOf f.counts.n_var (λ at. expression_given (known_by (definitions_before f o) at) (expression_at f o) at) form → coefficient_count f.counts.n_var (owned_line (owned_at f o)) ≡ length (form_terms form)
 owner_count f o form within ascending values =
-    ap (coefficient_count f.counts.n_var) (sym (is_line_of f.counts.n_var (λ at. expression_value (known_by (definitions_before f o) at) at (expression_at f o)) form within values))
+    ap (coefficient_count f.counts.n_var) (sym (is_line_of f.counts.n_var (λ at. expression_given (known_by (definitions_before f o) at) (expression_at f o) at) form within values))
     ∙ form_count_is f.counts.n_var form within ascending

@@ -6,8 +6,8 @@ use Rattle.code_tables.specs.Opcodes.{class_of}
 use Rattle.fractions.specs.Rational.{ℚ}
 use Rattle.nl_meaning.specs.declared.Fault.{Fault}
 use Rattle.nl_meaning.specs.Faults.{expression_fault, line_with_terms, terms_fault, tree_fault, trees_fault}
-use Rattle.linear_programs.specs.Lines.{Line, line_value, Point}
-use Rattle.nl_meaning.specs.Trees.{Known, Tree, number, variable, defined, operator, Trees, none, more, LinearTerm, Expression, HasCount, expression_value, tree_size, tree_value}
+use Rattle.program_meaning.specs.Lines.{Line, line_value, Point}
+use Rattle.nl_meaning.specs.Trees.{Known, Tree, number, variable, defined, operator, Trees, none, more, LinearTerm, Expression, Takes, rule_of, expression_given, tree_size, tree_given}
 use Rattle.nl_model.specs.declared.node.Node.{Node}
 use Rattle.nl_model.specs.declared.node.Node.TheVariants.{Num, Var, Defined, Op}
 use Rattle.linear_fold.specs.declared.entries.Entry.{Entry}
@@ -44,13 +44,13 @@ pub record IsGiven (n : ℕ) (slots : List (Option Form)) (i : ℕ) : Type 0 whe
 -- the result for a tree whose first node has the number i
 abbrev pub IsFolded : (Point → Known) → ℕ → ℕ → Tree → Entry → Type 0
 IsFolded known n i t (Linear form) =
-    (tree_fault known n i t ≡ None) × HasLineOf n (λ at. tree_value (known at) at t) form
+    (tree_fault known n i t ≡ None) × HasLineOf n (λ at. tree_given (known at) t at) form
 IsFolded known n i t (Broken fault) = tree_fault known n i t ≡ Some fault
 
 -- a tree whose first node has the number i has a line and no fault
 abbrev pub IsLined : (Point → Known) → ℕ → ℕ → Tree → Line → Type 0
 IsLined known n i t l =
-    (tree_fault known n i t ≡ None) × HasLine n (λ at. tree_value (known at) at t) l
+    (tree_fault known n i t ≡ None) × HasLine n (λ at. tree_given (known at) t at) l
 
 -- what a part of a tree comes to
 abbrev pub IsPartFolded : (Point → Known) → ℕ → ℕ → Tree → PartialForm → Type 0
@@ -69,7 +69,7 @@ ArePartsFolded known n i (t ∷ ts) (p ∷ ps) =
 -- the result for a tree with its terms
 abbrev pub IsExpressionFolded : (Point → Known) → ℕ → Expression → Entry → Type 0
 IsExpressionFolded known n x (Linear form) =
-    (expression_fault known n x ≡ None) × HasLineOf n (λ at. expression_value (known at) at x) form
+    (expression_fault known n x ≡ None) × HasLineOf n (λ at. expression_given (known at) x at) form
 IsExpressionFolded known n x (Broken fault) = expression_fault known n x ≡ Some fault
 
 -- the first fault among parts
@@ -114,7 +114,7 @@ AreLinesOf known n none [] = Unit {0}
 AreLinesOf known n none (l ∷ ls) = ⊥
 AreLinesOf known n (more t ts) [] = ⊥
 AreLinesOf known n (more t ts) (l ∷ ls) =
-    HasLine n (λ at. tree_value (known at) at t) l × AreLinesOf known n ts ls
+    HasLine n (λ at. tree_given (known at) t at) l × AreLinesOf known n ts ls
 
 -- operands have the first fault of their trees, or their lines; the first node has the number i
 pub record AreOperandsOf (known : Point → Known) (n i : ℕ) (ts : Trees) (ps : List PartialForm) : Type 0
@@ -128,7 +128,7 @@ abbrev pub NodeFinds : ℕ → List (Option Form) → ℕ → Node → Type 0
 NodeFinds n slots room (Num d) = Unit {0}
 NodeFinds n slots room (Var j) = j < n
 NodeFinds n slots room (Defined i) = IsGiven n slots i
-NodeFinds n slots room (Op o k) = HasCount (class_of o) k × (k ≤ room)
+NodeFinds n slots room (Op o k) = Takes (rule_of (class_of o)) k × (k ≤ room)
 
 -- the same of a node without its operands
 abbrev pub IsNodeWithin : ℕ → List (Option Form) → Node → Type 0

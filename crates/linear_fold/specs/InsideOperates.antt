@@ -7,9 +7,9 @@ use Rattle.code_tables.specs.declared.class.OpClass.TheVariants.{Least, Greatest
 use Rattle.fractions.specs.Functions.{lesser_of, greater_of}
 use Rattle.fractions.specs.Rational.{ℚ, zero_ℚ}
 use Rattle.nl_meaning.specs.declared.Reason.TheVariants.{TooWide}
-use Rattle.linear_programs.specs.Lines.{constant_line, line_with, Line, are_constant, constants_of}
+use Rattle.program_meaning.specs.Lines.{constant_line, line_with, Line, are_constant, constants_of}
 use Rattle.nl_meaning.specs.Faults.{operator_fault, operator_line}
-use Rattle.nl_meaning.specs.Trees.{on_values}
+use Rattle.nl_meaning.specs.Trees.{applied, rule_of}
 use Rattle.exact_numbers.specs.declared.frac.Frac.{Frac}
 use Rattle.exact_numbers.specs.Values.{frac_value}
 use Rattle.linear_program.specs.declared.sum.Sum.{Sum}
@@ -78,7 +78,7 @@ abbrev pub IsValueOf : ℕ → OpClass → List PartialForm → Option Frac → 
 IsValueOf n c ps None = are_constant n (lines_of_parts ps) ≡ false
 IsValueOf n c ps (Some v) =
     (are_constant n (lines_of_parts ps) ≡ true)
-    × (on_values c (constants_of (lines_of_parts ps)) ≡ Some (frac_value v))
+    × (applied (rule_of c) (constants_of (lines_of_parts ps)) ≡ Some (frac_value v))
 
 -- the least, or the greatest
 abbrev pub best_class : Bool → OpClass

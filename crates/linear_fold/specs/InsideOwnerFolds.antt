@@ -3,8 +3,8 @@ use Rattle.std.specs.Prelude.{◌≡◌, ℕ, suc, ◌+◌, ◌-◌, ◌<◌, �
 use Rattle.std.specs.Option.{option_map_or}
 use Rattle.texts.specs.declared.stop.Stop.{Stop}
 use Rattle.texts.specs.declared.stop.Stop.TheVariants.{Fault, Memory}
-use Rattle.linear_programs.specs.Lines.{Point}
-use Rattle.nl_meaning.specs.Trees.{Known, Tree, Expression, expression_value, known_values, tree_size}
+use Rattle.program_meaning.specs.Lines.{Point}
+use Rattle.nl_meaning.specs.Trees.{Known, Tree, Expression, expression_given, known_values, tree_size}
 use Rattle.nl_model.specs.declared.at.Owner.{Owner}
 use Rattle.nl_model.specs.declared.at.Owner.TheVariants.{Def, Con, Obj}
 use Rattle.nl_model.specs.File.{Term, File}
@@ -86,7 +86,7 @@ pub record HasFolded (f : File) (ds : List Definition) (folder : Folder) : Type 
 -- the form of an owner has its values, and is one of the variables of the file
 pub record IsFormOf (f : File) (o : Owner) (form : Form) : Type 0 where
   pub values : HasLineOf f.counts.n_var
-      (λ at. expression_value (known_by (definitions_before f o) at) at (expression_at f o)) form
+      (λ at. expression_given (known_by (definitions_before f o) at) (expression_at f o) at) form
   pub within : IsWithin f.counts.n_var form
   pub over : IsFormOver f.counts.n_var form
 

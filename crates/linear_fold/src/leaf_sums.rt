@@ -2,9 +2,9 @@
 // coefficients of a form as they stand.
 ghost use Rattle.std.specs.Prelude.{◌≡◌, ◌∷◌, [], ℕ, ◌+◌, ◌≤◌, None, Some, drop, IfOk, IfSome, length, true};
 ghost use Rattle.exact_numbers.specs.Values.{dec_value, frac_value};
-ghost use Rattle.linear_programs.specs.Lines.{Point};
+ghost use Rattle.program_meaning.specs.Lines.{Point};
 ghost use Rattle.nl_meaning.specs.Trees.{Known, Tree, first_trees};
-ghost use Rattle.nl_model.specs.Nodes.{trees_of};
+ghost use Rattle.nl_model.specs.Nodes.{IsTreeFormed, trees_of};
 ghost use Rattle.linear_program.specs.Coefs.{value_or_zero};
 ghost use Rattle.linear_program.specs.Forms.{IsWithin};
 ghost use Rattle.linear_fold.specs.declared.entries.Entry.TheVariants.{Linear};
@@ -248,8 +248,8 @@ pub(crate) fn leaf_sum<L: Ledger>(
 ) -> Result<Option<Form>, AllocError>
     ensures form { IfOk result
         (λ o. IfSome o
-        (λ form. (known : Point → Known) (tree : Tree) → trees_of nodes.now ≡ tree ∷ []
-        → IsFolded known variables 0 tree (Linear form))) }
+        (λ form. (known : Point → Known) (tree : Tree) → IsTreeFormed tree
+        → trees_of nodes.now ≡ tree ∷ [] → IsFolded known variables 0 tree (Linear form))) }
     ensures within { IfOk result (λ o. IfSome o (λ form. IsWithin variables form)) }
     ensures above { steps.old ≤ steps.new }
     ensures below { steps.new ≤ steps.old + (variables + 1) }

@@ -9,13 +9,13 @@ use Rattle.code_tables.specs.declared.class.OpcodeRow.{OpcodeRow}
 use Rattle.code_tables.specs.declared.class.Operands.{Operands}
 use Rattle.code_tables.specs.declared.class.Operands.TheVariants.{One, Two, Counted}
 use Rattle.std.proofs.Common.{◌∙◌, ◌<◌, ◌^◌}
-use Rattle.nl_meaning.specs.Trees.{HasCount}
+use Rattle.nl_meaning.specs.Trees.{Takes, rule_of}
 
 -- the operands are as many as the class wants
 abbrev pub Fits : Operands → OpClass → Type 0
-Fits One c = HasCount c 1
-Fits Two c = HasCount c 2
-Fits Counted c = (k : ℕ) → 1 ≤ k → HasCount c k
+Fits One c = Takes (rule_of c) 1
+Fits Two c = Takes (rule_of c) 2
+Fits Counted c = (k : ℕ) → 1 ≤ k → Takes (rule_of c) k
 
 abbrev operands_in : Option OpcodeRow → Option Operands
 operands_in r = option_map (λ r. r.operands) r
@@ -43,11 +43,11 @@ operands_fit o operands e =
 
 -- ---- the nodes of operators
 
-pub one_fits : (o : ℕ) (operands : Operands) → operands_of o ≡ Some operands → operands ≡ One → HasCount (class_of o) 1 × (1 ≤ 2 ^ 22)
+pub one_fits : (o : ℕ) (operands : Operands) → operands_of o ≡ Some operands → operands ≡ One → Takes (rule_of (class_of o)) 1 × (1 ≤ 2 ^ 22)
 one_fits o operands e is = (operands_fit o One (e ∙ ap Some is), lit≤ tt)
 
-pub two_fit : (o : ℕ) (operands : Operands) → operands_of o ≡ Some operands → operands ≡ Two → HasCount (class_of o) 2 × (2 ≤ 2 ^ 22)
+pub two_fit : (o : ℕ) (operands : Operands) → operands_of o ≡ Some operands → operands ≡ Two → Takes (rule_of (class_of o)) 2 × (2 ≤ 2 ^ 22)
 two_fit o operands e is = (operands_fit o Two (e ∙ ap Some is), lit≤ tt)
 
-pub counted_fit : (o k : ℕ) → operands_of o ≡ Some Counted → 0 < k → k ≤ 2 ^ 22 → HasCount (class_of o) k × (k ≤ 2 ^ 22)
+pub counted_fit : (o k : ℕ) → operands_of o ≡ Some Counted → 0 < k → k ≤ 2 ^ 22 → Takes (rule_of (class_of o)) k × (k ≤ 2 ^ 22)
 counted_fit o k e more most = (operands_fit o Counted e k (omega (arith, more)), most)

@@ -7,10 +7,10 @@ use Rattle.fractions.proofs.Values.{same_parts}
 use Rattle.nl_meaning.specs.declared.Reason.TheVariants.{Nonlinear, TooWide, RefusedPower}
 use Rattle.nl_meaning.specs.Example.{power_and_least}
 use Rattle.nl_meaning.specs.Faults.{first_fault}
-use Rattle.linear_programs.specs.Lines.{Point}
-use Rattle.nl_meaning.specs.Trees.{number, variable, val}
+use Rattle.program_meaning.specs.Lines.{Point}
+use Rattle.nl_meaning.specs.Trees.{number, variable, tree_value}
 
-pub example_value : (at : Point) → val [] (power_and_least (number (pos 15) (negsuc 0)) (number (pos 3) (pos 0))) at ≡ Some (decimal_value (negsuc 3624) (negsuc 2))
+pub example_value : (at : Point) → tree_value [] (power_and_least (number (pos 15) (negsuc 0)) (number (pos 3) (pos 0))) at ≡ Some (decimal_value (negsuc 3624) (negsuc 2))
 unfolding gcd_of steps_of_euclid power_of lesser_of least_of floor_of ceiling_of over whole ◌+ℚ◌ ◌*ℚ◌ ◌-ℚ◌ neg_ℚ decimal_value
 example_value at = ap Some (same_parts _ _ refl refl)
 

@@ -1,5 +1,5 @@
 -- A tree without a fault is linear: at every point it has the value of its line.
-use Rattle.std.proofs.Common.{◌≡◌, ℕ, ◌+◌, ◌<◌, ◌⊎◌, inl, inr, ⊎_elim, ◌∙◌, sym, ap, ap₂, refl, subst, arith, Bool, true, false, ◌==◌, Option, Some, None, List, [], ◌∷◌, length, option_and_then, if◌then◌else◌}
+use Rattle.std.proofs.Common.{◌≡◌, ℕ, ◌+◌, ◌<◌, ◌⊎◌, inl, inr, ⊎_elim, ◌∙◌, sym, ap, ap₂, refl, subst, arith, Bool, true, false, ◌==◌, Option, Some, None, List, [], ◌∷◌, length, option_and_then, option_map, if◌then◌else◌}
 use Rattle.std.proofs.lemmas.Bool.{eq-eqb}
 use Rattle.code_tables.specs.declared.class.OpClass.{OpClass}
 use Rattle.code_tables.specs.declared.class.OpClass.TheVariants.{Sum, Difference, Product, Quotient, Negation, List as SumOfAll, Power, Least, Greatest, Floor, Ceiling, Absolute, Refused}
@@ -11,14 +11,10 @@ use Rattle.fractions.proofs.Tests.{option_or-none}
 use Rattle.fractions.proofs.Adding.{sum_over_nil, sum_over_cons, sum_below_all_zero}
 use Rattle.nl_meaning.specs.declared.Reason.{Reason}
 use Rattle.nl_meaning.specs.declared.Reason.TheVariants.{Nonlinear, DivideByZero}
-use Rattle.linear_programs.specs.Lines.{Line, line_value, line_values, some_values, is_zero, is_constant, are_constant, constants_of, constant_line, running_line, line_sum, line_scaled, line_neg, line_with, Point}
+use Rattle.program_meaning.specs.Lines.{Line, line_value, line_values, is_zero, is_constant, are_constant, constants_of, constant_line, running_line, line_sum, line_scaled, line_neg, line_with, Point}
 use Rattle.nl_meaning.specs.Faults.{nonlinear_unless, power_fault, constants_line, operator_line, line_with_terms, operator_fault, fault_at, tree_line, trees_lines, tree_fault, trees_fault, expression_fault, definitions_fault, first_fault, first_expression_fault, coef, constant_of, expression_line}
-use Rattle.nl_meaning.specs.Trees.{Known, nothing_known, with_value, Tree, number, variable, defined, operator, Trees, none, more, all_there, on_values, operator_value, tree_value, trees_values, LinearTerm, Expression, Definition, terms_value, expression_value, values_after, known_values, val, expression_val, tree_size, count_of, HasCount, IsOneOf, IsFormed, AreFormed, AreTermsBelow, IsExpressionFormed, indices_after, indices_of, AreDefined}
-use Rattle.linear_programs.proofs.LineLemmas.{is_zero-false, line_value-sum, line_value-scaled, line_value-neg, line_value-constant, line_values-constant, line_value-with, line_by_lem}
-
-pub all_there-some : (n : ℕ) (at : Point) (ls : List Line) → all_there (some_values n at ls) ≡ Some (line_values n at ls)
-all_there-some n at [] = refl
-all_there-some n at (l ∷ ls) = ap (option_and_then (λ xs. Some (line_value n l at ∷ xs))) (all_there-some n at ls)
+use Rattle.nl_meaning.specs.Trees.{Known, nothing_known, with_value, Tree, number, variable, defined, operator, Trees, none, more, applied, rule_of, tree_given, trees_given, LinearTerm, Expression, Definition, terms_value, expression_given, values_after, known_values, tree_value, expression_value, tree_size, count_of, Takes, IsOneOf, IsFormed, AreFormed, AreTermsBelow, IsExpressionFormed, indices_after, indices_of, AreDefined}
+use Rattle.program_meaning.proofs.LineLemmas.{is_zero-false, line_value-sum, line_value-scaled, line_value-neg, line_value-constant, line_values-constant, line_value-with, line_by_lem}
 
 pub constant_value : (n : ℕ) (k : ℚ) (at : Point) → line_value n (constant_line k) at ≡ k
 constant_value n k at = ap (λ s. k +ℚ s) (sum_below_all_zero (λ j. zero_ℚ *ℚ at j) n (λ j h. zero-*ℚ (at j))) ∙ +ℚ_zero k
@@ -44,7 +40,7 @@ quotient_sides false z r e = cc
 
 -- the operator's line has the operator's values
 abbrev HasLine : ℕ → OpClass → List Line → Type 0
-HasLine n c ls = (at : Point) → on_values c (line_values n at ls) ≡ Some (line_value n (operator_line n c ls) at)
+HasLine n c ls = (at : Point) → applied (rule_of c) (line_values n at ls) ≡ Some (line_value n (operator_line n c ls) at)
 
 linear_where : (p : Bool) → nonlinear_unless p ≡ None → p ≡ true
 linear_where true e = refl
@@ -56,12 +52,12 @@ power_sides true x None e = cc
 power_sides true x (Some n) e = (refl, n, refl)
 power_sides false x k e = cc
 
-of_constants : (n : ℕ) (c : OpClass) (ls : List Line) → are_constant n ls ≡ true → (v : ℚ) → on_values c (constants_of ls) ≡ Some v → (at : Point) → on_values c (line_values n at ls) ≡ Some (line_value n (constants_line c ls) at)
+of_constants : (n : ℕ) (c : OpClass) (ls : List Line) → are_constant n ls ≡ true → (v : ℚ) → applied (rule_of c) (constants_of ls) ≡ Some v → (at : Point) → applied (rule_of c) (line_values n at ls) ≡ Some (line_value n (constants_line c ls) at)
 of_constants n c ls e v there at =
-    ap (on_values c) (line_values-constant n at ls e) ∙ there
-    ∙ ap Some (sym (constant_value n (or_zero (on_values c (constants_of ls))) at ∙ ap or_zero there))
+    ap (applied (rule_of c)) (line_values-constant n at ls e) ∙ there
+    ∙ ap Some (sym (constant_value n (or_zero (applied (rule_of c) (constants_of ls))) at ∙ ap or_zero there))
 
-pub operator_has_line : (n : ℕ) (c : OpClass) (ls : List Line) → HasCount c (length ls) → operator_fault n c ls ≡ None → HasLine n c ls
+pub operator_has_line : (n : ℕ) (c : OpClass) (ls : List Line) → Takes (rule_of c) (length ls) → operator_fault n c ls ≡ None → HasLine n c ls
 operator_has_line n Sum [] h e = absurd (omega arith)
 operator_has_line n Sum (a ∷ []) h e = absurd (omega arith)
 operator_has_line n Sum (a ∷ b ∷ []) h e = λ at. ap Some (sym (line_value-sum n at a b))
@@ -99,7 +95,7 @@ operator_has_line n Power [] h e = absurd (omega arith)
 operator_has_line n Power (a ∷ []) h e = absurd (omega arith)
 operator_has_line n Power (a ∷ b ∷ []) h e =
     let both = power_sides (are_constant n (a ∷ b ∷ [])) a.constant (exponent_of b.constant) e in
-    of_constants n Power (a ∷ b ∷ []) both.0 (power_of a.constant both.1) (ap (option_and_then (λ k. Some (power_of a.constant k))) both.2)
+    of_constants n Power (a ∷ b ∷ []) both.0 (power_of a.constant both.1) (ap (option_map (power_of a.constant)) both.2)
 operator_has_line n Power (a ∷ b ∷ d ∷ ls) h e = absurd (omega arith)
 operator_has_line n Least [] h e = absurd (omega arith)
 operator_has_line n Least (a ∷ ls) h e = of_constants n Least (a ∷ ls) (linear_where (are_constant n (a ∷ ls)) e) _ refl
@@ -137,42 +133,46 @@ pub variable_value : (n j : ℕ) (at : Point) → j < n → at j ≡ line_value 
 variable_value n j at h =
     sym (line_value-with n at (constant_line zero_ℚ) j one_ℚ h ∙ ap₂ ◌+ℚ◌ (constant_value n zero_ℚ at) (one-*ℚ (at j)) ∙ zero-+ℚ (at j))
 
+-- a value and those behind it
+pub both_there : (first : Option ℚ) (rest : Option (List ℚ)) (v : ℚ) (vs : List ℚ) → first ≡ Some v → rest ≡ Some vs → option_and_then (λ x. option_map (λ xs. x ∷ xs) rest) first ≡ Some (v ∷ vs)
+both_there first rest v vs e f = rw (e, f) refl
+
 mutual
-  pub tree_linear : (n : ℕ) (known : Point → Known) (is : List ℕ) (linear : AreLinear n known is) (i : ℕ) (t : Tree) → IsFormed n is t → tree_fault known n i t ≡ None → HasValues n (λ at. tree_value (known at) at t) (tree_line known t)
+  pub tree_linear : (n : ℕ) (known : Point → Known) (is : List ℕ) (linear : AreLinear n known is) (i : ℕ) (t : Tree) → IsFormed n is t → tree_fault known n i t ≡ None → HasValues n (λ at. tree_given (known at) t at) (tree_line known t)
   tree_linear n known is linear i (number m e) formed clean =
-      line_by_lem n (λ p. tree_value (known p) p (number m e)) (constant_line (decimal_value m e)) (λ p. ap Some (sym (constant_value n (decimal_value m e) p)))
+      line_by_lem n (λ p. tree_given (known p) (number m e) p) (constant_line (decimal_value m e)) (λ p. ap Some (sym (constant_value n (decimal_value m e) p)))
   tree_linear n known is linear i (variable j) formed clean =
-      line_by_lem n (λ p. tree_value (known p) p (variable j)) (line_with (constant_line zero_ℚ) j one_ℚ) (λ p. ap Some (variable_value n j p formed))
+      line_by_lem n (λ p. tree_given (known p) (variable j) p) (line_with (constant_line zero_ℚ) j one_ℚ) (λ p. ap Some (variable_value n j p formed))
   tree_linear n known is linear i (defined k) formed clean =
       let r = linear k formed in
-      line_by_lem n (λ p. tree_value (known p) p (defined k)) r.0 r.1
+      line_by_lem n (λ p. tree_given (known p) (defined k) p) r.0 r.1
   tree_linear n known is linear i (operator c ts) formed clean =
       let free = option_or-none _ _ clean in
-      let r = operator_has_line n c (trees_lines known ts) (subst (HasCount c) (sym (length-lines known ts)) formed.0) (fault_at-none i _ free.1) in
-      line_by_lem n (λ p. tree_value (known p) p (operator c ts)) (operator_line n c (trees_lines known ts))
-      (λ p. ap (operator_value c) (trees_linear n known is linear (i + 1) ts formed.1 free.0 p) ∙ ap (option_and_then (on_values c)) (all_there-some n p (trees_lines known ts)) ∙ r p)
+      let r = operator_has_line n c (trees_lines known ts) (subst (Takes (rule_of c)) (sym (length-lines known ts)) formed.0) (fault_at-none i _ free.1) in
+      line_by_lem n (λ p. tree_given (known p) (operator c ts) p) (operator_line n c (trees_lines known ts))
+      (λ p. ap (option_and_then (applied (rule_of c))) (trees_linear n known is linear (i + 1) ts formed.1 free.0 p) ∙ r p)
 
-  pub trees_linear : (n : ℕ) (known : Point → Known) (is : List ℕ) (linear : AreLinear n known is) (i : ℕ) (ts : Trees) → AreFormed n is ts → trees_fault known n i ts ≡ None → (at : Point) → trees_values (known at) at ts ≡ some_values n at (trees_lines known ts)
+  pub trees_linear : (n : ℕ) (known : Point → Known) (is : List ℕ) (linear : AreLinear n known is) (i : ℕ) (ts : Trees) → AreFormed n is ts → trees_fault known n i ts ≡ None → (at : Point) → trees_given (known at) ts at ≡ Some (line_values n at (trees_lines known ts))
   trees_linear n known is linear i none formed clean at = refl
   trees_linear n known is linear i (more t ts) formed clean at =
       let free = option_or-none _ _ clean in
-      ap₂ ◌∷◌ (tree_linear n known is linear i t formed.0 free.0 at) (trees_linear n known is linear (i + tree_size t) ts formed.1 free.1 at)
+      both_there (tree_given (known at) t at) (trees_given (known at) ts at) _ _ (tree_linear n known is linear i t formed.0 free.0 at) (trees_linear n known is linear (i + tree_size t) ts formed.1 free.1 at)
 
 -- ---- expressions and defined variables
-pub terms_line : (n : ℕ) (at : Point) (a : Line) (ts : List LinearTerm) → AreTermsBelow n ts → line_value n a at +ℚ terms_value at ts ≡ line_value n (line_with_terms a ts) at
+pub terms_line : (n : ℕ) (at : Point) (a : Line) (ts : List LinearTerm) → AreTermsBelow n ts → line_value n a at +ℚ terms_value ts at ≡ line_value n (line_with_terms a ts) at
 terms_line n at a [] below = ap (λ s. line_value n a at +ℚ s) (sum_over_nil (λ t. t.factor *ℚ at t.variable)) ∙ +ℚ_zero (line_value n a at)
 terms_line n at a (t ∷ ts) below =
     ap (λ s. line_value n a at +ℚ s) (sum_over_cons (λ u. u.factor *ℚ at u.variable) t ts)
-    ∙ sym (+ℚ_assoc (line_value n a at) (t.factor *ℚ at t.variable) (terms_value at ts))
-    ∙ ap (λ s. s +ℚ terms_value at ts) (sym (line_value-with n at a t.variable t.factor below.0))
+    ∙ sym (+ℚ_assoc (line_value n a at) (t.factor *ℚ at t.variable) (terms_value ts at))
+    ∙ ap (λ s. s +ℚ terms_value ts at) (sym (line_value-with n at a t.variable t.factor below.0))
     ∙ terms_line n at (line_with a t.variable t.factor) ts below.1
 
 -- an expression whose tree has a line has that line with its terms added
-pub terms_added : (n : ℕ) (known : Point → Known) (x : Expression) (l : Line) → AreTermsBelow n x.terms → HasValues n (λ at. tree_value (known at) at x.tree) l → HasValues n (λ at. expression_value (known at) at x) (line_with_terms l x.terms)
+pub terms_added : (n : ℕ) (known : Point → Known) (x : Expression) (l : Line) → AreTermsBelow n x.terms → HasValues n (λ at. tree_given (known at) x.tree at) l → HasValues n (λ at. expression_given (known at) x at) (line_with_terms l x.terms)
 terms_added n known x l below values at =
-    ap (option_and_then (λ v. Some (v +ℚ terms_value at x.terms))) (values at) ∙ ap Some (terms_line n at l x.terms below)
+    ap (option_map (λ v. v +ℚ terms_value x.terms at)) (values at) ∙ ap Some (terms_line n at l x.terms below)
 
-pub expression_linear : (n : ℕ) (known : Point → Known) (is : List ℕ) → AreLinear n known is → (x : Expression) → IsExpressionFormed n is x → expression_fault known n x ≡ None → HasValues n (λ at. expression_value (known at) at x) (line_with_terms (tree_line known x.tree) x.terms)
+pub expression_linear : (n : ℕ) (known : Point → Known) (is : List ℕ) → AreLinear n known is → (x : Expression) → IsExpressionFormed n is x → expression_fault known n x ≡ None → HasValues n (λ at. expression_given (known at) x at) (line_with_terms (tree_line known x.tree) x.terms)
 expression_linear n known is linear x formed clean =
     let free = option_or-none _ _ clean in
     terms_added n known x (tree_line known x.tree) formed.terms (tree_linear n known is linear 0 x.tree formed.tree free.0)
@@ -186,12 +186,12 @@ more_linear n known is linear i f l values k among = by (k == i) refl
     by false e = linear k (⊎_elim (λ (same : k ≡ i). absurd (let clash : true ≡ false = sym (eq-eqb k i same) ∙ e in cc)) (λ (rest : IsOneOf k is). rest) among)
 
 -- what a file's definitions leave: lines
-pub definitions_linear : (n : ℕ) (known : Point → Known) (is : List ℕ) → AreLinear n known is → (ds : List Definition) → AreDefined n is ds → definitions_fault known n ds ≡ None → AreLinear n (λ at. values_after (known at) at ds) (indices_after is ds)
+pub definitions_linear : (n : ℕ) (known : Point → Known) (is : List ℕ) → AreLinear n known is → (ds : List Definition) → AreDefined n is ds → definitions_fault known n ds ≡ None → AreLinear n (λ at. values_after (known at) ds at) (indices_after is ds)
 definitions_linear n known is linear [] formed clean = linear
 definitions_linear n known is linear (d ∷ ds) formed clean =
     let free = option_or-none _ _ clean in
-    definitions_linear n (λ at. with_value (known at) d.index (expression_value (known at) at d.expression)) (d.index ∷ is)
-    (more_linear n known is linear d.index (λ at. expression_value (known at) at d.expression) (line_with_terms (tree_line known d.expression.tree) d.expression.terms) (expression_linear n known is linear d.expression formed.0 free.0))
+    definitions_linear n (λ at. with_value (known at) d.index (expression_given (known at) d.expression at)) (d.index ∷ is)
+    (more_linear n known is linear d.index (λ at. expression_given (known at) d.expression at) (line_with_terms (tree_line known d.expression.tree) d.expression.terms) (expression_linear n known is linear d.expression formed.0 free.0))
     ds formed.1 free.1
 
 -- where no definition is known
@@ -202,13 +202,13 @@ pub known_linear : (n : ℕ) (ds : List Definition) → AreDefined n [] ds → d
 known_linear n ds above clean = definitions_linear n (λ at. nothing_known) [] (none_linear n) ds above clean
 
 -- where there is no first fault, the value at each point is the constant and the sum of the coefficients times the point
-pub linear_where_clean : (n : ℕ) (ds : List Definition) (t : Tree) → AreDefined n [] ds → IsFormed n (indices_of ds) t → first_fault n ds t ≡ None → (at : Point) → val ds t at ≡ Some (constant_of ds t +ℚ sum_below (λ j. coef ds t j *ℚ at j) n)
+pub linear_where_clean : (n : ℕ) (ds : List Definition) (t : Tree) → AreDefined n [] ds → IsFormed n (indices_of ds) t → first_fault n ds t ≡ None → (at : Point) → tree_value ds t at ≡ Some (constant_of ds t +ℚ sum_below (λ j. coef ds t j *ℚ at j) n)
 linear_where_clean n ds t above formed clean =
     let free = option_or-none _ _ clean in
     tree_linear n (known_values ds) (indices_of ds) (known_linear n ds above free.0) 0 t formed free.1
 
-pub expression_linear_where_clean : (n : ℕ) (ds : List Definition) (x : Expression) → AreDefined n [] ds → IsExpressionFormed n (indices_of ds) x → first_expression_fault n ds x ≡ None → HasValues n (expression_val ds x) (expression_line ds x)
+pub expression_linear_where_clean : (n : ℕ) (ds : List Definition) (x : Expression) → AreDefined n [] ds → IsExpressionFormed n (indices_of ds) x → first_expression_fault n ds x ≡ None → HasValues n (expression_value ds x) (expression_line ds x)
 expression_linear_where_clean n ds x above formed clean =
     let free = option_or-none _ _ clean in
-    line_by_lem n (expression_val ds x) (line_with_terms (tree_line (known_values ds) x.tree) x.terms)
+    line_by_lem n (expression_value ds x) (line_with_terms (tree_line (known_values ds) x.tree) x.terms)
     (expression_linear n (known_values ds) (indices_of ds) (known_linear n ds above free.0) x formed free.1)

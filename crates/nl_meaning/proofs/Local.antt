@@ -1,14 +1,14 @@
 -- The value of an expression depends only on the variables and the defined variables that it may use.
-use Rattle.std.proofs.Common.{◌≡◌, ℕ, ◌<◌, ◌≤◌, ⊎_elim, ◌∙◌, sym, ap, ap₂, refl, arith, Bool, true, false, ◌==◌, if◌then◌else◌, Option, Some, List, [], ◌∷◌, option_and_then}
+use Rattle.std.proofs.Common.{◌≡◌, ℕ, ◌<◌, ◌≤◌, ⊎_elim, ◌∙◌, sym, ap, ap₂, refl, arith, Bool, true, false, ◌==◌, if◌then◌else◌, Option, Some, List, [], ◌∷◌, option_and_then, option_map}
 use Rattle.std.proofs.lemmas.Bool.{eq-eqb}
 use Rattle.fractions.specs.Functions.{or_zero}
 use Rattle.fractions.specs.Rational.{ℚ, zero_ℚ, ◌+ℚ◌, ◌-ℚ◌, ◌*ℚ◌}
 use Rattle.fractions.proofs.Arithmetic.{+ℚ-neg, -ℚ_lem}
 use Rattle.fractions.proofs.Adding.{sum_over_nil, sum_over_cons}
 use Rattle.nl_meaning.specs.Faults.{expression_line}
-use Rattle.linear_programs.specs.Lines.{origin, unit_point, Point}
-use Rattle.nl_meaning.specs.Trees.{Known, nothing_known, with_value, Tree, number, variable, defined, operator, Trees, none, more, operator_value, tree_value, trees_values, LinearTerm, Expression, Definition, terms_value, expression_value, values_after, known_values, expression_val, IsOneOf, IsFormed, AreFormed, AreTermsBelow, IsExpressionFormed, indices_after, indices_of, AreDefined}
-use Rattle.linear_programs.proofs.LineLemmas.{apart-eqb}
+use Rattle.program_meaning.specs.Lines.{origin, unit_point, Point}
+use Rattle.nl_meaning.specs.Trees.{Known, nothing_known, with_value, Tree, number, variable, defined, operator, Trees, none, more, applied, rule_of, tree_given, trees_given, LinearTerm, Expression, Definition, terms_value, expression_given, values_after, known_values, expression_value, IsOneOf, IsFormed, AreFormed, AreTermsBelow, IsExpressionFormed, indices_after, indices_of, AreDefined}
+use Rattle.program_meaning.proofs.LineLemmas.{apart-eqb}
 
 module _ (n : ℕ) (p q : Point) (same : (j : ℕ) → j < n → p j ≡ q j) where
   -- two tables of values agree on the defined variables of `is`
@@ -16,26 +16,26 @@ module _ (n : ℕ) (p q : Point) (same : (j : ℕ) → j < n → p j ≡ q j) wh
   Agree k l is = (i : ℕ) → IsOneOf i is → k i ≡ l i
 
   mutual
-    tree_local : (k l : Known) (is : List ℕ) → Agree k l is → (t : Tree) → IsFormed n is t → tree_value k p t ≡ tree_value l q t
+    tree_local : (k l : Known) (is : List ℕ) → Agree k l is → (t : Tree) → IsFormed n is t → tree_given k t p ≡ tree_given l t q
     tree_local k l is agree (number m e) formed = refl
     tree_local k l is agree (variable j) formed = ap Some (same j formed)
     tree_local k l is agree (defined i) formed = agree i formed
-    tree_local k l is agree (operator c ts) formed = ap (operator_value c) (trees_local k l is agree ts formed.1)
+    tree_local k l is agree (operator c ts) formed = ap (option_and_then (applied (rule_of c))) (trees_local k l is agree ts formed.1)
 
-    trees_local : (k l : Known) (is : List ℕ) → Agree k l is → (ts : Trees) → AreFormed n is ts → trees_values k p ts ≡ trees_values l q ts
+    trees_local : (k l : Known) (is : List ℕ) → Agree k l is → (ts : Trees) → AreFormed n is ts → trees_given k ts p ≡ trees_given l ts q
     trees_local k l is agree none formed = refl
-    trees_local k l is agree (more t ts) formed = ap₂ ◌∷◌ (tree_local k l is agree t formed.0) (trees_local k l is agree ts formed.1)
+    trees_local k l is agree (more t ts) formed = ap₂ (λ v vs. option_and_then (λ x. option_map (λ xs. x ∷ xs) vs) v) (tree_local k l is agree t formed.0) (trees_local k l is agree ts formed.1)
 
-  terms_local : (ts : List LinearTerm) → AreTermsBelow n ts → terms_value p ts ≡ terms_value q ts
+  terms_local : (ts : List LinearTerm) → AreTermsBelow n ts → terms_value ts p ≡ terms_value ts q
   terms_local [] below = sum_over_nil (λ u. u.factor *ℚ p u.variable) ∙ sym (sum_over_nil (λ u. u.factor *ℚ q u.variable))
   terms_local (t ∷ ts) below =
       sum_over_cons (λ u. u.factor *ℚ p u.variable) t ts
       ∙ ap₂ (λ a b. t.factor *ℚ a +ℚ b) (same t.variable below.0) (terms_local ts below.1)
       ∙ sym (sum_over_cons (λ u. u.factor *ℚ q u.variable) t ts)
 
-  expression_local : (k l : Known) (is : List ℕ) → Agree k l is → (x : Expression) → IsExpressionFormed n is x → expression_value k p x ≡ expression_value l q x
+  expression_local : (k l : Known) (is : List ℕ) → Agree k l is → (x : Expression) → IsExpressionFormed n is x → expression_given k x p ≡ expression_given l x q
   expression_local k l is agree x formed =
-      ap₂ (λ v s. option_and_then (λ w. Some (w +ℚ s)) v) (tree_local k l is agree x.tree formed.tree) (terms_local x.terms formed.terms)
+      ap₂ (λ v s. option_map (λ w. w +ℚ s) v) (tree_local k l is agree x.tree formed.tree) (terms_local x.terms formed.terms)
 
   with_local : (k l : Known) (is : List ℕ) → Agree k l is → (i : ℕ) (v w : Option ℚ) → v ≡ w → Agree (with_value k i v) (with_value l i w) (i ∷ is)
   with_local k l is agree i v w e m among = by (m == i) refl
@@ -44,20 +44,20 @@ module _ (n : ℕ) (p q : Point) (same : (j : ℕ) → j < n → p j ≡ q j) wh
       by true g = e
       by false g = agree m (⊎_elim (λ (h : m ≡ i). absurd (let clash : true ≡ false = sym (eq-eqb m i h) ∙ g in cc)) (λ (r : IsOneOf m is). r) among)
 
-  values_local : (k l : Known) (is : List ℕ) → Agree k l is → (ds : List Definition) → AreDefined n is ds → Agree (values_after k p ds) (values_after l q ds) (indices_after is ds)
+  values_local : (k l : Known) (is : List ℕ) → Agree k l is → (ds : List Definition) → AreDefined n is ds → Agree (values_after k ds p) (values_after l ds q) (indices_after is ds)
   values_local k l is agree [] formed = agree
   values_local k l is agree (d ∷ ds) formed =
-      values_local (with_value k d.index (expression_value k p d.expression)) (with_value l d.index (expression_value l q d.expression)) (d.index ∷ is)
-      (with_local k l is agree d.index (expression_value k p d.expression) (expression_value l q d.expression) (expression_local k l is agree d.expression formed.0))
+      values_local (with_value k d.index (expression_given k d.expression p)) (with_value l d.index (expression_given l d.expression q)) (d.index ∷ is)
+      (with_local k l is agree d.index (expression_given k d.expression p) (expression_given l d.expression q) (expression_local k l is agree d.expression formed.0))
       ds formed.1
 
   -- points that agree on the variables give an expression one value
-  pub val_local : (ds : List Definition) → AreDefined n [] ds → (x : Expression) → IsExpressionFormed n (indices_of ds) x → expression_val ds x p ≡ expression_val ds x q
+  pub val_local : (ds : List Definition) → AreDefined n [] ds → (x : Expression) → IsExpressionFormed n (indices_of ds) x → expression_value ds x p ≡ expression_value ds x q
   val_local ds above x formed = expression_local (known_values ds p) (known_values ds q) (indices_of ds) (values_local nothing_known nothing_known [] (λ i among. refl) ds above) x formed
 
 -- no coefficient at or beyond the number of variables
 pub no_coefficient_beyond : (n : ℕ) (ds : List Definition) → AreDefined n [] ds → (x : Expression) → IsExpressionFormed n (indices_of ds) x → (j : ℕ) → n ≤ j → (expression_line ds x).coef j ≡ zero_ℚ
 no_coefficient_beyond n ds above x formed j g =
-    ap (λ v. or_zero v -ℚ or_zero (expression_val ds x origin)) (val_local n (unit_point j) origin (λ i l. apart-eqb i j (omega arith)) ds above x formed)
-    ∙ -ℚ_lem (or_zero (expression_val ds x origin)) (or_zero (expression_val ds x origin))
-    ∙ +ℚ-neg (or_zero (expression_val ds x origin))
+    ap (λ v. or_zero v -ℚ or_zero (expression_value ds x origin)) (val_local n (unit_point j) origin (λ i l. apart-eqb i j (omega arith)) ds above x formed)
+    ∙ -ℚ_lem (or_zero (expression_value ds x origin)) (or_zero (expression_value ds x origin))
+    ∙ +ℚ-neg (or_zero (expression_value ds x origin))

@@ -1,16 +1,16 @@
 -- The first fault of folding a tree to a line (own profile).
-use Rattle.std.specs.Prelude.{ℕ, ◌+◌, List, [], ◌∷◌, Bool, true, false, ◌&&◌, if◌then◌else◌, Option, Some, None}
+use Rattle.std.specs.Prelude.{ℕ, ◌+◌, List, [], ◌∷◌, Bool, true, false, ◌&&◌, if◌then◌else◌, Option, Some, None, option_map}
 use Rattle.std.specs.Option.{option_or}
 use Rattle.code_tables.specs.declared.class.OpClass.{OpClass}
-use Rattle.code_tables.specs.declared.class.OpClass.TheVariants.{Sum, Difference, Product, Quotient, Negation, List as SumOfAll, Power, Least, Greatest, Floor, Ceiling, Absolute}
+use Rattle.code_tables.specs.declared.class.OpClass.TheVariants.{Sum, Difference, Product, Quotient, Negation, List as SumOfAll, Power}
 use Rattle.fractions.specs.Fits.{fits, sum_fits}
 use Rattle.fractions.specs.Functions.{exponent_of, or_zero, power_of}
 use Rattle.fractions.specs.Rational.{ℚ, inverse_of, decimal_value}
 use Rattle.nl_meaning.specs.declared.Fault.{Fault}
 use Rattle.nl_meaning.specs.declared.Reason.{Reason}
 use Rattle.nl_meaning.specs.declared.Reason.TheVariants.{Nonlinear, DivideByZero, TooWide, RefusedPower}
-use Rattle.linear_programs.specs.Lines.{Line, line_by, is_zero, is_constant, are_constant, constants_of, Point, line_sum, line_scaled, line_neg, constant_line, running_line, line_with, sums_fit, products_fit, running_sums_fit}
-use Rattle.nl_meaning.specs.Trees.{Tree, number, variable, defined, operator, Trees, none, more, Known, nothing_known, with_value, LinearTerm, Expression, Definition, on_values, tree_value, known_values, val, expression_value, expression_val, tree_size}
+use Rattle.program_meaning.specs.Lines.{Line, line_by, is_zero, is_constant, are_constant, constants_of, Point, line_sum, line_scaled, line_neg, constant_line, running_line, line_with, sums_fit, products_fit, running_sums_fit}
+use Rattle.nl_meaning.specs.Trees.{Tree, number, variable, defined, operator, Trees, none, more, Known, nothing_known, with_value, LinearTerm, Expression, Definition, applied, rule_of, tree_given, known_values, tree_value, expression_given, expression_value, tree_size}
 
 abbrev pub too_wide_unless : Bool → Option Reason
 too_wide_unless true = None
@@ -23,9 +23,10 @@ nonlinear_unless false = Some Nonlinear
 -- ---- lines of operators
 -- what a class makes of constants alone
 abbrev pub constants_line : OpClass → List Line → Line
-constants_line c ls = constant_line (or_zero (on_values c (constants_of ls)))
+constants_line c ls = constant_line (or_zero (applied (rule_of c) (constants_of ls)))
 
--- what an operator makes of lines, where it has no fault
+-- what an operator makes of lines, where it has no fault; those that the table does not name, of
+-- constants
 abbrev pub operator_line : ℕ → OpClass → List Line → Line
 operator_line n Sum (a ∷ b ∷ []) = line_sum a b
 operator_line n Difference (a ∷ b ∷ []) = line_sum a (line_neg b)
@@ -41,7 +42,8 @@ abbrev pub power_fault : ℚ → Option ℕ → Option Reason
 power_fault x None = Some RefusedPower
 power_fault x (Some k) = too_wide_unless (fits (power_of x k))
 
--- the fault of an operator whose operands are these lines of n variables
+-- the fault of an operator whose operands are these lines of n variables; those that the table does
+-- not name want constants
 abbrev pub operator_fault : ℕ → OpClass → List Line → Option Reason
 operator_fault n Sum (a ∷ b ∷ []) = too_wide_unless (sums_fit n a b)
 operator_fault n Difference (a ∷ b ∷ []) = too_wide_unless (sums_fit n a (line_neg b))
@@ -55,26 +57,21 @@ operator_fault n Quotient (a ∷ b ∷ []) =
     then Some DivideByZero
     else too_wide_unless (products_fit n (inverse_of b.constant) a))
     else Some Nonlinear
+operator_fault n Negation ls = None
 operator_fault n SumOfAll (a ∷ bs) = too_wide_unless (running_sums_fit n a bs)
 operator_fault n Power (a ∷ b ∷ []) =
     if are_constant n (a ∷ b ∷ [])
     then power_fault a.constant (exponent_of b.constant)
     else Some Nonlinear
-operator_fault n Least ls = nonlinear_unless (are_constant n ls)
-operator_fault n Greatest ls = nonlinear_unless (are_constant n ls)
-operator_fault n Floor ls = nonlinear_unless (are_constant n ls)
-operator_fault n Ceiling ls = nonlinear_unless (are_constant n ls)
-operator_fault n Absolute ls = nonlinear_unless (are_constant n ls)
-operator_fault n _ _ = None
+operator_fault n c ls = nonlinear_unless (are_constant n ls)
 
 abbrev pub fault_at : ℕ → Option Reason → Option Fault
-fault_at i None = None
-fault_at i (Some r) = Some (record { place = i; reason = r })
+fault_at i r = option_map (λ why. record { place = i; reason = why }) r
 
 -- ---- trees
 -- the line of a tree, by its values
 abbrev pub tree_line : (Point → Known) → Tree → Line
-tree_line known t = line_by (λ at. tree_value (known at) at t)
+tree_line known t = line_by (λ at. tree_given (known at) t at)
 
 abbrev pub trees_lines : (Point → Known) → Trees → List Line
 trees_lines known none = []
@@ -123,7 +120,7 @@ definitions_fault known n [] = None
 definitions_fault known n (d ∷ ds) =
     option_or (expression_fault known n d.expression)
     (definitions_fault
-    (λ at. with_value (known at) d.index (expression_value (known at) at d.expression))
+    (λ at. with_value (known at) d.index (expression_given (known at) d.expression at))
     n ds)
 
 -- the first fault of a tree, and of an expression, of a file with these defined variables: the
@@ -140,11 +137,11 @@ first_expression_fault n ds x =
 -- ---- coefficients
 -- the value at the point with 1 at j and 0 elsewhere, less the value at the point 0
 abbrev pub coef : List Definition → Tree → ℕ → ℚ
-coef ds t j = (line_by (val ds t)).coef j
+coef ds t j = (line_by (tree_value ds t)).coef j
 
 abbrev pub constant_of : List Definition → Tree → ℚ
-constant_of ds t = (line_by (val ds t)).constant
+constant_of ds t = (line_by (tree_value ds t)).constant
 
 -- the same of an expression
 abbrev pub expression_line : List Definition → Expression → Line
-expression_line ds x = line_by (expression_val ds x)
+expression_line ds x = line_by (expression_value ds x)

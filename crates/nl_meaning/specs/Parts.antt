@@ -3,8 +3,8 @@ use Rattle.std.specs.Prelude.{◌≡◌, ◌⊎◌, ℕ, List, Some}
 use Rattle.fractions.specs.Rational.{◌+ℚ◌, ◌*ℚ◌}
 use Rattle.fractions.specs.Sums.{sum_below}
 use Rattle.nl_meaning.specs.Faults.{coef, constant_of}
-use Rattle.nl_meaning.specs.Trees.{Tree, number, variable, defined, operator, Trees, none, more, Definition, val}
-use Rattle.linear_programs.specs.Lines.{Point}
+use Rattle.nl_meaning.specs.Trees.{Tree, number, variable, defined, operator, Trees, none, more, Definition, tree_value}
+use Rattle.program_meaning.specs.Lines.{Point}
 
 -- u is the tree itself, or a part of one of its operands
 abbrev mutual
@@ -22,4 +22,4 @@ abbrev mutual
 abbrev pub IsLinearTree : ℕ → List Definition → Tree → Type 0
 IsLinearTree n ds t =
     (at : Point) →
-    val ds t at ≡ Some (constant_of ds t +ℚ sum_below (λ j. coef ds t j *ℚ at j) n)
+    tree_value ds t at ≡ Some (constant_of ds t +ℚ sum_below (λ j. coef ds t j *ℚ at j) n)

@@ -1,11 +1,11 @@
 -- Expression trees and their values (Gay 2005, Writing .nl Files).
-use Rattle.std.specs.Prelude.{◌≡◌, ℕ, zero, suc, ◌+◌, ◌<◌, ◌≤◌, ◌⊎◌, ◌==◌, if◌then◌else◌, ℤ, List, [], ◌∷◌, Option, Some, None, option_and_then}
+use Rattle.std.specs.Prelude.{◌≡◌, ℕ, zero, suc, ◌+◌, ◌<◌, ◌≤◌, ◌⊎◌, ◌==◌, if◌then◌else◌, ℤ, List, [], ◌∷◌, Option, Some, None, option_and_then, option_map}
 use Rattle.code_tables.specs.declared.class.OpClass.{OpClass}
 use Rattle.code_tables.specs.declared.class.OpClass.TheVariants.{Sum, Difference, Product, Quotient, Negation, List as SumOfAll, Power, Least, Greatest, Floor, Ceiling, Absolute, Refused}
 use Rattle.fractions.specs.Functions.{power_of, exponent_of, least_of, greatest_of, floor_of, ceiling_of, absolute_of}
 use Rattle.fractions.specs.Rational.{ℚ, ◌+ℚ◌, ◌-ℚ◌, ◌*ℚ◌, neg_ℚ, quotient_of, decimal_value}
 use Rattle.fractions.specs.Sums.{sum_of_all, sum_over}
-use Rattle.linear_programs.specs.Lines.{Point}
+use Rattle.program_meaning.specs.Lines.{Point}
 
 -- a tree; `number m e` is m * 10 ^ e
 mutual
@@ -41,51 +41,46 @@ abbrev mutual
   trees_size none = 0
   trees_size (more t ts) = tree_size t + trees_size ts
 
--- the number of operands is right
-abbrev pub HasCount : OpClass → ℕ → Type 0
-HasCount Sum k = k ≡ 2
-HasCount Difference k = k ≡ 2
-HasCount Product k = k ≡ 2
-HasCount Quotient k = k ≡ 2
-HasCount Negation k = k ≡ 1
-HasCount SumOfAll k = 1 ≤ k
-HasCount Power k = k ≡ 2
-HasCount Least k = 1 ≤ k
-HasCount Greatest k = 1 ≤ k
-HasCount Floor k = k ≡ 1
-HasCount Ceiling k = k ≡ 1
-HasCount Absolute k = k ≡ 1
-HasCount Refused k = ⊥
-
--- all values of a list, where none is missing
-abbrev pub all_there : List (Option ℚ) → Option (List ℚ)
-all_there [] = Some []
-all_there (None ∷ vs) = None
-all_there (Some x ∷ vs) = option_and_then (λ xs. Some (x ∷ xs)) (all_there vs)
-
 -- x to the y, where y is whole from 0 to 127
 abbrev pub power_by : ℚ → ℚ → Option ℚ
-power_by x y = option_and_then (λ n. Some (power_of x n)) (exponent_of y)
+power_by x y = option_map (power_of x) (exponent_of y)
 
--- what an operator makes of its operands' values; a quotient by 0, a power with another exponent,
--- a wrong number of operands and a refused operator have none
-abbrev pub on_values : OpClass → List ℚ → Option ℚ
-on_values Sum (x ∷ y ∷ []) = Some (x +ℚ y)
-on_values Difference (x ∷ y ∷ []) = Some (x -ℚ y)
-on_values Product (x ∷ y ∷ []) = Some (x *ℚ y)
-on_values Quotient (x ∷ y ∷ []) = quotient_of x y
-on_values Negation (x ∷ []) = Some (neg_ℚ x)
-on_values SumOfAll xs = Some (sum_of_all xs)
-on_values Power (x ∷ y ∷ []) = power_by x y
-on_values Least (x ∷ xs) = Some (least_of x xs)
-on_values Greatest (x ∷ xs) = Some (greatest_of x xs)
-on_values Floor (x ∷ []) = Some (floor_of x)
-on_values Ceiling (x ∷ []) = Some (ceiling_of x)
-on_values Absolute (x ∷ []) = Some (absolute_of x)
-on_values _ _ = None
+-- what an operator makes a number of: of one operand, of two, where they have a value, or of one or
+-- more; a refused one has no value
+pub data Rule : Type 0 where
+  one : (ℚ → ℚ) → Rule
+  two : (ℚ → ℚ → Option ℚ) → Rule
+  some : (ℚ → List ℚ → ℚ) → Rule
+  refused : Rule
 
-abbrev pub operator_value : OpClass → List (Option ℚ) → Option ℚ
-operator_value c vs = option_and_then (on_values c) (all_there vs)
+abbrev pub rule_of : OpClass → Rule
+rule_of Sum = two (λ x y. Some (x +ℚ y))
+rule_of Difference = two (λ x y. Some (x -ℚ y))
+rule_of Product = two (λ x y. Some (x *ℚ y))
+rule_of Quotient = two quotient_of
+rule_of Negation = one neg_ℚ
+rule_of SumOfAll = some (λ x xs. sum_of_all (x ∷ xs))
+rule_of Power = two power_by
+rule_of Least = some least_of
+rule_of Greatest = some greatest_of
+rule_of Floor = one floor_of
+rule_of Ceiling = one ceiling_of
+rule_of Absolute = one absolute_of
+rule_of Refused = refused
+
+-- the number of operands is right
+abbrev pub Takes : Rule → ℕ → Type 0
+Takes (one f) k = k ≡ 1
+Takes (two f) k = k ≡ 2
+Takes (some f) k = 1 ≤ k
+Takes refused k = ⊥
+
+-- what a rule makes of values; nothing where their number is wrong
+abbrev pub applied : Rule → List ℚ → Option ℚ
+applied (one f) (x ∷ []) = Some (f x)
+applied (two f) (x ∷ y ∷ []) = f x y
+applied (some f) (x ∷ xs) = Some (f x xs)
+applied rule xs = None
 
 -- the values of the defined variables, by their index in the file: indices go on from those of the
 -- variables
@@ -98,34 +93,38 @@ nothing_known i = None
 abbrev pub with_value : Known → ℕ → Option ℚ → Known
 with_value known i v k = (if k == i then v else known k)
 
--- the value of a tree at a point, where the defined variables have the values `known`
+-- the value of a tree at a point, given the values of the defined variables; of several trees, where
+-- each has one
 abbrev mutual
-  pub tree_value : Known → Point → Tree → Option ℚ
-  tree_value known at (number m e) = Some (decimal_value m e)
-  tree_value known at (variable j) = Some (at j)
-  tree_value known at (defined i) = known i
-  tree_value known at (operator c ts) = operator_value c (trees_values known at ts)
+  pub tree_given : Known → Tree → Point → Option ℚ
+  tree_given known (number m e) at = Some (decimal_value m e)
+  tree_given known (variable j) at = Some (at j)
+  tree_given known (defined i) at = known i
+  tree_given known (operator c ts) at =
+      option_and_then (applied (rule_of c)) (trees_given known ts at)
 
-  pub trees_values : Known → Point → Trees → List (Option ℚ)
-  trees_values known at none = []
-  trees_values known at (more t ts) = tree_value known at t ∷ trees_values known at ts
+  pub trees_given : Known → Trees → Point → Option (List ℚ)
+  trees_given known none at = Some []
+  trees_given known (more t ts) at =
+      option_and_then (λ v. option_map (λ vs. v ∷ vs) (trees_given known ts at))
+      (tree_given known t at)
 
 -- a factor times a variable
 pub record LinearTerm : Type 0 where
   pub variable : ℕ
   pub factor : ℚ
 
-abbrev pub terms_value : Point → List LinearTerm → ℚ
-terms_value at ts = sum_over (λ t. t.factor *ℚ at t.variable) ts
+abbrev pub terms_value : List LinearTerm → Point → ℚ
+terms_value ts at = sum_over (λ t. t.factor *ℚ at t.variable) ts
 
 -- a tree and the linear terms that are added to it
 pub record Expression : Type 0 where
   pub tree : Tree
   pub terms : List LinearTerm
 
-abbrev pub expression_value : Known → Point → Expression → Option ℚ
-expression_value known at x =
-    option_and_then (λ v. Some (v +ℚ terms_value at x.terms)) (tree_value known at x.tree)
+abbrev pub expression_given : Known → Expression → Point → Option ℚ
+expression_given known x at =
+    option_map (λ v. v +ℚ terms_value x.terms at) (tree_given known x.tree at)
 
 -- a defined variable: its index in the file, and what it stands for
 pub record Definition : Type 0 where
@@ -133,21 +132,21 @@ pub record Definition : Type 0 where
   pub expression : Expression
 
 -- the known values, and then those of a list of definitions, of which each may use the earlier ones
-abbrev pub values_after : Known → Point → List Definition → Known
-values_after known at [] = known
-values_after known at (d ∷ ds) =
-    values_after (with_value known d.index (expression_value known at d.expression)) at ds
+abbrev pub values_after : Known → List Definition → Point → Known
+values_after known [] at = known
+values_after known (d ∷ ds) at =
+    values_after (with_value known d.index (expression_given known d.expression at)) ds at
 
 -- the values of a file's defined variables, in file order
 abbrev pub known_values : List Definition → Point → Known
-known_values ds at = values_after nothing_known at ds
+known_values ds at = values_after nothing_known ds at
 
 -- the value of a tree, and of an expression, of a file with these defined variables
-abbrev pub val : List Definition → Tree → Point → Option ℚ
-val ds t at = tree_value (known_values ds at) at t
+abbrev pub tree_value : List Definition → Tree → Point → Option ℚ
+tree_value ds t at = tree_given (known_values ds at) t at
 
-abbrev pub expression_val : List Definition → Expression → Point → Option ℚ
-expression_val ds x at = expression_value (known_values ds at) at x
+abbrev pub expression_value : List Definition → Expression → Point → Option ℚ
+expression_value ds x at = expression_given (known_values ds at) x at
 
 abbrev pub IsOneOf : ℕ → List ℕ → Type 0
 IsOneOf k [] = ⊥
@@ -160,7 +159,7 @@ abbrev mutual
   IsFormed n is (number m e) = Unit {0}
   IsFormed n is (variable j) = j < n
   IsFormed n is (defined i) = IsOneOf i is
-  IsFormed n is (operator c ts) = HasCount c (count_of ts) × AreFormed n is ts
+  IsFormed n is (operator c ts) = Takes (rule_of c) (count_of ts) × AreFormed n is ts
 
   pub AreFormed : ℕ → List ℕ → Trees → Type 0
   AreFormed n is none = Unit {0}

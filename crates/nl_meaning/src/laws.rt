@@ -5,9 +5,9 @@ ghost use Rattle.fractions.specs.Sums.{sum_below};
 ghost use Rattle.nl_meaning.specs.declared.Reason.TheVariants.{Nonlinear, RefusedPower, TooWide};
 ghost use Rattle.nl_meaning.specs.Example.{power_and_least};
 ghost use Rattle.nl_meaning.specs.Faults.{coef, constant_of, expression_line, first_expression_fault, first_fault};
-ghost use Rattle.linear_programs.specs.Lines.{line_value, Point};
+ghost use Rattle.program_meaning.specs.Lines.{line_value, Point};
 ghost use Rattle.nl_meaning.specs.Parts.{IsLinearTree, IsPart};
-ghost use Rattle.nl_meaning.specs.Trees.{AreDefined, Definition, Expression, IsExpressionFormed, IsFormed, Tree, expression_val, indices_of, number, val, variable};
+ghost use Rattle.nl_meaning.specs.Trees.{AreDefined, Definition, Expression, IsExpressionFormed, IsFormed, Tree, expression_value, indices_of, number, tree_value, variable};
 
 // A tree without a fault has a value at every point: its value at 0 and the sum of its coefficients
 // times the variables.
@@ -15,13 +15,13 @@ ghost use Rattle.nl_meaning.specs.Trees.{AreDefined, Definition, Expression, IsE
 pub fn trees_are_linear()
     ensures trees { (n : ℕ) (ds : List Definition) (t : Tree) → AreDefined n [] ds
         → IsFormed n (indices_of ds) t → first_fault n ds t ≡ None → (at : Point)
-        → val ds t at ≡ Some (constant_of ds t +ℚ sum_below (λ j. coef ds t j *ℚ at j) n) }
+        → tree_value ds t at ≡ Some (constant_of ds t +ℚ sum_below (λ j. coef ds t j *ℚ at j) n) }
     ensures parts { (n : ℕ) (ds : List Definition) (t u : Tree) → AreDefined n [] ds
         → IsFormed n (indices_of ds) t → first_fault n ds t ≡ None → IsPart u t
         → IsLinearTree n ds u }
     ensures expressions { (n : ℕ) (ds : List Definition) (x : Expression) → AreDefined n [] ds
         → IsExpressionFormed n (indices_of ds) x → first_expression_fault n ds x ≡ None
-        → (at : Point) → expression_val ds x at ≡ Some (line_value n (expression_line ds x) at) }
+        → (at : Point) → expression_value ds x at ≡ Some (line_value n (expression_line ds x) at) }
 {}
 
 // A tree with linear terms that uses only the first n variables has no coefficient at or beyond n.
@@ -35,7 +35,7 @@ pub fn coefficients_are_within()
 // faults at the power.
 pub fn example_has_its_value_and_faults()
     ensures value { (at : Point)
-        → val [] (power_and_least (number (pos 15) (negsuc 0)) (number (pos 3) (pos 0))) at
+        → tree_value [] (power_and_least (number (pos 15) (negsuc 0)) (number (pos 3) (pos 0))) at
         ≡ Some (decimal_value (negsuc 3624) (negsuc 2)) }
     ensures refused { first_fault 1 []
         (power_and_least (number (pos 15) (negsuc 0)) (number (pos 5) (negsuc 0)))

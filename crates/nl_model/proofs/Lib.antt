@@ -3,6 +3,7 @@ pub mod Drafts
 pub mod Guesses
 pub mod ObjectLemmas
 pub mod Headers
+pub mod KindRuns
 pub mod OneList
 pub mod Opcodes
 pub mod Prefixes

@@ -5,7 +5,7 @@ use Rattle.code_tables.specs.declared.class.OpClass.{OpClass}
 use Rattle.code_tables.specs.declared.class.OpClass.TheVariants.{Refused}
 use Rattle.exact_numbers.specs.declared.dec.Dec.{Dec}
 use Rattle.exact_numbers.proofs.NumberLemmas.{same_dec}
-use Rattle.nl_meaning.specs.Trees.{Tree, number, variable, defined, operator, Trees, none, more, count_of, HasCount}
+use Rattle.nl_meaning.specs.Trees.{Tree, number, variable, defined, operator, Trees, none, more, count_of, Takes, rule_of}
 use Rattle.nl_model.specs.declared.node.Node.{Node}
 use Rattle.nl_model.specs.declared.node.Node.TheVariants.{Num, Var, Defined, Op}
 use Rattle.nl_model.specs.Nodes.{opcode_of, IsPrefix, a_number, a_variable, a_defined, an_operation, ArePrefixes}
@@ -31,7 +31,7 @@ record IsOperation (c : OpClass) (ts : Trees) (ns : List Node) : Type 0 where
   opcode : ℕ
   rest : List Node
   class : class_of opcode ≡ c
-  counted : HasCount (class_of opcode) (count_of ts)
+  counted : Takes (rule_of (class_of opcode)) (count_of ts)
   operands : ArePrefixes ts rest
   nodes : ns ≡ Op opcode (count_of ts) ∷ rest
 
@@ -40,7 +40,7 @@ operation_nodes _ _ _ (an_operation o ts ns k h) = record { opcode = o; rest = n
 
 opcode_is : (c : OpClass) (ts : Trees) (ns : List Node) (x : IsOperation c ts ns) → opcode_of c ≡ x.opcode
 opcode_is c ts ns x =
-    let known : class_of x.opcode ≡ Refused → ⊥ = λ r. subst (λ k. HasCount k (count_of ts)) r x.counted in
+    let known : class_of x.opcode ≡ Refused → ⊥ = λ r. subst (λ k. Takes (rule_of k) (count_of ts)) r x.counted in
     ap opcode_of (sym x.class) ∙ opcode_of-known x.opcode known
 
 mutual

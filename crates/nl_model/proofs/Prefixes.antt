@@ -2,7 +2,7 @@
 use Rattle.std.proofs.Common.{◌≡◌, ℕ, zero, suc, ◌+◌, ◌-◌, ◌^◌, ◌<◌, ◌≤◌, List, [], ◌∷◌, ◌++◌, drop, length, ◌∙◌, sym, ap, ap₂, subst, refl, append_assoc, append-nil, one-add, arith, length-drop}
 use Rattle.std.proofs.lemmas.List.{length_push}
 use Rattle.code_tables.specs.Opcodes.{class_of}
-use Rattle.nl_meaning.specs.Trees.{Tree, operator, Trees, none, more, first_trees, count_of, HasCount}
+use Rattle.nl_meaning.specs.Trees.{Tree, operator, Trees, none, more, first_trees, count_of, Takes, rule_of}
 use Rattle.nl_model.specs.declared.node.Node.{Node}
 use Rattle.nl_model.specs.declared.node.Node.TheVariants.{Num, Var, Defined, Op}
 use Rattle.nl_model.specs.Nodes.{with_node, trees_of, first_of_trees, tree_of, IsPrefix, a_number, a_variable, a_defined, an_operation, ArePrefixes, no_tree, one_more, AreNodesFormed, IsTreeFormed, AreTreesFormed, AreNodesOf, operand_count, awaited_after, awaited, IsNode, IsRun, AreNodesBegun}
@@ -142,7 +142,7 @@ forest (Op o k ∷ ns) f =
     let ts = trees_of ns in
     let s = split k ts ns f.1 (forest ns f.2) in
     let count = length-first k ts f.1 in
-    let node = an_operation o (first_trees k ts) s.front (subst (HasCount (class_of o)) (sym count) f.0) s.first in
+    let node = an_operation o (first_trees k ts) s.front (subst (Takes (rule_of (class_of o))) (sym count) f.0) s.first in
     let all : ArePrefixes (more (operator (class_of o) (first_trees k ts)) (as_trees (drop k ts))) (Op o (count_of (first_trees k ts)) ∷ s.front ++ s.back) =
     one_more _ _ _ _ node s.rest in
     let P : List Node → Type 0 = λ ms. ArePrefixes (more (operator (class_of o) (first_trees k ts)) (as_trees (drop k ts))) ms in

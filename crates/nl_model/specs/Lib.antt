@@ -2,6 +2,7 @@ pub mod InsideBuilt
 pub mod Draft
 pub mod File
 pub mod InsideFileCode
+pub mod InsideKinds
 pub mod FilePlaces
 pub mod HeaderRules
 pub mod HeaderWords

@@ -4,7 +4,7 @@ use Rattle.code_tables.specs.Opcodes.{class_of}
 use Rattle.code_tables.specs.declared.class.OpClass.{OpClass}
 use Rattle.code_tables.specs.declared.class.OpClass.TheVariants.{Sum, Difference, Product, Quotient, Negation, List as ListOf, Power, Least, Greatest, Floor, Ceiling, Absolute, Refused}
 use Rattle.exact_numbers.specs.declared.dec.Dec.{Dec}
-use Rattle.nl_meaning.specs.Trees.{Tree, number, variable, defined, operator, Trees, none, more, first_trees, count_of, HasCount}
+use Rattle.nl_meaning.specs.Trees.{Tree, number, variable, defined, operator, Trees, none, more, first_trees, count_of, Takes, rule_of}
 use Rattle.nl_model.specs.declared.node.Node.{Node}
 use Rattle.nl_model.specs.declared.node.Node.TheVariants.{Num, Var, Defined, Op}
 
@@ -51,7 +51,7 @@ mutual
     a_number : (d : Dec) → IsPrefix (number d.m d.e) (Num d ∷ [])
     a_variable : (j : ℕ) → IsPrefix (variable j) (Var j ∷ [])
     a_defined : (i : ℕ) → IsPrefix (defined i) (Defined i ∷ [])
-    an_operation : (o : ℕ) (ts : Trees) (ns : List Node) → HasCount (class_of o) (count_of ts)
+    an_operation : (o : ℕ) (ts : Trees) (ns : List Node) → Takes (rule_of (class_of o)) (count_of ts)
         → ArePrefixes ts ns → IsPrefix (operator (class_of o) ts) (Op o (count_of ts) ∷ ns)
 
   pub data ArePrefixes : Trees → List Node → Type 0 where
@@ -66,7 +66,7 @@ AreNodesFormed (Num d ∷ ns) = AreNodesFormed ns
 AreNodesFormed (Var j ∷ ns) = AreNodesFormed ns
 AreNodesFormed (Defined i ∷ ns) = AreNodesFormed ns
 AreNodesFormed (Op o k ∷ ns) =
-    HasCount (class_of o) k × (k ≤ length (trees_of ns)) × AreNodesFormed ns
+    Takes (rule_of (class_of o)) k × (k ≤ length (trees_of ns)) × AreNodesFormed ns
 
 -- the operands of each operator are as many as its class wants
 abbrev mutual
@@ -74,7 +74,7 @@ abbrev mutual
   IsTreeFormed (number m e) = Unit {0}
   IsTreeFormed (variable j) = Unit {0}
   IsTreeFormed (defined i) = Unit {0}
-  IsTreeFormed (operator c ts) = HasCount c (count_of ts) × AreTreesFormed ts
+  IsTreeFormed (operator c ts) = Takes (rule_of c) (count_of ts) × AreTreesFormed ts
 
   pub AreTreesFormed : Trees → Type 0
   AreTreesFormed none = Unit {0}
@@ -104,7 +104,7 @@ awaited ns = awaited_after 1 ns
 
 -- an operator has as many operands as its class wants, at most 2 ^ 22
 abbrev pub IsNode : Node → Type 0
-IsNode (Op o k) = HasCount (class_of o) k × (k ≤ 2 ^ 22)
+IsNode (Op o k) = Takes (rule_of (class_of o)) k × (k ≤ 2 ^ 22)
 IsNode n = Unit {0}
 
 -- a tree is awaited before each node

@@ -1,14 +1,16 @@
 // The kinds of variables, by the groups in which they stand.
 ghost use Rattle.std.specs.Prelude.{◌≡◌, ◌<◌, IfOk};
 ghost use Rattle.nl_model.specs.HeaderWords.{header_counts};
+ghost use Rattle.nl_model.specs.InsideKinds.{kind_among, runs};
 ghost use Rattle.nl_model.specs.Kinds.{kinds_in, variable_kind};
 
 use crate::file::NlFile;
 use crate::header::Header;
+use crate::header_counts::Counts;
 use linear_program::Kind;
 use std::alloc::{AllocError, Global};
 
-/// The kind of the group that a place is in, where groups of these sizes follow each other.
+/// The kind of the run that a place is in, where runs of these sizes follow each other.
 macro_rules! kind_at {
     ($place:ident; $($size:expr => $kind:ident,)+) => {
         $(
@@ -21,14 +23,11 @@ macro_rules! kind_at {
     };
 }
 
-/// The kind of a variable: nonlinear in constraints and objectives, in constraints only, in
-/// objectives only; then linear, binary, integer.
-#[tactic(auto, unfolding(crate::specs::Kinds::variable_kind))]
-pub fn kinds_of(header: &Header, var: u32) -> Kind
-    requires { var < (header_counts header.now).n_var }
-    ensures { result ≡ variable_kind (header_counts header.now) var }
+// The kind of a variable: nonlinear in constraints and objectives, in constraints only, in
+// objectives only; then linear, binary, integer.
+fn kind_in_runs(counts: &Counts, var: u32) -> Kind
+    ensures { result ≡ kind_among (runs counts.now) var }
 {
-    let counts = header.counts();
     let mut place = var;
     kind_at!(place;
         counts.nlvb.saturating_sub(counts.nlvbi) => Continuous,
@@ -42,6 +41,14 @@ pub fn kinds_of(header: &Header, var: u32) -> Kind
         counts.niv => Integer,
     );
     Kind::Continuous
+}
+
+/// The kind of a variable, by its place in the order of variables.
+pub fn kinds_of(header: &Header, var: u32) -> Kind
+    requires { var < (header_counts header.now).n_var }
+    ensures { result ≡ variable_kind (header_counts header.now) var }
+{
+    kind_in_runs(header.counts(), var)
 }
 
 /// The kinds of all variables of a file, in order.

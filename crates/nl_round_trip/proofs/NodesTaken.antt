@@ -13,7 +13,7 @@ use Rattle.code_tables.specs.declared.class.OpClass.TheVariants.{Refused}
 use Rattle.code_tables.specs.declared.class.Operands.{Operands}
 use Rattle.code_tables.specs.declared.class.Operands.TheVariants.{One, Two, Counted as OnNextLine}
 use Rattle.exact_numbers.specs.declared.dec.Dec.{Dec}
-use Rattle.nl_meaning.specs.Trees.{HasCount, Tree, Trees, count_of, tree_size, trees_size}
+use Rattle.nl_meaning.specs.Trees.{Takes, rule_of, Tree, Trees, count_of, tree_size, trees_size}
 use Rattle.nl_model.specs.declared.header_counts.Counts.{Counts}
 use Rattle.nl_model.specs.declared.node.Node.{Node}
 use Rattle.nl_model.specs.declared.node.Node.TheVariants.{Num, Var, Defined, Op}
@@ -61,18 +61,18 @@ FitsOperands (Some One) k = k ≡ 1
 FitsOperands (Some Two) k = k ≡ 2
 FitsOperands (Some OnNextLine) k = 1 ≤ k
 
-operands_of-class : (c : OpClass) (k : ℕ) → HasCount c k → FitsOperands (operands_of (opcode_of c)) k × (opcode_of c ≤ 54)
+operands_of-class : (c : OpClass) (k : ℕ) → Takes (rule_of c) k → FitsOperands (operands_of (opcode_of c)) k × (opcode_of c ≤ 54)
 unfolding operands_of
 operands_of-class Refused k h = absurd h
 operands_of-class c k h = (h, omega arith)
 
-known : (o k : ℕ) → HasCount (class_of o) k → class_of o ≡ Refused → ⊥
-known o k h e = subst (λ c. HasCount c k) e h
+known : (o k : ℕ) → Takes (rule_of (class_of o)) k → class_of o ≡ Refused → ⊥
+known o k h e = subst (λ c. Takes (rule_of c) k) e h
 
-operands_known : (o k : ℕ) → HasCount (class_of o) k → FitsOperands (operands_of o) k × (o ≤ 54)
+operands_known : (o k : ℕ) → Takes (rule_of (class_of o)) k → FitsOperands (operands_of o) k × (o ≤ 54)
 operands_known o k h = subst (λ p. FitsOperands (operands_of p) k × (p ≤ 54)) (opcode_of-known o (known o k h)) (operands_of-class (class_of o) k h)
 
-pub opcode_small : (o k : ℕ) → HasCount (class_of o) k → o ≤ 54
+pub opcode_small : (o k : ℕ) → Takes (rule_of (class_of o)) k → o ≤ 54
 opcode_small o k h = let is = operands_known o k h in is.1
 
 -- ---- the lines of nodes
@@ -89,7 +89,7 @@ abbrev pub IsNodeFine : Counts → List Definition → Node → Type 0
 IsNodeFine c ds (Num d) = Unit {0}
 IsNodeFine c ds (Var j) = j < c.n_var
 IsNodeFine c ds (Defined i) = (c.n_var ≤ i) × (i < c.n_var + defined_count c) × (is_defined ds i ≡ true)
-IsNodeFine c ds (Op o k) = HasCount (class_of o) k × (k ≤ 2 ^ 22)
+IsNodeFine c ds (Op o k) = Takes (rule_of (class_of o)) k × (k ≤ 2 ^ 22)
 
 words_written : (c : Counts) (ds : List Definition) (m : Node) → AreCounts c → IsNodeFine c ds m → IsWritten (node_words m)
 words_written c ds (Num d) few h = written-one (codes "n" ++ text_of d) (word-number 110 d (omega arith))

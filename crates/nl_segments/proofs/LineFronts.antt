@@ -8,7 +8,8 @@ use Rattle.linear_program.specs.declared.kind.Kind.TheVariants.{Binary, Continuo
 use Rattle.texts.specs.declared.grammar.Front.{Front}
 use Rattle.nl_model.specs.declared.header_counts.Counts.{Counts}
 use Rattle.nl_model.specs.Draft.{Draft}
-use Rattle.nl_model.specs.Kinds.{Group, group_of, kind_among, variable_kind}
+use Rattle.nl_model.specs.InsideKinds.{Run, run_of, kind_among}
+use Rattle.nl_model.specs.Kinds.{variable_kind}
 use Rattle.nl_lines.specs.declared.awaited.Awaited.{Awaited}
 use Rattle.nl_lines.specs.declared.awaited.Awaited.TheVariants.{ColumnCount, Interval as IntervalLine}
 use Rattle.nl_lines.specs.FirstRows.{IsFirstRow}
@@ -16,6 +17,7 @@ use Rattle.nl_lines.specs.IntervalRows.{IsIntervalRow}
 use Rattle.nl_lines.specs.Pieces.{is_nothing, line_kind}
 use Rattle.nl_lines.specs.Tests.{is_binary, is_sides}
 use Rattle.nl_lines.specs.WholeRows.{IsWholeRow}
+use Rattle.nl_model.proofs.KindRuns.{variable_kind_by_runs}
 use Rattle.nl_lines.proofs.IntervalRows.{interval_counted, interval_fine, interval_plain, is_refused}
 use Rattle.nl_lines.proofs.WholeRows.{column_fine, whole_plain}
 use Rattle.nl_segments.specs.Current.{Current, current_awaits, less_line, less_lines}
@@ -36,8 +38,8 @@ early size start n j lt = grind (arith, nat_tests)
 moved : (size start n j : ℕ) → size ≤ j → (nat_le start (j - size) && nat_lt (j - size) (start + n)) ≡ (nat_le (size + start) j && nat_lt j (size + start + n))
 moved size start n j le = grind (arith, nat_tests)
 
--- behind a group of another kind
-later : (g : Group) (gs : List Group) (start n : ℕ) → is_binary g.kind ≡ false → ((j : ℕ) → is_binary (kind_among gs j) ≡ (nat_le start j && nat_lt j (start + n)))
+-- behind a run of another kind
+later : (g : Run) (gs : List Run) (start n : ℕ) → is_binary g.kind ≡ false → ((j : ℕ) → is_binary (kind_among gs j) ≡ (nat_le start j && nat_lt j (start + n)))
     → (j : ℕ) → is_binary (kind_among (g ∷ gs) j) ≡ (nat_le (g.size + start) j && nat_lt j (g.size + start + n))
 later g gs start n other rest j = by (nat_lt j g.size) refl
   where
@@ -51,10 +53,10 @@ within n j e = grind (arith, nat_tests, e)
 past : (n j : ℕ) → nat_lt j n ≡ false → false ≡ (nat_le 0 j && nat_lt j (0 + n))
 past n j e = grind (arith, nat_tests, e)
 
-last_two : (n m j : ℕ) → is_binary (kind_among (group_of n Binary ∷ group_of m Integer ∷ []) j) ≡ (nat_le 0 j && nat_lt j (0 + n))
+last_two : (n m j : ℕ) → is_binary (kind_among (run_of n Binary ∷ run_of m Integer ∷ []) j) ≡ (nat_le 0 j && nat_lt j (0 + n))
 last_two n m j = by (nat_lt j n) (nat_lt (j - n) m) refl refl
   where
-    by : (t u : Bool) → nat_lt j n ≡ t → nat_lt (j - n) m ≡ u → is_binary (kind_among (group_of n Binary ∷ group_of m Integer ∷ []) j) ≡ (nat_le 0 j && nat_lt j (0 + n))
+    by : (t u : Bool) → nat_lt j n ≡ t → nat_lt (j - n) m ≡ u → is_binary (kind_among (run_of n Binary ∷ run_of m Integer ∷ []) j) ≡ (nat_le 0 j && nat_lt j (0 + n))
     by true u e f = rw e (within n j e)
     by false true e f = rw (e, f) (past n j e)
     by false false e f = rw (e, f) (past n j e)
@@ -62,29 +64,28 @@ last_two n m j = by (nat_lt j n) (nat_lt (j - n) m) refl refl
 pub binary_at : (c : Counts) (first end : ℕ)
     → first ≡ (c.nlvb - c.nlvbi) + c.nlvbi + (c.nlvc - c.nlvb - c.nlvci) + c.nlvci + (c.nlvo - c.nlvc - c.nlvoi) + c.nlvoi + (c.n_var - max c.nlvc c.nlvo - c.nbv - c.niv)
     → end ≡ first + c.nbv → (j : ℕ) → is_binary (variable_kind c j) ≡ (nat_le first j && nat_lt j end)
-unfolding variable_kind
 binary_at c first end is stop j =
     let size = c.n_var - max c.nlvc c.nlvo - c.nbv - c.niv in
     let objectives = c.nlvo - c.nlvc - c.nlvoi in
     let rows = c.nlvc - c.nlvb - c.nlvci in
     let n = c.nbv in
-    let none : List Group = group_of n Binary ∷ group_of c.niv Integer ∷ [] in
-    let seven : List Group = group_of size Continuous ∷ none in
-    let six : List Group = group_of c.nlvoi Integer ∷ seven in
-    let five : List Group = group_of objectives Continuous ∷ six in
-    let four : List Group = group_of c.nlvci Integer ∷ five in
-    let three : List Group = group_of rows Continuous ∷ four in
-    let two : List Group = group_of c.nlvbi Integer ∷ three in
-    let at_seven = later (group_of size Continuous) none 0 n refl (last_two n c.niv) in
-    let at_six = later (group_of c.nlvoi Integer) seven (size + 0) n refl at_seven in
-    let at_five = later (group_of objectives Continuous) six (c.nlvoi + (size + 0)) n refl at_six in
-    let at_four = later (group_of c.nlvci Integer) five (objectives + (c.nlvoi + (size + 0))) n refl at_five in
-    let at_three = later (group_of rows Continuous) four (c.nlvci + (objectives + (c.nlvoi + (size + 0)))) n refl at_four in
-    let at_two = later (group_of c.nlvbi Integer) three (rows + (c.nlvci + (objectives + (c.nlvoi + (size + 0))))) n refl at_three in
-    let one = later (group_of (c.nlvb - c.nlvbi) Continuous) two (c.nlvbi + (rows + (c.nlvci + (objectives + (c.nlvoi + (size + 0)))))) n refl at_two in
+    let none : List Run = run_of n Binary ∷ run_of c.niv Integer ∷ [] in
+    let seven : List Run = run_of size Continuous ∷ none in
+    let six : List Run = run_of c.nlvoi Integer ∷ seven in
+    let five : List Run = run_of objectives Continuous ∷ six in
+    let four : List Run = run_of c.nlvci Integer ∷ five in
+    let three : List Run = run_of rows Continuous ∷ four in
+    let two : List Run = run_of c.nlvbi Integer ∷ three in
+    let at_seven = later (run_of size Continuous) none 0 n refl (last_two n c.niv) in
+    let at_six = later (run_of c.nlvoi Integer) seven (size + 0) n refl at_seven in
+    let at_five = later (run_of objectives Continuous) six (c.nlvoi + (size + 0)) n refl at_six in
+    let at_four = later (run_of c.nlvci Integer) five (objectives + (c.nlvoi + (size + 0))) n refl at_five in
+    let at_three = later (run_of rows Continuous) four (c.nlvci + (objectives + (c.nlvoi + (size + 0)))) n refl at_four in
+    let at_two = later (run_of c.nlvbi Integer) three (rows + (c.nlvci + (objectives + (c.nlvoi + (size + 0))))) n refl at_three in
+    let one = later (run_of (c.nlvb - c.nlvbi) Continuous) two (c.nlvbi + (rows + (c.nlvci + (objectives + (c.nlvoi + (size + 0)))))) n refl at_two in
     let start : (c.nlvb - c.nlvbi) + (c.nlvbi + (rows + (c.nlvci + (objectives + (c.nlvoi + (size + 0)))))) ≡ first = omega (arith, is) in
     let over : (c.nlvb - c.nlvbi) + (c.nlvbi + (rows + (c.nlvci + (objectives + (c.nlvoi + (size + 0)))))) + n ≡ end = omega (arith, is, stop) in
-    one j ∙ ap (λ (k : ℕ). nat_le k j && nat_lt j ((c.nlvb - c.nlvbi) + (c.nlvbi + (rows + (c.nlvci + (objectives + (c.nlvoi + (size + 0)))))) + n)) start ∙ ap (λ (k : ℕ). nat_le first j && nat_lt j k) over
+    ap is_binary (variable_kind_by_runs c j) ∙ one j ∙ ap (λ (k : ℕ). nat_le k j && nat_lt j ((c.nlvb - c.nlvbi) + (c.nlvbi + (rows + (c.nlvci + (objectives + (c.nlvoi + (size + 0)))))) + n)) start ∙ ap (λ (k : ℕ). nat_le first j && nat_lt j k) over
 
 -- ---- after so many lines
 

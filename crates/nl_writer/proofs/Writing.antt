@@ -9,7 +9,7 @@ use Rattle.std.proofs.lemmas.Option.{slice_get_within, get_or_from_slice_get}
 use Rattle.std.specs.List.{flat_map, slice_get}
 use Rattle.code_tables.specs.Opcodes.{class_of}
 use Rattle.code_tables.specs.declared.class.OpClass.TheVariants.{Refused}
-use Rattle.nl_meaning.specs.Trees.{Tree, Trees, count_of, HasCount}
+use Rattle.nl_meaning.specs.Trees.{Tree, Trees, count_of, Takes, rule_of}
 use Rattle.nl_model.specs.declared.node.Node.{Node}
 use Rattle.nl_model.specs.Nodes.{IsPrefix, a_number, a_variable, a_defined, an_operation, ArePrefixes, no_tree, one_more}
 use Rattle.nl_model.proofs.Opcodes.{opcode_of-known}
@@ -44,8 +44,8 @@ objective_of (Some x) m t e f = ap₂ (λ a b. Some (record { maximise = a; tree
 
 -- ---- the lines of a tree are those of its nodes
 
-known : (o k : ℕ) → HasCount (class_of o) k → class_of o ≡ Refused → ⊥
-known o k h e = subst (λ c. HasCount c k) e h
+known : (o k : ℕ) → Takes (rule_of (class_of o)) k → class_of o ≡ Refused → ⊥
+known o k h e = subst (λ c. Takes (rule_of c) k) e h
 
 mutual
   prefix_lines : {t : Tree} {ns : List Node} → IsPrefix t ns → flat_map node_lines ns ≡ tree_lines t

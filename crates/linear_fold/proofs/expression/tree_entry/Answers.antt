@@ -1,8 +1,8 @@
 use Rattle.std.proofs.Common.{◌≡◌, [], ◌∷◌, IfSome, ap, length, option_copied, subst}
 use Rattle.fractions.specs.Rational.{zero_ℚ}
-use Rattle.linear_programs.specs.Lines.{Point}
+use Rattle.program_meaning.specs.Lines.{Point}
 use Rattle.nl_meaning.specs.Trees.{Known, Tree, tree_size}
-use Rattle.nl_model.specs.Nodes.{trees_of}
+use Rattle.nl_model.specs.Nodes.{IsTreeFormed, trees_of}
 use Rattle.linear_fold.specs.declared.entries.Entry.TheVariants.{Linear}
 use Rattle.linear_fold.specs.InsideFolds.{IsFolded, IsTreeGiven}
 use Rattle.linear_fold.proofs.Expressions.{prefix_size, prefix_within, zero_folded}
@@ -22,7 +22,7 @@ returns-in_err-form-in-Some-clause-below g c =
 pub returns-in-Some-2-clause-entry : goal.returns-in-Some-2-clause-entry
 returns-in-Some-2-clause-entry g c known are =
     rw c.in-Some.is
-    (some_holds _ c.in-Some-2.form (λ f. (at : Point → Known) (t : Tree) → trees_of c.nodes-nodes.result.now ≡ t ∷ [] → IsFolded at c.args.variables 0 t (Linear f)) c.in-Some-2.is c.in_ok-form-in-Some.ensures.form known c.in-Some.expr.now c.nodes-nodes.ensures.trees)
+    (some_holds _ c.in-Some-2.form (λ f. (at : Point → Known) (t : Tree) → IsTreeFormed t → trees_of c.nodes-nodes.result.now ≡ t ∷ [] → IsFolded at c.args.variables 0 t (Linear f)) c.in-Some-2.is c.in_ok-form-in-Some.ensures.form known c.in-Some.expr.now c.nodes-nodes.ensures.tree_formed c.nodes-nodes.ensures.trees)
 
 pub returns-in-Some-2-clause-below : goal.returns-in-Some-2-clause-below
 returns-in-Some-2-clause-below g c =

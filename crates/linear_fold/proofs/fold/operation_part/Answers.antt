@@ -1,6 +1,6 @@
 use Rattle.std.proofs.Common.{◌≡◌, ◌∙◌, ◌+◌, ◌*◌, ℕ, None, length, reverse, subst, subst₂, sym}
 use Rattle.std.proofs.lemmas.List.{length-reverse}
-use Rattle.nl_meaning.specs.Trees.{HasCount}
+use Rattle.nl_meaning.specs.Trees.{Takes, rule_of}
 use Rattle.linear_fold.specs.declared.operate.Outcome.{Outcome}
 use Rattle.linear_fold.specs.InsideFolds.{first_broken}
 use Rattle.linear_fold.specs.InsideOperates.{AreOperands, Operates, lines_of_parts}
@@ -9,10 +9,10 @@ use Rattle.linear_fold.proofs.fold.operation_part.Goals as goal
 use Rattle.linear_fold.proofs.fold.operation_part.Goals.{After-operate}
 
 -- no operand has a fault
-sound : (g : _) (c : After-operate g) → (first_broken (reverse c.args.operands.now) ≡ None) × HasCount c.args.class (length (reverse c.args.operands.now)) × AreOperands c.args.variables (reverse c.args.operands.now)
+sound : (g : _) (c : After-operate g) → (first_broken (reverse c.args.operands.now) ≡ None) × Takes (rule_of c.args.class) (length (reverse c.args.operands.now)) × AreOperands c.args.variables (reverse c.args.operands.now)
 sound g c =
     let clean = sym c.first_fault.ensures ∙ c.in_default.is in
-    (clean, subst (HasCount c.args.class) (sym (length-reverse c.args.operands.now)) c.requires.count, all_operands c.args.variables (reverse c.args.operands.now) c.requires.within clean)
+    (clean, subst (Takes (rule_of c.args.class)) (sym (length-reverse c.args.operands.now)) c.requires.count, all_operands c.args.variables (reverse c.args.operands.now) c.requires.within clean)
 
 pub returns-in-Some-clause-part : goal.returns-in-Some-clause-part
 returns-in-Some-clause-part g c known ts operands = faulty_operands known c.args.variables c.args.place c.args.class ts (reverse c.args.operands.now) operands c.in-Some.fault (sym c.first_fault.ensures ∙ c.in-Some.is)

@@ -6,9 +6,9 @@ use Rattle.linear_fold.proofs.LeafLemmas.{leaves_within, list_folded}
 use Rattle.linear_fold.proofs.leaf_sums.leaf_sum.Goals as goal
 
 pub returns-clause-form : goal.returns-clause-form
-returns-clause-form g c known tree one =
+returns-clause-form g c known tree formed one =
     let sum = c.add_leaves.new.sum in
-    list_folded known c.args.variables c.args.nodes.now c.in-Some.count (leaves_line sum) c.of_terms.result tree c.in-Some.ensures one (c.in_ok-all.ensures.sum known c.if-not-all.false)
+    list_folded known c.args.variables c.args.nodes.now c.in-Some.count (leaves_line sum) c.of_terms.result tree formed c.in-Some.ensures one (c.in_ok-all.ensures.sum known c.if-not-all.false)
     (c.of_terms.ensures.line ∙ ap (λ k. parts_line k (fraction_terms sum.terms)) c.number_or_zero.ensures)
 
 pub returns-clause-within : goal.returns-clause-within

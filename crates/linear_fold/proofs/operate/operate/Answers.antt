@@ -1,20 +1,20 @@
 use Rattle.std.proofs.Common.{◌≡◌, ◌≤◌, ◌∙◌, ◌+◌, ◌*◌, arith, length, refl, reverse, sym, subst}
 use Rattle.std.proofs.lemmas.List.{length-reverse}
-use Rattle.nl_meaning.specs.Trees.{HasCount}
+use Rattle.nl_meaning.specs.Trees.{Takes, rule_of}
 use Rattle.linear_program.specs.Forms.{place_count}
 use Rattle.linear_fold.proofs.Operators.{as_operands, few_steps, first_within, if_ok, one_within, second_within, sum_comes, sum_of_all_comes}
 use Rattle.linear_fold.proofs.operate.operate.Goals as goal
 
 pub returns-in-Sum-clause-outcome : goal.returns-in-Sum-clause-outcome
 returns-in-Sum-clause-outcome g c =
-    let two : length c.args.operands.now ≡ 2 = subst (λ k. HasCount k (length c.args.operands.now)) c.in-Sum.is c.requires.count in
+    let two : length c.args.operands.now ≡ 2 = subst (λ k. Takes (rule_of k) (length c.args.operands.now)) c.in-Sum.is c.requires.count in
     if_ok c.sum_of_all.result _ _
     (λ o h. as_operands (place_count c.args.total.now) c.args.class _ (reverse c.args.operands.now) _ o c.in-Sum.is refl (sum_comes (place_count c.args.total.now) (reverse c.args.operands.now) o (length-reverse c.args.operands.now ∙ two) h))
     c.sum_of_all.ensures.outcome
 
 pub returns-in-List-clause-outcome : goal.returns-in-List-clause-outcome
 returns-in-List-clause-outcome g c =
-    let some : 1 ≤ length c.args.operands.now = subst (λ k. HasCount k (length c.args.operands.now)) c.in-List.is c.requires.count in
+    let some : 1 ≤ length c.args.operands.now = subst (λ k. Takes (rule_of k) (length c.args.operands.now)) c.in-List.is c.requires.count in
     if_ok c.sum_of_all-in-List.result _ _
     (λ o h. as_operands (place_count c.args.total.now) c.args.class _ (reverse c.args.operands.now) _ o c.in-List.is refl (sum_of_all_comes (place_count c.args.total.now) (reverse c.args.operands.now) o (subst (λ k. 1 ≤ k) (sym (length-reverse c.args.operands.now)) some) h))
     c.sum_of_all-in-List.ensures.outcome
@@ -43,20 +43,20 @@ returns-in-Absolute-clause-outcome g c =
 
 pub returns-in-Difference-clause-below : goal.returns-in-Difference-clause-below
 returns-in-Difference-clause-below g c =
-    let two : length c.args.operands.now ≡ 2 = subst (λ k. HasCount k (length c.args.operands.now)) c.in-Difference.is c.requires.count in
+    let two : length c.args.operands.now ≡ 2 = subst (λ k. Takes (rule_of k) (length c.args.operands.now)) c.in-Difference.is c.requires.count in
     subst (λ k. c.difference.new.steps ≤ c.args.steps.now + (place_count c.args.total.now + 1) * k) (sym two) c.difference.ensures.below
 
 pub returns-in-Product-clause-below : goal.returns-in-Product-clause-below
 returns-in-Product-clause-below g c =
-    let two : length c.args.operands.now ≡ 2 = subst (λ k. HasCount k (length c.args.operands.now)) c.in-Product.is c.requires.count in
+    let two : length c.args.operands.now ≡ 2 = subst (λ k. Takes (rule_of k) (length c.args.operands.now)) c.in-Product.is c.requires.count in
     few_steps (place_count c.args.total.now + 1) (length c.args.operands.now) c.args.steps.now c.product.new.steps (omega (arith, two)) c.product.ensures.below
 
 pub returns-in-Quotient-clause-below : goal.returns-in-Quotient-clause-below
 returns-in-Quotient-clause-below g c =
-    let two : length c.args.operands.now ≡ 2 = subst (λ k. HasCount k (length c.args.operands.now)) c.in-Quotient.is c.requires.count in
+    let two : length c.args.operands.now ≡ 2 = subst (λ k. Takes (rule_of k) (length c.args.operands.now)) c.in-Quotient.is c.requires.count in
     few_steps (place_count c.args.total.now + 1) (length c.args.operands.now) c.args.steps.now c.quotient.new.steps (omega (arith, two)) c.quotient.ensures.below
 
 pub returns-in-Negation-clause-below : goal.returns-in-Negation-clause-below
 returns-in-Negation-clause-below g c =
-    let one : length c.args.operands.now ≡ 1 = subst (λ k. HasCount k (length c.args.operands.now)) c.in-Negation.is c.requires.count in
+    let one : length c.args.operands.now ≡ 1 = subst (λ k. Takes (rule_of k) (length c.args.operands.now)) c.in-Negation.is c.requires.count in
     few_steps (place_count c.args.total.now + 1) (length c.args.operands.now) c.args.steps.now c.negated.new.steps (omega (arith, one)) c.negated.ensures.below
