@@ -1,9 +1,8 @@
 -- MPS programs, and what they mean (the usual MPS manuals; the signs of ranges and of upper bounds
 -- below 0 are an own profile).
-use Rattle.std.specs.Prelude.{ℕ, suc, ◌<◌, nat_eq, Bool, true, false, cond, ◌||◌, ◌&&◌, IsTrue, List, [], ◌∷◌, length, map, get_or, Option, Some, None}
+use Rattle.std.specs.Prelude.{ℕ, suc, ◌<◌, pos, int_lt, nat_eq, Bool, true, false, cond, ◌||◌, ◌&&◌, IsTrue, List, [], ◌∷◌, length, map, get_or, Option, Some, None}
 use Rattle.std.specs.Option.{option_or}
 pub use Rattle.fractions.specs.Functions.{or_zero}
-use Rattle.fractions.specs.Functions.{is_smaller}
 use Rattle.fractions.specs.Rational.{ℚ, zero_ℚ, one_ℚ, ◌+ℚ◌, ◌-ℚ◌, ◌*ℚ◌, neg_ℚ, IsWhole}
 use Rattle.fractions.specs.Sums.{sum_over, sum_below}
 pub use Rattle.mps_model.specs.declared.kinds.RowKind.{RowKind}
@@ -74,7 +73,7 @@ with_values v m =
 -- ---- meaning
 -- x is below 0
 abbrev pub is_negative : ℚ → Bool
-is_negative x = is_smaller x zero_ℚ
+is_negative x = int_lt x.top (pos 0)
 
 -- the size of x, without its sign
 abbrev pub size_of : ℚ → ℚ
