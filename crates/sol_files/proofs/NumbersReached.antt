@@ -9,7 +9,7 @@ use Rattle.std.proofs.lemmas.List.{append-nil, append_assoc}
 use Rattle.exact_numbers.specs.declared.dec.Dec.{Dec}
 use Rattle.exact_numbers.specs.Numbers.{has_31_bits, are_digits, whole_of}
 use Rattle.exact_numbers.proofs.NumberLemmas.{signed_of-signed_decimal}
-use Rattle.nl_model.specs.HeaderRules.{has_second_three}
+use Rattle.shared_parts.specs.Options.{has_second_three}
 use Rattle.sol_files.specs.declared.awaited.Awaited.TheVariants.{OptionCount, Options, Constraints, DualCount, Variables, PrimalCount, Duals, Primals, Tail}
 use Rattle.sol_files.specs.Sol.{Sol}
 use Rattle.sol_files.specs.Built.{IsEmptyOrFull}

@@ -5,7 +5,7 @@ use Rattle.std.specs.Fmt.{decimal, signed_decimal}
 use Rattle.exact_numbers.specs.declared.dec.Dec.{Dec}
 use Rattle.texts.specs.Names.{is_name}
 use Rattle.exact_numbers.specs.Numbers.{has_31_bits, is_whole}
-use Rattle.nl_model.specs.HeaderRules.{has_second_three}
+use Rattle.shared_parts.specs.Options.{has_second_three}
 use Rattle.sol_files.specs.declared.suffix.SolSuffix.{SolSuffix}
 use Rattle.sol_files.specs.Sol.{Sol}
 use Rattle.sol_files.specs.Built.{AreGiven}
@@ -13,7 +13,7 @@ use Rattle.texts.specs.Cut.{IsTextLine, lines_text}
 use Rattle.written_texts.specs.Lines.{spaced, text_of}
 use Rattle.sol_files.specs.Parts.{is_options}
 use Rattle.sol_files.specs.Tests.{has_index}
-use Rattle.nl_model.specs.SuffixKinds.{object_limit, wants_whole}
+use Rattle.shared_parts.specs.SuffixKinds.{object_limit, wants_whole}
 
 -- ---- the text
 

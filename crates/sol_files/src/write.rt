@@ -9,7 +9,8 @@ ghost use Rattle.written_texts.specs.Lines.{spaced, text_of};
 use crate::sol::Sol;
 use crate::suffix::SolSuffix;
 use exact_numbers::Dec;
-use nl_model::{Options, Terms};
+use linear_program::Terms;
+use shared_parts::Options;
 use std::alloc::{AllocError, Global};
 use texts::TextLines;
 use written_texts::{
