@@ -20,7 +20,7 @@ use Rattle.nl_lines.specs.Rows.{row_words}
 use Rattle.nl_lines.specs.Saying.{with_piece}
 use Rattle.nl_lines.specs.Tests.{index_limit, wants_whole_values, holds_once, has_index, is_linear, is_suffix, is_repeated, is_same_piece, suffix_count}
 use Rattle.shared_parts.proofs.ObjectLemmas.{same_objects-comm}
-use Rattle.written_texts.specs.Lines.{WordLine}
+use Rattle.texts.specs.WordLines.{WordLine}
 use Rattle.nl_writer.specs.Written.{lettered, term_lines, guess_piece, by_number, term_piece, term_line, suffix_piece}
 use Rattle.written_texts.proofs.WrittenWords.{word-lettered, word-decimal, written-three}
 use Rattle.nl_round_trip.specs.InsideStandings.{rank, IsStanding, Reaches}

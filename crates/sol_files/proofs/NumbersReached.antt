@@ -16,7 +16,7 @@ use Rattle.sol_files.specs.Built.{IsEmptyOrFull}
 use Rattle.sol_files.specs.Tests.{row_tests, tail_tests, is_given_count}
 use Rattle.sol_files.specs.Steps.{after_row, options_await, values_await}
 use Rattle.sol_files.specs.Written.{objno_lines, IsSignedPair}
-use Rattle.written_texts.specs.Lines.{text_of}
+use Rattle.exact_numbers.specs.Values.{text_of}
 use Rattle.sol_files.proofs.ShortWords.{IsShortWord, word-decimal, word-signed, word-text}
 use Rattle.written_texts.proofs.NumbersRead.{whole_of-decimal, are_digits-decimal, dec_of-text}
 use Rattle.sol_files.proofs.Reached.{IsReached, AreWords, also, at, reached_row}

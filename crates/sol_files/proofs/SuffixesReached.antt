@@ -25,7 +25,7 @@ use Rattle.shared_parts.specs.SuffixKinds.{object_limit, objects_of, wants_whole
 use Rattle.exact_numbers.specs.Numbers.{is_whole}
 use Rattle.sol_files.specs.Steps.{after_row, after_at, named_suffix, rest_awaits}
 use Rattle.sol_files.specs.Written.{head_line, value_line, suffix_lines, are_values, IsWritableSuffix}
-use Rattle.written_texts.specs.Lines.{text_of}
+use Rattle.exact_numbers.specs.Values.{text_of}
 use Rattle.sol_files.proofs.LastLemmas.{change_last-end, last_of-end}
 use Rattle.written_texts.specs.Words.{IsWord}
 use Rattle.written_texts.proofs.WordLemmas.{row-spaced}

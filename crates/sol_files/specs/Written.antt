@@ -10,7 +10,8 @@ use Rattle.sol_files.specs.declared.suffix.SolSuffix.{SolSuffix}
 use Rattle.sol_files.specs.Sol.{Sol}
 use Rattle.sol_files.specs.Built.{AreGiven}
 use Rattle.texts.specs.Cut.{IsTextLine, lines_text}
-use Rattle.written_texts.specs.Lines.{spaced, text_of}
+use Rattle.texts.specs.WordLines.{spaced}
+use Rattle.exact_numbers.specs.Values.{text_of}
 use Rattle.sol_files.specs.Parts.{is_options}
 use Rattle.sol_files.specs.Tests.{has_index}
 use Rattle.shared_parts.specs.SuffixKinds.{object_limit, wants_whole}
