@@ -143,7 +143,7 @@ fn subtrees_after(subtrees: u64, node: ProofNode) -> u64
 
 impl ProofGrammar {
     /// No lines of a proof over so many rows and these variables.
-    #[tactic(auto, unfolding(crate::specs::Rows::rows_in))]
+    #[tactic(auto, unfolding(tree_text::specs::Rows::rows_in))]
     pub(crate) fn new(
         alloc: Global,
         rows: u32,
