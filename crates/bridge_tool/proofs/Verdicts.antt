@@ -14,8 +14,8 @@ use Rattle.exact_numbers.specs.declared.dec.Dec.{Dec}
 use Rattle.texts.specs.declared.stop.Stop.{Stop}
 use Rattle.texts.specs.declared.stop.Stop.TheVariants.{Fault, Memory}
 use Rattle.dual_bounds.specs.Terms.{values_of}
-use Rattle.sol_files.specs.declared.fitting.FitFault.{FitFault}
-use Rattle.sol_files.specs.declared.fitting.FitFault.TheVariants.{OtherCounts, NoPrimal, NoDual}
+use Rattle.solution_fit.specs.declared.fitting.FitFault.{FitFault}
+use Rattle.solution_fit.specs.declared.fitting.FitFault.TheVariants.{OtherCounts, NoPrimal, NoDual}
 use Rattle.file_certificates.specs.FileProblem.{problem_of}
 use Rattle.file_certificates.proofs.Verdicts.{file_verdicts}
 use Rattle.file_meaning.specs.FoldFaults.{fold_fault, FoldFault as FileFault}

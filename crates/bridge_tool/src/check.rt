@@ -21,7 +21,8 @@ use exact_numbers::Dec;
 use linear_program::Linear;
 use nl_model::NlFile;
 use nl_segments::NlRead;
-use sol_files::{Sol, fit};
+use sol_files::Sol;
+use solution_fit::fit;
 use std::alloc::{AllocError, Global};
 use texts::{Ledger, Steps, Stop};
 

@@ -67,7 +67,7 @@ use Rattle.command_parts.specs.InsideAnswer.{status_of, told_by}
 use Rattle.command_parts.specs.InsideRefusal.{fold_what, refusal_line}
 use Rattle.linear_fold.specs.Reasons.{fault_text as fold_text}
 use Rattle.command_parts.specs.VerdictTold.{negative_line}
-use Rattle.sol_files.specs.Fits.{fit_text}
+use Rattle.solution_fit.specs.Fits.{fit_text}
 use Rattle.command_parts.specs.declared.answer.Answer.{Answer as Ended}
 use Rattle.command_parts.specs.declared.answer.Answer.TheVariants.{Done, Refused}
 use Rattle.command_parts.specs.declared.refusal.Refusal.{Refusal}

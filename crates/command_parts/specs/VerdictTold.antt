@@ -2,8 +2,8 @@
 use Rattle.std.specs.Prelude.{ℕ, ℤ, Bool, true, false, List, ◌++◌, codes}
 use Rattle.std.specs.Fmt.{decimal, signed_decimal}
 use Rattle.duality.specs.Verdict.{Verdict, yes, gap, refused, Place, at_row, at_bound, at_cost, at_objective, at_total, Fault, row_broken, bound_broken, row_side_missing, bound_side_missing, too_wide}
-use Rattle.sol_files.specs.declared.fitting.FitFault.{FitFault}
-use Rattle.sol_files.specs.Fits.{fit_text}
+use Rattle.solution_fit.specs.declared.fitting.FitFault.{FitFault}
+use Rattle.solution_fit.specs.Fits.{fit_text}
 use Rattle.command_parts.specs.Told.{number_text}
 
 -- ---- verdicts

@@ -17,7 +17,8 @@ use name_files::NameFault;
 use nl_lines::NlFault;
 use proof_text::ProofFault;
 use scaling::ScaleFault;
-use sol_files::{FitFault, SolFault};
+use sol_files::SolFault;
+use solution_fit::FitFault;
 use written_texts::LineText;
 
 /// Why the input is refused: a fault of any stage, with what is told of it beside. A number in

@@ -7,7 +7,7 @@ ghost use Rattle.command_parts.specs.VerdictTold.{fit_line, is_yes, negative_lin
 use crate::told::{fixed, put, put_frac, put_index, put_signed};
 use dual_bounds::{Spot, Verdict};
 use exact_numbers::Frac;
-use sol_files::FitFault;
+use solution_fit::FitFault;
 use std::alloc::{AllocError, Global};
 use written_texts::LineText;
 

@@ -16,4 +16,3 @@ pub mod Written
 pub mod InsideFields
 pub mod InsideJudging
 pub mod Reasons
-pub mod Fits

@@ -1,10 +1,9 @@
-//! Reading and writing .sol files, building their values, and whether one belongs to an .nl file.
+//! Reading and writing .sol files, and building their values.
 #![tactic(auto)]
 
 mod awaited;
 mod builder;
 mod fault;
-mod fitting;
 mod grammar;
 pub mod laws;
 mod number_lines;
@@ -18,7 +17,6 @@ mod write;
 
 pub use builder::SolBuilder;
 pub use fault::{SolFault, SolReason};
-pub use fitting::{FitFault, SolutionCounts, fit, fit_counts};
 pub use reader::SolReader;
 pub use sol::Sol;
 pub use suffix::SolSuffix;
