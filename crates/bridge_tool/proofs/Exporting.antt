@@ -29,7 +29,7 @@ use Rattle.file_meaning.proofs.Folding.{clean_has_lines}
 use Rattle.file_meaning.proofs.Formed.{file_formed}
 use Rattle.nl_model.specs.Rules.{IsFile}
 use Rattle.nl_round_trip.proofs.Rewriting.{writable}
-use Rattle.command_parts.proofs.Reads.{nl_read}
+use Rattle.command_parts.proofs.TextsRead.{nl_read}
 use Rattle.command_parts.proofs.ExportStages.{staged_or_not, one_reason, staged, one_program, a_program, staged_so, exports_so}
 
 -- ---- what a file comes to

@@ -18,7 +18,7 @@ use Rattle.bridge_tool.specs.Verify.{IsDenied, IsVerified}
 use Rattle.bridge_tool.specs.VerifyMps.{IsDeniedMps, IsVerifiedMps}
 use Rattle.bridge_tool.proofs.Programs.{program_last, program_read}
 use Rattle.bridge_tool.proofs.Verdicts.{check_last, prove_last, verify_last}
-use Rattle.command_parts.proofs.Reads.{nl_read}
+use Rattle.command_parts.proofs.TextsRead.{nl_read}
 use Rattle.bridge_tool.proofs.Exporting.{export_last}
 use Rattle.bridge_tool.proofs.OneFile.{import_last, fixed_last, mps_last, nl_last, sol_last}
 use Rattle.bridge_tool.proofs.Making.{make_one}

@@ -42,7 +42,7 @@ use Rattle.command_parts.specs.SeveralFiles.{Comes}
 use Rattle.command_parts.specs.Stages.{HasFolded, HasScaled, CannotBeExported, fold_steps}
 use Rattle.command_parts.specs.declared.answer.Answer.{Answer}
 use Rattle.command_parts.proofs.Ending.{HasComeTo, ends_status, memory_worked, refused_worked, wrote_worked}
-use Rattle.command_parts.proofs.Reads.{nl_read, same_file}
+use Rattle.command_parts.proofs.TextsRead.{nl_read, same_file}
 use Rattle.command_parts.proofs.ExportStages.{exports_so, one_program, staged_so}
 use Rattle.bridge_tool.proofs.Exporting.{an_export, one_text, staged_either}
 use Rattle.command_parts.proofs.Known.{OnlyInput-same}

@@ -26,7 +26,7 @@ use Rattle.nl_segments.specs.Grammar.{NlValue}
 use Rattle.nl_segments.specs.Reader.{IsNl}
 use Rattle.nl_writer.specs.Written.{nl_text}
 use Rattle.command_parts.specs.Refusal.{HasTextRefusal, IsFixedRefused, IsMpsRefused, IsSolRefused}
-use Rattle.command_parts.proofs.Reads.{fixed_read, mps_read, nl_read, sol_read}
+use Rattle.command_parts.proofs.TextsRead.{fixed_read, mps_read, nl_read, sol_read}
 use Rattle.std.specs.Global.{Vec}
 use Rattle.mps_import.proofs.LawLemmas.{feasible_lem, objective_lem, sense_lem}
 use Rattle.mps_import.specs.declared.import_fault.ImportFault.{ImportFault}

@@ -45,7 +45,7 @@ use Rattle.command_parts.specs.declared.answer.Answer.TheVariants.{Refused, Inpu
 use Rattle.command_parts.specs.declared.refusal.Refusal.{Refusal}
 use Rattle.bridge_tool.specs.declared.verify_mps.Form.{Form}
 use Rattle.bridge_tool.specs.declared.verify_mps.Form.TheVariants.{Free, Fixed}
-use Rattle.command_parts.proofs.Reads.{certificate_read, fixed_read, mps_read}
+use Rattle.command_parts.proofs.TextsRead.{certificate_read, fixed_read, mps_read}
 use Rattle.command_parts.proofs.SeveralFiles.{AreRead, IsLast, IsPlain, same_one}
 use Rattle.bridge_tool.proofs.Verdicts.{ClaimSays, claim_means}
 

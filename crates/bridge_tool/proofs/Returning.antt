@@ -30,7 +30,7 @@ use Rattle.bridge_tool.specs.Return.{IsReturnMeant, IsReturned, IsReturnRefused,
 use Rattle.command_parts.specs.Stages.{HasFolded, HasScaled, CanBeExported, CannotBeExported, fold_steps}
 use Rattle.command_parts.proofs.SeveralFiles.{IsEither, IsLast, IsSound, NoVerdict, either_last, last_sound}
 use Rattle.command_parts.proofs.ExportStages.{folded_at, one_reason, staged, staged_or_not, staged_so}
-use Rattle.command_parts.proofs.Reads.{answer_read}
+use Rattle.command_parts.proofs.TextsRead.{answer_read}
 
 -- ---- the second file
 

@@ -39,7 +39,7 @@ use Rattle.command_parts.specs.SeveralFiles.{ByVerdict, Comes}
 use Rattle.command_parts.specs.Stages.{Folds, HasFolded, fold_steps}
 use Rattle.command_parts.specs.VerdictTold.{fit_line, is_yes, negative_line, verdict_line}
 use Rattle.command_parts.proofs.SeveralFiles.{IsPlain, IsLast, verdict_last}
-use Rattle.command_parts.proofs.Reads.{certificate_read, proof_read, sol_read}
+use Rattle.command_parts.proofs.TextsRead.{certificate_read, proof_read, sol_read}
 use Rattle.command_parts.specs.declared.refusal.Refusal.{Refusal}
 use Rattle.duality.specs.Branch.{LeafFault, proof_fault}
 use Rattle.duality.proofs.Causes.{denied}

@@ -3,5 +3,5 @@ pub mod Ending
 pub mod SeveralFiles
 pub mod FaultLines
 pub mod NameLists
-pub mod Reads
+pub mod TextsRead
 pub mod ExportStages

@@ -21,7 +21,7 @@ use Rattle.command_parts.specs.Refusal.{HasTextRefusal}
 use Rattle.command_parts.specs.SeveralFiles.{ReadsFile, itself, after_file, desk_promise}
 use Rattle.command_parts.specs.declared.answer.Answer.{Answer}
 use Rattle.command_parts.proofs.SeveralFiles.{AreRead, read_by, HasComeDown, IsSound, first_down, first_sound, first_stopped, further, sound_after, stopped}
-use Rattle.command_parts.proofs.Reads.{nl_read}
+use Rattle.command_parts.proofs.TextsRead.{nl_read}
 use Rattle.command_parts.specs.InsideAnswer.{IsCounted}
 use Rattle.command_parts.specs.Promise.{Promise}
 

@@ -1,5 +1,5 @@
 use Rattle.std.proofs.Common.{rules}
-use Rattle.command_parts.proofs.Reads.{refused_so}
+use Rattle.command_parts.proofs.TextsRead.{refused_so}
 use Rattle.command_parts.proofs.answer_input.judge_answer.Goals as goal
 
 pub returns-in-Err-clause-says : goal.returns-in-Err-clause-says
