@@ -13,10 +13,11 @@ use crate::one_file::{answered, missed, read};
 use crate::refusal::Refusal;
 use crate::transfer::Feed;
 use answer_file::{Answer as Given, AnswerReader};
-use name_files::NameList;
+use desk::Desk;
+use name_lists::NameList;
 use nl_model::NlFile;
 use std::alloc::Global;
-use text_base::{Desk, Stop};
+use texts::Stop;
 
 impl Feed for AnswerReader {
     ghost use Rattle.answer_file.specs.Names.{Setting};

@@ -18,10 +18,11 @@ use crate::refusal::Refusal;
 use crate::transfer::{Feed, LIMIT, Unread};
 use certificate_text::CertificateReader;
 use certificates::Certificate;
+use desk::Desk;
 use linear_program::Kind;
 use nl_model::{NlFile, all_kinds};
 use std::alloc::Global;
-use text_base::{Desk, Stop};
+use texts::Stop;
 
 impl Feed for CertificateReader {
     ghost use Rattle.certificate_text.specs.Reader.{IsFed};

@@ -22,14 +22,16 @@ use crate::refusal::Refusal;
 use crate::sol_input::open_sol;
 use crate::stages::fold;
 use crate::verdict_told::{is_yes, verdict_line};
-use certificate_check::{Columns, Verdict, certify, fit};
+use certificate_check::fit;
+use desk::Desk;
+use dual_bounds::{Columns, Verdict, certify};
 use exact_numbers::Dec;
-use linear_fold::Linear;
+use linear_program::Linear;
 use nl_model::NlFile;
 use nl_segments::NlRead;
 use sol_files::Sol;
 use std::alloc::{AllocError, Global};
-use text_base::{Desk, Ledger, Steps, Stop};
+use texts::{Ledger, Steps, Stop};
 
 // The number of the objective: that of the objno line, or 0 without one.
 fn objective_number(sol: &Sol) -> i32

@@ -15,10 +15,12 @@ use crate::nl_input::open_nl;
 use crate::one_file::end;
 use crate::refusal::Refusal;
 use crate::stages::{fold_read, scale};
+use desk::Desk;
 use nl_segments::NlRead;
-use row_scaling::{Scaled, write_exported};
+use row_scaling::write_exported;
+use scaling::Scaled;
 use std::alloc::{AllocError, Global};
-use text_base::{Desk, Ledger, Steps, Stop};
+use texts::{Ledger, Steps, Stop};
 
 // The written text of the program of a scaled one.
 fn write_program(alloc: Global, scaled: Scaled) -> Result<Vec<u8>, AllocError>

@@ -7,8 +7,8 @@ use crate::answer::Answer;
 use crate::mps::to_output;
 use crate::mps_input::open_fixed;
 use crate::one_file::end;
+use desk::Desk;
 use std::alloc::Global;
-use text_base::Desk;
 
 /// Writes an MPS file of fixed columns as free text: reads its text, judges it, and writes what it
 /// comes to. Tells nothing.

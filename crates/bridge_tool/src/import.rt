@@ -9,11 +9,12 @@ use crate::answer::Answer;
 use crate::mps_input::open_mps;
 use crate::one_file::end;
 use crate::refusal::Refusal;
+use desk::Desk;
 use mps_import::import;
 use mps_model::Mps;
 use nl_writer::write_nl;
 use std::alloc::Global;
-use text_base::{Desk, Stop};
+use texts::Stop;
 
 // The bytes to write for a program, or why it is refused.
 fn to_output(alloc: Global, mps: &Mps) -> Result<(bool, Vec<u8>), Stop<Refusal>>

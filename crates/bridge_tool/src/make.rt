@@ -16,13 +16,14 @@ use crate::one_file::end;
 use crate::refusal::Refusal;
 use crate::stages::{exported, fold_read, scale};
 use crate::summary::{coefficient_count, exported_count, summary_line};
+use desk::Desk;
 use instances::make_instance;
 use mps_writer::write_mps;
 use nl_segments::{NlRead, read_nl};
 use nl_writer::write_nl;
-use row_scaling::Scaled;
+use scaling::Scaled;
 use std::alloc::{AllocError, Global};
-use text_base::{Desk, Ledger, Steps, Stop};
+use texts::{Ledger, Steps, Stop};
 
 // The summary of the program of a scaled one, which has so many variables and exported rows.
 fn sum_up(alloc: Global, scaled: Scaled, variables: u32, rows: usize) -> Result<Vec<u8>, AllocError>

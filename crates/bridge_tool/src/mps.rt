@@ -11,10 +11,11 @@ use crate::answer::Answer;
 use crate::mps_input::open_mps;
 use crate::one_file::end;
 use crate::refusal::Refusal;
+use desk::Desk;
 use mps_model::Mps;
 use mps_writer::write_mps;
 use std::alloc::Global;
-use text_base::{Desk, Stop};
+use texts::Stop;
 
 /// The bytes to write for a program.
 pub(crate) fn to_output(alloc: Global, mps: &Mps) -> Result<(bool, Vec<u8>), Stop<Refusal>>

@@ -13,11 +13,12 @@ use crate::answer::Answer;
 use crate::one_file::{answered, missed, read_new};
 use crate::refusal::Refusal;
 use crate::transfer::Feed;
+use desk::Desk;
 use fixed_mps::FixedReader;
 use mps_model::Mps;
 use mps_reader::MpsReader;
 use std::alloc::Global;
-use text_base::{Desk, Stop};
+use texts::Stop;
 
 impl Feed for MpsReader {
     ghost use Rattle.mps_reader.specs.Reader.{IsFed};

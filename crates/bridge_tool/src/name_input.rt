@@ -14,10 +14,12 @@ use crate::answer::Answer;
 use crate::one_file::{answered, missed, read};
 use crate::refusal::Refusal;
 use crate::transfer::{Feed, LIMIT, Unread};
-use name_files::{NameList, NameReader};
+use desk::Desk;
+use name_files::NameReader;
+use name_lists::NameList;
 use nl_model::NlFile;
 use std::alloc::Global;
-use text_base::{Desk, Stop};
+use texts::Stop;
 
 impl Feed for NameReader {
     ghost use Rattle.name_files.specs.Names.{Counts};

@@ -17,13 +17,15 @@ use crate::nl_input::open_nl;
 use crate::one_file::end;
 use crate::refusal::Refusal;
 use crate::stages::{exported, fold_read, scale};
+use desk::Desk;
 use mps_model::Mps;
 use mps_writer::write_mps;
-use name_files::{NameList, rename};
+use name_files::rename;
+use name_lists::NameList;
 use nl_segments::NlRead;
-use row_scaling::Scaled;
+use scaling::Scaled;
 use std::alloc::{AllocError, Global};
-use text_base::{Desk, Ledger, Steps, Stop};
+use texts::{Ledger, Steps, Stop};
 
 // The program with these names; the one without them is let go.
 fn renamed(

@@ -10,10 +10,11 @@ use crate::answer::Answer;
 use crate::nl_input::open_nl;
 use crate::one_file::end;
 use crate::refusal::Refusal;
+use desk::Desk;
 use nl_segments::NlRead;
 use nl_writer::write_nl;
 use std::alloc::Global;
-use text_base::{Desk, Stop};
+use texts::Stop;
 
 // The bytes to write for a file.
 fn to_output(alloc: Global, read: NlRead) -> Result<(bool, Vec<u8>), Stop<Refusal>>

@@ -11,9 +11,10 @@ use crate::answer::Answer;
 use crate::one_file::{answered, missed, read_new};
 use crate::refusal::Refusal;
 use crate::transfer::Feed;
+use desk::Desk;
 use nl_segments::{NlRead, NlReader};
 use std::alloc::Global;
-use text_base::{Desk, Stop};
+use texts::Stop;
 
 impl Feed for NlReader {
     ghost use Rattle.nl_segments.specs.Reader.{IsFed};

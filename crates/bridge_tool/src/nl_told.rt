@@ -6,8 +6,9 @@ ghost use Rattle.bridge_tool.specs.NlTold.{HasLine, fold_line, nl_line, opcode_t
 use crate::refusal::Refusal;
 use crate::told::{put_number, put_refused_at, refusal};
 use linear_fold::FoldFault;
-use nl_segments::{NlFault, NlReason, Places};
-use row_scaling::ScaleFault;
+use nl_lines::{NlFault, NlReason};
+use nl_segments::Places;
+use scaling::ScaleFault;
 use written_texts::LineText;
 
 // What is said of a fault of an .nl text.

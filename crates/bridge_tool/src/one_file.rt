@@ -8,8 +8,9 @@ ghost use Rattle.bridge_tool.specs.Transfer.{HasRead, HasReadCause};
 use crate::answer::Answer;
 use crate::refusal::Refusal;
 use crate::transfer::{Feed, LIMIT, Unread, feed_text, write_all};
+use desk::Desk;
 use std::alloc::{AllocError, Global};
-use text_base::{Desk, Stop};
+use texts::Stop;
 
 /// Feeds a new reader the named text.
 pub(crate) fn read<D: Desk, R: Feed + Drop>(

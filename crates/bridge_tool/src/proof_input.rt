@@ -16,11 +16,12 @@ use crate::answer::Answer;
 use crate::one_file::{answered, missed, read};
 use crate::refusal::Refusal;
 use crate::transfer::{Feed, LIMIT, Unread};
-use branch_proof::Proof;
+use certificates::proof::Proof;
+use desk::Desk;
 use nl_model::NlFile;
 use proof_text::ProofReader;
 use std::alloc::Global;
-use text_base::{Desk, Stop};
+use texts::Stop;
 
 impl Feed for ProofReader {
     ghost use Rattle.proof_text.specs.Reader.{IsFed};

@@ -5,7 +5,7 @@ ghost use Rattle.bridge_tool.specs.ProofTold.{leaf_line, proof_reason_text};
 
 use crate::leaf_told::{put_gap, put_side, put_wide};
 use crate::told::put;
-use branch_proof::ProofVerdict;
+use branch_check::ProofVerdict;
 use proof_text::ProofReason;
 use std::alloc::{AllocError, Global};
 

@@ -19,13 +19,14 @@ use crate::proof_input::open_proof;
 use crate::proof_told::leaf_line;
 use crate::refusal::Refusal;
 use crate::stages::fold_read;
-use branch_check::check_proof_by_rows;
-use branch_proof::{Claim, Proof, ProofVerdict};
+use branch_check::{ProofVerdict, check_proof_by_rows};
+use certificates::proof::{Claim, Proof};
+use desk::Desk;
 use dual_bounds::Program;
-use linear_fold::Linear;
+use linear_program::Linear;
 use nl_segments::NlRead;
 use std::alloc::{AllocError, Global};
-use text_base::{Desk, Ledger, Steps, Stop};
+use texts::{Ledger, Steps, Stop};
 
 // The number of the objective of the claim; 0 where it is of none.
 fn claimed_objective(proof: &Proof) -> u32

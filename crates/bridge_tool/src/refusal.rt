@@ -20,9 +20,9 @@ use linear_fold::FoldFault;
 use mps_import::ImportFault;
 use mps_reader::MpsFault;
 use name_files::NameFault;
-use nl_segments::NlFault;
+use nl_lines::NlFault;
 use proof_text::ProofFault;
-use row_scaling::ScaleFault;
+use scaling::ScaleFault;
 use sol_files::SolFault;
 use written_texts::LineText;
 

@@ -19,11 +19,12 @@ use crate::one_file::end;
 use crate::refusal::Refusal;
 use crate::stages::{fold, scale};
 use answer_file::Answer as Given;
+use desk::Desk;
 use dual_return::{ReturnFault, solution};
 use nl_segments::NlRead;
 use sol_files::{Sol, write_sol};
 use std::alloc::Global;
-use text_base::{Desk, Ledger, Steps, Stop};
+use texts::{Ledger, Steps, Stop};
 
 fn refused(stop: Stop<ReturnFault>) -> Stop<Refusal>
     ensures { result ≡ refused_by IsWideDual stop }

@@ -11,9 +11,10 @@ use crate::answer::Answer;
 use crate::one_file::end;
 use crate::refusal::Refusal;
 use crate::sol_input::open_sol;
+use desk::Desk;
 use sol_files::{Sol, write_sol};
 use std::alloc::Global;
-use text_base::{Desk, Stop};
+use texts::Stop;
 
 // The bytes to write for a value.
 fn to_output(alloc: Global, sol: &Sol) -> Result<(bool, Vec<u8>), Stop<Refusal>>

@@ -12,9 +12,10 @@ use crate::answer::Answer;
 use crate::one_file::{answered, missed, read_new};
 use crate::refusal::Refusal;
 use crate::transfer::Feed;
+use desk::Desk;
 use sol_files::{Sol, SolReader};
 use std::alloc::Global;
-use text_base::{Desk, Stop};
+use texts::Stop;
 
 impl Feed for SolReader {
     ghost use Rattle.sol_files.specs.Reader.{IsFed};

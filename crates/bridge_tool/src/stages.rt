@@ -12,12 +12,14 @@ ghost use Rattle.bridge_tool.specs.Stages.{Folds, Scales, fold_steps};
 
 use crate::nl_told::fold_refusal;
 use crate::refusal::Refusal;
-use linear_fold::{Linear, fold_all, fold_file};
+use linear_fold::{fold_all, fold_file};
+use linear_program::Linear;
 use mps_model::Mps;
 use nl_segments::NlRead;
-use row_scaling::{Scaled, program, scale_program};
+use row_scaling::program;
+use scaling::{Scaled, scale_program};
 use std::alloc::{AllocError, Global};
-use text_base::{Ledger, Steps, Stop};
+use texts::{Ledger, Steps, Stop};
 
 /// The linear program of what was read, or its first fault. A fault that was found wants no memory.
 pub(crate) fn fold<L: Ledger>(

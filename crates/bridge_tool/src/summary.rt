@@ -11,9 +11,8 @@ ghost use Rattle.bridge_tool.specs.Make.{coefficient_count, exported_count, is_c
 use crate::told::put;
 use exact_numbers::Dec;
 use itoa::Buffer;
-use linear_fold::Linear;
+use linear_program::{Interval, Linear};
 use mps_model::{Mps, MpsColumn};
-use nl_model::Interval;
 use std::alloc::{AllocError, Global};
 
 fn count_sides(sides: &[Interval]) -> usize

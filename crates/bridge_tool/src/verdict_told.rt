@@ -5,7 +5,8 @@ ghost use Rattle.dual_bounds.specs.declared.verdict.Verdict.TheVariants.{Gap, To
 ghost use Rattle.bridge_tool.specs.VerdictTold.{fit_line, fit_text, is_yes, negative_line, place_text, verdict_line, verdict_text};
 
 use crate::told::{fixed, put, put_frac, put_index, put_signed};
-use certificate_check::{FitFault, Spot, Verdict};
+use certificate_check::FitFault;
+use dual_bounds::{Spot, Verdict};
 use exact_numbers::Frac;
 use std::alloc::{AllocError, Global};
 use written_texts::LineText;

@@ -21,11 +21,12 @@ use crate::refusal::Refusal;
 use crate::stages::fold_read;
 use certificate_walk::{Outcome, check_certificate};
 use certificates::Certificate;
+use desk::Desk;
 use dual_bounds::Program;
-use linear_fold::Linear;
+use linear_program::Linear;
 use nl_segments::NlRead;
 use std::alloc::{AllocError, Global};
-use text_base::{Desk, Ledger, Steps, Stop};
+use texts::{Ledger, Steps, Stop};
 
 /// The verdict on a certificate for a linear program, which is let go as soon as its rows are held.
 pub(crate) fn outcome_on(

@@ -20,12 +20,14 @@ use crate::one_file::{answered, end};
 use crate::refusal::Refusal;
 use crate::verify::{outcome_on, told_outcome};
 use certificates::Certificate;
-use linear_fold::{FoldFault, Linear};
+use desk::Desk;
+use linear_fold::FoldFault;
+use linear_program::Linear;
 use mps_import::ImportFault;
 use mps_model::Mps;
 use mps_program::{MpsFault, linear_of};
 use std::alloc::Global;
-use text_base::{Desk, Stop};
+use texts::Stop;
 
 /// How an MPS text stands on its lines: in free form, or in fixed columns.
 #[derive(Clone, Copy)]
