@@ -13,15 +13,20 @@ usual. It needs `cc`.
 is below 4 GB; words after it choose those whose names hold one. Without words all parts but `largest` run.
 The last line of each part counts its runs; the status is 0 where none failed.
 """
+from __future__ import annotations
+
 import os
 import subprocess
 import sys
 import tempfile
+from collections.abc import Callable, Sequence
+from typing import Any
 
 import limits
 from cases import check, fixed, mps, prove, returned, sol, verify
 from cases.texts import KNAPSACK, lines, text
 
+Done = subprocess.CompletedProcess[bytes]
 HERE = os.path.dirname(os.path.abspath(__file__))
 # one accepted example of each command: its words after the command are its files
 COMMANDS = {
@@ -47,7 +52,7 @@ CUT = {
 }
 
 
-def spelled(example, names):
+def spelled(example: str, names: Sequence[str]) -> list[str]:
     """The words of an example with files of these names."""
     if example == "export with names":
         return ["export", names[0], "0", *names[1:]]
@@ -57,38 +62,40 @@ def spelled(example, names):
 class Runs:
     """Runs of the program in a folder of its own, with their failures."""
 
-    def __init__(self, program):
+    def __init__(self, program: str) -> None:
         self.program = os.path.abspath(program)
         self.folder = tempfile.TemporaryDirectory()
         self.count = 0
         self.failed = 0
 
-    def path(self, name):
+    def path(self, name: str) -> str:
         return os.path.join(self.folder.name, name)
 
-    def write(self, files):
+    def write(self, files: Sequence[bytes]) -> list[str]:
         names = list("ABCD"[: len(files)])
         for name, content in zip(names, files):
             with open(self.path(name), "wb") as stream:
                 stream.write(content)
         return names
 
-    def run(self, command, files, words=(), **more):
+    def run(self, command: str, files: Sequence[bytes], words: Sequence[str] = (), **more: Any) -> Done:
         names = self.write(files)
         self.count += 1
-        return subprocess.run([self.program, *spelled(command, names), *words], cwd=self.folder.name, capture_output=True, timeout=600, **more)
+        whole = [self.program, *spelled(command, names), *words]
+        done: Done = subprocess.run(whole, cwd=self.folder.name, capture_output=True, timeout=600, **more)
+        return done
 
-    def expect(self, holds, what, done):
+    def expect(self, holds: bool, what: str, done: Done) -> None:
         if not holds:
             self.failed += 1
             print(f"{what}: {done.returncode} {done.stdout[:100]!r} {done.stderr[:100]!r}")
 
-    def end(self, part):
+    def end(self, part: str) -> bool:
         print(f"{part}: {self.count} runs, {self.failed} failed")
         return self.failed == 0
 
 
-def is_judged(done):
+def is_judged(done: Done) -> bool:
     """Whether an answer of a text that may be cut is one of the three that may come."""
     told = done.stderr.decode()
     if done.returncode == 2:
@@ -96,7 +103,7 @@ def is_judged(done):
     return done.returncode in (0, 1) and told == "" and done.stdout != b""
 
 
-def known(program, command):
+def known(program: str, command: str) -> bool:
     """Whether this program has the command."""
     done = subprocess.run([program, command.split()[0]], capture_output=True, timeout=60)
     names = subprocess.run([program, *COMMANDS_WORDS[command]], capture_output=True, timeout=60)
@@ -106,7 +113,7 @@ def known(program, command):
 COMMANDS_WORDS = {command: spelled(command, ["/nonexistent/A"] * len(files)) for command, files in COMMANDS.items()} | {"make": ["make", "1", "1"]}
 
 
-def truncation(program):
+def truncation(program: str) -> bool:
     runs = Runs(program)
     for told, counts in CUT.items():
         for count in counts:
@@ -130,11 +137,12 @@ def truncation(program):
     return runs.end("truncation")
 
 
-def memory(program):
+def memory(program: str) -> bool:
     runs = Runs(program)
     library = runs.path("refuse.so")
     subprocess.run(["cc", "-O2", "-shared", "-fPIC", "-o", library, os.path.join(HERE, "refuse.c"), "-ldl"], check=True)
-    for command, files in [*COMMANDS.items(), ("make", [])]:
+    examples: list[tuple[str, list[bytes]]] = [*COMMANDS.items(), ("make", [])]
+    for command, files in examples:
         if not known(runs.program, command):
             print(f"{command}: not known to this program")
             continue
@@ -159,12 +167,12 @@ def memory(program):
     return runs.end("memory")
 
 
-def main():
+def main() -> None:
     if len(sys.argv) < 2:
         sys.exit(__doc__)
     program, *wanted = sys.argv[1:]
     chosen = wanted[wanted.index("largest") + 1:] if "largest" in wanted else []
-    parts = {
+    parts: dict[str, Callable[[str], bool]] = {
         "truncation": truncation,
         "memory": memory,
         "limits": lambda it: limits.run(it, "limits", lambda limit: not limit.large),

@@ -6,6 +6,8 @@
 With commands, only their examples are run. The last line is `N examples, M failed`; the status is 0 where none failed.
 Each text was worked out by hand from the rules of the format.
 """
+from __future__ import annotations
+
 import importlib
 import os
 import pkgutil
@@ -13,20 +15,22 @@ import resource
 import subprocess
 import sys
 import tempfile
+from collections.abc import Iterator, Mapping, Sequence
 from functools import partial
 
 import cases
 from cases.meaning import is_same_in_groups
+from cases.texts import Case
 
 
 class Program:
     """The built program, run in a folder of its own."""
 
-    def __init__(self, path):
+    def __init__(self, path: str) -> None:
         self.path = os.path.abspath(path)
         self.folder = tempfile.TemporaryDirectory()
 
-    def run(self, words, files, seconds=600):
+    def run(self, words: Sequence[str], files: Mapping[str, bytes], seconds: int = 600) -> subprocess.CompletedProcess[bytes]:
         """The finished process for these words, where these files lie; it is killed after so many seconds of the processor."""
         for name, content in files.items():
             with open(os.path.join(self.folder.name, name), "wb") as stream:
@@ -34,13 +38,13 @@ class Program:
         limit = partial(resource.setrlimit, resource.RLIMIT_CPU, (seconds, seconds))
         return subprocess.run([self.path, *words], cwd=self.folder.name, capture_output=True, timeout=600, preexec_fn=limit)
 
-    def output(self, content, command, *words):
+    def output(self, content: bytes, command: str, *words: str) -> bytes | None:
         """What the command writes on this file, or None where it refuses."""
         done = self.run((command, "AGAIN", *words), {"AGAIN": content})
         return done.stdout if done.returncode == 0 else None
 
 
-def is_written_again(program, content, exported, words):
+def is_written_again(program: Program, content: bytes, exported: bytes, words: Sequence[str]) -> bool:
     """What was exported is written again unchanged by `mps`, and the written .nl text by `nl`, which is exported as the same."""
     file = program.output(content, "nl")
     return (
@@ -51,13 +55,13 @@ def is_written_again(program, content, exported, words):
     )
 
 
-def is_imported(program, text, file):
+def is_imported(program: Program, text: bytes, file: bytes | None) -> bool:
     """The file that was imported from an MPS text is exported as the same program, its columns in groups."""
-    exported = file and program.output(file, "export")
+    exported = None if file is None else program.output(file, "export")
     return exported is not None and is_same_in_groups(text.decode(), exported.decode())
 
 
-def is_kept(program, case, out):
+def is_kept(program: Program, case: Case, out: bytes) -> bool:
     """Whether what was written says the same after another way through the program."""
     command, *words = case.words
     if case.status:
@@ -69,7 +73,7 @@ def is_kept(program, case, out):
     return command != "import" or is_imported(program, case.files["A"], out)
 
 
-def check(program, case):
+def check(program: Program, case: Case) -> bool:
     """Whether the program does what the example says; tells where not."""
     done = program.run(case.words, case.files, case.seconds)
     got = (done.returncode, done.stdout.decode(), done.stderr.decode())
@@ -84,7 +88,7 @@ def check(program, case):
     return False
 
 
-def examples(commands):
+def examples(commands: Sequence[str]) -> Iterator[Case]:
     """The examples of all modules of `cases`, of these commands alone where there are some."""
     for module in pkgutil.iter_modules(cases.__path__):
         found = importlib.import_module(f"cases.{module.name}")
@@ -93,7 +97,7 @@ def examples(commands):
                 yield case
 
 
-def main():
+def main() -> None:
     if len(sys.argv) < 2:
         sys.exit(__doc__)
     program = Program(sys.argv[1])

@@ -9,18 +9,20 @@ FORM  linear   the terms stand under J (what modelling systems write)
 Half of the variables are whole. Coefficients are decimals of one to six digits
 behind the point. The same arguments give the same text.
 """
+from __future__ import annotations
+
 import random
 import sys
 
 
-def decimal(rnd):
+def decimal(rnd: random.Random) -> str:
     """A decimal text that is not 0."""
     digits = rnd.randint(1, 6)
     text = "%.*f" % (digits, rnd.random() * 100 - 50)
     return text if float(text) != 0 else "0.5"
 
 
-def header(variables, rows, binary, integer, terms, defined):
+def header(variables: int, rows: int, binary: int, integer: int, terms: int, defined: int) -> str:
     return (
         "g3 1 1 0\t# a large text\n"
         f" {variables} {rows} 1 0 0\n 0 0\n 0 0\n 0 0 0\n 0 0 0 1\n"
@@ -28,7 +30,7 @@ def header(variables, rows, binary, integer, terms, defined):
     )
 
 
-def main():
+def main() -> None:
     if len(sys.argv) < 5:
         sys.exit(__doc__)
     out = sys.argv[1]

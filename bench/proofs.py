@@ -55,7 +55,7 @@ def loaded(bridge: Bridge, nl: str) -> Model:
 def searched(model: Model, value: Fraction, spool: Spool, seconds: float) -> Tree:
     """A tree of splits whose leaves reach the value."""
     target = model.sign * value
-    watch = Watch(seconds, "proofs.py")
+    watch = Watch(seconds)
     search = Search(model, Goal(target), spool, watch, seconds or float("inf"), MOST_NODES)
     search.closer = Decimals(model, target)
     return search.run()

@@ -8,6 +8,8 @@ which the fastest counts. A stage begins with the first sample in a function tha
 one begins, so that what it takes from the memory and from the system counts for it. The memory is the resident set,
 read every millisecond.
 """
+from __future__ import annotations
+
 import os
 import re
 import subprocess
@@ -26,14 +28,15 @@ STAGES = [
 ]
 
 
-def resident(recorder, found):
+def resident(recorder: subprocess.Popen[bytes], found: list[tuple[float, int]]) -> None:
     """Notes the resident set of the process that perf runs, with the time, until perf ends."""
-    page, child = os.sysconf("SC_PAGE_SIZE"), None
+    page = os.sysconf("SC_PAGE_SIZE")
+    child: str | None = None
     while recorder.poll() is None:
         try:
             if child is None:
                 with open(f"/proc/{recorder.pid}/task/{recorder.pid}/children") as children:
-                    child = (children.read().split() or [None])[0]
+                    child = next(iter(children.read().split()), None)
             else:
                 with open(f"/proc/{child}/statm") as numbers:
                     found.append((time.monotonic(), int(numbers.read().split()[1]) * page))
@@ -42,9 +45,10 @@ def resident(recorder, found):
         time.sleep(0.001)
 
 
-def samples(program, text, folder):
+def samples(program: str, text: str, folder: str) -> tuple[list[tuple[float, str]], list[tuple[float, int]]]:
     """The samples of a run, as pairs of a time and a function, and its resident set by time."""
-    data, sizes = f"{folder}/perf.data", []
+    data = f"{folder}/perf.data"
+    sizes: list[tuple[float, int]] = []
     events = ["perf", "record", "-q", "-e", "cpu-clock", "-F", "5000", "-k", "mono", "-o", data]
     with open(os.devnull, "wb") as nothing:
         recorder = subprocess.Popen([*events, program, "export", text], stdout=nothing, stderr=nothing)
@@ -62,7 +66,7 @@ def samples(program, text, folder):
     return found, sizes
 
 
-def starts(found):
+def starts(found: list[tuple[float, str]]) -> list[float]:
     """The time at which each stage begins."""
     begun, stage = [found[0][0]], 0
     for moment, name in found:
@@ -72,7 +76,7 @@ def starts(found):
     return begun
 
 
-def main(program, text, terms, runs="5"):
+def main(program: str, text: str, terms: str, runs: str = "5") -> None:
     best, program = None, os.path.abspath(program)
     with tempfile.TemporaryDirectory() as folder:
         for _ in range(int(runs)):

@@ -9,6 +9,8 @@ libraries. A crate below CRATE that differs here from GATE's is taken from this 
 two builds of one crate do not go together: OWN (a variable, names of crates) are those taken from this clone although
 their text is the same, since a crate below them differs.
 """
+from __future__ import annotations
+
 import os
 import shutil
 import subprocess
@@ -20,7 +22,7 @@ GATE = os.path.abspath(os.environ.get("GATE", f"{TOP}/../gate"))
 PARTS = ("src", "specs", "proofs")
 
 
-def uses():
+def uses() -> dict[str, list[str]]:
     """The libraries that each crate uses, of crates.txt."""
     found = {}
     with open(f"{TOP}/crates.txt") as lines:
@@ -31,7 +33,7 @@ def uses():
     return found
 
 
-def below(used, crate, seen):
+def below(used: dict[str, list[str]], crate: str, seen: list[str]) -> list[str]:
     """Our own crates below one, each after those that it uses."""
     for name in used[crate]:
         if name in used and name not in seen:
@@ -40,7 +42,7 @@ def below(used, crate, seen):
     return seen
 
 
-def is_same(crate):
+def is_same(crate: str) -> bool:
     """Whether a crate's text is the same here and at GATE, and it is not to be taken from here all the same."""
     if crate in os.environ.get("OWN", "").split():
         return False
@@ -52,7 +54,7 @@ def is_same(crate):
     return True
 
 
-def library(crate):
+def library(crate: str) -> str:
     """The proved library of a crate."""
     own, gate = (f"{top}/crates/{crate}/out/rlib/{crate}.rlib" for top in (TOP, GATE))
     found = gate if is_same(crate) else own
@@ -61,7 +63,7 @@ def library(crate):
     return found
 
 
-def words(crate):
+def words(crate: str) -> list[str]:
     """The words that name the crate and all libraries for rattle."""
     used = uses()
     found = ["--crate-name", crate]
@@ -79,8 +81,7 @@ def words(crate):
     return [*found, "--logic-built", f"{KIT}/logic_built", "--links", f"{crate}="]
 
 
-def main(crate, *flags):
-    flags = list(flags)
+def main(crate: str, flags: list[str]) -> int:
     folder = f"{TOP}/crates/{crate}"
     if "--library" in flags:
         flags.remove("--library")
@@ -98,4 +99,4 @@ def main(crate, *flags):
 if __name__ == "__main__":
     if len(sys.argv) < 2:
         sys.exit(__doc__)
-    sys.exit(main(*sys.argv[1:]))
+    sys.exit(main(sys.argv[1], sys.argv[2:]))

@@ -4,6 +4,8 @@
     dev/map.py --write      writes the table between its marks in docs/dev/design.md, and docs/pictures/crates-*.svg
     dev/map.py --check      says whether both are as --write makes them; status 1 where one is not
     dev/map.py --chain      the longest chain of crates, from the program down
+    dev/map.py --chains     for each crate how long the longest chain below it is, itself counted, and how many crates
+                            and lines of proved text a change of it proves again, itself and the tests counted
 
 A heading of crates.txt (`# room: what is in it`) is a room; the comment that begins a crate's root file says what it is.
 """
@@ -96,6 +98,31 @@ def chain(uses: dict[str, list[str]], top: str = "bridge") -> list[str]:
     return list(longest(top))
 
 
+def line_count(crate: str) -> int:
+    """The lines of a crate's code, definitions and proofs."""
+    folder = TOP / "crates" / crate
+    files = [path for part in ("src", "specs", "proofs") for path in sorted((folder / part).rglob("*"))]
+    return sum(len(path.read_text().splitlines()) for path in files if path.suffix in (".rt", ".antt"))
+
+
+def chains(uses: dict[str, list[str]]) -> list[str]:
+    """A line a crate, those with the longest chain last."""
+    counts = {name: line_count(name) for name in uses}
+    every = sum(counts.values())
+
+    @lru_cache(maxsize=None)
+    def below(name: str) -> frozenset[str]:
+        return frozenset([name]).union(*(below(it) for it in uses[name]))
+
+    told = []
+    for name in sorted(uses, key=lambda it: len(chain(uses, it))):
+        above = [it for it in uses if name in below(it)]
+        again = sum(counts[it] for it in above)
+        told.append(f"{name:20} chain {len(chain(uses, name)):2}  lines {counts[name]:6}  "
+                    f"proves again {len(above):2} crates, {again:6} lines, {100 * again // every:2}%")
+    return told
+
+
 def places(found: list[Room]) -> tuple[dict[str, tuple[float, float, float]], list[tuple[Room, float]], float]:
     """The box of each crate (left, top, width), the height of each room, and of the whole."""
     boxes: dict[str, tuple[float, float, float]] = {}
@@ -162,6 +189,9 @@ def main(word: str) -> int:
     if word == "--chain":
         print(" ".join(chain(rooms()[1])))
         return 0
+    if word == "--chains":
+        print("\n".join(chains(rooms()[1])))
+        return 0
     stale = [path for path, text in made().items() if not path.exists() or path.read_text() != text]
     if word == "--write":
         PICTURES.mkdir(exist_ok=True)
@@ -174,6 +204,6 @@ def main(word: str) -> int:
 
 
 if __name__ == "__main__":
-    if sys.argv[1:] not in (["--write"], ["--check"], ["--chain"]):
+    if sys.argv[1:] not in (["--write"], ["--check"], ["--chain"], ["--chains"]):
         sys.exit(__doc__)
     sys.exit(main(sys.argv[1]))

@@ -9,6 +9,8 @@ file, line and path match. --first tries the bodies that give up alone; without 
 call the real one. A private function gets one body that fails and one that gives a value.
 It loads the kit's `rt plant` and changes some of its parts, so a new kit may want changes here.
 """
+from __future__ import annotations
+
 import json
 import os
 import re
@@ -16,6 +18,7 @@ import subprocess
 import sys
 import time
 import types
+from typing import Any
 
 import check
 
@@ -24,7 +27,7 @@ PLANT = f"{check.KIT}/bin/rt-plant"
 CONTROLS = "controls *= len(first) < most"
 
 
-def option(words, name, default):
+def option(words: list[str], name: str, default: str) -> str:
     if name not in words:
         return default
     at = words.index(name)
@@ -33,13 +36,13 @@ def option(words, name, default):
     return value
 
 
-def flag(words, name):
+def flag(words: list[str], name: str) -> bool:
     found = name in words
     words[:] = [it for it in words if it != name]
     return found
 
 
-def loaded(is_first):
+def loaded(is_first: bool) -> Any:
     """The kit's `rt plant`, as a module."""
     with open(PLANT) as it:
         text = it.read()
@@ -53,16 +56,16 @@ def loaded(is_first):
     return module
 
 
-def take_libraries(module, crate):
+def take_libraries(module: Any, crate: str) -> None:
     """Puts GATE's libraries in the place of those that rt would build, and their list of functions in that of a check."""
     made = module.rt.Crate.__init__
 
-    def with_library(self, *words, **named):
+    def with_library(self: Any, *words: Any, **named: Any) -> None:
         made(self, *words, **named)
         if self.name != crate:
             self.rlib = check.library(self.name)
 
-    def checked(*_):
+    def checked(*_: Any) -> int:
         with open(f"{check.library(crate)}/toolchain/mir.json") as it:
             functions = json.load(it)
         print("\n" + "\n".join(f"fn {it[0]}: proved" for it in functions))
@@ -73,18 +76,19 @@ def take_libraries(module, crate):
     module.rt.main = checked
 
 
-def choose(module, only):
+def choose(module: Any, only: str) -> None:
     """Takes private functions too, with two bodies each."""
     gives_up, chosen = module.bodies.Bodies.giving_up, module.chosen
 
-    def few(self):
-        found, kinds = gives_up(self), {}
+    def few(self: Any) -> list[Any]:
+        found: list[Any] = gives_up(self)
+        kinds: dict[bool, Any] = {}
         for it in found:
             kinds.setdefault(it.kind == "failure", it)
         return found if self.f.is_pub else list(kinds.values())
 
-    def matching(crate, source, symbols, _):
-        found = chosen(crate, source, symbols, "src/")
+    def matching(crate: Any, source: Any, symbols: Any, _: Any) -> list[list[Any]]:
+        found: list[list[Any]] = chosen(crate, source, symbols, "src/")
         found = [[f for f in fs if re.search(only, f.shown)] for fs in found]
         for f in {f for fs in found for f in fs if not f.is_pub}:
             f.shown += " (private)"
@@ -93,25 +97,25 @@ def choose(module, only):
     module.bodies.Bodies.giving_up, module.chosen = few, matching
 
 
-def judge_in_batches(module, size, seconds):
+def judge_in_batches(module: Any, size: int, seconds: float) -> None:
     """Lets one check both compile and judge: what does not compile is left out, and the rest is checked again."""
 
-    def compiled(_, plants):
+    def compiled(_: Any, plants: list[Any]) -> list[Any]:
         return [it for it in plants if it.kind == "not-run"]
 
-    def tried(copy, names):
+    def tried(copy: Any, names: Any) -> str | None:
         words = [it for name in names for it in ("--only", name)]
         words = [*copy.crate.words([*copy.flags, *words]), *module.rt.KEPT, "--progress"]
         left = max(min(seconds, copy.end - time.monotonic()), 0)
-        how = {"cwd": copy.folder, "stdin": subprocess.DEVNULL, "stdout": subprocess.PIPE}
         try:
             whole = [*module.rt.guarded(), module.rt.RATTLE, "check", *words]
-            ran = subprocess.run(whole, timeout=left, stderr=subprocess.STDOUT, text=True, errors="replace", **how)
+            ran = subprocess.run(whole, timeout=left, cwd=copy.folder, stdin=subprocess.DEVNULL, stdout=subprocess.PIPE,
+                                 stderr=subprocess.STDOUT, text=True, errors="replace")
         except subprocess.TimeoutExpired:
             return None
         return ran.stdout if ran.returncode >= 0 else None
 
-    def judge_one(copy, now):
+    def judge_one(copy: Any, now: list[Any]) -> list[list[Any]]:
         """Judges a batch, or gives the two halves that it is to be tried in."""
         while now and not copy.is_late():
             copy.write(now)
@@ -130,7 +134,7 @@ def judge_in_batches(module, size, seconds):
             now = [it for it in now if it not in wrong]
         return []
 
-    def judge(copy, plants):
+    def judge(copy: Any, plants: list[Any]) -> None:
         batches = [plants[at : at + size] for at in range(0, len(plants), size)]
         while batches and not copy.is_late():
             batches[:1] = judge_one(copy, batches[0])
@@ -139,8 +143,7 @@ def judge_in_batches(module, size, seconds):
     module.Copy.compiled, module.Copy.check, module.Copy.judge = compiled, tried, judge
 
 
-def main(*words):
-    words = list(words)
+def main(words: list[str]) -> int:
     only, minutes = option(words, "--only", ""), option(words, "--minutes", "240")
     size, is_first = int(option(words, "--batch", "120")), flag(words, "--first")
     if len(words) != 1:
@@ -150,9 +153,10 @@ def main(*words):
     choose(module, only)
     judge_in_batches(module, size, 3600)
     os.chdir(f"{check.TOP}/crates/{words[0]}")
-    return module.main(words[0], "--all", "--minutes", minutes, "--max", "100000", "--jobs", "1")
+    status: int = module.main(words[0], "--all", "--minutes", minutes, "--max", "100000", "--jobs", "1")
+    return status
 
 
 if __name__ == "__main__":
     sys.dont_write_bytecode = True
-    sys.exit(main(*sys.argv[1:]))
+    sys.exit(main(sys.argv[1:]))

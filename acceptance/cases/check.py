@@ -1,6 +1,9 @@
 """`check NL SOL`: a point and duals as a certificate of the relaxed program."""
+from __future__ import annotations
+
+from collections.abc import Iterator, Sequence
 from . import texts
-from .texts import bad_words, file, lines, text
+from .texts import Case, bad_words, file, lines, text
 
 MINIMISED = text(file((2, 1, 1, 0, 0, 2, 2, 0), "O0 0 / n0 / r / 2 4 / b / 0 0 3 / 2 0 / J0 2 / 0 1 / 1 1 / G0 2 / 0 2 / 1 3"))
 # the same maximised, with both row and objective turned
@@ -8,7 +11,7 @@ MAXIMISED = text(file((2, 1, 1, 0, 0, 2, 2, 0), "O0 1 / n0 / r / 1 -4 / b / 0 0 
 FREE_ROW = text(file((1, 1, 1, 0, 0, 1, 1, 0), "O0 0 / n0 / r / 3 / b / 0 0 1 / J0 1 / 0 1 / G0 1 / 0 1"))
 
 
-def sol(n_con, n_var, primals, duals, objno="objno 0 0"):
+def sol(n_con: int, n_var: int, primals: Sequence[object], duals: Sequence[object], objno: str = "objno 0 0") -> bytes:
     """A .sol text with these values."""
     counts = [n_con, len(duals), n_var, len(primals)]
     return text(["", "Options", "0", *map(str, [*counts, *duals, *primals])] + ([objno] if objno else []))
@@ -21,12 +24,12 @@ EXACT = {
 }
 
 
-def verdict(name, primals, duals, line, program=MINIMISED):
+def verdict(name: str, primals: Sequence[object], duals: Sequence[object], line: str, program: bytes = MINIMISED) -> Case:
     holds = line.startswith("yes")
     return texts.done(name, "check", program, sol(1, len(primals), primals, duals), out=line + "\n", status=0 if holds else 1)
 
 
-def cases():
+def cases() -> Iterator[Case]:
     yield verdict("optimal", [3, 1], [3], "yes 9")
     yield verdict("a dual too small", [3, 1], [2.5], "gap 9 17/2")
     yield verdict("a point too dear", [0, 4], [3], "gap 12 9")

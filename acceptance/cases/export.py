@@ -1,6 +1,9 @@
 """`export FILE`, `export FILE K`: header, segments, folding, scaling, limits."""
+from __future__ import annotations
+
+from collections.abc import Iterator
 from .texts import (
-    BIG, KNAPSACK, KNAPSACK_MPS, SMALL, bad_words, doubled, file, head, mps, one_term, one_term_mps, small_mps, text,
+    Case, BIG, KNAPSACK, KNAPSACK_MPS, SMALL, bad_words, doubled, file, head, mps, one_term, one_term_mps, small_mps, text,
     with_line,
 )
 from . import texts
@@ -14,19 +17,19 @@ KINDS = [
 ]
 
 
-def written(name, lines, out, *words):
+def written(name: str, lines: list[str], out: str, *words: str) -> Case:
     return texts.done(name, "export", text(lines), out=out, words=words)
 
 
-def refused(name, lines, told, *words):
+def refused(name: str, lines: list[str], told: str, *words: str) -> Case:
     return texts.refused(name, "export", text(lines), told=told, words=words)
 
 
-def header_fault(name, number, line, told):
+def header_fault(name: str, number: int, line: str, told: str) -> Case:
     return refused(name, with_line(head(1, 0, 0, 0, 0, 0, 0, 0), number, line), told)
 
 
-def plain_cases():
+def plain_cases() -> Iterator[Case]:
     yield written("small", SMALL, small_mps("10"))
     yield written("fraction in a body", with_line(SMALL, 12, "n0.5"), small_mps("9.5"))
     yield refused("no last line", SMALL[:-1], "line 30: short segment")
@@ -43,7 +46,7 @@ def plain_cases():
     yield texts.missing("no such file", "export")
 
 
-def header_cases():
+def header_cases() -> Iterator[Case]:
     yield written("kinds", KINDS, mps(
         "ROWS/ N obj/COLUMNS/ x0 obj 0/ M0 'MARKER' 'INTORG'/ x1 obj 0/ x2 obj 0/ M1 'MARKER' 'INTEND'/ x3 obj 0/ M2 'MARKER' 'INTORG'"
         "/ x4 obj 0/ M3 'MARKER' 'INTEND'/ x5 obj 0/ M4 'MARKER' 'INTORG'/ x6 obj 0/ x7 obj 0/ M5 'MARKER' 'INTEND'/RHS/BOUNDS"
@@ -58,7 +61,7 @@ def header_cases():
     yield header_fault("large", 2, "1048577 x", "line 2: too large")
 
 
-def reader_cases():
+def reader_cases() -> Iterator[Case]:
     yield written("knapsack", KNAPSACK, KNAPSACK_MPS)
     crs = "\r\n".join(KNAPSACK).encode()
     yield texts.done("knapsack by CR LF", "export", crs, out=KNAPSACK_MPS)
@@ -99,7 +102,7 @@ def reader_cases():
     yield refused("a node too many", head(*one) + nodes[:1] + ["o16"] + nodes[1:] + ends, "line 4194316: too large")
 
 
-def fold_cases():
+def fold_cases() -> Iterator[Case]:
     yield written("a constant product", file(TWO, "C0 / o2 / v0 / o1 / v1 / v1" + TWO_END), mps("ROWS/ N obj/ L c0/COLUMNS/ x0 obj 0/ x1 obj 0/RHS/ RHS c0 1/BOUNDS/ FR BND x0/ FR BND x1"))
     yield refused("a product", file(TWO, "C0 / o2 / v0 / v1" + TWO_END), "line 12: nonlinear")
     yield refused("a divisor of 0", file(TWO, "C0 / o3 / v0 / o1 / n2 / n2" + TWO_END), "line 12: division by zero")
@@ -120,7 +123,7 @@ def fold_cases():
     yield refused("too many coefficients", base + wide + bounds, f"line {10 + 4098 + 2 * 2047 + 1}: fold too large")
 
 
-def scale_cases():
+def scale_cases() -> Iterator[Case]:
     thirds = "C0 / o0 / o3 / v0 / n3 / v1" + TWO_END
     yield written("a factor of 3", file(TWO, thirds), mps("ROWS/ N obj/ L c0/COLUMNS/ x0 c0 1/ x1 c0 3/RHS/ RHS c0 3/BOUNDS/ FR BND x0/ FR BND x1"))
     ranges = "C0 / n2 / r / 0 1 7 / 0 4 4 / b / 3 / J0 1 / 0 1 / J1 1 / 0 1"
@@ -139,7 +142,7 @@ def scale_cases():
     yield refused("a wide objective", file((2, 0, 1, 0, 0, 0, 2, 0), wide), "objective 0: objective too wide")
 
 
-def cases():
+def cases() -> Iterator[Case]:
     yield from plain_cases()
     yield from header_cases()
     yield from reader_cases()

@@ -1,6 +1,9 @@
 """`fixed FILE`: MPS in fixed columns."""
+from __future__ import annotations
+
+from collections.abc import Iterator
 from . import texts
-from .texts import bad_words, text, with_line
+from .texts import Case, bad_words, text, with_line
 
 FIXED = [
     "NAME          TESTFIX", "ROWS", " N  COST", " L  LIM1", "COLUMNS", "    M1        'MARKER'                 'INTORG'",
@@ -15,15 +18,15 @@ FIXED_MPS = (
 LONG = FIXED[6].ljust(61)
 
 
-def written(name, lines, end="\n"):
+def written(name: str, lines: list[str], end: str = "\n") -> Case:
     return texts.done(name, "fixed", text(lines, end), out=FIXED_MPS)
 
 
-def refused(name, lines, told):
+def refused(name: str, lines: list[str], told: str) -> Case:
     return texts.refused(name, "fixed", text(lines), told=told)
 
 
-def cases():
+def cases() -> Iterator[Case]:
     yield written("fixed columns", FIXED)
     yield written("fixed columns by CR LF", FIXED, "\r\n")
     yield written("a line of more than 61 columns", with_line(FIXED, 7, LONG + " x\ty"))

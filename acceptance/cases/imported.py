@@ -1,7 +1,10 @@
 """`import FILE`: MPS programs as .nl files."""
+from __future__ import annotations
+
+from collections.abc import Iterator
 from . import texts
 from .mps import PAIRS
-from .texts import bad_words, head, text
+from .texts import Case, bad_words, head, text
 
 PAIRS_NL = head(2, 2, 1, 0, 0, 3, 2, 0) + (
     "O0 0 / n0 / r / 0 8 10 / 1 7 / b / 1 -4 / 2 0 / k1 / 2 / J0 1 / 0 2 / J1 2 / 0 1 / 1 1 / G0 2 / 0 1 / 1 -3").split(" / ")
@@ -30,7 +33,7 @@ BOUNDS_NL = [
 ]
 
 
-def cases():
+def cases() -> Iterator[Case]:
     yield texts.done("an MPS text", "import", text(PAIRS), out=text(PAIRS_NL).decode())
     yield texts.done("kinds in groups", "import", text(KINDS), out=text(KINDS_NL).decode())
     yield texts.done("every kind of bound", "import", text(BOUNDS), out=text(BOUNDS_NL).decode())

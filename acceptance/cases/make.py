@@ -1,21 +1,29 @@
 """`make SEED SIZE`: instances, written, read, folded and scaled."""
+from __future__ import annotations
+
+from collections.abc import Iterator
 from .texts import Case, bad_words
+
+
+Row = tuple[dict[int, int], int, int, int]
 
 
 class Draws:
     """Numbers that are drawn one after the other."""
 
-    def __init__(self, seed):
+    def __init__(self, seed: int) -> None:
         self.state = seed
 
-    def below(self, most):
+    def below(self, most: int) -> int:
         self.state = (self.state * 1664525 + 1013904223) % 2**32
         return self.state // 65536 % most
 
 
-def instance(seed, size):
+def instance(seed: int, size: int) -> list[Row]:
     """The rows of an instance: coefficients by variable, the row's side, the variable's upper side and its slope."""
-    draws, chain, rows = Draws(seed), {}, []
+    draws = Draws(seed)
+    chain: dict[int, int] = {}
+    rows: list[Row] = []
     for k in range(size):
         if k % 8 == 0:
             chain = {}
@@ -26,9 +34,9 @@ def instance(seed, size):
     return rows
 
 
-def program(rows):
+def program(rows: list[Row]) -> str:
     """The MPS text of the program that an instance is exported as."""
-    columns = [[] for _ in rows]
+    columns: list[list[str]] = [[] for _ in rows]
     for i, (row, _, _, _) in enumerate(rows):
         for j, value in row.items():
             columns[j].append(f" x{j} c{i} {value}")
@@ -41,13 +49,13 @@ def program(rows):
     return "".join(line + "\n" for line in [*lines, "ENDATA"])
 
 
-def summary(seed, size):
+def summary(seed: int, size: int) -> str:
     """The line of an instance, counted on its own."""
     rows = instance(seed, size)
     return f"variables {size} rows {size} terms {sum(len(row) for row, _, _, _ in rows)} bytes {len(program(rows))}\n"
 
 
-def cases():
+def cases() -> Iterator[Case]:
     yield Case("one variable", ("make", "1", "1"), {}, out="variables 1 rows 1 terms 1 bytes 168\n")
     for seed, size in [(5, 8), (0, 9), (4294967295, 100), (7, 20000)]:
         yield Case(f"make {seed} {size}", ("make", str(seed), str(size)), {}, out=summary(seed, size))

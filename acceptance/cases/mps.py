@@ -1,6 +1,9 @@
 """`mps FILE`: free MPS, read and written again."""
+from __future__ import annotations
+
+from collections.abc import Iterator
 from . import texts
-from .texts import KNAPSACK_MPS, bad_words, small_mps, text
+from .texts import Case, KNAPSACK_MPS, bad_words, small_mps, text
 
 PAIRS = [
     "* two pairs per line", "NAME          TEST", "ROWS", " N  COST", " E  R1", " L  R2", "COLUMNS", "    X  COST  1.0  R1  2",
@@ -13,15 +16,15 @@ PAIRS_MPS = (
 FRONT = ["ROWS", " N C", " L R", " N F", "COLUMNS", " X C 1 R 1", " Y R 1"]
 
 
-def written(name, lines, out, end="\n"):
+def written(name: str, lines: list[str], out: str, end: str = "\n") -> Case:
     return texts.done(name, "mps", text(lines, end), out=out)
 
 
-def refused(name, lines, told):
+def refused(name: str, lines: list[str], told: str) -> Case:
     return texts.refused(name, "mps", text(lines), told=told)
 
 
-def cases():
+def cases() -> Iterator[Case]:
     yield written("an MPS text", PAIRS, PAIRS_MPS)
     yield written("an MPS text by CR LF", PAIRS, PAIRS_MPS, end="\r\n")
     for out in [PAIRS_MPS, KNAPSACK_MPS, small_mps("10")]:

@@ -1,4 +1,7 @@
 """`export FILE K ROWS COLS` and `return NL ANSWER ROWS COLS`: the names of lists in place of numbers."""
+from __future__ import annotations
+
+from collections.abc import Iterator
 from .returned import HEAD, MAXIMISED, TIED
 from .texts import Case, KNAPSACK, bad_words, lines, text
 
@@ -16,27 +19,27 @@ COLUMNS = b"a\nb\nz\n"
 LONG = "n" * 255
 
 
-def exported(name, rows, columns, out, program=text(KNAPSACK)):
+def exported(name: str, rows: bytes, columns: bytes, out: str, program: bytes = text(KNAPSACK)) -> Case:
     files = {"A": program, "B": rows, "C": columns}
     return Case(name, ("export", "A", "0", "B", "C"), files, 0, out)
 
 
-def refused(name, told, rows=ROWS, columns=COLUMNS, program=text(KNAPSACK), k="0"):
+def refused(name: str, told: str, rows: bytes = ROWS, columns: bytes = COLUMNS, program: bytes = text(KNAPSACK), k: str = "0") -> Case:
     files = {"A": program, "B": rows, "C": columns}
     return Case(name, ("export", "A", k, "B", "C"), files, 2, "", f"refused {told}\n")
 
 
-def returned(name, answer, out, rows=b"r\n", columns=b"v\n", program=MAXIMISED):
+def returned(name: str, answer: str, out: str, rows: bytes = b"r\n", columns: bytes = b"v\n", program: bytes = MAXIMISED) -> Case:
     files = {"A": program, "B": lines("answer 1 / " + answer), "C": rows, "D": columns}
     return Case(name, ("return", "A", "B", "C", "D"), files, 0, lines(out).decode())
 
 
-def turned_back(name, told, answer="answer 1", rows=b"r\n", columns=b"v\n", program=MAXIMISED):
+def turned_back(name: str, told: str, answer: str = "answer 1", rows: bytes = b"r\n", columns: bytes = b"v\n", program: bytes = MAXIMISED) -> Case:
     files = {"A": program, "B": lines(answer), "C": rows, "D": columns}
     return Case(name, ("return", "A", "B", "C", "D"), files, 2, "", f"refused {told}\n")
 
 
-def export_cases():
+def export_cases() -> Iterator[Case]:
     yield exported("names", ROWS, COLUMNS, NAMED)
     yield exported("no further names", b"Cap\n", COLUMNS, NAMED)
     yield exported("lines without words, blanks, no last LF", b"\n \t\nCap\r\n", b" a\n\nb \nz", NAMED)
@@ -46,7 +49,7 @@ def export_cases():
     yield exported("rows and columns of one name", b"a\n", COLUMNS, NAMED.replace("Cap", "a"))
 
 
-def fault_cases():
+def fault_cases() -> Iterator[Case]:
     yield refused("a repeated name", "file 3 line 3: repeated name", columns=b"a\nb\na\n")
     yield refused("a repeated row", "file 3 line 2: repeated name", columns=b"a\na\nb\n")
     yield refused("too few names", "file 3 line 3: other count", columns=b"a\nb\n")
@@ -72,7 +75,7 @@ def fault_cases():
     yield bad_words("export with three lists", "export", "A", "0", "A", "A", "A")
 
 
-def return_cases():
+def return_cases() -> Iterator[Case]:
     yield returned("an answer with names", "status 0 / message done / sign min / col v 3.5 / row r -1.5",
                    "done / " + HEAD + " / 1 / 1 / 1 / 1 / 1.5 / 3.5 / objno 0 0")
     yield returned("a tied objective, answered", "status 0 / col v 0 / col @z 0 / row @zdef 0.5",
@@ -86,7 +89,7 @@ def return_cases():
     yield bad_words("return with rows alone", "return", "A", "A", "A")
 
 
-def cases():
+def cases() -> Iterator[Case]:
     yield from export_cases()
     yield from fault_cases()
     yield from return_cases()

@@ -1,10 +1,13 @@
 """`nl FILE`: .nl texts in their one written form."""
+from __future__ import annotations
+
+from collections.abc import Iterator, Sequence
 from . import texts
-from .texts import bad_words, file, one_term, text
+from .texts import Case, bad_words, file, one_term, text
 
 
-def cases():
-    def again(name, counts, body, out):
+def cases() -> Iterator[Case]:
+    def again(name: str, counts: Sequence[int], body: str, out: str) -> Case:
         return texts.done(name, "nl", text(file(counts, body)), out=text(file(counts, out)).decode())
 
     small = "C0 / n0 / C1 / n2 / O0 1 / n5 / r / 1 10 / 4 3 / b / 2 0 / 1 7 / k1 / 2 / J0 2 / 0 1 / 1 2 / J1 1 / 0 -1 / G0 2 / 0 3 / 1 -4"

@@ -1,38 +1,41 @@
 """Each refusal that docs/user/refusals.md names, in its order, with every cause that it gives."""
+from __future__ import annotations
+
+from collections.abc import Iterator, Sequence
 from . import texts
 from .check import MINIMISED, sol
 from .mps import FRONT, PAIRS
 from .returned import MAXIMISED, THIRDS, UNBOUNDED_ROW
 from .prove import WHOLE
-from .texts import BIG, doubled, file, head, lines, one_term, text, with_line
+from .texts import Case, BIG, doubled, file, head, lines, one_term, text, with_line
 
 ONE = (1, 1, 0, 0, 0, 0, 0, 0)
 TWO = (2, 1, 0, 0, 0, 2, 0, 0)
 ENDS = " / r / 1 1 / b / 3 / 3 / J0 2 / 0 0 / 1 0"
 
 
-def nl(name, content, told, *words):
+def nl(name: str, content: list[str], told: str, *words: str) -> Case:
     return texts.refused(f"refusals: {name}", "export", text(content), told=told, words=words)
 
 
-def tree(name, nodes, told):
+def tree(name: str, nodes: str, told: str) -> Case:
     """An expression of two variables in constraint 0, on lines 12 and below."""
     return nl(name, file(TWO, f"C0 / {nodes}" + ENDS), told)
 
 
-def header(name, number, line, told):
+def header(name: str, number: int, line: str, told: str) -> Case:
     return nl(name, with_line(head(1, 1, 0, 0, 0, 0, 0, 0), number, line), f"line {number}: {told}")
 
 
-def body(name, content, told, counts=ONE):
+def body(name: str, content: str, told: str, counts: Sequence[int] = ONE) -> Case:
     return nl(name, file(counts, content), told)
 
 
-def mps(name, content, told, command="mps"):
+def mps(name: str, content: list[str], told: str, command: str = "mps") -> Case:
     return texts.refused(f"refusals: {name}", command, text(content), told=told)
 
 
-def model_cases():
+def model_cases() -> Iterator[Case]:
     """What a modeller meets most."""
     for name, nodes in [
         ("a product", "o2 / v0 / v1"), ("a quotient", "o3 / n1 / v0"), ("a power", "o5 / v0 / n2"), ("a power by a variable", "o5 / n2 / v0"),
@@ -67,7 +70,7 @@ def model_cases():
     yield header("variables beyond the limit", 2, "1048577 1 0 0 0", "too large")
 
 
-def reader_cases():
+def reader_cases() -> Iterator[Case]:
     """.nl texts that no modelling system writes."""
     for line in ("x", "g", "ga 1", "3 1 1 0"):
         yield header(f"the first line {line}", 1, line, "bad first line")
@@ -107,7 +110,7 @@ def reader_cases():
     yield body("a line of 65,537 bytes", "b" + " " * 65536, "line 11: line too long")
 
 
-def mps_cases():
+def mps_cases() -> Iterator[Case]:
     """MPS texts."""
     yield mps("RANGES before COLUMNS", FRONT[:4] + ["RANGES"], "line 5: bad section")
     yield mps("a section twice", FRONT + ["RHS", "RHS"], "line 9: bad section")
@@ -134,11 +137,11 @@ def mps_cases():
     yield mps("a column without a value", PAIRS[:16] + [" LO BN X -3"] + PAIRS[16:], "column 0: empty interval", "import")
 
 
-def answer(name, content, told, program=MAXIMISED):
+def answer(name: str, content: str, told: str, program: bytes = MAXIMISED) -> Case:
     return texts.refused(f"refusals: {name}", "return", program, lines("answer 1 / " + content), told=told)
 
 
-def return_cases():
+def return_cases() -> Iterator[Case]:
     """The way back."""
     yield answer("a column that is not there", "col x1 1", "file 2 line 2: unknown name")
     yield answer("a row that is not there", "row c1 1", "file 2 line 2: unknown name")
@@ -156,22 +159,23 @@ def return_cases():
     yield texts.refused("refusals: no duals", "check", MINIMISED, sol(1, 2, [3, 1], []), told="file 2: no dual values")
 
 
-def verdict(name, command, program, second, line):
+def verdict(name: str, command: str, program: bytes, second: bytes, line: str) -> Case:
     return texts.done(f"refusals: {name}", command, program, second, out=line + "\n", status=1)
 
 
-def verdict_cases():
+def verdict_cases() -> Iterator[Case]:
     """Verdicts are no refusals."""
-    for name, primals, duals, line in [
+    answers: list[tuple[str, list[object], list[object], str]] = [
         ("a row broken within a tolerance", ["2.9999999", 1], [3], "row 0 broken"), ("a bound broken", ["3.0000001", 1], [3], "bound 0 broken"),
         ("rounded duals", [3, 1], ["2.9999999"], "gap 9 89999999/10000000"), ("a row's sign", [3, 1], [-1], "row 0 has no side"),
         ("a bound's sign", [3, 1], [4], "bound 1 has no side"), ("a wide sum", ["1.1102230246251565e-32", 4], [3], "too wide at row 0"),
-    ]:
+    ]
+    for name, primals, duals, line in answers:
         yield verdict(name, "check", MINIMISED, sol(1, 2, primals, duals), line)
     yield verdict("the second leaf", "prove", WHOLE, lines("proof 1 / value 0 3 / split 0 1 / weights 1 / 0 1 / duals 0"), "leaf 1 gap 2")
 
 
-def cases():
+def cases() -> Iterator[Case]:
     yield from model_cases()
     yield from reader_cases()
     yield from mps_cases()

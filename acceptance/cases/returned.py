@@ -1,6 +1,9 @@
 """`return NL ANSWER`: a solver's answer as a .sol text of the file."""
+from __future__ import annotations
+
+from collections.abc import Iterator
 from . import texts
-from .texts import bad_words, file, lines, text
+from .texts import Case, bad_words, file, lines, text
 
 MAXIMISED = text(file((1, 1, 1, 0, 0, 1, 1, 0), "O0 1 / n0 / r / 1 7 / b / 2 0 / J0 1 / 0 2 / G0 1 / 0 3"))
 THIRDS = text(file((2, 1, 0, 0, 0, 2, 0, 0), "C0 / o0 / o3 / v0 / n3 / v1 / r / 1 1 / b / 3 / 3 / J0 2 / 0 0 / 1 0"))
@@ -9,15 +12,15 @@ TIED = text(file((1, 0, 1, 0, 0, 0, 1, 0), "O0 0 / o3 / v0 / n3 / b / 3 / G0 1 /
 HEAD = " / Options / 3 / 1 / 1 / 0"
 
 
-def given(name, program, answer, out):
+def given(name: str, program: bytes, answer: str, out: str) -> Case:
     return texts.done(name, "return", program, lines("answer 1 / " + answer), out=lines(out).decode())
 
 
-def refused(name, answer, told, program=MAXIMISED):
+def refused(name: str, answer: str, told: str, program: bytes = MAXIMISED) -> Case:
     return texts.refused(name, "return", program, lines(answer), told=f"file 2 {told}")
 
 
-def value_cases():
+def value_cases() -> Iterator[Case]:
     yield given("maximised", MAXIMISED, "status 0 / message done / sign min / col x0 3.5 / row c0 -1.5",
                 "done / " + HEAD + " / 1 / 1 / 1 / 1 / 1.5 / 3.5 / objno 0 0")
     yield given("by rates", MAXIMISED, "status 0 / row c0 -1.5", HEAD + " / 1 / 1 / 1 / 0 / -1.5 / objno 0 0")
@@ -39,7 +42,7 @@ def value_cases():
                 " a  b /  /  / Options / 3 / 1 / 1 / 0 / 1 / 0 / 1 / 0 / objno 0 7")
 
 
-def fault_cases():
+def fault_cases() -> Iterator[Case]:
     """Each fault of an answer, and the order of two at one line."""
     yield refused("no first line", "", "line 2: bad first line")
     yield refused("another first line", "answer 2", "line 1: bad first line")
@@ -67,7 +70,7 @@ def fault_cases():
                         told="file 2 line 65538: too large")
 
 
-def first_file_cases():
+def first_file_cases() -> Iterator[Case]:
     """Faults of the first file answer before the second file is started."""
     yield texts.refused("a fault of the first file", "return", b"x\n", b"y\n", told="line 1: bad first line")
     yield texts.Case("the second file is not there", ("return", "A", "missing"), {"A": b"x\n"}, 2, "", "refused line 1: bad first line\n")
@@ -78,7 +81,7 @@ def first_file_cases():
     yield bad_words("return of one file", "return", "A")
 
 
-def cases():
+def cases() -> Iterator[Case]:
     yield from value_cases()
     yield from fault_cases()
     yield from first_file_cases()

@@ -1,6 +1,9 @@
 """`sol FILE`: .sol texts, read and written again."""
+from __future__ import annotations
+
+from collections.abc import Iterator
 from . import texts
-from .texts import bad_words, lines, text
+from .texts import Case, bad_words, lines, text
 
 SOLVED = ["", "solver: done", "", "Options", "3", "1", "1", "0", "1", "0", "2", "2", "1.1102230246251565e-32", "2", "objno 0 0",
           "suffix 0 2 8 0 0", "sstatus", "0 1", "1 3"]
@@ -12,15 +15,15 @@ AMPL = ["CPLEX 12: optimal; objective 3.5", "2 simplex iterations", "", "Options
 FRONT = "x / Options / 0 / 1 / 0 / 2 / 2 / 3 / 4"
 
 
-def written(name, before, after):
+def written(name: str, before: list[str], after: list[str]) -> Case:
     return texts.done(name, "sol", text(before), out=text(after).decode())
 
 
-def refused(name, words, told):
+def refused(name: str, words: str, told: str) -> Case:
     return texts.refused(name, "sol", lines(words), told=told)
 
 
-def fault_cases():
+def fault_cases() -> Iterator[Case]:
     """Each fault of a .sol text, and the order of two at one line."""
     yield refused("no options", "done", "line 2: no options")
     yield refused("the second option", "Options / 3 / 1 / 3 / 0", "line 4: refused options")
@@ -50,7 +53,7 @@ def fault_cases():
     yield refused("a short suffix", FRONT + " / suffix 0 2 2 0 0 / a / 1 1", "line 13: short file")
 
 
-def message_cases():
+def message_cases() -> Iterator[Case]:
     """Message lines up to their limit, which an empty line before `Options` does not count for."""
     many = ["m"] * 65536
     end = ["Options", "0", "0", "0", "0", "0"]
@@ -62,7 +65,7 @@ def message_cases():
     yield texts.refused("empty, and a long line", "sol", text(many + ["", "x" * 65537]), told="line 65537: too large")
 
 
-def cases():
+def cases() -> Iterator[Case]:
     yield written("a solution", SOLVED, SOLVED_AGAIN)
     yield written("a solution, written again", SOLVED_AGAIN, SOLVED_AGAIN)
     yield texts.refused("a solution cut", "sol", text(SOLVED[:13]), told="line 14: short file")

@@ -1,4 +1,7 @@
 """Texts that the examples share, and the form of an example."""
+from __future__ import annotations
+
+from collections.abc import Mapping, Sequence
 import os
 from dataclasses import dataclass
 
@@ -6,7 +9,7 @@ HERE = os.path.dirname(os.path.dirname(os.path.abspath(__file__)))
 BIG = 2**127 - 1
 
 
-def head(v, c, o, nbv, niv, nzc, nzo, d):
+def head(v: int, c: int, o: int, nbv: int, niv: int, nzc: int, nzo: int, d: int) -> list[str]:
     """The ten header lines of a file with these counts."""
     return [
         "g3 1 1 0", f"{v} {c} {o} 0 0", "0 0", "0 0", "0 0 0", "0 0 0 1",
@@ -14,16 +17,16 @@ def head(v, c, o, nbv, niv, nzc, nzo, d):
     ]
 
 
-def file(counts, body):
+def file(counts: Sequence[int], body: str) -> list[str]:
     return head(*counts) + body.split(" / ")
 
 
-def mps(body):
+def mps(body: str) -> str:
     """A written text; `/` stands between lines."""
     return "NAME nl\n" + "".join(line + "\n" for line in body.split("/")) + "ENDATA\n"
 
 
-def text(lines, end="\n"):
+def text(lines: list[str], end: str = "\n") -> bytes:
     return "".join(line + end for line in lines).encode()
 
 
@@ -68,7 +71,7 @@ KNAPSACK_MPS = (
 SMALL = file((2, 2, 1, 0, 0, 3, 2, 0), "C0 / n0 / C1 / n2 / O0 1 / n5 / r / 1 10 / 4 3 / b / 2 0 / 1 7 / J0 2 / 0 1 / 1 2 / J1 1 / 0 -1 / G0 2 / 0 3 / 1 -4")
 
 
-def small_mps(side):
+def small_mps(side: str) -> str:
     return (
         "NAME nl\nOBJSENSE\n MAX\nROWS\n N obj\n L c0\n E c1\nCOLUMNS\n x0 obj 3\n x0 c0 1\n x0 c1 -1\n x1 obj -4\n"
         f" x1 c0 2\nRHS\n RHS obj -5\n RHS c0 {side}\n RHS c1 1\nBOUNDS\n LO BND x0 0\n PL BND x0\n MI BND x1\n"
@@ -76,20 +79,20 @@ def small_mps(side):
     )
 
 
-def with_line(lines, number, line):
+def with_line(lines: list[str], number: int, line: str) -> list[str]:
     return lines[: number - 1] + [line] + lines[number:]
 
 
-def one_term(term, side="1 1"):
+def one_term(term: str, side: str = "1 1") -> list[str]:
     """One variable and one row of one term, on line 16."""
     return file((1, 1, 0, 0, 0, 1, 0, 0), f"r / {side} / b / 3 / J0 1 / 0 {term}")
 
 
-def one_term_mps(entry):
+def one_term_mps(entry: str) -> str:
     return mps(f"ROWS/ N obj/ L c0/COLUMNS/{entry}/RHS/ RHS c0 1/BOUNDS/ FR BND x0")
 
 
-def doubled(n):
+def doubled(n: int) -> list[str]:
     """Defined variable k is twice the one before it."""
     body = "".join(f"V{k} 0 0 / o0 / v{k - 1} / v{k - 1} / " for k in range(1, n + 1))
     return file((1, 1, 0, 0, 0, 1, 0, n), body + f"C0 / v{n} / r / 1 1 / b / 3 / J0 1 / 0 0")
@@ -100,48 +103,48 @@ class Case:
     """What the program does with these words in a folder with these files, in so many seconds of the processor."""
 
     name: str
-    words: tuple
-    files: dict
+    words: Sequence[str]
+    files: Mapping[str, bytes]
     status: int = 0
     out: str = ""
     told: str = ""
     seconds: int = 600
 
 
-def named(contents):
+def named(contents: Sequence[bytes]) -> dict[str, bytes]:
     """Files named A, B, C .. in their order."""
     return dict(zip("ABCD", contents))
 
 
-def done(name, command, *contents, out, status=0, words=(), seconds=600):
+def done(name: str, command: str, *contents: bytes, out: str, status: int = 0, words: Sequence[str] = (), seconds: int = 600) -> Case:
     """The command on these files, and further words, writes this."""
     files = named(contents)
     return Case(name, (command, *files, *words), files, status, out, seconds=seconds)
 
 
-def refused(name, command, *contents, told, words=()):
+def refused(name: str, command: str, *contents: bytes, told: str, words: Sequence[str] = ()) -> Case:
     """The command on these files, and further words, is refused with this fault."""
     files = named(contents)
     return Case(name, (command, *files, *words), files, 2, "", f"refused {told}\n")
 
 
-def bad_words(name, *words):
+def bad_words(name: str, *words: str) -> Case:
     """Words that are in no row of the command table."""
     return Case(name, words, {"A": text(SMALL)}, 3, "", "bad words\n")
 
 
-def missing(name, command, *contents):
+def missing(name: str, command: str, *contents: bytes) -> Case:
     """The last file of the words is not there."""
     files = named(contents)
     return Case(name, (command, *files, "missing"), files, 4, "", "input fault\n")
 
 
-def data(*path):
+def data(*path: str) -> bytes:
     """The bytes of a file beside the examples."""
     with open(os.path.join(HERE, *path), "rb") as stream:
         return stream.read()
 
 
-def lines(words):
+def lines(words: str) -> bytes:
     """A text of the lines that ` / ` parts."""
     return text(words.split(" / "))

@@ -1,12 +1,15 @@
 """`verify NL CERTIFICATE`: each claim of a solver with its certificate, each verdict, and each fault of a certificate's text."""
+from __future__ import annotations
+
+from collections.abc import Iterator
 from . import texts
 from .check import EXACT
-from .texts import BIG, KNAPSACK, bad_words, file, lines, text
+from .texts import Case, BIG, KNAPSACK, bad_words, file, lines, text
 
 ROW = "O0 0 / n0 / r / {} / b / {} / J0 1 / 0 {} / G0 1 / 0 {}"
 
 
-def row(side="2 1", bound="3", factor="3", cost="1", whole=0):
+def row(side: str = "2 1", bound: str = "3", factor: str = "3", cost: str = "1", whole: int = 0) -> bytes:
     """min cost x with factor x in this row, and x in this bound."""
     return text(file((1, 1, 1, 0, whole, 1, 1, 0), ROW.format(side, bound, factor, cost)))
 
@@ -37,26 +40,26 @@ COLLECTIONS = {
     "atm_5_10_1": "29835072266811108087/499716304191452",
 }
 # A model, the line where these numbers of its certificate are cut to nine digits, and the numbers.
-SHORTER = [
-    ("samp1", "row 1 broken", (b"8/3", b"2.66666667"), (b"10/3", b"3.33333333")),
-    ("samp1", "leaf 1 gap 2433333333/100000000", (b"11/9", b"1.222222222"), (b"5/9", b".555555555")),
-    ("exmip1", "row 4 broken", (b"5/19", b".263157895")),
-    ("exmip1", "leaf 0 gap 323684210163/100000000000", (b"-10/19", b"-.526315789")),
+SHORTER: list[tuple[str, str, list[tuple[bytes, bytes]]]] = [
+    ("samp1", "row 1 broken", [(b"8/3", b"2.66666667"), (b"10/3", b"3.33333333")]),
+    ("samp1", "leaf 1 gap 2433333333/100000000", [(b"11/9", b"1.222222222"), (b"5/9", b".555555555")]),
+    ("exmip1", "row 4 broken", [(b"5/19", b".263157895")]),
+    ("exmip1", "leaf 0 gap 323684210163/100000000000", [(b"-10/19", b"-.526315789")]),
 ]
 
 
-def verdict(name, program, certificate, line, seconds=600):
+def verdict(name: str, program: bytes, certificate: str | list[str], line: str, seconds: int = 600) -> Case:
     """What is written on a certificate, given by its lines after the first, or by a text in which ` / ` parts them."""
     given = certificate.split(" / ") if isinstance(certificate, str) else certificate
     holds = line.split()[0] == given[0].split()[0] and not line.endswith("broken")
     return texts.done(name, "verify", program, text(["certificate 1", *given]), out=line + "\n", status=0 if holds else 1, seconds=seconds)
 
 
-def refused(name, certificate, told, program=WHOLE):
+def refused(name: str, certificate: str, told: str, program: bytes = WHOLE) -> Case:
     return texts.refused(name, "verify", program, lines(certificate), told=f"file 2 {told}")
 
 
-def third_cases():
+def third_cases() -> Iterator[Case]:
     """The least x with 3 x at least 1: a third, or 1 where x is whole."""
     yield verdict("a third", THIRD, "optimal 0 / point 1 / 0 1/3 / duals 1 / 0 1/3", "optimal 1/3")
     yield verdict("6/4 is 3/2", THIRD, "feasible 0 / point 1 / 0 6/4", "feasible 3/2")
@@ -86,7 +89,7 @@ def third_cases():
     yield verdict("the second objective, the value of the first", TWO, "bound 1 5 / duals 0", "leaf 0 gap 15")
 
 
-def parity_cases():
+def parity_cases() -> Iterator[Case]:
     """A plane: the sum is at most 166 or at least 167, and three times it is 500."""
     yield verdict("parity", PARITY, f"infeasible / {PLANE} / weights 2 / 0 1/3 / 1 -1 / weights 2 / 0 -1/3 / 1 1", "infeasible")
     yield verdict("a side of a plane that is not there", PARITY, f"infeasible / {PLANE} / weights 2 / 0 1/3 / 1 1 / weights 2 / 0 -1/3 / 1 1", "leaf 0 row 1 has no side")
@@ -94,7 +97,7 @@ def parity_cases():
     yield verdict("no whole third", NO_OBJECTIVE, "infeasible / split 0 0 / weights 1 / 0 1 / weights 1 / 0 -1", "infeasible")
 
 
-def ray_cases():
+def ray_cases() -> Iterator[Case]:
     """A ray along which the objective gets better without end."""
     yield verdict("unbounded", ENDLESS, "unbounded 0 / point 0 / ray 2 / 0 1 / 1 1", "unbounded")
     yield verdict("a ray that is not whole", ENDLESS, "unbounded 0 / point 0 / ray 2 / 0 1/3 / 1 1/2", "unbounded")
@@ -105,7 +108,7 @@ def ray_cases():
     yield verdict("a ray in the wrong sense", row(bound="2 0"), "unbounded 0 / point 1 / 0 1 / ray 1 / 0 1", "ray does not improve")
 
 
-def plane_cases():
+def plane_cases() -> Iterator[Case]:
     """A plane on the objective: at most 17, or at least 18, where each part is a contradiction; a rounded row, whose part beyond is one."""
     found, plane = "optimal 0 / point 2 / 0 1 / 1 1", "plane 3 {} / 0 10 / 1 7 / 2 12 / duals 1 / 1 1"
     beyond = "split 2 0 / weights 1 / 1 1 / split 0 0 / split 1 0 / weights 1 / 1 1 / weights 1 / 0 -1 / weights 1 / 0 -1"
@@ -119,7 +122,7 @@ def plane_cases():
     yield verdict("a row that is not rounded", ROUNDED, "optimal 0 / point 1 / 0 1 / duals 1 / 0 1/2", "leaf 0 gap 3/2")
 
 
-def lemma_cases():
+def lemma_cases() -> Iterator[Case]:
     """A lemma over a continuous variable, y - 7 x at most 0."""
     rest = " / duals 1 / 1 1"
     yield verdict("a lemma", CHARGE, "bound 0 7 / " + LEMMA.format(0) + rest, "bound 7")
@@ -133,7 +136,7 @@ def lemma_cases():
                   "infeasible / lemma 1 2/3 / 0 1 / duals 1 / 0 1/3 / split 0 0 / weights 1 / 0 1 / weights 1 / 1 -1", "infeasible")
 
 
-def wide_cases():
+def wide_cases() -> Iterator[Case]:
     """Numbers whose sums or products pass 128 bits, where they are used."""
     point = f"point 1 / 0 {TINY}"
     small = row(bound="2 0", side="1 9", factor="0.1", cost="0.1")
@@ -153,7 +156,7 @@ def wide_cases():
     yield verdict("a wide leaf", small, f"bound 0 0 / duals 1 / 0 -{TINY}", "leaf 0 too wide")
 
 
-def exact_cases():
+def exact_cases() -> Iterator[Case]:
     """The answers of an exact solver to relaxed programs, each as a certificate of one leaf."""
     whole = {"mixed": "variable 1 not whole", "whole_infeasible": "variable 0 not whole"}
     for name, value in EXACT.items():
@@ -164,36 +167,40 @@ def exact_cases():
         yield verdict(f"the answer to {name}", program, [f"optimal {number}", *point, *duals], whole.get(name, f"optimal {value}{objective}"))
 
 
-def collection_cases():
+def collection_cases() -> Iterator[Case]:
     """Optima without a short decimal of models of GLPK (samp1; samp2 is the same file), CoinUtils (exmip1, atm_5_10_1) and Bonmin
     (toy), with certificates that `bridge-certify` found; and the same in nine digits."""
     for name, value in COLLECTIONS.items():
         program, certificate = collected(name)
         yield texts.done(f"the optimum of {name}", "verify", program, certificate, out=f"optimal {value}\n")
-    for name, line, *numbers in SHORTER:
+    for name, line, numbers in SHORTER:
         program, certificate = collected(name)
         for exact, short in numbers:
             certificate = certificate.replace(exact, short)
         yield texts.done(f"{name} in nine digits: {line}", "verify", program, certificate, out=line + "\n", status=1)
 
 
-def collected(name):
+def collected(name: str) -> tuple[bytes, bytes]:
     """A model of a collection and its certificate."""
-    return (texts.data("data", "collections", f"{name}.{kind}") for kind in ("nl", "certificate"))
+    model, certificate = (texts.data("data", "collections", f"{name}.{kind}") for kind in ("nl", "certificate"))
+    return model, certificate
 
 
-def solution(answer):
+def solution(answer: list[str]) -> tuple[str, list[str], list[str]]:
     """Of a .sol text the number of the objective, and the lines of a point and of a leaf."""
     at = answer.index("Options") + 1
     at += 1 + int(answer[at])
     duals, primals = int(answer[at + 1]), int(answer[at + 3])
     values = answer[at + 4 : at + 4 + duals + primals]
-    tail = [line.split()[1] for line in answer if line.startswith("objno ")]
-    return (*tail, *([f"{head} {len(numbers)}", *(f"{i} {number}" for i, number in enumerate(numbers))]
-                     for head, numbers in (("point", values[duals:]), ("duals", values[:duals]))))
+    [objective] = [line.split()[1] for line in answer if line.startswith("objno ")]
+    return objective, listed("point", values[duals:]), listed("duals", values[:duals])
 
 
-def large_cases():
+def listed(head: str, numbers: list[str]) -> list[str]:
+    return [f"{head} {len(numbers)}", *(f"{i} {number}" for i, number in enumerate(numbers))]
+
+
+def large_cases() -> Iterator[Case]:
     """Chains of 65,536 rows, as deep as they can be; the last leaf uses the last row."""
     count = 65536
     cuts = [line for most in range(count) for line in (f"plane 1 {most}", "0 1", "weights 2", "0 1", f"{most + 1} -3")]
@@ -204,7 +211,7 @@ def large_cases():
     yield verdict("65,536 lemmas in a chain", far, [f"bound 0 {count}", *lemmas, "duals 1", f"{count} -1"], f"bound {count}", seconds=10)
 
 
-def fault_cases():
+def fault_cases() -> Iterator[Case]:
     """Each fault of a text, and the order of two at one line."""
     yield refused("no first line", "", "line 2: bad first line")
     yield refused("another first line", "certificate 2", "line 1: bad first line")
@@ -250,7 +257,7 @@ def fault_cases():
     yield texts.refused("an added row too many", "verify", WHOLE, text(deep), told="file 2 line 131075: too large")
 
 
-def cases():
+def cases() -> Iterator[Case]:
     yield from third_cases()
     yield from parity_cases()
     yield from ray_cases()

@@ -1,9 +1,12 @@
 """`verify_mps MPS CERTIFICATE` and `verify_fixed MPS CERTIFICATE`: each claim with its certificate, over MPS programs with each kind of row and bound."""
+from __future__ import annotations
+
+from collections.abc import Iterator
 from . import texts
 from .fixed import FIXED
 from .imported import BOUNDS
 from .mps import PAIRS
-from .texts import bad_words, lines, mps, text
+from .texts import Case, bad_words, lines, mps, text
 
 # min X with 2 X at least 3, X whole and from 0 to 5; the row of X is the second that is no N row
 BODY = "ROWS/ N COST/ L ONE/ N OTHER/ G TWO/COLUMNS/ M0 'MARKER' 'INTORG'/ X COST 1 OTHER 5/ X TWO 2/ M1 'MARKER' 'INTEND'/ Y ONE 1/RHS/ RHS TWO {}/BOUNDS/ {}"
@@ -13,18 +16,18 @@ BEST = "optimal 0 / point 1 / 0 2 / split 0 1 / weights 1 / 1 1 / duals 0"
 RANGED = "ROWS/ N C/ {} R/COLUMNS/ X C 1 R 1/RHS/ RHS R {}/RANGES/ RNG R {}/BOUNDS/ FR BND X"
 
 
-def judged(name, body, certificate, line, status=0, command="verify_mps"):
+def judged(name: str, body: bytes | str, certificate: str, line: str, status: int = 0, command: str = "verify_mps") -> Case:
     """What is written on a certificate, given by its lines after the first, for a program of these lines."""
     program = body if isinstance(body, bytes) else mps(body).encode()
     return texts.done(name, command, program, lines("certificate 1 / " + certificate), out=line + "\n", status=status)
 
 
-def refused(name, body, certificate, told, command="verify_mps"):
+def refused(name: str, body: bytes | str, certificate: str, told: str, command: str = "verify_mps") -> Case:
     program = body if isinstance(body, bytes) else mps(body).encode()
     return texts.refused(name, command, program, lines("certificate 1 / " + certificate), told=told)
 
 
-def claim_cases():
+def claim_cases() -> Iterator[Case]:
     yield judged("a best point", WHOLE, BEST, "optimal 2")
     yield judged("a point within a gap", WHOLE, "within 0 3/2 / point 1 / 0 2 / duals 1 / 1 1/2", "within 3/2 2")
     yield judged("a bound", WHOLE, "bound 0 3/2 / duals 1 / 1 1/2", "bound 3/2")
@@ -39,7 +42,7 @@ def claim_cases():
     yield judged("a ray that leaves a bound", WHOLE, "unbounded 0 / point 1 / 0 2 / ray 1 / 0 1", "ray bound 0 broken", 1)
 
 
-def objective_cases():
+def objective_cases() -> Iterator[Case]:
     """The first N row less its right side; MAX; another N row is not looked at."""
     yield judged("a right side of the objective", BODY.format("3 COST -7", "UP BND X 5"), BEST, "optimal 9")
     yield judged("the greatest value", "OBJSENSE/ MAX/" + WHOLE, "optimal 0 / point 1 / 0 5 / duals 0", "optimal 5")
@@ -47,7 +50,7 @@ def objective_cases():
     yield refused("a second objective", WHOLE, "bound 1 2 / duals 0", "objective 1: no such objective")
 
 
-def range_cases():
+def range_cases() -> Iterator[Case]:
     """The other side of a row: below the right side of L, above that of G, and for E by the sign of the range."""
     for kind, right, size, low, high in [("L", 4, 3, 1, 4), ("L", 4, -3, 1, 4), ("G", 4, 3, 4, 7), ("G", 4, -3, 4, 7), ("E", 4, 3, 4, 7), ("E", 4, -3, 1, 4)]:
         program = RANGED.format(kind, right, size)
@@ -58,12 +61,12 @@ def range_cases():
         yield judged(f"{name}, above it", program, f"feasible 0 / point 1 / 0 {high}.5", "row 0 broken", 1)
 
 
-def bound_cases():
+def bound_cases() -> Iterator[Case]:
     """A program with every kind of bound, each of which is broken in turn while the rows hold; D, E and G are whole."""
     program = text([" T 2.5" if line == " T 1" else line for line in BOUNDS])
     held = {"A": "3", "B": "-1", "D": "2", "H": "1/4"}
 
-    def at(**moved):
+    def at(**moved: str) -> str:
         values = {**held, **moved}
         pairs = [f"{j} {values[name]}" for j, name in enumerate("ABDEGHIJK") if name in values]
         return f"feasible 0 / point {len(pairs)} / " + " / ".join(pairs)
@@ -83,7 +86,7 @@ def bound_cases():
     yield judged("an equation that no bound allows", text(BOUNDS), "infeasible / weights 1 / 2 -1", "infeasible")
 
 
-def fault_cases():
+def fault_cases() -> Iterator[Case]:
     yield refused("no MPS text", text(PAIRS[:-1]), BEST, "line 17: no end")
     yield refused("an empty column", text(PAIRS[:16] + [" LO BN X -3"] + PAIRS[16:]), BEST, "column 0: empty interval")
     yield refused("a wide range", text(PAIRS[:13] + ["    RG  R1  1e-40"] + PAIRS[14:]), BEST, "row 1: too wide")
@@ -100,7 +103,7 @@ def fault_cases():
     yield bad_words("verify_fixed with one file", "verify_fixed", "A")
 
 
-def fixed_cases():
+def fixed_cases() -> Iterator[Case]:
     """min X - 3 Y with 2 X at most 7, X whole and at least 0, Y free."""
     program = text(FIXED)
     yield judged("fixed columns", program, "feasible 0 / point 2 / 0 3 / 1 2/3", "feasible 1", command="verify_fixed")
@@ -109,6 +112,6 @@ def fixed_cases():
     yield refused("free form is no text of fixed columns", WHOLE, BEST, "line 3: bad line", command="verify_fixed")
 
 
-def cases():
+def cases() -> Iterator[Case]:
     for group in (claim_cases, objective_cases, range_cases, bound_cases, fault_cases, fixed_cases):
         yield from group()

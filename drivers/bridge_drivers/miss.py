@@ -40,21 +40,33 @@ class Activities:
         text = program.text
         start = text.index(b"\nCOLUMNS\n") + 9
         end = text.index(b"\nRHS\n", start)
-        self.sums: dict[bytes, float] = {}
-        self.sizes: dict[bytes, float] = {}
-        self.mixed: set[bytes] = set()          # rows with a column that is not whole
-        for line in text[start:end].split(b"\n"):
-            words = line.split()
-            if len(words) == 3 and words[1] != b"obj" and words[1] != b"'MARKER'":
-                a, x, row = float(words[2]), self.x[words[0]], words[1]
-                self.sums[row] = self.sums.get(row, 0.0) + a * x
-                self.sizes[row] = max(self.sizes.get(row, 0.0), abs(a) * max(1.0, abs(x)))
-                if words[0] not in self.whole:
-                    self.mixed.add(row)
         self.sides: dict[bytes, tuple[float, float]] = {}
-        self.bounds: dict[bytes, tuple[float, float]] = dict.fromkeys(self.x, (0.0, INFINITE))
         self.read_rows(text[text.index(b"\nROWS\n") + 6:start - 9])
+        self.sums = dict.fromkeys(self.sides, 0.0)
+        self.sizes = dict.fromkeys(self.sides, 0.0)
+        self.mixed: set[bytes] = set()          # rows with a column that is not whole
+        self.read_columns(text[start:end])
+        self.lo = dict.fromkeys(self.x, 0.0)
+        self.hi = dict.fromkeys(self.x, INFINITE)
         self.read_rest(text[end + 1:])
+
+    def read_columns(self, text: bytes) -> None:
+        sums, sizes = self.sums, self.sizes
+        last, x, most, is_whole = b"", 0.0, 1.0, False
+        for line in text.split(b"\n"):
+            name, row, value = line.split()
+            if name != last:
+                if row == b"'MARKER'":
+                    continue
+                last, x, is_whole = name, self.x[name], name in self.whole
+                most = max(1.0, abs(x))
+            a = float(value)
+            sums[row] += a * x
+            size = abs(a) * most
+            if size > sizes[row]:
+                sizes[row] = size
+            if not is_whole:
+                self.mixed.add(row)
 
     def read_rows(self, text: bytes) -> None:
         for line in text.split(b"\n"):
@@ -87,26 +99,23 @@ class Activities:
 
     def set_bound(self, words: list[bytes]) -> None:
         kind, name = words[0], words[2]
-        value = float(words[3]) if len(words) > 3 else INFINITE
-        lo, hi = self.bounds[name]
         if kind in (b"LO", b"FX"):
-            lo = value
-        if kind in (b"UP", b"FX", b"PL"):
-            hi = value
+            self.lo[name] = float(words[3])
+        if kind in (b"UP", b"FX"):
+            self.hi[name] = float(words[3])
         if kind in (b"MI", b"FR"):
-            lo = -INFINITE
-        if kind == b"FR":
-            hi = INFINITE
-        self.bounds[name] = lo, hi
+            self.lo[name] = -INFINITE
+        if kind in (b"PL", b"FR"):
+            self.hi[name] = INFINITE
 
     def misses(self) -> Iterator[Miss]:
         """Of all rows and bounds. A bound is its own largest term, and 0 is measured by 1."""
         for name, (lo, hi) in self.sides.items():
             if name != b"obj":
-                at, size = self.sums.get(name, 0.0), self.sizes.get(name, 0.0)
-                yield missed(name, at, lo, hi, size, name not in self.mixed)
-        for name, (lo, hi) in self.bounds.items():
-            x = self.x[name]
+                yield missed(name, self.sums[name], lo, hi, self.sizes[name],
+                             name not in self.mixed)
+        for name, x in self.x.items():
+            lo, hi = self.lo[name], self.hi[name]
             if not lo <= x <= hi:
                 size = abs(x) if (lo if x < lo else hi) else max(1.0, abs(x))
                 yield missed(name, x, lo, hi, size, name in self.whole)

@@ -181,8 +181,10 @@ class Read(Case):
             self.assertEqual({place[x] for x in other.whole}, own.whole, text)
             self.assertEqual({place[x]: c for x, c in other.costs.items() if c},
                              {x: c for x, c in own.costs.items() if c}, text)
-            self.assertEqual({(row, place[x]): a for row, x, a in other.entries},
-                             {(row, x): a for row, x, a in own.entries}, text)
+            self.assertEqual({(row, place[x]): a for x, entries in other.entries.items()
+                              for row, a in entries},
+                             {(row, x): a for x, entries in own.entries.items()
+                              for row, a in entries}, text)
             self.assertEqual({row: other.sides(row) for row in other.kinds if row != "obj"},
                              {row: own.sides(row) for row in own.kinds if row != "obj"}, text)
             self.assertEqual((other.maximise, other.untie()), (own.maximise, own.untie()), text)

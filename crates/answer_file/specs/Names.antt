@@ -6,7 +6,7 @@ use Rattle.linear_program.specs.Intervals.{is_sided}
 use Rattle.nl_model.specs.File.{File}
 use Rattle.nl_model.specs.declared.suffix_kinds.Objects.{Objects}
 use Rattle.nl_model.specs.declared.suffix_kinds.Objects.TheVariants.{Variables, Constraints, Objectives, Problem}
-use Rattle.name_files.specs.Renamed.{index_named}
+use Rattle.name_lists.specs.Names.{index_named}
 use Rattle.answer_file.specs.declared.naming.Naming.{Naming}
 use Rattle.answer_file.specs.declared.naming.Naming.TheVariants.{Numbered, Listed}
 use Rattle.answer_file.specs.declared.target.Target.{Target}

@@ -4,7 +4,7 @@ ghost use Rattle.linear_program.specs.Intervals.{is_sided};
 ghost use Rattle.texts.specs.Judged.{HasOneOutcome};
 ghost use Rattle.texts.specs.Reading.{lines_of, last_of};
 ghost use Rattle.nl_model.specs.File.{File};
-ghost use Rattle.name_files.specs.Names.{AreNames};
+ghost use Rattle.name_lists.specs.Names.{AreNames};
 ghost use Rattle.answer_file.specs.declared.target.Target.TheVariants.{Place};
 ghost use Rattle.answer_file.specs.Names.{Setting, named_setting, column_target, row_target, if_exported};
 ghost use Rattle.answer_file.specs.Grammar.{AnswerValue, SaysAnswer, answer_rules, standing};

@@ -11,7 +11,7 @@ use crate::answer::Answer;
 use crate::fault::AnswerFault;
 use crate::grammar::AnswerGrammar;
 use crate::scope::Scope;
-use name_files::NameList;
+use name_lists::NameList;
 use nl_model::NlFile;
 use std::alloc::{AllocError, Global};
 use std::marker::Model;

@@ -2,6 +2,9 @@ pub mod Ending
 pub mod Exporting
 pub mod FaultLines
 pub mod Headline
+pub mod InstanceFiles
+pub mod InstanceNumbers
+pub mod InstanceTexts
 pub mod Known
 pub mod Making
 pub mod NameLists
@@ -12,4 +15,5 @@ pub mod Returning
 pub mod SeveralFiles
 pub mod Certificates
 pub mod Verdicts
+pub mod ProofClaims
 pub mod Programs

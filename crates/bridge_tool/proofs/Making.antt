@@ -19,7 +19,7 @@ use Rattle.std.specs.Global.{Vec}
 use Rattle.file_meaning.specs.FoldFaults.{has_objective}
 use Rattle.file_meaning.specs.LinearFile.{linear_of}
 use Rattle.instances.specs.Instance.{instance}
-use Rattle.instance_texts.proofs.Writing.{said}
+use Rattle.bridge_tool.proofs.InstanceTexts.{said}
 use Rattle.linear_fold.specs.FoldedFaults.{step_bound}
 use Rattle.mps_model.specs.Text.{mps_text_by}
 use Rattle.nl_model.specs.File.{File}

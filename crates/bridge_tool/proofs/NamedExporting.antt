@@ -32,7 +32,7 @@ use Rattle.mps_model.specs.Valid.{IsMps}
 use Rattle.mps_reader.specs.Reader.{IsMpsText}
 use Rattle.mps_reader.specs.Written.{mps_text}
 use Rattle.mps_reader.proofs.RoundTrip.{written_again}
-use Rattle.name_files.specs.Names.{AreNames}
+use Rattle.name_lists.specs.Names.{AreNames}
 use Rattle.name_files.proofs.ExportedNames.{plain_names, tied_names}
 use Rattle.name_files.proofs.ListedNames.{listed_names}
 use Rattle.name_files.proofs.MeaningLemmas.{same_meaning, valued}

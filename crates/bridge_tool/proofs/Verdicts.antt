@@ -49,7 +49,7 @@ use Rattle.file_certificates.specs.Files.{IsProofIn, IsCertificateIn}
 use Rattle.branch_check.specs.Leaves.{IsProved, IsVerdictOn, fault_of}
 use Rattle.certificates.specs.Proofs.{IsProofOf, ProofTree, ProofValue, claim_value, tree_over}
 use Rattle.certificates.specs.ProofReading.{tree_in}
-use Rattle.branch_proof.proofs.Files.{claim_true as proof_true}
+use Rattle.bridge_tool.proofs.ProofClaims.{claim_true as proof_true}
 use Rattle.file_certificates.proofs.ProofFiles.{proof_of}
 use Rattle.certificates.proofs.ProofReading.{tree_back}
 use Rattle.proof_text.specs.Reader.{HasProofFault, IsProofText}

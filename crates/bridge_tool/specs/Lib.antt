@@ -13,6 +13,7 @@ pub mod Import
 pub mod ImportTold
 pub mod Fixed
 pub mod LeafTold
+pub mod Instances
 pub mod Make
 pub mod Mps
 pub mod MpsTold

@@ -1,12 +1,20 @@
 // Each law is proved by a function with an empty body.
 ghost use Rattle.std.specs.Prelude.{◌≡◌, ◌↔◌, ◌+◌, ◌≤◌, ◌^◌, List, ℕ, None, Option, Some, length, take};
 ghost use Rattle.answer_file.specs.Names.{Setting as AnswerSetting};
+ghost use Rattle.branch_check.specs.Leaves.{IsProved};
+ghost use Rattle.branch_check.specs.declared.leaf.ProofVerdict.TheVariants.{Yes};
+ghost use Rattle.certificates.specs.declared.proof.Claim.{Claim as ClaimValue};
+ghost use Rattle.certificates.specs.ProofSays.{IsProvedTrueOf};
 ghost use Rattle.certificates.specs.Setting.{Setting as CertificateSetting};
 ghost use Rattle.export_round_trip.specs.ReadAs.{IsReadAs};
+ghost use Rattle.file_certificates.specs.FileProblem.{problem_of};
+ghost use Rattle.file_meaning.specs.FoldFaults.{fold_fault};
+ghost use Rattle.file_meaning.specs.LinearFile.{linear_of};
 ghost use Rattle.linear_fold.specs.FoldedFaults.{HasFaultPlace};
 ghost use Rattle.linear_fold.specs.declared.fold_fault.FoldFault.{FoldFault};
 ghost use Rattle.name_files.specs.Names.{Counts};
 ghost use Rattle.name_files.specs.Renamed.{named};
+ghost use Rattle.nl_model.specs.File.{File};
 ghost use Rattle.nl_model.specs.Rules.{IsFile};
 ghost use Rattle.nl_segments.specs.Grammar.{NlValue};
 ghost use Rattle.fixed_mps.specs.Reader.{IsFixedText};
@@ -24,6 +32,7 @@ ghost use Rattle.bridge_tool.specs.Export.{IsExportMeant, IsExported, MeansTheFi
 ghost use Rattle.bridge_tool.specs.ByText.{IsByText, IsWritingByText};
 ghost use Rattle.bridge_tool.specs.Fixed.{IsFixedRefused, fixed_told};
 ghost use Rattle.bridge_tool.specs.Import.{CannotBeImported, IsImportedAs, MeansTheProgram, import_told};
+ghost use Rattle.bridge_tool.specs.Instances.{InstancesAreSaid, InstancesAreWritable};
 ghost use Rattle.bridge_tool.specs.Mps.{IsMpsMeant, IsMpsRefused, mps_told};
 ghost use Rattle.bridge_tool.specs.NameLists.{AreListed, IsListRefused, column_counts, row_counts};
 ghost use Rattle.bridge_tool.specs.NamedExport.{IsNamedExport, Named};
@@ -125,4 +134,22 @@ pub fn told_lines_are_lines()
 pub fn names_change_no_verdict()
     ensures { (n : Named) → ((bytes : List ℕ) × IsExported n.nl n.objective bytes)
         ↔ ((bytes : List ℕ) × IsNamedExport n bytes) }
+{}
+
+/// The instance of a seed and a size of at most 20,000 can be written, whatever the seed.
+pub fn instances_are_writable()
+    ensures { InstancesAreWritable }
+{}
+
+/// What is written of the instance of a seed and a size is a text of the profile, without faults,
+/// that says the instance.
+pub fn instances_are_said()
+    ensures { InstancesAreSaid }
+{}
+
+/// What a yes shows of the linear program of a file without fold faults, it shows of the file.
+#[tactic(auto, using(crate::proofs::ProofClaims::claim_true))]
+pub fn claims_are_of_files()
+    ensures { (f : File) (k : ℕ) → IsFile f → fold_fault f k ≡ None → (claim : ClaimValue)
+        → IsProved (linear_of f k) claim Yes → IsProvedTrueOf (problem_of f k) claim }
 {}

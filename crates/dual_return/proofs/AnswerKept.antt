@@ -33,8 +33,8 @@ use Rattle.nl_model.specs.declared.suffix_kinds.Objects.{Objects}
 use Rattle.nl_model.specs.declared.suffix_kinds.Objects.TheVariants.{Variables, Constraints, Objectives, Problem}
 use Rattle.nl_model.specs.Rules.{is_suffix_of}
 use Rattle.nl_model.specs.SuffixKinds.{has_same_objects, object_limit, objects_of, wants_whole, count_among}
-use Rattle.name_files.specs.Renamed.{index_named}
-use Rattle.name_files.proofs.NumeralLemmas.{position-cons, named_so}
+use Rattle.name_lists.specs.Names.{index_named}
+use Rattle.name_lists.proofs.NumeralLemmas.{position-cons, named_so}
 use Rattle.answer_file.specs.Suffixes.{has_place, place_named, suffix_at, suffix_named, value_count}
 use Rattle.nl_model.proofs.ObjectLemmas.{same_objects}
 use Rattle.answer_file.proofs.TableLemmas.{one_value_more}

@@ -10,10 +10,11 @@ use Rattle.texts.specs.Names.{IsName, is_name, place_of}
 use Rattle.texts.specs.Words.{word_at, words_of}
 use Rattle.texts.proofs.FirstReasons.{none_head}
 use Rattle.exact_numbers.specs.SpelledLemmas.{first_of_both, second_of_both}
-use Rattle.name_files.specs.Names.{AreNames, Counts, Standing, Tests, is_reserved, is_sole_name, is_used, line_reason, name_rules, name_tests, names_of, standing, tests_if, used_names, used_tests, with_name}
+use Rattle.name_lists.specs.Names.{AreNames, is_reserved}
+use Rattle.name_files.specs.Names.{Counts, Standing, Tests, is_sole_name, is_used, line_reason, name_rules, name_tests, names_of, standing, tests_if, used_names, used_tests, with_name}
 use Rattle.name_files.specs.declared.fault.NameReason.TheVariants.{BadName, OtherCount, Repeated, Reserved}
 use Rattle.name_files.proofs.GrammarLemmas.{standing-more, standing-same}
-use Rattle.name_files.proofs.NameLemmas.{names_more}
+use Rattle.name_lists.proofs.NameLemmas.{names_more}
 
 is_a_name : (word : List ℕ) → is_name word ≡ true → IsName word
 is_a_name word e =

@@ -13,9 +13,10 @@ use Rattle.exact_numbers.specs.Values.{dec_value}
 use Rattle.linear_programs.specs.Names.{row_name, variable_name}
 use Rattle.mps_model.specs.Mps.{MpsRow, Column, Mps, no_mps_row}
 use Rattle.mps_model.specs.Valid.{AreRows, AreColumns, AreEntries, AreRanges, AreBounds, IsPartOfMps, IsComplete, IsMps, IsOtherRow, HasEntries, IsNameOrEmpty, marker_word, entry_count}
-use Rattle.name_files.specs.Names.{AreNames, is_reserved}
-use Rattle.name_files.specs.Renamed.{index_named, marked, named_at, new_name, named_row, named_column, named_rows, named_columns, named, with_names, IsExportedName, AreExportedNames, HasExportedNames}
-use Rattle.name_files.proofs.NumeralLemmas.{named_so}
+use Rattle.name_lists.specs.Names.{AreNames, is_reserved}
+use Rattle.name_lists.specs.Names.{index_named}
+use Rattle.name_files.specs.Renamed.{marked, named_at, new_name, named_row, named_column, named_rows, named_columns, named, with_names, IsExportedName, AreExportedNames, HasExportedNames}
+use Rattle.name_lists.proofs.NumeralLemmas.{named_so}
 use Rattle.name_files.proofs.MeaningLemmas.{kept_at, same_objective_row}
 
 -- ---- lists that were mapped

@@ -1,17 +1,15 @@
 -- The names of a file: one in each line that holds words. The order of the tests is this project's
 -- own.
-use Rattle.std.specs.Prelude.{◌≡◌, ◌≢◌, ℕ, ◌+◌, ◌^◌, ◌<◌, ◌==◌, Bool, false, not, ◌&&◌, ◌||◌, nat_le, nat_lt, List, [], ◌∷◌, ◌++◌, length, take, slice_index, Option, Some, None, is_some, if◌then◌else◌, All, AllPairs}
+use Rattle.std.specs.Prelude.{◌≡◌, ℕ, ◌+◌, ◌==◌, Bool, not, ◌&&◌, ◌||◌, nat_le, nat_lt, List, [], ◌∷◌, ◌++◌, length, take, Option, Some, None, is_some, if◌then◌else◌}
 use Rattle.std.specs.List.{flat_map}
-use Rattle.std.specs.Str.{bytes_eq}
 use Rattle.texts.specs.Judged.{Rules, first_reason}
-use Rattle.texts.specs.Names.{IsName, is_name}
-pub use Rattle.texts.specs.Names.{place_of}
+use Rattle.texts.specs.Names.{is_name, place_of}
 use Rattle.texts.specs.Words.{words_of, word_at}
 use Rattle.texts.specs.declared.lines.LineFault.{LineFault}
 use Rattle.texts.specs.declared.lines.LineFault.TheVariants.{LineTooLong as LongLine, InputTooLong as LongInput}
 use Rattle.name_files.specs.declared.fault.NameReason.{NameReason}
 use Rattle.name_files.specs.declared.fault.NameReason.TheVariants.{BadName, Repeated, Reserved, OtherCount, LineTooLong, InputTooLong}
-use Rattle.mps_model.specs.Valid.{marker_word}
+use Rattle.name_lists.specs.Names.{is_reserved}
 
 -- how many names are used, and how many may follow that are not
 pub record Counts : Type 0 where
@@ -38,10 +36,6 @@ standing counts lines =
     record { count = length (names_of lines); names = used_names counts lines }
 
 -- ---- The tests of a line that holds words, and of the end.
-
--- it begins with `@`, or is the word of marker lines
-abbrev pub is_reserved : List ℕ → Bool
-is_reserved name = (slice_index name 0 == 64) || bytes_eq name marker_word
 
 -- the next name is used
 abbrev pub is_used : Counts → Standing → Bool
@@ -101,11 +95,3 @@ name_rules counts = record {
 -- these lines say these names
 abbrev pub SaysNames : Counts → List (List ℕ) → List (List ℕ) → Type 0
 SaysNames counts lines names = names ≡ used_names counts lines
-
--- ---- Names that are used.
-
-pub record AreNames (names : List (List ℕ)) : Type 0 where
-  pub few : length names < 2 ^ 32
-  pub named : All IsName names
-  pub apart : AllPairs (λ m n. m ≢ n) names
-  pub free : All (λ n. is_reserved n ≡ false) names

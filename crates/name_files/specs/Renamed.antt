@@ -1,18 +1,13 @@
 -- A program whose rows and columns get other names.
-use Rattle.std.specs.Prelude.{◌≡◌, ◌⊎◌, ◌↔◌, ℕ, ◌<◌, ◌≤◌, ◌^◌, List, [], ◌∷◌, length, map, slice_index_or, position, Option, Some, None, All}
-use Rattle.std.specs.List.{range_with_len}
-use Rattle.std.specs.Str.{bytes_eq}
+use Rattle.std.specs.Prelude.{◌≡◌, ◌⊎◌, ◌↔◌, ℕ, ◌<◌, ◌≤◌, ◌^◌, List, [], ◌∷◌, length, map, slice_index_or, Option, Some, None, All}
 use Rattle.fractions.specs.Rational.{ℚ}
 use Rattle.linear_programs.specs.Linear.{Linear}
 use Rattle.linear_programs.specs.Names.{row_name, variable_name}
 use Rattle.mps_model.specs.Mps.{MpsRow, Column, Mps, IsMpsFeasible, mps_objective}
 use Rattle.exported_program.specs.Program.{obj_name, z_name, zdef_name}
+use Rattle.name_lists.specs.Names.{index_named}
 
 -- ---- The new names.
-
--- the first of the numbers below n whose name is this text
-unfoldable pub index_named : (ℕ → List ℕ) → ℕ → List ℕ → Option ℕ
-index_named name n text = position (λ j. bytes_eq (name j) text) (range_with_len 0 n)
 
 -- an `@` before a name
 abbrev pub marked : List ℕ → List ℕ

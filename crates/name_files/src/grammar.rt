@@ -3,11 +3,11 @@ ghost use Rattle.std.specs.Prelude.{◌≡◌, ◌<◌, ◌+◌, ◌^◌, ◌==�
 ghost use Rattle.texts.specs.Judged.{Takes, first_reason};
 ghost use Rattle.texts.specs.Names.{IsName, is_name};
 ghost use Rattle.texts.specs.Words.{texts, word_at};
-ghost use Rattle.name_files.specs.Names.{standing, name_tests, used_tests, with_name, is_used, is_full, is_reserved, is_sole_name, tests_if};
+ghost use Rattle.name_lists.specs.Names.{is_reserved};
+ghost use Rattle.name_files.specs.Names.{standing, name_tests, used_tests, with_name, is_used, is_full, is_sole_name, tests_if};
 
 use crate::fault::NameReason;
-use crate::list::NameList;
-use crate::names::Names;
+use name_lists::NameList;
 use std::alloc::{AllocError, Global};
 use std::marker::Model;
 use texts::{Grammar, LineFault, Row, Stop, is_name};
@@ -19,7 +19,7 @@ pub struct NameGrammar {
     used: u32,
     further: u32,
     count: u64,
-    names: Names,
+    names: NameList,
 }
 
 impl Model for NameGrammar {
@@ -71,7 +71,7 @@ impl Grammar for NameGrammar {
         if !self.is_full() {
             return Err(Stop::Fault(NameReason::OtherCount));
         }
-        Ok(NameList::of(self.names))
+        Ok(self.names)
     }
 }
 
@@ -110,7 +110,7 @@ impl NameGrammar {
             used,
             further,
             count: 0,
-            names: Names::new(alloc),
+            names: NameList::new(alloc),
         }
     }
 

@@ -4,15 +4,11 @@
 mod fault;
 mod grammar;
 pub mod laws;
-mod list;
-mod names;
 mod new_names;
-mod numerals;
 mod reader;
 mod renaming;
 
 pub use fault::{NameFault, NameReason};
-pub use list::NameList;
-pub use numerals::numbered;
+pub use name_lists::{NameList, numbered};
 pub use reader::NameReader;
 pub use renaming::rename;

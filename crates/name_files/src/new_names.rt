@@ -4,8 +4,7 @@ ghost use Rattle.std.specs.Fmt.{decimal};
 ghost use Rattle.texts.specs.Names.{IsName};
 ghost use Rattle.name_files.specs.Renamed.{marked, new_name};
 
-use crate::list::NameList;
-use crate::numerals::numbered;
+use name_lists::{NameList, numbered};
 use std::alloc::{AllocError, Global};
 use texts::Name;
 
@@ -21,7 +20,7 @@ fn marked(alloc: Global, old: &[u8]) -> Result<Name, AllocError>
 }
 
 /// The name of the number after this letter, or else the old name marked.
-#[tactic(auto, using(crate::proofs::NumeralLemmas::named_so))]
+#[tactic(auto, using(name_lists::proofs::NumeralLemmas::named_so))]
 pub(crate) fn new_name(
     alloc: Global,
     letter: u8,

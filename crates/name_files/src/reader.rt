@@ -8,7 +8,7 @@ ghost use Rattle.name_files.specs.Reader.{IsFed, ReadsNames};
 
 use crate::fault::NameFault;
 use crate::grammar::NameGrammar;
-use crate::list::NameList;
+use name_lists::NameList;
 use std::alloc::{AllocError, Global};
 use std::marker::Model;
 use texts::{Reader, Stop};

@@ -5,10 +5,10 @@ ghost use Rattle.mps_model.specs.Built.{entry_of, bound_of, or_empty};
 ghost use Rattle.mps_model.specs.Valid.{AreRows, AreColumns, AreEntries, AreRanges, AreBounds};
 ghost use Rattle.name_files.specs.Renamed.{named, named_rows, named_columns, HasExportedNames};
 
-use crate::list::NameList;
 use crate::new_names::new_name;
 use exact_numbers::Dec;
 use mps_model::{BoundKind, Mps, MpsBuilder, MpsColumn, MpsRow};
+use name_lists::NameList;
 use std::alloc::{AllocError, Global};
 use texts::Name;
 

@@ -3,3 +3,4 @@ pub mod BatchLemmas
 pub mod ColumnLemmas
 pub mod LineLemmas
 pub mod NumberLemmas
+pub mod PartLemmas

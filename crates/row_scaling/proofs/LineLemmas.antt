@@ -28,7 +28,7 @@ use Rattle.scaling.specs.Rows.{side_value}
 use Rattle.scaling.specs.Parts.{column_count, row_named, rows_in}
 use Rattle.scaling.proofs.SharedLemmas.{rest_of}
 use Rattle.row_scaling.specs.InsideColumns.{AreColumns, column_in, entries_in_column, entry_value}
-use Rattle.row_scaling.specs.InsideBatches.{ArePart}
+use Rattle.row_scaling.specs.InsideBatches.{AreLater, ArePart}
 use Rattle.scaling.specs.declared.row.FactoredRow.{FactoredRow}
 
 pub same_text : (d : Dec) → text_of d ≡ value_text (dec_value d)
@@ -305,6 +305,9 @@ module _ (s : ScaledValue) (h : IsScaled s) where
       ∙ ap (λ ls. out0 ++ lines_text ls) (sym (some_bounds 0 (program_variables s) (section (codes "BOUNDS") ∷ map line_of (all_bounds s)) (omega (arith, some, all_variables s h))))
 
 -- ---- a part of the columns
+pub part_later : {V : Type 0} (items : V → List TermOf) (first m : ℕ) (old now : List (List TermOf)) (columns : List V) → AreLater first old now → first + m ≤ length old → ArePart items first m now columns → ArePart items first m old columns
+part_later items first m old now columns later within p = record { count = p.count; terms = λ k d l. p.terms k d l ∙ later.same (first + k) (omega arith) (omega (arith, l, within)) }
+
 pub part_columns : {V : Type 0} (items : V → List TermOf) (s : ScaledValue) (n first m : ℕ) (all : List (List TermOf)) (columns : List V) → ArePart items first m all columns → AreColumns (λ c. c) n (entries_in_column s) all → first + m ≤ n →
     AreColumns items (length columns) (λ k. entries_in_column s (first + k)) columns
 part_columns items s n first m all columns p a within =

@@ -2,5 +2,6 @@ pub mod InsideBatches
 pub mod InsideColumns
 pub mod InsideFilled
 pub mod InsideFilling
+pub mod InsidePart
 pub mod InsideSections
 pub mod InsideSides

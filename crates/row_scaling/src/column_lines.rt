@@ -15,8 +15,8 @@ use crate::batches::{Batches, part_end};
 use crate::columns::{column_sizes, in_batches};
 use crate::entry_lines::put_column;
 use crate::names::{ShortName, column_name};
+use crate::part_columns::PartColumns;
 use crate::program_columns::is_whole;
-use exact_numbers::Dec;
 use mps_writer::put_change;
 use scaling::{FactoredRow, Scaled};
 use std::alloc::{AllocError, Global};
@@ -70,14 +70,14 @@ fn put_part(
     scaled: &Scaled,
     numbers: &[u32],
     first: u32,
-    columns: &[Vec<(u32, Dec)>],
+    columns: &PartColumns,
     from: Place,
 ) -> Result<Place, AllocError>
     requires numbers { map numbered_row numbers.now
         ≡ map (λ r. r.name) (exported_from 0 scaled.now.rows) }
     requires scaled { IsScaled scaled.now }
     requires within { first + length columns.now ≤ column_count scaled.now }
-    requires columns { AreColumns (λ c. c.items) (length columns.now)
+    requires columns { AreColumns (λ c. c) (length columns.now)
         (λ k. entries_in_column scaled.now (first + k)) columns.now }
     requires few { from.markers ≤ first }
     ensures few { IfOk result (λ to. to.markers ≤ first + length columns.now) }
@@ -89,13 +89,13 @@ fn put_part(
     let mut lines = LineText::<2048>::new();
     let mut marked = from.marked;
     let mut markers = from.markers;
-    for (k, column) in columns.iter().enumerate() {
+    for k in 0..columns.len() {
         let j = first + k as u32;
         let now = is_marked(scaled, j);
         markers = put_change(out, marked, now, markers)?;
         marked = now;
         let name = name_of_column(scaled, j);
-        put_column(out, &mut lines, scaled, numbers, &name, column)?;
+        put_column(out, &mut lines, scaled, numbers, &name, columns.column(k))?;
     }
     Ok(Place { marked, markers })
 }
@@ -106,30 +106,29 @@ fn put_parts(
     alloc: Global,
     scaled: &Scaled,
     numbers: &[u32],
-    batches: &Batches,
-    sizes: &[u32],
+    mut batches: Batches,
+    total: usize,
 ) -> Result<Place, AllocError>
     requires numbers { map numbered_row numbers.now
         ≡ map (λ r. r.name) (exported_from 0 scaled.now.rows) }
     requires scaled { IsScaled scaled.now }
-    requires sizes { length sizes.now ≡ column_count scaled.now }
+    requires total { total ≡ column_count scaled.now }
     requires columns { AreColumns (λ c. c) (column_count scaled.now)
-        (entries_in_column scaled.now) batches.now }
-    ensures few { IfOk result (λ to. to.markers ≤ length sizes.now) }
+        (entries_in_column scaled.now) batches }
+    ensures few { IfOk result (λ to. to.markers ≤ total) }
     ensures text { IfOk result (λ to.
-        out.new.items ++ lines_text
-        (lines_from scaled.now to.marked to.markers (length sizes.now))
+        out.new.items ++ lines_text (lines_from scaled.now to.marked to.markers total)
         ≡ out.old.items ++ lines_text (lines_from scaled.now false 0 0)) }
 {
     let mut place = Place {
         marked: false,
         markers: 0,
     };
-    let mut columns = Vec::new(alloc);
+    let mut columns = PartColumns::new(alloc);
     let mut done = 0usize;
-    'parts: while done < sizes.len() {
-        let end = part_end(done, sizes.len());
-        batches.part(alloc, done as u32, &sizes[done..end], &mut columns)?;
+    'parts: while done < total {
+        let end = part_end(done, total);
+        columns = batches.take_part(alloc, done as u32, end - done, columns)?;
         place = put_part(out, scaled, numbers, done as u32, &columns, place)?;
         done = end;
     }
@@ -150,7 +149,7 @@ pub(crate) fn put_columns(
     let batches = in_batches(alloc, scaled, &sizes)?;
     let numbers = exported_numbers(alloc, scaled.rows())?;
     put_line(out, b"COLUMNS")?;
-    let end = put_parts(out, alloc, scaled, &numbers, &batches, &sizes)?;
+    let end = put_parts(out, alloc, scaled, &numbers, batches, sizes.len())?;
     put_change(out, end.marked, false, end.markers)?;
     Ok(())
 }

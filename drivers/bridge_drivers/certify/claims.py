@@ -263,12 +263,16 @@ class Certifying:
                 yield self.one_leaf(leaf, "optimal", None, point)
         if state is State.UNBOUNDED:
             yield self.unbounded(given)
+        leaves: list[tuple[Fraction, Closed]] = []
         if clp is not None:
             yield from self.by_bases(optima, optima.bases(clp, self.clp_seconds()))
-            yield from self.short(clp, found, optima.note())
+            leaves = self.short_leaves(clp)
+            yield from self.short_points(clp, found, leaves, optima.note())
         if not found:
             yield Verdict(WITHOUT + "no exact point was found near the answer")
             yield from self.infeasible()
+        for value, leaf in leaves:
+            yield self.one_leaf(leaf, "bound", value, None)._replace(note=optima.note())
         if clp is not None:
             yield from self.loose_bounds(clp, found)
         if found:
@@ -286,20 +290,23 @@ class Certifying:
             optima.refused = "" if verdict.is_proved() else verdict.line
             yield verdict
 
-    def short(self, clp: Clp, found: list[Point], note: str) -> Iterator[Verdict]:
-        """`within` by short numbers, or `bound` where there is no short point."""
+    def short_leaves(self, clp: Clp) -> list[tuple[Fraction, Closed]]:
+        """Bounds by short duals."""
+        p = self.model
+        return [(p.sign * short.shortened(p, duals.bound()),
+                 Closed(duals.leaf, duals.judged.reduced, 0))
+                for duals in short.short_duals(p, clp, self.clp_seconds())]
+
+    def short_points(self, clp: Clp, found: list[Point], leaves: Sequence[tuple[Fraction, Closed]],
+                     note: str) -> Iterator[Verdict]:
+        """`within` by short numbers."""
         p, seconds = self.model, self.clp_seconds()
-        leaves = [(p.sign * short.shortened(p, duals.bound()),
-                   Closed(duals.leaf, duals.judged.reduced, 0))
-                  for duals in short.short_duals(p, clp, seconds)]
         for made in short.Rounding(p, clp.keep(), clp.values(), seconds).points():
             self.point = made.point
             found.insert(0, made.point)
             for value, leaf in leaves:
                 verdict = self.one_leaf(leaf, "within", value, made.point)
                 yield verdict._replace(note=f"{note}; {made.way}" if made.way else note)
-        for value, leaf in leaves:
-            yield self.one_leaf(leaf, "bound", value, None)._replace(note=note)
 
     def linear_points(self, given: Given, clp: Clp | None) -> Iterator[Point]:
         """Near the answer, then the vertex of its basis, then of CLP's; narrow ones alone."""

@@ -70,7 +70,7 @@ class Model:
         self.whole = [name in s.whole for name in s.bounds]
         zero = Fraction(0)
         costs = [s.costs.get(name, zero) for name in s.bounds]
-        different = {id(c): sign * c for c in costs}
+        different = {key: sign * c for key, c in {id(c): c for c in costs}.items()}
         self.cost = [different[id(c)] for c in costs]
         self.constant = sign * constant
         self.cost_scale = scale = lcm(self.constant.denominator,
@@ -83,20 +83,18 @@ class Model:
 
     def set_rows(self, s: Sections, factors: Mapping[int, int]) -> None:
         place = {f"c{i}": i for i in range(self.m)}
-        at = {name: j for j, name in enumerate(s.bounds)}
         if factors:
-            s.entries = [(row, column, a / factors.get(place[row], 1))
-                         for row, column, a in s.entries]
-        different = {id(a): a for _, _, a in s.entries}
+            s.entries = {column: [(row, a / factors.get(place[row], 1)) for row, a in entries]
+                         for column, entries in s.entries.items()}
+        different = {id(a): a for entries in s.entries.values() for _, a in entries}
         self.scale = lcm(1, *{a.denominator for a in different.values()})
         over = {key: a.numerator * (self.scale // a.denominator)
                 for key, a in different.items()}
         self.rows: list[list[tuple[int, int]]] = [[] for _ in range(self.m)]
-        for row, column, a in s.entries:
-            self.rows[place[row]].append((at[column], over[id(a)]))
-        s.entries = []                  # the most room that reading takes
-        for entries in self.rows:
-            entries.sort()
+        for j, entries in enumerate(s.entries.values()):
+            for row, a in entries:
+                self.rows[place[row]].append((j, over[id(a)]))
+        s.entries = {}                  # the most room that reading takes
         self.set_columns()
 
     def set_columns(self) -> None:

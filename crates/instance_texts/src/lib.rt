@@ -1,4 +1,0 @@
-//! What is written of an instance says this instance.
-#![tactic(auto)]
-
-pub mod laws;
