@@ -35,11 +35,6 @@ abbrev pub line_values : ℕ → Point → List Line → List ℚ
 line_values n at [] = []
 line_values n at (l ∷ ls) = line_value n l at ∷ line_values n at ls
 
--- their values, where none is missing
-abbrev pub some_values : ℕ → Point → List Line → List (Option ℚ)
-some_values n at [] = []
-some_values n at (l ∷ ls) = Some (line_value n l at) ∷ some_values n at ls
-
 -- the line of a function of points, by its values at 0 and the unit points; a missing value counts
 -- as 0
 abbrev pub line_by : (Point → Option ℚ) → Line
