@@ -9,7 +9,8 @@
     dev/statement.py --check              says whether docs/verify/reading.md is as --write makes it, and what a statement may
                                           not rest on; status 1 where something is wrong
 
-A definition of `crates/CRATE/specs/FILE.antt` rests on those that its text names. Names of the toolchain's library are not
+A definition of `crates/CRATE/specs/FILE.antt` rests on those that its text names. Arithmetic (`ARITHMETIC`) is printed
+last, under a heading of its own, and counts as all else. Names of the toolchain's library are not
 followed: it is trusted. Types that code declares (`specs.declared`) are printed and counted apart, from the code.
 A value that holds a proof cites lemmas, which stand in files named `..Lemmas`. The machine checks them, and their types
 say nothing that the value's type does not say: they are counted apart, and what they alone rest on is no part of a
@@ -222,7 +223,9 @@ class Statement:
         return list(found)
 
     def by_file(self, keys: list[Key]) -> dict[tuple[str, str], list[Definition]]:
-        """Definitions by file: crates, and files in a crate, after those that they rest on, definitions in their order."""
+        """Definitions by file: crates, and files in a crate, after those that they rest on, definitions in their order.
+
+        Arithmetic comes last."""
         files: dict[tuple[str, str], list[Definition]] = {}
         for key in keys:
             files.setdefault(key[:2], []).append(self[key])
@@ -233,8 +236,13 @@ class Statement:
         for it, others in below.items():
             crates[it[0]] |= {other[0] for other in others} - {it[0]}
         rank = {crate: number for number, crate in enumerate(upwards(crates))}
-        order = sorted(upwards(below), key=lambda it: rank[it[0]])
+        order = sorted(upwards(below), key=lambda it: (is_arithmetic(it), rank[it[0]]))
         return {it: sorted(files[it], key=lambda found: found.line) for it in order}
+
+
+def is_arithmetic(file: tuple[str, str]) -> bool:
+    """Whether a file, by crate and name, says what numbers are."""
+    return file[0] in ARITHMETIC or "/".join(file) in ARITHMETIC
 
 
 def upwards(below: dict[T, set[T]]) -> list[T]:
@@ -254,13 +262,17 @@ class Theorem:
 
 HEADLINE = "bridge_tool/Promise:Answers"
 
+# What numbers are: it stands last, since few doubt it.
+ARITHMETIC = ("fractions", "exact_numbers/Fraction", "exact_numbers/Values")
+DOUBTS = "Arithmetic: for who doubts the rational numbers"
+
 THEOREMS = (
     Theorem("export", (HEADLINE, "bridge_tool/Export:export_promise"),
             "What `export` answers, writes and tells, and what its program means. `nl_model/File` is the value of an .nl "
             "text, `nl_segments/Reader` (`IsNl`) says which texts are .nl texts and what they say, `file_meaning/Meaning` "
             "which assignments satisfy a file, `nl_meaning/Faults` and `file_meaning/FoldFaults` what does not fold, "
-            "`exported_program` which program is written, `mps_model/Mps` what a program means, `mps_model/Text` its "
-            "text, `bridge_tool/Export` and `Promise` what is promised of all that."),
+            "`scaled_program` what its linear program is scaled to, `exported_program` that as MPS, `mps_model/Mps` what "
+            "an MPS program means, `mps_model/Text` its text, `bridge_tool/Export` and `Promise` what is promised of all that."),
     Theorem("what an export means", ("bridge_tool/Export:MeansTheFile",),
             "The program that is written means what the file means: this much has to be read to believe only that."),
     Theorem("what an export is read as",
@@ -308,7 +320,8 @@ OPENING = (
     "# What to read to believe each theorem",
     "",
     "Written by `dev/statement.py --write`. A proof is checked by the machine; what it says is for people to read. Each",
-    "theorem rests on the definitions below, from the ground up; `dev/statement.py CRATE/FILE:NAME` prints their texts.",
+    "theorem rests on the definitions below, from the ground up, but for arithmetic, which comes last: what rational numbers",
+    "are, their sums, products and order. `dev/statement.py CRATE/FILE:NAME` prints their texts.",
     "Paths are `crates/CRATE/specs/FILE.antt`, the number before a name is its line; in a package all texts stand, in this",
     "order, in `definitions.txt` beside this page. Who finds that they say what the words mean, and trusts the toolchain,",
     "believes the theorem: no code and no proof need be read.",
@@ -402,8 +415,12 @@ def printed(statement: Statement, roots: list[Key]) -> str:
     """The texts of all definitions, by file."""
     keys = statement.closure(roots)
     lines = [*LEGEND, ""]
-    for (crate, file), found in statement.by_file(keys).items():
+    files = statement.by_file(keys)
+    arithmetic = [one for it, found in files.items() if is_arithmetic(it) for one in found]
+    for (crate, file), found in files.items():
         own = statement.files[crate, file]
+        if arithmetic and found[0] == arithmetic[0]:
+            lines += [f"######## {DOUBTS}: {size_of(arithmetic)}", ""]
         lines += [f"==== crates/{crate}/specs/{file}.antt: {size_of(found)}", *own.head, *own.other_names(found)]
         lines += [*own.types_of_code(found), ""]
         for it in found:
@@ -429,11 +446,14 @@ def section(statement: Statement, keys: list[Key], known: set[Key]) -> list[str]
     if shared := [it for it in files if known.issuperset(one.key for one in files[it])]:
         names = ", ".join(f"`{crate}/{file}`" for crate, file in shared)
         lines.append(f"- as for `{THEOREMS[0].name}` or in part: {names}")
-    for crate, file in files:
-        if (crate, file) not in shared:
-            found = files[crate, file]
-            names = ", ".join(f"{one.line} `{one.key[2]}`" for one in found)
-            lines.append(f"- **{crate}/{file}** ({size_of(found)}): {names}")
+    own = [it for it in files if it not in shared]
+    arithmetic = [it for it in own if is_arithmetic(it)]
+    for crate, file in own:
+        found = files[crate, file]
+        if arithmetic and (crate, file) == arithmetic[0]:
+            lines += ["", f"{DOUBTS} ({size_of([one for it in arithmetic for one in files[it]])}).", ""]
+        names = ", ".join(f"{one.line} `{one.key[2]}`" for one in found)
+        lines.append(f"- **{crate}/{file}** ({size_of(found)}): {names}")
     return lines
 
 

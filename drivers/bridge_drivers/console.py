@@ -2,6 +2,7 @@
 
 from __future__ import annotations
 
+import gc
 import os
 import sys
 from typing import Callable, NoReturn, TextIO, TypeVar, cast
@@ -10,6 +11,7 @@ from .interrupts import SIGNALS, Interrupted
 from .printable import printable
 
 BROKEN = 1                      # the exit status where standard output broke
+COLLECTED = (200_000, 20, 50)   # a run makes millions of objects, of which few go in circles
 Result = TypeVar("Result")
 
 
@@ -68,6 +70,7 @@ def run(name: str, command: Callable[[], int], broken: int = BROKEN) -> NoReturn
     """Ends the process with the command's status. Bytes of paths that are not UTF-8 are printed
     as they are, controls of a terminal as `\\x1b`; a standard output that breaks or is closed is
     told in one line, and so is a signal."""
+    gc.set_threshold(*COLLECTED)
     SIGNALS.take()
     fill()
     for stream in (sys.stdout, sys.stderr):

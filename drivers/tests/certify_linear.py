@@ -302,6 +302,16 @@ class Linear(Certified):
         self.assertEqual(verdict.claim(), "within", verdict.line)
         self.assertRegex(verdict.note, "^the exact optimum: bridge verify says `too wide at ")
 
+    def test_contradiction(self) -> None:
+        """Parallel equations that miss each other by 5e-9, which CLP takes for one: a contradiction
+        is told, and no bound."""
+        terms = {0: "2.5", 1: "0.1"}
+        text = nl([real(0, 5), real(0, 9)],
+                  [("7.699999995", "7.699999995", terms), ("7.7", "7.7", terms)],
+                  [("min", 0, {0: 5, 1: 1})])
+        _, verdict = self.verdict(text)
+        self.assertEqual(verdict.line, "infeasible")
+
     def test_no_room(self) -> None:
         """Equations of which nothing is left to round: no point is told that is none."""
         text = nl([real(0, 1)] * 3, [("1.5", "1.5", {0: "1.1", 1: "0.7", 2: "0.3"}),

@@ -3,10 +3,10 @@ use Rattle.std.proofs.Common.{◌≡◌, ℕ, ◌+◌, ◌<◌, ◌≤◌, ◌�
 use Rattle.std.specs.Prelude.{flat_map}
 use Rattle.std.proofs.lemmas.List.{drop_all, length-take-le, take_at, drop_at}
 use Rattle.fractions.specs.Rational.{zero_ℚ}
-use Rattle.linear_programs.specs.Linear.{Linear, row_count, variable_count}
+use Rattle.program_meaning.specs.Linear.{Linear, row_count, variable_count}
 use Rattle.duality.specs.Branch.{split as split_tree, duals as duals_leaf, weights as weights_leaf}
 use Rattle.duality.specs.Parts.{bound}
-use Rattle.linear_programs.specs.Elements.{elements_from}
+use Rattle.program_meaning.specs.Elements.{elements_from}
 use Rattle.certificates.specs.Certificates.{CertificateTree, IsCutNumber, split as written_split, duals as written_duals, weights as written_weights, nodes_of as written_nodes_of, pairs_of as written_pairs_of, tree_over as written_over}
 use Rattle.linear_program.specs.Numbers.{Pair as WrittenPair, number_of as written_number, spread as written_spread}
 use Rattle.certificates.specs.declared.certificate.CertificateNode.{CertificateNode}

@@ -1,7 +1,7 @@
 -- What a yes of the walk says.
 use Rattle.std.proofs.Common.{◌≡◌, ◌∙◌, List, Option, None, ap₂, subst, sym}
 use Rattle.fractions.specs.Rational.{ℚ, zero_ℚ}
-use Rattle.linear_programs.specs.Linear.{Linear, row_count}
+use Rattle.program_meaning.specs.Linear.{Linear, row_count}
 use Rattle.duality.specs.Branch.{AreSplitsWhole, LeafFault, proof_fault}
 use Rattle.duality.proofs.Branches.{branches, infeasible}
 use Rattle.exact_numbers.specs.Values.{dec_value}

@@ -1,6 +1,6 @@
 -- The tree of a proof as that of a certificate.
 use Rattle.std.specs.Prelude.{◌≡◌, ℕ, List}
-use Rattle.linear_programs.specs.Linear.{Linear, row_count}
+use Rattle.program_meaning.specs.Linear.{Linear, row_count}
 use Rattle.certificates.specs.declared.proof.ProofNode.{ProofNode}
 use Rattle.certificates.specs.declared.proof.ProofNode.TheVariants.{Split, Duals, Weights}
 use Rattle.certificates.specs.Certificates.{CertificateTree, IsCutNumber, tree_over as written_over}

@@ -1,7 +1,7 @@
 -- What the verdict on a proof says.
 use Rattle.std.specs.Prelude.{◌≡◌, List, Option, Some, None}
 use Rattle.fractions.specs.Rational.{ℚ}
-use Rattle.linear_programs.specs.Linear.{Linear, IsFeasible, IsRelaxed, objective_value, row_count}
+use Rattle.program_meaning.specs.Linear.{Linear, IsFeasible, IsRelaxed, objective_value, row_count}
 use Rattle.duality.specs.Branch.{LeafFault, row_side, bound_side, wide, open_gap, proof_fault}
 use Rattle.duality.specs.Points.{IsBetter}
 use Rattle.exact_numbers.specs.Values.{dec_value, frac_value}

@@ -1,6 +1,6 @@
 // The tree of a proof as that of a certificate.
 ghost use Rattle.std.specs.Prelude.{◌≡◌, [], IfOk, length};
-ghost use Rattle.linear_programs.specs.Linear.{Linear, row_count};
+ghost use Rattle.program_meaning.specs.Linear.{Linear, row_count};
 ghost use Rattle.dual_bounds.specs.Programs.{linear_of};
 ghost use Rattle.branch_check.specs.InsideConverted.{HasCutNumber, IsTreeFor, node_with, pair_count};
 ghost use Rattle.branch_check.specs.InsideNumbers.{AreReady};

@@ -7,14 +7,14 @@ use Rattle.std.proofs.lemmas.List.{get_or_past}
 use Rattle.std.proofs.lemmas.List.Elements.{All-nil, All-cons, All-head, All-tail}
 use Rattle.fractions.specs.Fits.{fits, sum_fits}
 use Rattle.fractions.specs.Rational.{ℚ, neg_ℚ, whole, ◌-ℚ◌, ◌*ℚ◌}
-use Rattle.linear_programs.specs.Linear.{Row, Linear, variable_count, no_row, row_at, objective_value as program_objective}
+use Rattle.program_meaning.specs.Linear.{Row, Linear, variable_count, no_row, row_at, objective_value as program_objective, row_at as exported_row}
 use Rattle.exact_numbers.specs.Values.{FitsDec, fits_dec, value_text}
 use Rattle.exact_numbers.proofs.Spelling.{fits_dec_in, fits_dec_out}
-use Rattle.exported_program.specs.Export.{ScaledFits, SideFits, RangeFits, IfSide, IfBoth, RowFits, ExportFits, IsRowTooWide, IsDecimal, ObjectiveFits, factor_of_row, factor_of_objective}
-use Rattle.exported_program.specs.Factor.{coefficients_below, objective_numbers, row_numbers}
-use Rattle.exported_program.specs.Program.{nonzero, scaled_side, program, tied_program}
-use Rattle.exported_program.specs.Return.{is_exported, row_at as exported_row}
-use Rattle.scaling.specs.Scaling.{HasNoScaleFault, HasScaleFault, IsExportOf}
+use Rattle.scaled_program.specs.Fits.{ScaledFits, SideFits, RangeFits, IfSide, IfBoth, RowFits, ExportFits, IsRowTooWide, IsDecimal, ObjectiveFits, factor_of_row, factor_of_objective, IsScaledProgramOf}
+use Rattle.scaled_program.specs.Factor.{coefficients_below, objective_numbers, row_numbers}
+use Rattle.scaled_program.specs.Program.{ScaledProgram, scaled_by, scaled_and_tied, nonzero, scaled_side, is_exported}
+use Rattle.exported_program.specs.Program.{mps_of, program, tied_program}
+use Rattle.scaling.specs.Scaling.{HasNoScaleFault, HasScaleFault}
 use Rattle.scaling.specs.declared.scale_fault.ScaleFault.{ScaleFault}
 use Rattle.scaling.specs.declared.scale_fault.ScaleFault.TheVariants.{RowTooWide, ObjectiveTooWide}
 use Rattle.std.proofs.lemmas.Option.{same_Some}
@@ -23,10 +23,9 @@ use Rattle.file_meaning.specs.LinearFile.{linear_of, HasLines, IsFormedFile}
 use Rattle.linear_fold.specs.FoldedFaults.{first_fold_fault, named_fault}
 use Rattle.linear_program.specs.Programs.{LinearValue, linear_value}
 use Rattle.linear_fold.specs.declared.fold_fault.FoldFault.{FoldFault}
-use Rattle.mps_model.specs.Mps.{Mps}
 use Rattle.nl_model.specs.File.{File}
 use Rattle.nl_segments.specs.Grammar.{NlValue, nl_rules, standing, said, counts_of}
-use Rattle.scaling.specs.Exported.{exported_as}
+use Rattle.scaling.specs.Exported.{scaled_as}
 use Rattle.scaling.specs.Scaled.{ScaledValue}
 use Rattle.bridge_tool.specs.NlTold.{fold_line, scale_line, nl_line}
 use Rattle.bridge_tool.specs.Stages.{HasFolded, HasScaled, HasScaleRefusal, CanBeExported, CannotBeExported, fold_steps}
@@ -44,7 +43,7 @@ use Rattle.bridge_tool.proofs.SeveralFiles.{AreRead, read_so, IsEither, IsLast, 
 use Rattle.export_round_trip.specs.ReadAs.{IsReadAs}
 use Rattle.export_round_trip.proofs.ReadBack.{exported_back}
 use Rattle.exported_program.proofs.Export.{same_points, same_objective, same_sense, tied_points, tied_objective, tied_sense}
-use Rattle.exported_program.proofs.Factor.{factor_above}
+use Rattle.scaled_program.proofs.Factor.{factor_above}
 use Rattle.file_meaning.proofs.Files.{count_lem, same_feasible, same_objective as same_value, same_sense as sense_of, linear_lem}
 use Rattle.file_meaning.proofs.Folding.{clean_has_lines}
 use Rattle.file_meaning.proofs.Formed.{file_formed}
@@ -222,19 +221,19 @@ module _ (nl : NlValue) (k : ℕ) where
 
 -- ---- programs
 
--- there is one program of a linear program
-pub by_decimal : (f : Linear) (m n : Mps ℚ) → IsExportOf f m → IsExportOf f n → IsDecided (IsDecimal f) → m ≡ n
-by_decimal f m n h k (inl d) = h.plain d ∙ sym (k.plain d)
-by_decimal f m n h k (inr d) = h.tied d ∙ sym (k.tied d)
+-- there is one scaled program of a linear program
+pub by_decimal : (f : Linear) (p q : ScaledProgram) → IsScaledProgramOf f p → IsScaledProgramOf f q → IsDecided (IsDecimal f) → p ≡ q
+by_decimal f p q h k (inl d) = h.plain d ∙ sym (k.plain d)
+by_decimal f p q h k (inr d) = h.tied d ∙ sym (k.tied d)
 
-pub one_program : (f : Linear) (m n : Mps ℚ) → IsExportOf f m → IsExportOf f n → m ≡ n
-one_program f m n h k = by_decimal f m n h k (decimal_decided f)
+pub one_program : (f : Linear) (p q : ScaledProgram) → IsScaledProgramOf f p → IsScaledProgramOf f q → p ≡ q
+one_program f p q h k = by_decimal f p q h k (decimal_decided f)
 
-by_objective : (f : Linear) → IsDecided (IsDecimal f) → (m : Mps ℚ) × IsExportOf f m
-by_objective f (inl d) = (program f (factor_of_row f), record { plain = λ p. refl; tied = λ n. absurd (n d) })
-by_objective f (inr n) = (tied_program f (factor_of_row f) (factor_of_objective f), record { plain = λ d. absurd (n d); tied = λ p. refl })
+by_objective : (f : Linear) → IsDecided (IsDecimal f) → (p : ScaledProgram) × IsScaledProgramOf f p
+by_objective f (inl d) = (scaled_by f (factor_of_row f), record { plain = λ p. refl; tied = λ n. absurd (n d) })
+by_objective f (inr n) = (scaled_and_tied f (factor_of_row f) (factor_of_objective f), record { plain = λ d. absurd (n d); tied = λ p. refl })
 
-pub a_program : (f : Linear) → (m : Mps ℚ) × IsExportOf f m
+pub a_program : (f : Linear) → (p : ScaledProgram) × IsScaledProgramOf f p
 a_program f = by_objective f (decimal_decided f)
 
 -- ---- what the stages answer
@@ -256,8 +255,8 @@ module _ (nl : NlValue) (k : ℕ) (l : LinearValue) (folds : HasFolded nl k l) w
     staged_so = record { folded = folds.fine; scaled = scaled_so.fine }
 
     -- what was scaled is the program that is exported
-    pub exports_so : IsExportOf (linear_of nl.file k) (exported_as s)
-    exports_so = scaled_so.scaled.export
+    pub exports_so : IsScaledProgramOf (linear_of nl.file k) (scaled_as s)
+    exports_so = scaled_so.scaled.program
 
 -- ---- texts
 
@@ -303,7 +302,7 @@ nl_read = read_so IsNl HasNlFault nl_line one_value same_nl_line either_nl not_b
 
 module _ (nl : NlValue) (k : ℕ) where
   pub one_text : (a b : List ℕ) → IsExported nl k a → IsExported nl k b → a ≡ b
-  one_text a b h j = h.written ∙ ap (mps_text_by value_text) (one_program (linear_of nl.file k) h.program j.program h.exports j.exports) ∙ sym j.written
+  one_text a b h j = h.written ∙ ap (λ p. mps_text_by value_text (mps_of p)) (one_program (linear_of nl.file k) h.program j.program h.exports j.exports) ∙ sym j.written
 
   -- what is accepted needs both stages and no more
   pub staged_either : (accepts : List ℕ → Type 0) → ((a b : List ℕ) → accepts a → accepts b → a ≡ b) → ((bytes : List ℕ) → accepts bytes → CanBeExported nl k) → (CanBeExported nl k → (bytes : List ℕ) × accepts bytes) → IsEither accepts (CannotBeExported nl k)
@@ -315,14 +314,14 @@ module _ (nl : NlValue) (k : ℕ) where
   }
 
   pub an_export : CanBeExported nl k → (bytes : List ℕ) × IsExported nl k bytes
-  an_export s = let m = a_program (linear_of nl.file k) in (mps_text_by value_text m.0, record { program = m.0; staged = s; exports = m.1; written = refl })
+  an_export s = let m = a_program (linear_of nl.file k) in (mps_text_by value_text (mps_of m.0), record { program = m.0; staged = s; exports = m.1; written = refl })
 
 pub export_last : (k : ℕ) → IsLast false IsNl HasTextRefusal (λ nl. ExportsAs nl k) (λ nl old new. new ≤ old + fold_steps nl k)
 export_last k = either_last nl_read (λ nl. IsExported nl k) (λ nl. CannotBeExported nl k) (λ nl. fold_steps nl k) (λ nl. staged_either nl k (IsExported nl k) (one_text nl k) (λ bytes e. e.staged) (an_export nl k))
 
 -- what was folded, scaled and written
-pub exported_so : (nl : NlValue) (k : ℕ) (l : LinearValue) (s : ScaledValue) (bytes : List ℕ) → HasFolded nl k l → HasScaled (linear_value l) s → bytes ≡ mps_text_by value_text (exported_as s) → IsExported nl k bytes
-exported_so nl k l s bytes folds scales written = record { program = exported_as s; staged = staged_so nl k l folds s scales; exports = exports_so nl k l folds s scales; written = written }
+pub exported_so : (nl : NlValue) (k : ℕ) (l : LinearValue) (s : ScaledValue) (bytes : List ℕ) → HasFolded nl k l → HasScaled (linear_value l) s → bytes ≡ mps_text_by value_text (mps_of (scaled_as s)) → IsExported nl k bytes
+exported_so nl k l s bytes folds scales written = record { program = scaled_as s; staged = staged_so nl k l folds s scales; exports = exports_so nl k l folds s scales; written = written }
 
 row_factors : (f : File) (k i : ℕ) → 0 < factor_of_row (linear_of f k) i
 row_factors f k i = factor_above (row_numbers (variable_count (linear_of f k)) (exported_row (linear_of f k) i))
@@ -355,32 +354,32 @@ tied_to_it f k formed lines =
       sense = tied_sense (linear_of f k) rows own ∙ sense_of f k;
     }
 
-means : (f : File) (k : ℕ) (m : Mps ℚ) → IsFormedFile f k → HasLines f k → IsExportOf (linear_of f k) m → MeansTheFile f k m
-means f k m formed lines exports =
+means : (f : File) (k : ℕ) (p : ScaledProgram) → IsFormedFile f k → HasLines f k → IsScaledProgramOf (linear_of f k) p → MeansTheFile f k (mps_of p)
+means f k p formed lines exports =
     record {
-      plain = λ d. subst (IsSameProgram f k) (sym (exports.plain d)) (same_program f k formed lines);
-      tied = λ n. subst (IsTiedProgram f k) (sym (exports.tied n)) (tied_to_it f k formed lines);
+      plain = λ d. subst (λ q. IsSameProgram f k (mps_of q)) (sym (exports.plain d)) (same_program f k formed lines);
+      tied = λ n. subst (λ q. IsTiedProgram f k (mps_of q)) (sym (exports.tied n)) (tied_to_it f k formed lines);
     }
 
 -- the program of a file that folds means what the file means
-pub file_program : (f : File) (k : ℕ) (m : Mps ℚ) → IsFile f → fold_fault f k ≡ None → IsExportOf (linear_of f k) m → MeansTheFile f k m
-file_program f k m file folded exports =
+pub file_program : (f : File) (k : ℕ) (p : ScaledProgram) → IsFile f → fold_fault f k ≡ None → IsScaledProgramOf (linear_of f k) p → MeansTheFile f k (mps_of p)
+file_program f k p file folded exports =
     let formed = file_formed f file k in
-    means f k m formed (clean_has_lines f k formed folded) exports
+    means f k p formed (clean_has_lines f k formed folded) exports
 
 -- a text says a file
 pub text_file : (text : List ℕ) (value : NlValue) → IsNl text value → IsFile value.file
 text_file text value read = (writable text value read).file
 
 -- what is exported means the same as its file
-pub exports_mean : (nl : NlValue) (k : ℕ) (bytes : List ℕ) (e : IsExported nl k bytes) → IsFile nl.file → MeansTheFile nl.file k e.program
+pub exports_mean : (nl : NlValue) (k : ℕ) (bytes : List ℕ) (e : IsExported nl k bytes) → IsFile nl.file → MeansTheFile nl.file k (mps_of e.program)
 exports_mean nl k bytes e file = file_program nl.file k e.program file e.staged.folded e.exports
 
 pub export_meant : (nl : NlValue) (k : ℕ) → IsFile nl.file → IsExportMeant nl k
 export_meant nl k file = λ bytes e. exports_mean nl k bytes e file
 
 -- and is read as the program
-pub exports_back : (text : List ℕ) (nl : NlValue) → IsNl text nl → (k : ℕ) (bytes : List ℕ) (e : IsExported nl k bytes) → IsReadAs bytes e.program
+pub exports_back : (text : List ℕ) (nl : NlValue) → IsNl text nl → (k : ℕ) (bytes : List ℕ) (e : IsExported nl k bytes) → IsReadAs bytes (mps_of e.program)
 exports_back text nl said k bytes e =
-    let read = exported_back nl.file k (text_file text nl said) e.staged.folded e.staged.scaled.rows e.program e.staged.scaled.objective e.exports.plain e.exports.tied in
-    subst (λ (b : List ℕ). IsReadAs b e.program) (sym e.written) read
+    let read = exported_back nl.file k (text_file text nl said) e.staged.folded e.staged.scaled.rows e.program e.staged.scaled.objective e.exports in
+    subst (λ (b : List ℕ). IsReadAs b (mps_of e.program)) (sym e.written) read

@@ -6,18 +6,18 @@ use Rattle.std.proofs.lemmas.Bool.{ltb-false, ltb-true}
 use Rattle.std.proofs.lemmas.Option.{same_Some}
 use Rattle.fractions.specs.Rational.{decimal_value}
 use Rattle.nl_meaning.specs.declared.Fault.{Fault}
-use Rattle.linear_programs.specs.Lines.{constant_line, line_by}
+use Rattle.program_meaning.specs.Lines.{constant_line, line_by}
 use Rattle.nl_meaning.specs.Faults.{expression_fault}
 use Rattle.nl_meaning.specs.Trees.{Expression, Tree, expression_given}
 use Rattle.nl_meaning.proofs.Linear.{terms_added}
-use Rattle.linear_programs.proofs.LineLemmas.{same_coef}
+use Rattle.program_meaning.proofs.LineLemmas.{same_coef}
 use Rattle.nl_model.specs.declared.at.Owner.{Owner}
 use Rattle.nl_model.specs.declared.at.Owner.TheVariants.{Con, Def, Obj}
 use Rattle.nl_model.specs.File.{File, Term}
 use Rattle.nl_model.specs.FilePlaces.{terms_at, tree_at}
 use Rattle.file_meaning.specs.Expressions.{linear_terms, tree_or_zero, zero_tree}
 use Rattle.file_meaning.specs.FoldFaults.{FoldFault as FileFault, Owner as FoldOwner, Owned, at_owner, at_place, coefficient_count, fold_fault, fold_too_large, has_objective, head_fault, most_coefficients, no_such_objective, owned_line, owner_fault, owners_fault, owners_of}
-use Rattle.linear_programs.specs.Elements.{elements_from}
+use Rattle.program_meaning.specs.Elements.{elements_from}
 use Rattle.linear_fold.specs.declared.fold_fault.FoldFault.{FoldFault}
 use Rattle.linear_fold.specs.FoldedFaults.{HasFaultPlace, fault_for, first_fold_fault, named_fault, place_at}
 use Rattle.linear_fold.specs.InsideOwnerFolds.{definitions_before, expression_at, fold_owner_of, known_by, owned_at}

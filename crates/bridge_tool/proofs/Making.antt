@@ -4,10 +4,11 @@ use Rattle.std.specs.List.{count_by, sum_by}
 use Rattle.std.proofs.lemmas.List.Sums.{count_by-le-length, sum_by-cons, sum_by-drop_more, sum_by-le-sum_by}
 use Rattle.exact_numbers.specs.declared.dec.Dec.{Dec}
 use Rattle.exact_numbers.specs.Values.{dec_value, value_text}
-use Rattle.exported_program.specs.Return.{is_exported}
+use Rattle.scaled_program.specs.Program.{is_exported}
+use Rattle.exported_program.specs.Program.{mps_of}
 use Rattle.linear_program.specs.declared.form.Form.{Form}
 use Rattle.linear_program.specs.Programs.{LinearValue, form_of, linear_value, rows_from}
-use Rattle.linear_programs.specs.Names.{row_name}
+use Rattle.program_meaning.specs.Names.{row_name}
 use Rattle.linear_program.specs.Intervals.{interval_of, is_sided}
 use Rattle.mps_model.specs.Built.{entry_of}
 use Rattle.mps_model.specs.Mps.{Column, Mps, column_with, with_values}
@@ -25,7 +26,7 @@ use Rattle.mps_model.specs.Text.{mps_text_by}
 use Rattle.nl_model.specs.File.{File}
 use Rattle.nl_segments.specs.Grammar.{NlValue}
 use Rattle.nl_segments.specs.Reader.{IsNl}
-use Rattle.scaling.specs.Exported.{exported_as}
+use Rattle.scaling.specs.Exported.{scaled_as}
 use Rattle.scaling.specs.Scaled.{ScaledValue}
 use Rattle.desk.specs.Desk.{Meaning, OnlyMessages}
 use Rattle.texts.specs.declared.stop.Stop.{Stop}
@@ -105,12 +106,12 @@ module _ (nl : NlValue) where
   one_summary a b h k =
       let programs = one_program (linear_of nl.file 0) h.exported.program k.exported.program h.exported.exports k.exported.exports in
       let texts = one_text nl 0 h.mps k.mps h.exported k.exported in
-      h.summary ∙ (λ i. summary_of nl.file (programs i) (texts i)) ∙ sym k.summary
+      h.summary ∙ (λ i. summary_of nl.file (mps_of (programs i)) (texts i)) ∙ sym k.summary
 
   made_one : HasOne IsPlain (MakesAs nl)
   made_one = one_of_both (IsMade nl) (CannotBeExported nl 0) (staged_either nl 0 (IsMade nl) one_summary (λ bytes h. h.exported.staged) (λ s.
       let e = an_export nl 0 s in
-      (summary_of nl.file e.1.program e.0, record { mps = e.0; exported = e.1; summary = refl })))
+      (summary_of nl.file (mps_of e.1.program) e.0, record { mps = e.0; exported = e.1; summary = refl })))
 
 -- the summary of a program of decimals
 pub of_program : (variables rows terms bytes : ℕ) (m : Mps Dec) (p : Mps ℚ) (text out : List ℕ) → with_values dec_value m ≡ p → terms ≡ coefficient_count rows m → text ≡ mps_text_by value_text p → bytes ≡ length text → out ≡ summary_line variables rows terms bytes → IsSummedUp variables rows p out
@@ -119,13 +120,13 @@ of_program variables rows terms bytes m p text out values counted written size l
 
 -- what was read, folded, scaled and summed up
 pub summed_up : (nl : NlValue) (variables rows : ℕ) (l : LinearValue) (s : ScaledValue) (out : List ℕ) → HasFolded nl 0 l → HasScaled (linear_value l) s
-    → variables ≡ nl.file.counts.n_var → rows ≡ exported_count (linear_value l) → IsSummedUp variables rows (exported_as s) out → IsMade nl out
+    → variables ≡ nl.file.counts.n_var → rows ≡ exported_count (linear_value l) → IsSummedUp variables rows (mps_of (scaled_as s)) out → IsMade nl out
 summed_up nl variables rows l s out folded scaled ev er is =
-    let m : Mps ℚ = exported_as s in
+    let m : Mps ℚ = mps_of (scaled_as s) in
     let all : rows ≡ exported_count (linear_of nl.file 0) = er ∙ ap exported_count folded.linear in
     record {
       mps = mps_text_by value_text m;
-      exported = record { program = m; staged = staged_so nl 0 l folded s scaled; exports = exports_so nl 0 l folded s scaled; written = refl };
+      exported = record { program = scaled_as s; staged = staged_so nl 0 l folded s scaled; exports = exports_so nl 0 l folded s scaled; written = refl };
       summary = is ∙ (λ i. summary_line (ev i) (all i) (coefficient_count (all i) m) (length (mps_text_by value_text m)));
     }
 

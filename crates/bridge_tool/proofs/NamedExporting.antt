@@ -8,7 +8,7 @@ use Rattle.mps_model.specs.Mps.{Mps, Column, column_with, with_values}
 use Rattle.mps_model.specs.Text.{mps_text_by}
 use Rattle.name_files.specs.Renamed.{named, HasExportedNames, HaveOneMeaning, IsExportedName, IsNamedLinear, IsNumbered, new_name}
 use Rattle.nl_segments.specs.Grammar.{NlValue}
-use Rattle.scaling.specs.Exported.{exported_as}
+use Rattle.scaling.specs.Exported.{scaled_as}
 use Rattle.scaling.specs.Scaled.{ScaledValue}
 use Rattle.desk.specs.Desk.{Texts}
 use Rattle.bridge_tool.specs.Export.{IsExported, IsSameProgram, IsTiedProgram, MeansTheFile}
@@ -20,14 +20,16 @@ use Rattle.bridge_tool.specs.Stages.{HasFolded, HasScaled, CannotBeExported, fol
 use Rattle.bridge_tool.proofs.NameLists.{list_read, listed_count}
 use Rattle.bridge_tool.proofs.SeveralFiles.{IsEither, IsLast, IsSound, either_last, one_of_both, sound_end}
 use Rattle.bridge_tool.proofs.Exporting.{a_program, exports_so, one_program, staged_either, staged_so, file_program, text_file, decimal_decided}
-use Rattle.linear_programs.specs.Linear.{Linear, Row, Variable}
-use Rattle.linear_programs.specs.Names.{row_name, variable_name}
+use Rattle.program_meaning.specs.Linear.{Linear, Row, Variable}
+use Rattle.program_meaning.specs.Names.{row_name, variable_name}
 use Rattle.texts.specs.Reading.{last_of, lines_of}
 use Rattle.exact_numbers.specs.declared.dec.Dec.{Dec}
 use Rattle.export_round_trip.specs.ReadAs.{IsReadAs}
-use Rattle.exported_program.specs.Export.{IsDecimal, factor_of_row, factor_of_objective}
-use Rattle.linear_programs.specs.Elements.{elements_from}
-use Rattle.linear_programs.proofs.Elements.{all_elements, elements_length}
+use Rattle.scaled_program.specs.Fits.{IsDecimal, IsScaledProgramOf, factor_of_row, factor_of_objective}
+use Rattle.scaled_program.specs.Program.{ScaledProgram}
+use Rattle.exported_program.specs.Program.{mps_of}
+use Rattle.program_meaning.specs.Elements.{elements_from}
+use Rattle.program_meaning.proofs.Elements.{all_elements, elements_length}
 use Rattle.mps_model.specs.Valid.{IsMps}
 use Rattle.mps_reader.specs.Reader.{IsMpsText}
 use Rattle.mps_reader.specs.Written.{mps_text}
@@ -41,7 +43,6 @@ use Rattle.nl_model.specs.File.{File}
 use Rattle.nl_model.specs.Rules.{IsFile}
 use Rattle.nl_model.proofs.Headers.{counts_of_header}
 use Rattle.nl_segments.specs.Reader.{IsNl}
-use Rattle.scaling.specs.Scaling.{IsExportOf}
 use Rattle.exact_numbers.proofs.Fitting.{picked}
 use Rattle.export_round_trip.proofs.Picked.{values_back, whole_picked}
 use Rattle.export_round_trip.proofs.ReadBack.{program_whole}
@@ -52,17 +53,17 @@ use Rattle.export_round_trip.proofs.Reading.{text_of_values}
 module _ (n : Named) where
   one_bytes : (x y : List ℕ) → IsNamedExport n x → IsNamedExport n y → x ≡ y
   one_bytes x y h k =
-      h.written ∙ ap (λ (p : Mps ℚ). mps_text_by value_text (named p n.rows n.columns)) (one_program (linear_of n.nl.file n.objective) h.program k.program h.exports k.exports) ∙ sym k.written
+      h.written ∙ ap (λ p. mps_text_by value_text (named (mps_of p) n.rows n.columns)) (one_program (linear_of n.nl.file n.objective) h.program k.program h.exports k.exports) ∙ sym k.written
 
   named_either : IsEither (IsNamedExport n) (CannotBeExported n.nl n.objective)
   named_either = staged_either n.nl n.objective (IsNamedExport n) one_bytes (λ bytes h. h.staged) (λ is.
       let p = a_program (linear_of n.nl.file n.objective) in
-      (mps_text_by value_text (named p.0 n.rows n.columns), record { program = p.0; staged = is; exports = p.1; written = refl }))
+      (mps_text_by value_text (named (mps_of p.0) n.rows n.columns), record { program = p.0; staged = is; exports = p.1; written = refl }))
 
   -- it was folded, scaled and written with its names
-  pub written_so : (l : LinearValue) (s : ScaledValue) (bytes : List ℕ) → HasFolded n.nl n.objective l → HasScaled (linear_value l) s → IsNamedTextOf bytes (exported_as s) n.rows n.columns → IsNamedExport n bytes
+  pub written_so : (l : LinearValue) (s : ScaledValue) (bytes : List ℕ) → HasFolded n.nl n.objective l → HasScaled (linear_value l) s → IsNamedTextOf bytes (mps_of (scaled_as s)) n.rows n.columns → IsNamedExport n bytes
   written_so l s bytes folds scales t =
-      record { program = exported_as s; staged = staged_so n.nl n.objective l folds s scales; exports = exports_so n.nl n.objective l folds s scales; written = t.text }
+      record { program = scaled_as s; staged = staged_so n.nl n.objective l folds s scales; exports = exports_so n.nl n.objective l folds s scales; written = t.text }
 
 -- ---- the command
 
@@ -86,8 +87,8 @@ module _ (objective : ℕ) (columns : List ℕ) (nl : NlValue) (texts : Texts) (
 -- a file is exported with names exactly where it is exported without them
 pub same_verdict : (n : Named) → ((bytes : List ℕ) × IsExported n.nl n.objective bytes) ↔ ((bytes : List ℕ) × IsNamedExport n bytes)
 same_verdict n = (
-  λ h. let e = h.1 in (mps_text_by value_text (named e.program n.rows n.columns), record { program = e.program; staged = e.staged; exports = e.exports; written = refl }),
-  λ h. let e = h.1 in (mps_text_by value_text e.program, record { program = e.program; staged = e.staged; exports = e.exports; written = refl }),
+  λ h. let e = h.1 in (mps_text_by value_text (named (mps_of e.program) n.rows n.columns), record { program = e.program; staged = e.staged; exports = e.exports; written = refl }),
+  λ h. let e = h.1 in (mps_text_by value_text (mps_of e.program), record { program = e.program; staged = e.staged; exports = e.exports; written = refl }),
 )
 
 -- ---- names of a file's program
@@ -115,18 +116,18 @@ column_count : (f : File) (k : ℕ) → length (linear_of f k).variables ≡ f.c
 unfolding linear_of
 column_count f k = elements_length (linear_variable f) 0 f.counts.n_var
 
-by_objective : (l : Linear) (m : Mps ℚ) → IsNamedLinear l → IsExportOf l m → (IsDecimal l ⊎ (IsDecimal l → ⊥)) → HasExportedNames (length l.rows) (length l.variables) m
-by_objective l m is exports (inl d) = subst (HasExportedNames (length l.rows) (length l.variables)) (sym (exports.plain d)) (plain_names l (factor_of_row l) is)
-by_objective l m is exports (inr n) = subst (HasExportedNames (length l.rows) (length l.variables)) (sym (exports.tied n)) (tied_names l (factor_of_row l) is (factor_of_objective l))
+by_objective : (l : Linear) (p : ScaledProgram) → IsNamedLinear l → IsScaledProgramOf l p → (IsDecimal l ⊎ (IsDecimal l → ⊥)) → HasExportedNames (length l.rows) (length l.variables) (mps_of p)
+by_objective l p is exports (inl d) = subst (λ q. HasExportedNames (length l.rows) (length l.variables) (mps_of q)) (sym (exports.plain d)) (plain_names l (factor_of_row l) is)
+by_objective l p is exports (inr n) = subst (λ q. HasExportedNames (length l.rows) (length l.variables) (mps_of q)) (sym (exports.tied n)) (tied_names l (factor_of_row l) is (factor_of_objective l))
 
 -- what a file is exported as has names by number
-pub export_named : (f : File) (k : ℕ) (m : Mps ℚ) (rows columns : ℕ) → IsFile f → IsExportOf (linear_of f k) m → rows ≡ f.counts.n_con → columns ≡ f.counts.n_var → HasExportedNames rows columns m
-export_named f k m rows columns file exports r c =
+pub export_named : (f : File) (k : ℕ) (p : ScaledProgram) (rows columns : ℕ) → IsFile f → IsScaledProgramOf (linear_of f k) p → rows ≡ f.counts.n_con → columns ≡ f.counts.n_var → HasExportedNames rows columns (mps_of p)
+export_named f k p rows columns file exports r c =
     let l = linear_of f k in
-    let names = by_objective l m (linear_named f k file) exports (decimal_decided l) in
+    let names = by_objective l p (linear_named f k file) exports (decimal_decided l) in
     let same_rows : length l.rows ≡ rows = row_count f k ∙ sym r in
     let same_columns : length l.variables ≡ columns = column_count f k ∙ sym c in
-    subst (λ (n : ℕ). HasExportedNames rows n m) same_columns (subst (λ (n : ℕ). HasExportedNames n (length l.variables) m) same_rows names)
+    subst (λ (n : ℕ). HasExportedNames rows n (mps_of p)) same_columns (subst (λ (n : ℕ). HasExportedNames n (length l.variables) (mps_of p)) same_rows names)
 
 column_names : (columns : List (Column Dec)) → map (λ (c : Column ℚ). c.name) (map (column_with dec_value) columns) ≡ map (λ (c : Column Dec). c.name) columns
 column_names [] = refl
@@ -202,33 +203,33 @@ named_text bytes p m given rows columns values is valid text = record {
 }
 
 -- what was folded, scaled and written with names means what it should
-pub named_meant : (n : Named) (p : Mps ℚ) (out : List ℕ) → IsFile n.nl.file → IsExportOf (linear_of n.nl.file n.objective) p → IsNamedTextOf out p n.rows n.columns → AreNamedMeant n
+pub named_meant : (n : Named) (p : ScaledProgram) (out : List ℕ) → IsFile n.nl.file → IsScaledProgramOf (linear_of n.nl.file n.objective) p → IsNamedTextOf out (mps_of p) n.rows n.columns → AreNamedMeant n
 named_meant n p out file exports t = λ bytes e.
     let f = n.nl.file in
     let k = n.objective in
     let same : p ≡ e.program = one_program (linear_of f k) p e.program exports e.exports in
-    let own : IsNamedTextOf out e.program n.rows n.columns = subst (λ (q : Mps ℚ). IsNamedTextOf out q n.rows n.columns) same t in
-    let meaning = one_meaning out e.program n.rows n.columns own in
+    let own : IsNamedTextOf out (mps_of e.program) n.rows n.columns = subst (λ q. IsNamedTextOf out (mps_of q) n.rows n.columns) same t in
+    let meaning = one_meaning out (mps_of e.program) n.rows n.columns own in
     record {
-      file = carried f k (named e.program n.rows n.columns) e.program meaning (file_program f k e.program file e.staged.folded e.exports);
+      file = carried f k (named (mps_of e.program) n.rows n.columns) (mps_of e.program) meaning (file_program f k e.program file e.staged.folded e.exports);
       same = meaning;
     }
 
 -- what is exported with listed names is read as the program with these names
 pub named_export_back : (text rows columns : List ℕ) (n : Named) → IsNl text n.nl → AreListed (row_counts n.nl.file) rows n.rows → AreListed (column_counts n.nl.file) columns n.columns
-    → (bytes : List ℕ) (e : IsNamedExport n bytes) → length bytes ≤ 2 ^ 31 → IsReadAs bytes (named e.program n.rows n.columns)
+    → (bytes : List ℕ) (e : IsNamedExport n bytes) → length bytes ≤ 2 ^ 31 → IsReadAs bytes (named (mps_of e.program) n.rows n.columns)
 named_export_back text rows columns n read of_rows of_columns bytes e fits =
     let f = n.nl.file in
     let k = n.objective in
-    let p = e.program in
+    let p = mps_of e.program in
     let file = text_file text n.nl read in
     let counts = counts_of_header f.options f.counts file.ruled in
-    let whole = program_whole f k file e.staged.folded e.staged.scaled.rows p e.staged.scaled.objective e.exports.plain e.exports.tied in
+    let whole = program_whole f k file e.staged.folded e.staged.scaled.rows e.program e.staged.scaled.objective e.exports in
     let m : Mps Dec = with_values picked p in
     let values : with_values dec_value m ≡ p = values_back p whole.decimal in
     let row_names : AreNames n.rows = subst AreNames (sym of_rows.said) (listed_names (row_counts f) (lines_of rows) (last_of rows) (omega (arith, counts.constraints)) of_rows.clean) in
     let column_names : AreNames n.columns = subst AreNames (sym of_columns.said) (listed_names (column_counts f) (lines_of columns) (last_of columns) (omega (arith, counts.variables)) of_columns.clean) in
-    let exported = export_named f k p (length n.rows) (length n.columns) file e.exports (listed_count (row_counts f) rows n.rows of_rows) (listed_count (column_counts f) columns n.columns of_columns) in
+    let exported = export_named f k e.program (length n.rows) (length n.columns) file e.exports (listed_count (row_counts f) rows n.rows of_rows) (listed_count (column_counts f) columns n.columns of_columns) in
     let own = decimal_names (length n.rows) (length n.columns) m (subst (HasExportedNames (length n.rows) (length n.columns)) (sym values) exported) in
     let valid = program_named m n.rows n.columns row_names column_names own (whole_picked p whole.valid whole.decimal) in
     named_back bytes p n.rows n.columns (record { decimal = m; valid = valid; values = values; text = e.written }) fits

@@ -6,7 +6,7 @@ use Rattle.std.proofs.lemmas.Bool.{lt-ltb}
 use Rattle.std.proofs.lemmas.Bool.Decides.{nat_tests}
 use Rattle.std.proofs.lemmas.Option.{same_Some}
 use Rattle.desk.specs.Desk.{Meaning}
-use Rattle.linear_programs.specs.Linear.{Linear}
+use Rattle.program_meaning.specs.Linear.{Linear}
 use Rattle.duality.specs.Certificate.{Outcome as ClaimOutcome, holds, fails}
 use Rattle.duality.specs.ProblemSays.{Denies}
 use Rattle.duality.specs.Told.{IsToldTrue}

@@ -9,7 +9,7 @@ use Rattle.duality.specs.Problem.{Problem}
 use Rattle.duality.specs.ProblemSays.{Denies, VerdictSays}
 use Rattle.duality.specs.Told.{Told, IsToldTrue}
 use Rattle.duality.specs.Verdict.{Verdict, verdict, yes, gap, refused}
-use Rattle.linear_programs.specs.Linear.{row_count, variable_count, Linear}
+use Rattle.program_meaning.specs.Linear.{row_count, variable_count, Linear}
 use Rattle.exact_numbers.specs.declared.dec.Dec.{Dec}
 use Rattle.texts.specs.declared.stop.Stop.{Stop}
 use Rattle.texts.specs.declared.stop.Stop.TheVariants.{Fault, Memory}
@@ -20,7 +20,7 @@ use Rattle.file_certificates.specs.FileProblem.{problem_of}
 use Rattle.file_certificates.proofs.Verdicts.{file_verdicts}
 use Rattle.file_meaning.specs.FoldFaults.{fold_fault, FoldFault as FileFault}
 use Rattle.file_meaning.specs.LinearFile.{linear_of, linear_row}
-use Rattle.linear_programs.proofs.Elements.{elements_length}
+use Rattle.program_meaning.proofs.Elements.{elements_length}
 use Rattle.file_meaning.proofs.Files.{count_lem}
 use Rattle.linear_fold.specs.FoldedFaults.{first_fold_fault, named_fault}
 use Rattle.linear_program.specs.Programs.{LinearValue, linear_value}

@@ -1,6 +1,6 @@
 -- What the verdict on a certificate means of the problem that it is about.
 use Rattle.std.specs.Prelude.{◌≡◌, false, true}
-use Rattle.linear_programs.specs.Linear.{Linear}
+use Rattle.program_meaning.specs.Linear.{Linear}
 use Rattle.duality.specs.Certificate.{Cause, fails}
 use Rattle.duality.specs.Problem.{Problem}
 use Rattle.duality.specs.ProblemSays.{Denies}

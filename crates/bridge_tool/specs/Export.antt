@@ -3,7 +3,9 @@ use Rattle.std.specs.Prelude.{◌≡◌, ◌↔◌, ℕ, ◌+◌, ◌≤◌, fal
 use Rattle.std.specs.declared.option.Option.{Option}
 use Rattle.fractions.specs.Rational.{ℚ}
 use Rattle.exact_numbers.specs.Values.{value_text}
-use Rattle.exported_program.specs.Export.{IsDecimal}
+use Rattle.scaled_program.specs.Fits.{IsDecimal, IsScaledProgramOf}
+use Rattle.scaled_program.specs.Program.{ScaledProgram}
+use Rattle.exported_program.specs.Program.{mps_of}
 use Rattle.file_meaning.specs.Expressions.{maximises}
 use Rattle.file_meaning.specs.LinearFile.{linear_of}
 use Rattle.file_meaning.specs.Meaning.{IsFeasible, objective_value}
@@ -12,7 +14,6 @@ use Rattle.mps_model.specs.Text.{mps_text_by}
 use Rattle.nl_model.specs.File.{File}
 use Rattle.nl_segments.specs.Grammar.{NlValue}
 use Rattle.nl_segments.specs.Reader.{IsNl}
-use Rattle.scaling.specs.Scaling.{IsExportOf}
 use Rattle.desk.specs.Desk.{Texts}
 use Rattle.bridge_tool.specs.Outcome.{DoneOrRefused, Outcome}
 use Rattle.bridge_tool.specs.Promise.{Promise}
@@ -20,13 +21,13 @@ use Rattle.bridge_tool.specs.Refusal.{HasTextRefusal}
 use Rattle.bridge_tool.specs.SeveralFiles.{after_file, desk_promise, ends}
 use Rattle.bridge_tool.specs.Stages.{CanBeExported, CannotBeExported, fold_steps}
 
--- the file folds and scales with objective k, there is a program that it is exported as, and these
--- bytes are its text
+-- the file folds and scales with objective k, and these bytes are the text of its scaled program as
+-- MPS
 pub record IsExported (nl : NlValue) (k : ℕ) (bytes : List ℕ) : Type 0 where
-  pub program : Mps ℚ
+  pub program : ScaledProgram
   pub staged : CanBeExported nl k
-  pub exports : IsExportOf (linear_of nl.file k) program
-  pub written : bytes ≡ mps_text_by value_text program
+  pub exports : IsScaledProgramOf (linear_of nl.file k) program
+  pub written : bytes ≡ mps_text_by value_text (mps_of program)
 
 -- what a file with objective k comes to: its program's text is written, or a line refuses it
 abbrev pub ExportsAs : NlValue → ℕ → Outcome → Type 0
@@ -58,7 +59,7 @@ pub record MeansTheFile (f : File) (k : ℕ) (m : Mps ℚ) : Type 0 where
 -- every program that the file may be exported as means what the file means
 abbrev pub IsExportMeant : NlValue → ℕ → Type 0
 IsExportMeant nl k =
-    (bytes : List ℕ) (e : IsExported nl k bytes) → MeansTheFile nl.file k e.program
+    (bytes : List ℕ) (e : IsExported nl k bytes) → MeansTheFile nl.file k (mps_of e.program)
 
 -- ---- the promise
 

@@ -3,8 +3,9 @@ use Rattle.std.specs.Prelude.{◌≡◌, ◌≢◌, ◌&&◌, Bool, ℕ, ◌+◌
 use Rattle.std.specs.Fmt.{decimal}
 use Rattle.std.specs.List.{count_by, sum_by}
 use Rattle.fractions.specs.Rational.{ℚ}
-use Rattle.linear_programs.specs.Linear.{Linear}
-use Rattle.exported_program.specs.Return.{is_exported}
+use Rattle.program_meaning.specs.Linear.{Linear}
+use Rattle.scaled_program.specs.Program.{is_exported}
+use Rattle.exported_program.specs.Program.{mps_of}
 use Rattle.file_meaning.specs.LinearFile.{linear_of}
 use Rattle.instances.specs.Instance.{instance}
 use Rattle.linear_fold.specs.FoldedFaults.{step_bound}
@@ -63,7 +64,7 @@ summary_of f m text =
 pub record IsMade (nl : NlValue) (bytes : List ℕ) : Type 0 where
   pub mps : List ℕ
   pub exported : IsExported nl 0 mps
-  pub summary : bytes ≡ summary_of nl.file exported.program mps
+  pub summary : bytes ≡ summary_of nl.file (mps_of exported.program) mps
 
 -- what a file comes to
 abbrev pub MakesAs : NlValue → Outcome → Type 0

@@ -3,15 +3,15 @@
 -- means.
 use Rattle.std.specs.Prelude.{◌≡◌, ℕ, ◌+◌, ◌≤◌, false, List}
 use Rattle.std.specs.declared.option.Option.{Option}
-use Rattle.fractions.specs.Rational.{ℚ}
 use Rattle.exact_numbers.specs.Values.{value_text}
 use Rattle.file_meaning.specs.LinearFile.{linear_of}
-use Rattle.mps_model.specs.Mps.{Mps}
 use Rattle.mps_model.specs.Text.{mps_text_by}
 use Rattle.name_files.specs.Renamed.{HaveOneMeaning, named}
 use Rattle.nl_segments.specs.Grammar.{NlValue}
 use Rattle.nl_segments.specs.Reader.{IsNl}
-use Rattle.scaling.specs.Scaling.{IsExportOf}
+use Rattle.scaled_program.specs.Fits.{IsScaledProgramOf}
+use Rattle.scaled_program.specs.Program.{ScaledProgram}
+use Rattle.exported_program.specs.Program.{mps_of}
 use Rattle.desk.specs.Desk.{Texts}
 use Rattle.bridge_tool.specs.Export.{MeansTheFile}
 use Rattle.bridge_tool.specs.NameLists.{after_lists}
@@ -28,12 +28,12 @@ pub record Named : Type 0 where
   pub rows : List (List ℕ)
   pub columns : List (List ℕ)
 
--- the file folds and scales, and these bytes are the text of its program with these names
+-- the file folds and scales, and these bytes are the text of its program as MPS with these names
 pub record IsNamedExport (n : Named) (bytes : List ℕ) : Type 0 where
-  pub program : Mps ℚ
+  pub program : ScaledProgram
   pub staged : CanBeExported n.nl n.objective
-  pub exports : IsExportOf (linear_of n.nl.file n.objective) program
-  pub written : bytes ≡ mps_text_by value_text (named program n.rows n.columns)
+  pub exports : IsScaledProgramOf (linear_of n.nl.file n.objective) program
+  pub written : bytes ≡ mps_text_by value_text (named (mps_of program) n.rows n.columns)
 
 -- what a file with names comes to
 abbrev pub NamedComesTo : Named → Outcome → Type 0
@@ -41,8 +41,8 @@ NamedComesTo n = DoneOrRefused (IsNamedExport n) (CannotBeExported n.nl n.object
 
 -- the program with names means what the file means, as the program without them does
 pub record IsNamedMeant (n : Named) (bytes : List ℕ) (e : IsNamedExport n bytes) : Type 0 where
-  pub file : MeansTheFile n.nl.file n.objective (named e.program n.rows n.columns)
-  pub same : HaveOneMeaning (named e.program n.rows n.columns) e.program
+  pub file : MeansTheFile n.nl.file n.objective (named (mps_of e.program) n.rows n.columns)
+  pub same : HaveOneMeaning (named (mps_of e.program) n.rows n.columns) (mps_of e.program)
 
 abbrev pub AreNamedMeant : Named → Type 0
 AreNamedMeant n = (bytes : List ℕ) (e : IsNamedExport n bytes) → IsNamedMeant n bytes e

@@ -2,7 +2,7 @@
 use Rattle.std.specs.Prelude.{◌≡◌, ℕ, ◌+◌, ◌≤◌, false, true, List, is_none}
 use Rattle.std.specs.declared.option.Option.{Option}
 use Rattle.std.specs.declared.option.Option.TheVariants.{None, Some}
-use Rattle.linear_programs.specs.Linear.{row_count}
+use Rattle.program_meaning.specs.Linear.{row_count}
 use Rattle.duality.specs.Branch.{LeafFault, proof_fault}
 use Rattle.duality.specs.LeafSays.{IsLeafDenied}
 use Rattle.desk.specs.Desk.{Texts}

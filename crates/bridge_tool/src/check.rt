@@ -1,7 +1,7 @@
 // The command check: from an .nl text and a .sol text to the line of a verdict, or to a
 // refusal.
 ghost use Rattle.std.specs.Prelude.{◌≡◌, ◌+◌, ◌≤◌, ◌<ℤ◌, pos, IfOk, MatchOption, None, Some, length};
-ghost use Rattle.linear_programs.specs.Linear.{row_count, variable_count};
+ghost use Rattle.program_meaning.specs.Linear.{row_count, variable_count};
 ghost use Rattle.duality.specs.Verdict.{verdict};
 ghost use Rattle.exact_numbers.specs.Values.{dec_value};
 ghost use Rattle.linear_fold.specs.FoldedFaults.{first_fold_fault};

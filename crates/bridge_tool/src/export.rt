@@ -3,7 +3,8 @@ ghost use Rattle.std.specs.Prelude.{◌≡◌, ◌+◌, ◌≤◌, IfOk};
 ghost use Rattle.exact_numbers.specs.Values.{value_text};
 ghost use Rattle.mps_model.specs.Text.{mps_text_by};
 ghost use Rattle.nl_segments.specs.Reader.{HasLines, value_of};
-ghost use Rattle.scaling.specs.Exported.{exported_as};
+ghost use Rattle.exported_program.specs.Program.{mps_of};
+ghost use Rattle.scaling.specs.Exported.{scaled_as};
 ghost use Rattle.bridge_tool.specs.InsideAnswer.{IsCounted};
 ghost use Rattle.bridge_tool.specs.Export.{ExportsAs, IsExportMeant, export_promise};
 ghost use Rattle.bridge_tool.specs.SeveralFiles.{Comes};
@@ -21,7 +22,7 @@ use text_base::{Desk, Ledger, Steps, Stop};
 
 // The written text of the program of a scaled one.
 fn write_program(alloc: Global, scaled: Scaled) -> Result<Vec<u8>, AllocError>
-    ensures { IfOk result (λ out. out.items ≡ mps_text_by value_text (exported_as scaled)) }
+    ensures { IfOk result (λ out. out.items ≡ mps_text_by value_text (mps_of (scaled_as scaled))) }
 {
     write_exported(alloc, &scaled)
 }

@@ -7,6 +7,7 @@ ghost use Rattle.certificates.specs.declared.proof.Claim.{Claim as ClaimValue};
 ghost use Rattle.certificates.specs.ProofSays.{IsProvedTrueOf};
 ghost use Rattle.certificates.specs.Setting.{Setting as CertificateSetting};
 ghost use Rattle.export_round_trip.specs.ReadAs.{IsReadAs};
+ghost use Rattle.exported_program.specs.Program.{mps_of};
 ghost use Rattle.file_certificates.specs.FileProblem.{problem_of};
 ghost use Rattle.file_meaning.specs.FoldFaults.{fold_fault};
 ghost use Rattle.file_meaning.specs.LinearFile.{linear_of};
@@ -85,13 +86,13 @@ pub fn commands_by_text()
 /// The program of a file that is exported means what the file means.
 pub fn programs_mean_their_files()
     ensures { (nl : NlValue) (k : ℕ) (bytes : List ℕ) (e : IsExported nl k bytes) → IsFile nl.file
-        → MeansTheFile nl.file k e.program }
+        → MeansTheFile nl.file k (mps_of e.program) }
 {}
 
 /// What is exported of a text is read as the program that was exported.
 pub fn exports_are_read_back()
     ensures { (text : List ℕ) (nl : NlValue) → IsNl text nl → (k : ℕ) (bytes : List ℕ)
-        (e : IsExported nl k bytes) → IsReadAs bytes e.program }
+        (e : IsExported nl k bytes) → IsReadAs bytes (mps_of e.program) }
 {}
 
 /// What is exported with the names of two lists is read as the program with these names, where the
@@ -101,7 +102,7 @@ pub fn named_exports_are_read_back()
         → AreListed (row_counts n.nl.file) rows n.rows
         → AreListed (column_counts n.nl.file) columns n.columns
         → (bytes : List ℕ) (e : IsNamedExport n bytes) → length bytes ≤ 2 ^ 31
-        → IsReadAs bytes (named e.program n.rows n.columns) }
+        → IsReadAs bytes (named (mps_of e.program) n.rows n.columns) }
 {}
 
 /// What is told of a text that is refused, whichever reader refuses it, names the text by its number

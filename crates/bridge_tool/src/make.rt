@@ -4,7 +4,8 @@ ghost use Rattle.std.specs.Prelude.{◌≡◌, ◌≢◌, ◌+◌, ◌≤◌, If
 ghost use Rattle.instances.specs.Instance.{instance};
 ghost use Rattle.linear_fold.specs.FoldedFaults.{step_bound};
 ghost use Rattle.nl_segments.specs.Reader.{HasLines, value_of};
-ghost use Rattle.scaling.specs.Exported.{exported_as};
+ghost use Rattle.exported_program.specs.Program.{mps_of};
+ghost use Rattle.scaling.specs.Exported.{scaled_as};
 ghost use Rattle.bridge_tool.specs.InsideAnswer.{IsWorked, status_of};
 ghost use Rattle.bridge_tool.specs.Make.{IsSummedUp, LeavesInput, MakesAs, make_promise, made_text};
 ghost use Rattle.bridge_tool.specs.SeveralFiles.{Comes};
@@ -25,7 +26,7 @@ use text_base::{Desk, Ledger, Steps, Stop};
 
 // The summary of the program of a scaled one, which has so many variables and exported rows.
 fn sum_up(alloc: Global, scaled: Scaled, variables: u32, rows: usize) -> Result<Vec<u8>, AllocError>
-    ensures { IfOk result (λ out. IsSummedUp variables rows (exported_as scaled) out.items) }
+    ensures { IfOk result (λ out. IsSummedUp variables rows (mps_of (scaled_as scaled)) out.items) }
 {
     let mps = exported(alloc, scaled)?;
     let _ = mps.rows();

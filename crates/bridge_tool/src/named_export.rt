@@ -3,7 +3,8 @@
 ghost use Rattle.std.specs.Prelude.{◌≡◌, ◌+◌, ◌≤◌, length, IfOk};
 ghost use Rattle.name_files.specs.Renamed.{HasExportedNames, named};
 ghost use Rattle.nl_segments.specs.Reader.{HasLines, value_of};
-ghost use Rattle.scaling.specs.Exported.{exported_as};
+ghost use Rattle.exported_program.specs.Program.{mps_of};
+ghost use Rattle.scaling.specs.Exported.{scaled_as};
 ghost use Rattle.bridge_tool.specs.InsideAnswer.{IsCounted};
 ghost use Rattle.bridge_tool.specs.NamedExport.{AreNamedMeant, Named, NamedComesTo, named_promise};
 ghost use Rattle.bridge_tool.specs.InsideExport.{IsNamedTextOf};
@@ -44,8 +45,8 @@ fn write_named(
     rows: &NameList,
     columns: &NameList,
 ) -> Result<Vec<u8>, AllocError>
-    requires { HasExportedNames (length rows.now) (length columns.now) (exported_as scaled) }
-    ensures { IfOk result (λ out. IsNamedTextOf out.items (exported_as scaled) rows.now
+    requires { HasExportedNames (length rows.now) (length columns.now) (mps_of (scaled_as scaled)) }
+    ensures { IfOk result (λ out. IsNamedTextOf out.items (mps_of (scaled_as scaled)) rows.now
         columns.now) }
 {
     let plain = exported(alloc, scaled)?;

@@ -6,7 +6,8 @@ ghost use Rattle.linear_program.specs.Programs.{linear_value};
 ghost use Rattle.mps_model.specs.Mps.{with_values};
 ghost use Rattle.nl_model.specs.Rules.{IsFile};
 ghost use Rattle.nl_segments.specs.Reader.{HasLines, value_of};
-ghost use Rattle.scaling.specs.Exported.{exported_as};
+ghost use Rattle.exported_program.specs.Program.{mps_of};
+ghost use Rattle.scaling.specs.Exported.{scaled_as};
 ghost use Rattle.bridge_tool.specs.Stages.{Folds, Scales, fold_steps};
 
 use crate::nl_told::fold_refusal;
@@ -74,7 +75,7 @@ pub(crate) fn scale(alloc: Global, linear: Linear, objective: u32) -> Result<Sca
 
 /// The program that a scaled one is exported as.
 pub(crate) fn exported(alloc: Global, scaled: Scaled) -> Result<Mps, AllocError>
-    ensures { IfOk result (λ m. with_values dec_value m ≡ exported_as scaled) }
+    ensures { IfOk result (λ m. with_values dec_value m ≡ mps_of (scaled_as scaled)) }
 {
     program(alloc, &scaled)
 }

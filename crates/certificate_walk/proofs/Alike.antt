@@ -10,7 +10,7 @@ use Rattle.fractions.specs.Fits.{fits, sum_fits}
 use Rattle.fractions.specs.Functions.{is_zero}
 use Rattle.fractions.specs.Rational.{ℚ, zero_ℚ, neg_ℚ, ◌+ℚ◌, ◌-ℚ◌}
 use Rattle.fractions.proofs.Arithmetic.{+ℚ_zero, -ℚ_lem, neg-neg, neg_zero, zero-+ℚ}
-use Rattle.linear_programs.specs.Linear.{Form, Interval, Linear, Row as LinearRow, no_row, row_at, row_count, value_at, variable_count}
+use Rattle.program_meaning.specs.Linear.{Form, Interval, Linear, Row as LinearRow, no_row, row_at, row_count, value_at, variable_count}
 use Rattle.duality.specs.Checked.{fitting, fitting_difference, less_product, plus_product, run}
 use Rattle.duality.specs.Parts.{NumberForm, added_row, at_most, sum_of, with_row}
 use Rattle.duality.specs.Points.{Box, Numbers}

@@ -3,7 +3,7 @@ use Rattle.std.proofs.Common.{◌≡◌, ℕ, ◌+◌, ◌<◌, ◌≤◌, ◌�
 use Rattle.std.specs.Option.{option_map}
 use Rattle.fractions.specs.Fits.{fits}
 use Rattle.fractions.specs.Rational.{ℚ, IsWhole}
-use Rattle.linear_programs.specs.Linear.{Linear, row_count, variable_count}
+use Rattle.program_meaning.specs.Linear.{Linear, row_count, variable_count}
 use Rattle.duality.specs.Branch.{LeafFault, proof_fault}
 use Rattle.duality.specs.Parts.{Part, bound, lemma, plane, whole_part}
 use Rattle.certificates.specs.declared.certificate.CertificateNode.{CertificateNode}

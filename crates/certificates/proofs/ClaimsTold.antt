@@ -2,7 +2,7 @@
 use Rattle.std.proofs.Common.{◌≡◌, ℕ, sym, subst, refl, [], Option, Some, None}
 use Rattle.std.proofs.lemmas.Option.{same_Some}
 use Rattle.fractions.specs.Rational.{ℚ}
-use Rattle.linear_programs.specs.Linear.{Linear, variable_count, row_count}
+use Rattle.program_meaning.specs.Linear.{Linear, variable_count, row_count}
 use Rattle.duality.specs.Branch.{AreSplitsWhole, proof_fault}
 use Rattle.duality.specs.Certificate.{Cause, Outcome, fails, holds}
 use Rattle.duality.specs.Means.{Means}

@@ -2,7 +2,7 @@
 use Rattle.std.proofs.Common.{◌≡◌, ℕ, zero, suc, ◌<◌, List, [], ◌∷◌, length, get_or, IsTrue, All, refl, ap, subst, arith}
 use Rattle.std.proofs.lemmas.List.Elements.{All-weaker}
 use Rattle.fractions.specs.Rational.{IsWhole}
-use Rattle.linear_programs.specs.Linear.{Linear, no_variable, variable_count, row_count}
+use Rattle.program_meaning.specs.Linear.{Linear, no_variable, variable_count, row_count}
 use Rattle.duality.specs.Parts.{IsWholeVariable}
 use Rattle.linear_program.specs.Intervals.{is_whole_kind}
 use Rattle.linear_program.specs.Numbers.{Pair, number_value}

@@ -4,8 +4,8 @@
 use Rattle.std.specs.Prelude.{◌≡◌, ℕ, ◌<◌, ◌≤◌, ◌^◌, ◌==◌, ℤ, List, [], ◌∷◌, ◌++◌, length, IsTrue, true, if◌then◌else◌, All}
 use Rattle.fractions.specs.Fits.{fits}
 use Rattle.fractions.specs.Rational.{ℚ, zero_ℚ}
-use Rattle.linear_programs.specs.Elements.{elements_from}
-use Rattle.linear_programs.specs.Linear.{Linear, variable_at, variable_count, row_count}
+use Rattle.program_meaning.specs.Elements.{elements_from}
+use Rattle.program_meaning.specs.Linear.{Linear, variable_at, variable_count, row_count}
 use Rattle.duality.specs.Branch.{Tree, split as split_tree, duals as duals_leaf, weights as weights_leaf}
 use Rattle.duality.specs.Parts.{bound}
 use Rattle.exact_numbers.specs.declared.dec.Dec.{Dec}

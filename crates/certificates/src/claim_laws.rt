@@ -1,7 +1,7 @@
 // What is told of claims and proofs; each law is proved by a function with an empty body.
 ghost use Rattle.std.specs.Prelude.{◌≡◌, None, Option};
 ghost use Rattle.fractions.specs.Rational.{ℚ};
-ghost use Rattle.linear_programs.specs.Linear.{Linear, row_count, variable_count};
+ghost use Rattle.program_meaning.specs.Linear.{Linear, row_count, variable_count};
 ghost use Rattle.duality.specs.Branch.{proof_fault};
 ghost use Rattle.duality.specs.Certificate.{Cause, fails, holds};
 ghost use Rattle.duality.specs.Means.{Means};

@@ -1,7 +1,7 @@
 -- What a yes and a bound of the code say.
 use Rattle.std.proofs.Common.{◌≡◌, List, subst, sym}
 use Rattle.fractions.specs.Rational.{ℚ}
-use Rattle.linear_programs.specs.Linear.{Linear}
+use Rattle.program_meaning.specs.Linear.{Linear}
 use Rattle.exact_numbers.specs.Values.{frac_value}
 use Rattle.duality.specs.Points.{Box}
 use Rattle.duality.specs.Verdict.{verdict, dual_bound}

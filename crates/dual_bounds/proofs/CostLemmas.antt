@@ -8,7 +8,7 @@ use Rattle.fractions.specs.Fits.{fits, is_small, sum_fits}
 use Rattle.fractions.specs.Functions.{is_zero}
 use Rattle.fractions.specs.Rational.{ℚ, whole, zero_ℚ, ◌+ℚ◌, ◌-ℚ◌, ◌*ℚ◌, neg_ℚ}
 use Rattle.fractions.proofs.Arithmetic.{+ℚ_zero, *ℚ_zero, over_lowest, -ℚ_lem, neg-neg, neg-*ℚ, top_zero}
-use Rattle.linear_programs.specs.Linear.{Interval}
+use Rattle.program_meaning.specs.Linear.{Interval}
 use Rattle.duality.specs.Checked.{fitting, fitting_difference, fitting_sum, less_product, plus_product}
 use Rattle.duality.specs.Verdict.{bound_side_missing, cost_check, cost_part_of, needed}
 use Rattle.exact_numbers.proofs.Bridge.{frac_fits_lem}

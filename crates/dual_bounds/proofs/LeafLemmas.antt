@@ -4,7 +4,7 @@ use Rattle.std.specs.Prelude.{if◌then◌else◌}
 use Rattle.std.specs.Option.{option_or}
 use Rattle.fractions.specs.Fits.{fits}
 use Rattle.fractions.specs.Rational.{ℚ, zero_ℚ}
-use Rattle.linear_programs.specs.Linear.{Form, Interval, Linear, row_count, value_at, variable_count}
+use Rattle.program_meaning.specs.Linear.{Form, Interval, Linear, row_count, value_at, variable_count}
 use Rattle.duality.specs.Checked.{run}
 use Rattle.duality.specs.Parts.{maximising}
 use Rattle.duality.specs.Points.{Box, Numbers}

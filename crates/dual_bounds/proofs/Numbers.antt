@@ -9,11 +9,11 @@ use Rattle.std.specs.declared.cmp.Ordering.{Ordering}
 use Rattle.std.specs.declared.cmp.Ordering.TheVariants.{Less, Equal, Greater}
 use Rattle.std.proofs.lemmas.Int.{ints}
 use Rattle.fractions.specs.Rational.{ℚ, whole, zero_ℚ, ◌<ℚ◌}
-use Rattle.fractions.proofs.Arithmetic.{top_zero}
+use Rattle.fractions.proofs.Arithmetic.{zero-is_zero}
 use Rattle.exact_numbers.specs.declared.frac.Frac.{Frac}
 use Rattle.exact_numbers.specs.Values.{frac_value, order_of}
 use Rattle.duality.specs.Checked.{is_at_most}
-use Rattle.fractions.specs.Functions.{is_zero, is_pos_zero}
+use Rattle.fractions.specs.Functions.{is_zero}
 use Rattle.fractions.proofs.Tests.{is_zero-true}
 use Rattle.dual_bounds.specs.Terms.{value_found}
 
@@ -29,7 +29,7 @@ same_test false true h k = k refl
 same_test false false h k = refl
 
 pub zero_test : (x : ℚ) (b : Bool) → IsTrue b ↔ (x ≡ zero_ℚ) → b ≡ is_zero x
-zero_test x b h = same_test b (is_zero x) (λ e. ap is_pos_zero (top_zero x (h.0 e))) (λ e. h.1 (is_zero-true x e))
+zero_test x b h = same_test b (is_zero x) (λ e. zero-is_zero x (h.0 e)) (λ e. h.1 (is_zero-true x e))
 
 lt_true : (x y : ℤ) → x <ℤ y → int_lt x y ≡ true
 lt_true x y h = by (int_lt x y) h.lt

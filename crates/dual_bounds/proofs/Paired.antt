@@ -5,10 +5,10 @@ use Rattle.std.specs.Prelude.{if◌then◌else◌, option_and_then}
 use Rattle.std.specs.Option.{option_or}
 use Rattle.std.proofs.lemmas.Bool.{cases_lt, eq-eqb, ne_eqb}
 use Rattle.fractions.specs.Rational.{ℚ, zero_ℚ}
-use Rattle.linear_programs.specs.Linear.{value_at}
+use Rattle.program_meaning.specs.Linear.{value_at}
 use Rattle.duality.specs.Checked.{run}
 use Rattle.duality.specs.Verdict.{first_fault}
-use Rattle.linear_programs.proofs.Elements.{elements_at}
+use Rattle.program_meaning.proofs.Elements.{elements_at}
 use Rattle.linear_program.specs.Numbers.{Pair, number_of, spread, number_value}
 use Rattle.dual_bounds.specs.Leaves.{AreIndices, run_pairs}
 use Rattle.dual_bounds.proofs.Firsts.{or_assoc, or_nothing}

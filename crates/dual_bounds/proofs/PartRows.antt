@@ -6,7 +6,7 @@ use Rattle.std.proofs.lemmas.List.{drop_all}
 use Rattle.fractions.specs.Fits.{fits}
 use Rattle.fractions.specs.Functions.{is_zero}
 use Rattle.fractions.specs.Rational.{ℚ, whole, zero_ℚ}
-use Rattle.linear_programs.specs.Linear.{Form, Linear, row_at, row_count, value_at}
+use Rattle.program_meaning.specs.Linear.{Form, Linear, row_at, row_count, value_at}
 use Rattle.duality.specs.Checked.{fitting, less_product, run}
 use Rattle.duality.specs.Points.{Numbers}
 use Rattle.duality.specs.Verdict.{Fault as Cause, first_fault, has_needed, reduced_cost, row_part, row_part_of, row_side_missing, side_fault}

@@ -7,9 +7,8 @@ use Rattle.std.specs.Prelude.{if◌then◌else◌, option_and_then}
 use Rattle.std.proofs.Math.Nat.{mul-le-mul_right}
 use Rattle.std.proofs.lemmas.Nat.{mul-lt}
 use Rattle.std.proofs.lemmas.Int.{ints, unsigned_abs-mul}
-use Rattle.fractions.specs.Divisors.{gcd_of}
 use Rattle.fractions.specs.Fits.{fits, sum_fits}
-use Rattle.fractions.specs.LowestLemmas.{is_gcd, size-div}
+use Rattle.fractions.specs.LowestLemmas.{gcd_of, is_gcd, size-div}
 use Rattle.fractions.specs.Rational.{ℚ, over, whole, zero_ℚ, ◌-ℚ◌, ◌*ℚ◌, neg_ℚ}
 use Rattle.fractions.proofs.Arithmetic.{over_parts, -ℚ_lem, over_same, value_is}
 use Rattle.fractions.proofs.Signed.{down_times}

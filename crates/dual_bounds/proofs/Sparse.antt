@@ -4,11 +4,10 @@ use Rattle.std.specs.Prelude.{if◌then◌else◌, option_and_then}
 use Rattle.std.proofs.lemmas.Bool.{eqb-true, eq-eqb}
 use Rattle.std.proofs.lemmas.List.{drop_all}
 use Rattle.fractions.specs.Rational.{ℚ, zero_ℚ}
-use Rattle.fractions.proofs.Arithmetic.{top_zero}
+use Rattle.fractions.proofs.Arithmetic.{zero-is_zero, not-is_zero}
 use Rattle.exact_numbers.specs.Values.{frac_value}
 use Rattle.duality.specs.Checked.{run}
-use Rattle.fractions.specs.Functions.{is_zero, is_pos_zero}
-use Rattle.fractions.proofs.Tests.{is_zero-true}
+use Rattle.fractions.specs.Functions.{is_zero}
 use Rattle.linear_program.specs.Coefs.{Term, found, value_or_zero, coef_in}
 use Rattle.dual_bounds.specs.Terms.{AreTerms}
 
@@ -49,14 +48,10 @@ before from n [] j h l = refl
 before from n (t ∷ ts) j h l = elsewhere t ts j (λ e. omega (arith, h.0, e)) ∙ before (suc t.0) n ts j h.3 (omega (arith, h.0))
 
 pub zero_is : (x : ℚ) → x ≡ zero_ℚ → is_zero x ≡ true
-zero_is x e = ap is_pos_zero (top_zero x e)
+zero_is x e = zero-is_zero x e
 
 pub not_zero : (x : ℚ) → x ≢ zero_ℚ → is_zero x ≡ false
-not_zero x h = by (is_zero x) refl
-  where
-    by : (b : Bool) → is_zero x ≡ b → b ≡ false
-    by true e = absurd (h (is_zero-true x e))
-    by false e = refl
+not_zero x h = not-is_zero x h
 
 module _ (step : ℚ → ℕ → ℚ → Option ℚ) (g : ℕ → ℚ) (start : ℚ) where
   -- indices with the factor 0 change nothing

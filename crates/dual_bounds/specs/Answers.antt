@@ -9,7 +9,7 @@ use Rattle.dual_bounds.specs.declared.verdict.BoundVerdict.{BoundVerdict}
 use Rattle.dual_bounds.specs.declared.verdict.BoundVerdict.TheVariants.{Bound, RowSideMissing as BoundRowSideMissing, BoundSideMissing as BoundBoundSideMissing, TooWide as BoundTooWide}
 use Rattle.dual_bounds.specs.declared.verdict.Verdict.TheVariants.{Yes, Gap, RowBroken as VerdictRowBroken, BoundBroken as VerdictBoundBroken, RowSideMissing as VerdictRowSideMissing, BoundSideMissing as VerdictBoundSideMissing, TooWide as VerdictTooWide}
 use Rattle.fractions.specs.Rational.{ℚ}
-use Rattle.linear_programs.specs.Linear.{Linear, objective_value}
+use Rattle.program_meaning.specs.Linear.{Linear, objective_value}
 use Rattle.duality.specs.Points.{Box, IsAsGood, IsRelaxedIn}
 use Rattle.exact_numbers.specs.Values.{frac_value}
 use Rattle.duality.specs.Says.{VerdictSays}

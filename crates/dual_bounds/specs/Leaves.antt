@@ -2,7 +2,7 @@
 use Rattle.std.specs.Prelude.{◌≡◌, ℕ, suc, ◌<◌, ◌≤◌, ◌++◌, Bool, List, [], ◌∷◌, length, if◌then◌else◌, slice_get, Option, Some, option_and_then}
 use Rattle.fractions.specs.Functions.{is_zero}
 use Rattle.fractions.specs.Rational.{ℚ}
-use Rattle.linear_programs.specs.Linear.{Linear, row_at, row_count, variable_count}
+use Rattle.program_meaning.specs.Linear.{Linear, row_at, row_count, variable_count}
 use Rattle.duality.specs.Checked.{fitting, less_product}
 use Rattle.linear_program.specs.Intervals.{interval_of}
 use Rattle.linear_program.specs.Coefs.{Term, coef_in}

@@ -3,7 +3,7 @@ use Rattle.std.specs.Prelude.{◌≡◌, ◌≢◌, ℕ, ◌<◌, Bool, List, []
 use Rattle.std.specs.List.{Contains}
 use Rattle.std.specs.List.Sorted.{IsNonDecreasingBy}
 use Rattle.fractions.specs.Rational.{ℚ, over, zero_ℚ}
-use Rattle.linear_programs.specs.Linear.{Interval, Linear, row_count}
+use Rattle.program_meaning.specs.Linear.{Interval, Linear, row_count}
 use Rattle.duality.specs.Checked.{less_product, run}
 use Rattle.duality.specs.Points.{Box, Numbers}
 use Rattle.duality.specs.Verdict.{BoundVerdict, Fault, bound_or_fault, cost_check, cost_part_of, first_fault, needed, row_part}

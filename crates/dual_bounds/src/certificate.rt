@@ -1,8 +1,8 @@
 // The verdict on a point, and the bound of duals alone.
 ghost use Rattle.std.specs.Prelude.{◌≡◌, Some, None, length};
-ghost use Rattle.linear_programs.specs.Linear.{value_at, variable_count};
+ghost use Rattle.program_meaning.specs.Linear.{value_at, variable_count};
 ghost use Rattle.duality.specs.Points.{bounds_of};
-ghost use Rattle.linear_programs.specs.Linear.{row_count};
+ghost use Rattle.program_meaning.specs.Linear.{row_count};
 ghost use Rattle.duality.specs.Verdict.{refused, early_fault, verdict, last_of, no_bound, dual_fault, dual_bound, bound_total, run_form, IsDualFault};
 ghost use Rattle.exact_numbers.specs.Values.{frac_value};
 ghost use Rattle.dual_bounds.specs.Answers.{answer_of, bound_answer_of, cause_found, cause_of, IsBounded, IsCertified};

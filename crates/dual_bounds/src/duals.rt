@@ -1,7 +1,7 @@
 // The duals against the sides, and the bound that they show.
 ghost use Rattle.std.specs.Prelude.{◌≡◌, ◌<◌, ℤ, pos, int_lt, length, option_and_then};
-ghost use Rattle.linear_programs.specs.Linear.{value_at, variable_count};
-ghost use Rattle.linear_programs.specs.Linear.{row_count};
+ghost use Rattle.program_meaning.specs.Linear.{value_at, variable_count};
+ghost use Rattle.program_meaning.specs.Linear.{row_count};
 ghost use Rattle.duality.specs.Checked.{fitting, run};
 ghost use Rattle.duality.specs.Verdict.{needed, has_needed, side_fault, cost_check, cost_fault, row_part, cost_part_of, cost_part, bound_total, first_fault, reduced_cost};
 ghost use Rattle.exact_numbers.specs.Values.{frac_value};

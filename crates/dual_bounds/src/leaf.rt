@@ -1,6 +1,6 @@
 // The bound of a leaf, by the rows that have a number.
 ghost use Rattle.std.specs.Prelude.{◌≡◌, ◌+◌, IfOk, length};
-ghost use Rattle.linear_programs.specs.Linear.{Linear, row_count};
+ghost use Rattle.program_meaning.specs.Linear.{Linear, row_count};
 ghost use Rattle.fractions.specs.Rational.{zero_ℚ};
 ghost use Rattle.duality.specs.Parts.{maximising};
 ghost use Rattle.duality.specs.Verdict.{dual_bound};

@@ -1,8 +1,8 @@
 // Making and reading linear programs by rows, and by columns.
 ghost use Rattle.std.specs.Prelude.{◌≡◌, ◌<◌, IfOk};
-ghost use Rattle.linear_programs.specs.Linear.{variable_at, variable_count};
+ghost use Rattle.program_meaning.specs.Linear.{variable_at, variable_count};
 ghost use Rattle.duality.specs.Points.{bounds_of};
-ghost use Rattle.linear_programs.specs.Linear.{row_count};
+ghost use Rattle.program_meaning.specs.Linear.{row_count};
 ghost use Rattle.linear_program.specs.Intervals.{interval_of, is_whole_kind};
 ghost use Rattle.linear_program.specs.Programs.{linear_value};
 ghost use Rattle.dual_bounds.specs.Programs.{linear_of, program_of};

@@ -4,7 +4,7 @@ ghost use Rattle.std.specs.Option.{option_map};
 ghost use Rattle.duality.specs.Verdict.{cost_check, cost_part_of};
 ghost use Rattle.fractions.specs.Fits.{fits};
 ghost use Rattle.fractions.specs.Rational.{ℚ, ◌*ℚ◌, ◌-ℚ◌, neg_ℚ, zero_ℚ};
-ghost use Rattle.linear_programs.specs.Linear.{Interval};
+ghost use Rattle.program_meaning.specs.Linear.{Interval};
 ghost use Rattle.exact_numbers.specs.Values.{frac_value};
 ghost use Rattle.dual_bounds.specs.Answers.{cause_found};
 ghost use Rattle.dual_bounds.specs.Lists.{bounds_in};

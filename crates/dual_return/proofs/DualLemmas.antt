@@ -7,14 +7,13 @@ use Rattle.fractions.specs.Rational.{whole, zero_ℚ, ◌*ℚ◌}
 use Rattle.fractions.proofs.Arithmetic.{whole-*ℚ}
 use Rattle.exact_numbers.specs.declared.dec.Dec.{Dec}
 use Rattle.exact_numbers.specs.Values.{dec_value, IsInReach}
-use Rattle.linear_programs.specs.Linear.{Linear}
+use Rattle.program_meaning.specs.Linear.{Linear, row_at}
 use Rattle.nl_model.specs.File.{File}
 use Rattle.file_meaning.specs.Expressions.{maximises}
 use Rattle.file_meaning.specs.LinearFile.{linear_of}
-use Rattle.exported_program.specs.Export.{factor_of_row}
-use Rattle.exported_program.specs.Program.{program_of}
-use Rattle.exported_program.specs.Return.{is_exported, row_at}
-use Rattle.scaling.specs.Exported.{exported_as}
+use Rattle.scaled_program.specs.Fits.{factor_of_row}
+use Rattle.scaled_program.specs.Program.{is_exported}
+use Rattle.scaling.specs.Exported.{scaled_as}
 use Rattle.scaling.specs.Scaled.{ScaledValue}
 use Rattle.scaling.specs.Scaling.{IsScaledOf, factor_at}
 use Rattle.answer_file.specs.Grammar.{AnswerValue}
@@ -30,8 +29,8 @@ stable false true h = absurd (h (λ e. absurd cc))
 
 -- the sign by the scaled program is that of the file
 same-sign : (f : File) (a : AnswerValue) (s : ScaledValue) → IsScaledOf (linear_for f a) s → sign_by (a.min_sign && s.maximise) ≡ sign_of f a
-unfolding linear_of exported_as program_of
-same-sign f a s h = ap (λ b. sign_by (a.min_sign && b)) (stable s.maximise (maximises f a.objective) (λ ne. ne (ap (λ m. m.maximise) (h.export.tied (λ decimal. ne (ap (λ m. m.maximise) (h.export.plain decimal)))))))
+unfolding linear_of scaled_as
+same-sign f a s h = ap (λ b. sign_by (a.min_sign && b)) (stable s.maximise (maximises f a.objective) (λ ne. ne (ap (λ p. p.maximise) (h.program.tied (λ decimal. ne (ap (λ p. p.maximise) (h.program.plain decimal)))))))
 
 -- ---- factors
 

@@ -13,8 +13,10 @@ use Rattle.exact_numbers.specs.Values.{dec_value, fits_dec, IsInReach}
 use Rattle.exact_numbers.proofs.Bridge.{zero_decimal}
 use Rattle.exact_numbers.proofs.NumberLemmas.{dec_from-some, dec_from-fits}
 use Rattle.exact_numbers.proofs.Spelling.{fits_dec_in, fits_dec_out}
-use Rattle.exported_program.specs.Export.{factor_of_row}
-use Rattle.exported_program.specs.Return.{is_exported, row_at, dual_of}
+use Rattle.scaled_program.specs.Fits.{factor_of_row}
+use Rattle.scaled_program.specs.Program.{is_exported}
+use Rattle.program_meaning.specs.Linear.{row_at}
+use Rattle.scaled_program.specs.Return.{dual_of}
 use Rattle.nl_model.specs.File.{File}
 use Rattle.answer_file.specs.Grammar.{AnswerValue}
 use Rattle.sol_files.specs.Sol.{Sol}

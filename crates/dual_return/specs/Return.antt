@@ -5,14 +5,15 @@ use Rattle.std.specs.List.{list_any}
 use Rattle.fractions.specs.Rational.{ℚ, whole, zero_ℚ, ◌*ℚ◌, ◌-ℚ◌}
 use Rattle.exact_numbers.specs.declared.dec.Dec.{Dec}
 use Rattle.exact_numbers.specs.Values.{dec_value, IsInReach}
-use Rattle.linear_programs.specs.Linear.{Linear}
+use Rattle.program_meaning.specs.Linear.{Linear, row_at}
 use Rattle.nl_model.specs.File.{File}
 use Rattle.nl_model.specs.declared.suffix.Suffix.{Suffix}
 use Rattle.file_meaning.specs.Expressions.{maximises}
 use Rattle.file_meaning.specs.LinearFile.{linear_of}
-use Rattle.exported_program.specs.Export.{factor_of_row, factor_of_objective}
-use Rattle.exported_program.specs.Program.{program, tied_program}
-use Rattle.exported_program.specs.Return.{is_exported, row_at, dual_of, program_row}
+use Rattle.scaled_program.specs.Fits.{factor_of_row, factor_of_objective}
+use Rattle.exported_program.specs.Program.{program, tied_program, program_row}
+use Rattle.scaled_program.specs.Program.{is_exported}
+use Rattle.scaled_program.specs.Return.{dual_of}
 use Rattle.file_meaning.specs.Meaning.{body_value}
 use Rattle.mps_model.specs.Mps.{Mps, row_value}
 use Rattle.scaling.specs.Scaled.{ScaledValue}

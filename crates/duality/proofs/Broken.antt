@@ -4,7 +4,8 @@ use Rattle.std.proofs.lemmas.Bool.{cases_lt}
 use Rattle.std.proofs.lemmas.Option.{same_Some}
 use Rattle.fractions.specs.Rational.{ℚ, ◌≤ℚ◌, ◌<ℚ◌}
 use Rattle.fractions.proofs.Arithmetic.{le_or_lt, not_both}
-use Rattle.linear_programs.specs.Linear.{Interval, Linear, IsInside, AtLeast, AtMost, IsRelaxed as IsRelaxedProgram, RowHolds, row_at, row_count, value_at, variable_count}
+use Rattle.program_meaning.specs.Linear.{Interval, Linear, IsInside, IsRelaxed as IsRelaxedProgram, RowHolds, row_at, row_count, value_at, variable_count}
+use Rattle.program_meaning.proofs.Sides.{AtLeast, AtMost}
 use Rattle.duality.specs.Certificate.{whole_fault}
 use Rattle.duality.specs.Means.{Means}
 use Rattle.duality.specs.Points.{bounds_of}

@@ -2,7 +2,7 @@
 use Rattle.std.proofs.Common.{◌≡◌, ℕ, refl, Bool, true, false, List, Option, Some, None}
 use Rattle.std.specs.Prelude.{IfSome, if◌then◌else◌, ◌&&◌}
 use Rattle.fractions.specs.Rational.{ℚ, zero_ℚ}
-use Rattle.linear_programs.specs.Linear.{Interval, Linear, value_at, variable_count, row_at, row_count}
+use Rattle.program_meaning.specs.Linear.{Interval, Linear, value_at, variable_count, row_at, row_count}
 use Rattle.duality.specs.Branch.{Tree, LeafFault, proof_fault}
 use Rattle.duality.specs.Certificate.{Certificate, optimal, near, bounded, feasible, infeasible, unbounded, Cause, at_point, not_whole, objective_wide, at_ray, at_leaf, Judged, valued as judged_valued, refused as judged_refused, judged, judged_by, given_fault, whole_fault, fitting_bound_fault, can_compare, unless_leaf, unless_ray, with_tree, with_leaves, with_ray, alone, Outcome, holds, fails, outcome}
 use Rattle.duality.specs.Parts.{whole_part}

@@ -3,7 +3,7 @@ use Rattle.std.proofs.Common.{◌↔◌, ◌∙◌, inl, inr, ℕ, sym, subst, B
 use Rattle.std.proofs.lemmas.Option.{same_Some}
 use Rattle.fractions.specs.Rational.{ℚ}
 use Rattle.fractions.proofs.Arithmetic.{le_or_lt, not_both}
-use Rattle.linear_programs.specs.Linear.{IsInside, Linear, objective_value}
+use Rattle.program_meaning.specs.Linear.{IsInside, Linear, objective_value}
 use Rattle.duality.specs.Contrary.{IsBetterAt, IsConstraintUnmet, IsEachBeaten, IsNoneBetter, IsNoneFeasible, IsNoneRelaxed}
 use Rattle.duality.specs.Means.{Means}
 use Rattle.duality.specs.Points.{IsAsGood, IsBetter}

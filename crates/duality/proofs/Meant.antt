@@ -2,7 +2,7 @@
 use Rattle.std.proofs.Common.{◌↔◌, ℕ, sym, subst, refl, List}
 use Rattle.std.proofs.lemmas.Option.{same_Some}
 use Rattle.fractions.specs.Rational.{ℚ}
-use Rattle.linear_programs.specs.Linear.{Linear, IsInside, IsRelaxed as IsRelaxedProgram, RowHolds, form_value, no_row, row_at, variable_count}
+use Rattle.program_meaning.specs.Linear.{Linear, IsInside, IsRelaxed as IsRelaxedProgram, RowHolds, form_value, no_row, row_at, variable_count}
 use Rattle.duality.specs.Means.{Means, problem_in}
 use Rattle.duality.specs.Problem.{IsConstraintBroken, IsRelaxed}
 use Rattle.duality.specs.Says.{IsRowBroken}

@@ -1,7 +1,7 @@
 -- What verdicts on a linear program say of a problem that it means.
 use Rattle.std.proofs.Common.{◌≡◌, ◌∙◌, ℕ, sym, ap, subst, refl, List, Option, Some, None, option_map}
 use Rattle.fractions.specs.Rational.{ℚ, zero_ℚ}
-use Rattle.linear_programs.specs.Linear.{Linear, IsFeasible as IsFeasibleProgram, IsRelaxed as IsRelaxedProgram, objective_value, value_at}
+use Rattle.program_meaning.specs.Linear.{Linear, IsFeasible as IsFeasibleProgram, IsRelaxed as IsRelaxedProgram, objective_value, value_at}
 use Rattle.duality.specs.Branch.{LeafFault, Tree, duals, open_gap, weights, AreSplitsWhole, proof_fault}
 use Rattle.duality.specs.Certificate.{Certificate, optimal, near, bounded, feasible, infeasible, unbounded, IsCertificate, Cause, at_point, not_whole, objective_wide, at_ray, at_leaf, Judged, valued as judged_valued, refused as judged_refused, judged, unless_leaf, with_ray, Outcome, holds, fails, outcome, IsShown as IsShownProgram, PointSays as PointSaysProgram, CauseSays as CauseSaysProgram, OutcomeSays as OutcomeSaysProgram}
 use Rattle.duality.specs.LeafSays.{IsLeafDenied, part_of_leaf}

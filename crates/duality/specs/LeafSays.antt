@@ -1,7 +1,7 @@
 -- What is said of a leaf that does not close.
 use Rattle.std.specs.Prelude.{ℕ, ◌<◌, ◌-◌, nat_lt, if◌then◌else◌, List}
 use Rattle.fractions.specs.Rational.{ℚ}
-use Rattle.linear_programs.specs.Linear.{Linear, objective_value}
+use Rattle.program_meaning.specs.Linear.{Linear, objective_value}
 use Rattle.duality.specs.Branch.{Tree, split, duals, weights, LeafFault, row_side, bound_side, wide, open_gap, leaves}
 use Rattle.duality.specs.Parts.{Part, first_part, second_part, whole_part}
 use Rattle.duality.specs.Points.{IsAsGood, IsRelaxedIn}

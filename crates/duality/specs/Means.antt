@@ -1,7 +1,7 @@
 -- When a linear program means a problem.
 use Rattle.std.specs.Prelude.{◌≡◌, ◌↔◌, ℕ, ◌<◌, true, IsTrue, List, Some}
 use Rattle.fractions.specs.Rational.{ℚ}
-use Rattle.linear_programs.specs.Linear.{Linear, IsFeasible as IsFeasibleProgram, IsRelaxed as IsRelaxedProgram, form_value, objective_value, row_at, row_count, variable_at, variable_count}
+use Rattle.program_meaning.specs.Linear.{Linear, IsFeasible as IsFeasibleProgram, IsRelaxed as IsRelaxedProgram, form_value, objective_value, row_at, row_count, variable_at, variable_count}
 use Rattle.duality.specs.Says.{IsRowBroken, IsBoundBroken as IsBoundBrokenProgram, IsNotWhole as IsNotWholeProgram}
 use Rattle.duality.specs.Problem.{Problem, IsBoundBroken, IsConstraintBroken, IsFeasible, IsNotWhole, IsRelaxed}
 

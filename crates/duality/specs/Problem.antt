@@ -3,7 +3,7 @@
 -- the values of which it speaks are there.
 use Rattle.std.specs.Prelude.{◌≡◌, ◌⊎◌, ℕ, ◌<◌, Bool, IsTrue, List, Option, Some}
 use Rattle.fractions.specs.Rational.{ℚ, IsWhole}
-use Rattle.linear_programs.specs.Linear.{Interval, IsInside, value_at}
+use Rattle.program_meaning.specs.Linear.{Interval, IsInside, value_at}
 use Rattle.duality.specs.Points.{IsAsGood, IsBetter}
 
 -- Constraints and variables by number, and an objective. A body or the objective need not have a

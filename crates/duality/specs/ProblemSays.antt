@@ -1,7 +1,7 @@
 -- What a verdict on a linear program says of the problem that the program means.
 use Rattle.std.specs.Prelude.{List, [], Option}
 use Rattle.fractions.specs.Rational.{ℚ}
-use Rattle.linear_programs.specs.Linear.{Linear}
+use Rattle.program_meaning.specs.Linear.{Linear}
 use Rattle.duality.specs.Branch.{LeafFault}
 use Rattle.duality.specs.Certificate.{Certificate, optimal, near, bounded, feasible, infeasible, unbounded, Cause, at_point, not_whole, objective_wide, at_ray, at_leaf, Outcome, holds, fails}
 use Rattle.duality.specs.LeafSays.{IsLeafDenied}

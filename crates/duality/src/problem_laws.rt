@@ -2,7 +2,7 @@
 // function with an empty body.
 ghost use Rattle.std.specs.Prelude.{◌≡◌, ◌↔◌, ℕ, IsTrue, List, None, Some};
 ghost use Rattle.fractions.specs.Rational.{ℚ};
-ghost use Rattle.linear_programs.specs.Linear.{Linear};
+ghost use Rattle.program_meaning.specs.Linear.{Linear};
 ghost use Rattle.duality.specs.Branch.{LeafFault, Tree, duals, open_gap, weights, AreSplitsWhole, proof_fault, tree_fault};
 ghost use Rattle.duality.specs.Certificate.{Certificate, IsCertificate, outcome};
 ghost use Rattle.duality.specs.Contrary.{IsConstraintUnmet, IsEachBeaten, IsNoneBetter, IsNoneFeasible, IsNoneRelaxed};

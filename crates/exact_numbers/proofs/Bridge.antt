@@ -1,8 +1,8 @@
 -- From pairs of one value to equal numbers, and back.
-use Rattle.std.proofs.Common.{◌≡◌, ◌≢◌, ◌⊎◌, inr, ℕ, suc, ◌*◌, ◌/◌, ◌<◌, ◌^◌, ◌∙◌, sym, ap, ap₂, refl, subst, arith, mul-pos, mul_comm, Bool, true, false, ◌&&◌, ℤ, pos, negsuc, ◌+ℤ◌, ◌*ℤ◌, ◌<ℤ◌, neg_ℤ, unsigned_abs, int_lt, Option, Some, None, MatchOption, ◌↔◌, Less, Equal, Greater, int_cmp, mul-one}
+use Rattle.std.proofs.Common.{◌≡◌, ◌≢◌, ◌⊎◌, inr, ℕ, zero, suc, ◌*◌, ◌/◌, ◌<◌, ◌^◌, ◌∙◌, sym, ap, ap₂, refl, subst, arith, mul-pos, mul_comm, Bool, true, false, ◌&&◌, ℤ, pos, negsuc, ◌+ℤ◌, ◌*ℤ◌, ◌<ℤ◌, neg_ℤ, unsigned_abs, int_lt, Option, Some, None, MatchOption, ◌↔◌, Less, Equal, Greater, int_cmp, mul-one}
 use Prim.Native.Nat.{◌∣◌}
 use Rattle.std.proofs.Math.Nat.{dvd-mul_left, div-mul_cancel, eq_of_mul-eq-mul_right}
-use Rattle.std.proofs.lemmas.Nat.Gcd.{dvd_refl}
+use Rattle.std.specs.Int.{int_signum}
 use Rattle.exact_numbers.proofs.Signed.{sizes_of}
 use Rattle.std.specs.declared.cmp.Ordering.{Ordering}
 use Rattle.std.specs.Ordering.{MatchOrdering}
@@ -10,19 +10,19 @@ use Rattle.std.specs.Cmp.{int_ranks}
 use Rattle.std.proofs.lemmas.Bool.{ltb-true, lt-ltb}
 use lib.IntN.{*ℤ_comm, zero-*ℤ}
 use borrow.Author.Differences.{up, down}
-use Rattle.fractions.specs.Divisors.{AreCoprime, gcd_of}
-use Rattle.fractions.specs.LowestLemmas.{is_gcd, reduced_by}
-use Rattle.fractions.specs.Rational.{ℚ, over, whole, zero_ℚ, one_ℚ, ◌+ℚ◌, ◌*ℚ◌, ◌-ℚ◌, neg_ℚ, decimal_value, inverse_of, turned_over, IsWhole}
+use Rattle.fractions.specs.Divisors.{AreCoprime}
+use Rattle.fractions.specs.LowestLemmas.{lcm_is}
+use Rattle.fractions.specs.Rational.{ℚ, over, whole, zero_ℚ, one_ℚ, ◌+ℚ◌, ◌*ℚ◌, ◌-ℚ◌, neg_ℚ, decimal_value, inverse_of, IsWhole}
 use Rattle.fractions.proofs.Signed.{neg-*ℤ, times_cancel, *ℤ_assoc}
 use Rattle.fractions.proofs.Values.{HasValue, own_value, over_value, whole_value, same_value, same_over, same_crosswise, equal_tops, scaled_value, product_value, neg_value, lt_value}
-use Rattle.fractions.proofs.Arithmetic.{over_parts, decimal_value_lem, zero_top, top_zero, -ℚ_lem}
+use Rattle.fractions.proofs.Arithmetic.{over_parts, decimal_value_lem, zero_top, top_zero, -ℚ_lem, IsWhole-dvd, with_sign_above, with_sign_below}
 use Rattle.exact_numbers.specs.Decimal.{signed}
-use Rattle.exact_numbers.specs.Fraction.{IsFrac, IsLcm}
+use Rattle.exact_numbers.specs.Fraction.{IsFrac}
 use Rattle.exact_numbers.specs.Values.{frac_value, dec_value, is_small, fits, least_multiple, sum_over_multiple, sum_fits, FitsDec, IsInReach, order_of}
 use Rattle.exact_numbers.specs.declared.dec.Dec.{Dec}
 use Rattle.exact_numbers.specs.declared.frac.Frac.{Frac}
 use Rattle.exact_numbers.proofs.Pairs.{Fraction, SameValue, HasDec, HasFrac, SumFits, pair, scaled, sum_of, product_of}
-use Rattle.exact_numbers.proofs.Coprime.{same_lcm, lcm_by}
+use Rattle.exact_numbers.proofs.Coprime.{same_lcm}
 use Rattle.exact_numbers.proofs.Decimals.{negative_test, is_negative}
 use Rattle.exact_numbers.proofs.Orders.{less_z, equal_z, greater_z}
 
@@ -104,12 +104,9 @@ unfolding ◌+ℚ◌
 sum_is x y = over_value (x.top *ℤ pos y.bottom +ℤ y.top *ℤ pos x.bottom) (x.bottom * y.bottom) (mul-pos x.above y.above)
 
 -- ---- sums
-pub lcm_is : (a b : ℕ) → 0 < a → 0 < b → IsLcm a b (least_multiple a b)
-lcm_is a b p q = lcm_by a b (gcd_of a b) p (reduced_by a b (gcd_of a b) q (is_gcd a b))
-
 pub sum_fits_in : (x y : ℚ) → SumFits x.top x.bottom y.top y.bottom → sum_fits x y ≡ true
 sum_fits_in x y f =
-    let same : f.m ≡ least_multiple x.bottom y.bottom = same_lcm x.bottom y.bottom f.m _ f.least (lcm_is x.bottom y.bottom x.above y.above) in
+    let same : f.m ≡ least_multiple x.bottom y.bottom = same_lcm x.bottom y.bottom f.m _ f.least (lcm_is x.bottom y.bottom) in
     subst (λ m. sum_over_multiple m x y ≡ true) same
     (both_true _ _ (both_true _ _ (both_true _ _ (small_of _ f.denominator) (small_of _ f.first)) (small_of _ f.second)) (small_of _ f.sum))
 
@@ -120,7 +117,7 @@ sum_fits_out x y e =
     let two = and_true _ _ third.0 in
     record {
       m = least_multiple x.bottom y.bottom;
-      least = lcm_is x.bottom y.bottom x.above y.above;
+      least = lcm_is x.bottom y.bottom;
       denominator = small_out _ two.0;
       first = small_out _ two.1;
       second = small_out _ third.1;
@@ -150,10 +147,10 @@ one_is f e d =
     let k : HasValue (frac_value f) (pos 1) 1 = record { above = (whole_value (pos 1)).above; equal = ap₂ (λ t b. t *ℤ pos b) e (sym d) } in
     same_over k (whole_value (pos 1)) refl
 
-turned : (f : Frac) (n : ℤ) (d : ℕ) → f.num ≡ signed (is_negative n) d → f.den ≡ unsigned_abs n → (n ≡ pos 0 → ⊥) → frac_value f ≡ turned_over n d
-unfolding turned_over
-turned f (pos n) d p q some = frac_is f (pos d) n p q
-turned f (negsuc n) d p q some = frac_is f (neg_ℤ (pos d)) (suc n) p q
+turned : (f : Frac) (n : ℤ) (d : ℕ) → f.num ≡ signed (is_negative n) d → f.den ≡ unsigned_abs n → (n ≡ pos 0 → ⊥) → frac_value f ≡ over (int_signum n *ℤ pos d) (unsigned_abs n)
+turned f (pos zero) d p q some = absurd (some refl)
+turned f (pos (suc n)) d p q some = frac_is f (int_signum (pos (suc n)) *ℤ pos d) (suc n) (p ∙ sym (with_sign_above n d)) q
+turned f (negsuc n) d p q some = frac_is f (int_signum (negsuc n) *ℤ pos d) (suc n) (p ∙ sym (with_sign_below n d)) q
 
 pub inverse_is : (a f : Frac) → (a.num ≡ pos 0 → ⊥) → f.num ≡ signed (int_lt a.num (pos 0)) a.den → f.den ≡ unsigned_abs a.num → frac_value f ≡ inverse_of (frac_value a)
 unfolding inverse_of
@@ -217,15 +214,14 @@ whole_is x y h = (into, out)
 
     into : IsWhole x → y.bottom ∣ unsigned_abs y.top
     into w =
-        let one : x.bottom ≡ 1 = x.lowest x.bottom w (dvd_refl x.bottom) in
-        subst (λ n. y.bottom ∣ n) (sizes ∙ ap (λ n. unsigned_abs y.top * n) one ∙ mul-one _) (dvd-mul_left y.bottom (unsigned_abs x.top))
+        subst (λ n. y.bottom ∣ n) (sizes ∙ ap (λ n. unsigned_abs y.top * n) w ∙ mul-one _) (dvd-mul_left y.bottom (unsigned_abs x.top))
 
     out : y.bottom ∣ unsigned_abs y.top → IsWhole x
     out w =
         let k = unsigned_abs y.top / y.bottom in
         let split : k * y.bottom ≡ unsigned_abs y.top = div-mul_cancel y.bottom w in
         let same : unsigned_abs x.top ≡ k * x.bottom = eq_of_mul-eq-mul_right y.bottom h.above _ _ (sizes ∙ ap (λ n. n * x.bottom) (sym split) ∙ omega arith) in
-        subst (λ n. x.bottom ∣ n) (sym same) (dvd-mul_left x.bottom k)
+        (IsWhole-dvd x).1 (subst (λ n. x.bottom ∣ n) (sym same) (dvd-mul_left x.bottom k))
 
 -- ---- quotients and differences
 pub zero_num : (f : Frac) → frac_value f ≡ zero_ℚ → f.num ≡ pos 0

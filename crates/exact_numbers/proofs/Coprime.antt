@@ -1,13 +1,13 @@
 -- Divisors, and numbers without a common one.
 use Prim.Native.Nat.{◌∣◌}
-use Rattle.std.proofs.Common.{◌≡◌, ℕ, ◌*◌, ◌/◌, ◌<◌, ◌∙◌, sym, ap, ap₂, arith, subst, subst₂, mul-pos}
-use Rattle.std.proofs.Math.Nat.{dvd-mul_left, dvd-mul_right, mul-div_cancel', mul-div_cancel_left, mul-dvd-mul_left, dvd_of_mul-dvd-mul_right}
+use Rattle.std.proofs.Common.{◌≡◌, ℕ, ◌*◌, ◌/◌, ◌<◌, ◌∙◌, sym, ap, ap₂, arith, subst, mul-pos}
+use Rattle.std.proofs.Math.Nat.{dvd-mul_right, mul-div_cancel_left}
 use Rattle.std.proofs.lemmas.Nat.Gcd.{dvd_trans, dvd_antisymm}
 use Rattle.std.specs.Int.{IsGcd}
 use Rattle.fractions.specs.Divisors.{AreCoprime}
 use Rattle.exact_numbers.specs.Fraction.{IsLcm}
 pub use Rattle.fractions.proofs.Coprimes.{coprime-mul, coprime-pow}
-pub use Rattle.fractions.specs.LowestLemmas.{dvd_other, coprime-swap, same_reduced, Reduced, reduced_by}
+pub use Rattle.fractions.specs.LowestLemmas.{dvd_other, coprime-swap, same_reduced, Reduced, reduced_by, lcm_by}
 
 -- divisors of coprime numbers
 pub coprime_parts : (a b c d : ℕ) → c ∣ a → d ∣ b → AreCoprime a b → AreCoprime c d
@@ -42,19 +42,6 @@ crosswise a b c d g h sb sd ab cd isg ish =
       coprime = coprime-swap (u * v) (x * y) (coprime-mul (u * v) x y (coprime-swap x (u * v) left) (coprime-swap y (u * v) right));
       same = ap₂ (λ m n. x * y * (m * n)) (sym s.second) (sym r.second) ∙ crossed x y u v g h ∙ ap₂ (λ m n. m * n * (u * v)) r.first s.first;
     }
-
--- a * (b / g) is the least common multiple
-pub lcm_by : (a b g : ℕ) → 0 < a → Reduced a b g → IsLcm a b (a * (b / g))
-lcm_by a b g some r =
-    let turned : a * (b / g) ≡ a / g * b = ap (λ x. x * (b / g)) (sym r.first) ∙ omega arith ∙ ap (λ x. a / g * x) r.second in
-    (dvd-mul_right a (b / g), subst (λ x. b ∣ x) (sym turned) (dvd-mul_left b (a / g)), least)
-  where
-    least : (k : ℕ) → a ∣ k → b ∣ k → a * (b / g) ∣ k
-    least k p q =
-        let split : a * (k / a) ≡ k = mul-div_cancel' a p in
-        let within : b / g * g ∣ a / g * (k / a) * g = subst₂ (λ x y. x ∣ y) (sym r.second) (sym split ∙ ap (λ x. x * (k / a)) (sym r.first) ∙ omega arith) q in
-        let left : b / g ∣ a / g * (k / a) = dvd_of_mul-dvd-mul_right (b / g) r.above within in
-        subst (λ x. a * (b / g) ∣ x) split (mul-dvd-mul_left (b / g) a (dvd_other (b / g) (a / g) (k / a) (coprime-swap (a / g) (b / g) r.coprime) left))
 
 pub same_lcm : (a b m k : ℕ) → IsLcm a b m → IsLcm a b k → m ≡ k
 same_lcm a b m k p q = dvd_antisymm (p.2 k q.0 q.1) (q.2 m p.0 p.1)

@@ -14,8 +14,7 @@ use Rattle.exact_numbers.proofs.Pairs.{Fraction, SameValue, HasFrac, pair, produ
 use Rattle.exact_numbers.specs.Fraction.{IsFrac, IsLcm}
 use Rattle.exact_numbers.specs.Values.{quotient}
 use Rattle.fractions.specs.Rational.{over}
-use Rattle.fractions.specs.Divisors.{gcd_of}
-use Rattle.fractions.specs.LowestLemmas.{is_gcd}
+use Rattle.fractions.specs.LowestLemmas.{gcd_of, is_gcd}
 use Rattle.exact_numbers.specs.Decimal.{signed}
 use Rattle.exact_numbers.proofs.Coprime.{Reduced, same_reduced, Crosswise, crosswise, reduced_by, lcm_by, same_lcm, lcm_over, coprime-swap}
 use Rattle.exact_numbers.proofs.Signed.{sizes_of, parts_of, same_halves, SameValue-trans, SameValue-sym, sum_times, times_twice}
@@ -171,7 +170,7 @@ added n d k e g x y is =
       only = parts;
       fits = λ p q u v. record {
         m = d * (e / g);
-        least = lcm_by d e g x.above r;
+        least = lcm_by d e g r;
         denominator = p;
         first = subst (λ s. unsigned_abs (n *ℤ pos s) < 2 ^ 127) (sym over_parts.0) q;
         second = subst (λ s. unsigned_abs (k *ℤ pos s) < 2 ^ 127) (sym over_parts.1) u;
@@ -194,7 +193,7 @@ added n d k e g x y is =
     parts : SumFits n d k e → (d * (e / g) < 2 ^ 127) × (unsigned_abs (n *ℤ pos (e / g)) < 2 ^ 127) × (unsigned_abs (k *ℤ pos (d / g)) < 2 ^ 127) × (unsigned_abs (n *ℤ pos (e / g) +ℤ k *ℤ pos (d / g)) < 2 ^ 127)
     parts f =
         let m = f.m in
-        let same : m ≡ d * (e / g) = same_lcm d e m (d * (e / g)) f.least (lcm_by d e g x.above r) in
+        let same : m ≡ d * (e / g) = same_lcm d e m (d * (e / g)) f.least (lcm_by d e g r) in
         let first : m / d ≡ e / g = ap (λ z. z / d) same ∙ over_parts.0 in
         let second : m / e ≡ d / g = ap (λ z. z / e) same ∙ over_parts.1 in
         (subst (λ z. z < 2 ^ 127) same f.denominator, subst (λ s. unsigned_abs (n *ℤ pos s) < 2 ^ 127) first f.first, subst (λ s. unsigned_abs (k *ℤ pos s) < 2 ^ 127) second f.second, subst₂ (λ s t. unsigned_abs (n *ℤ pos s +ℤ k *ℤ pos t) < 2 ^ 127) first second f.sum)
@@ -228,4 +227,4 @@ is_frac_turned s n d a e some h =
     is_frac_signed s d a h.small live size (coprime-swap a d (subst (λ x. AreCoprime x d) (sym e) h.reduced))
 
 pub lcm_of : (a b g : ℕ) → 0 < a → 0 < b → IsGcd a b g → IsLcm a b (a * (b / g)) × (0 < a * (b / g))
-lcm_of a b g p q is = let r = reduced_by a b g q is in (lcm_by a b g p r, mul-pos p r.some)
+lcm_of a b g p q is = let r = reduced_by a b g q is in (lcm_by a b g r, mul-pos p r.some)

@@ -1,5 +1,5 @@
 -- Sums with 0.
-use Rattle.std.proofs.Common.{◌≡◌, ℕ, ◌/◌, ◌∙◌, sym, ap, ap₂, refl, subst, true, pos, ◌+ℤ◌, ◌*ℤ◌, unsigned_abs, lit<, one-mul}
+use Rattle.std.proofs.Common.{◌≡◌, ℕ, ◌/◌, ◌∙◌, sym, ap, ap₂, refl, subst, true, pos, ◌+ℤ◌, ◌*ℤ◌, unsigned_abs, one-mul}
 use Rattle.std.proofs.lemmas.Bool.{and_from, and_parts}
 use Prim.Native.Nat.{◌∣◌}
 use Rattle.std.proofs.Math.Nat.{dvd-mul_right, div_self}
@@ -7,7 +7,8 @@ use Rattle.std.proofs.lemmas.Nat.Gcd.{dvd_refl}
 use lib.IntN.{*ℤ-one, zero-*ℤ, +ℤ_idr, +ℤ_idl}
 use Rattle.exact_numbers.specs.declared.frac.Frac.{Frac}
 use Rattle.exact_numbers.specs.Values.{frac_value}
-use Rattle.exact_numbers.proofs.Bridge.{frac_fits_lem, lcm_is}
+use Rattle.fractions.specs.LowestLemmas.{lcm_is}
+use Rattle.exact_numbers.proofs.Bridge.{frac_fits_lem}
 use Rattle.exact_numbers.proofs.Coprime.{same_lcm}
 use Rattle.fractions.specs.Fits.{fits, is_small, sum_fits, sum_over_multiple, parts_fit, least_multiple}
 use Rattle.fractions.specs.Rational.{ℚ, whole, zero_ℚ, ◌+ℚ◌}
@@ -32,7 +33,7 @@ pub sum_fits_zero : (x : ℚ) → fits x ≡ true → sum_fits x zero_ℚ ≡ tr
 unfolding whole
 sum_fits_zero x f =
     with_zero x (least_multiple x.bottom 1)
-    (same_lcm x.bottom 1 _ x.bottom (lcm_is x.bottom 1 x.above (lit< tt)) (dvd_refl x.bottom, subst (λ n. 1 ∣ n) (one-mul x.bottom) (dvd-mul_right 1 x.bottom), λ k p q. p))
+    (same_lcm x.bottom 1 _ x.bottom (lcm_is x.bottom 1) (dvd_refl x.bottom, subst (λ n. 1 ∣ n) (one-mul x.bottom) (dvd-mul_right 1 x.bottom), λ k p q. p))
     f
 
 -- 0 + x fits where x does
@@ -50,7 +51,7 @@ pub zero_sum_fits : (x : ℚ) → fits x ≡ true → sum_fits zero_ℚ x ≡ tr
 unfolding whole
 zero_sum_fits x f =
     zero_with x (least_multiple 1 x.bottom)
-    (same_lcm 1 x.bottom _ x.bottom (lcm_is 1 x.bottom (lit< tt) x.above) (subst (λ n. 1 ∣ n) (one-mul x.bottom) (dvd-mul_right 1 x.bottom), dvd_refl x.bottom, λ k p q. q))
+    (same_lcm 1 x.bottom _ x.bottom (lcm_is 1 x.bottom) (subst (λ n. 1 ∣ n) (one-mul x.bottom) (dvd-mul_right 1 x.bottom), dvd_refl x.bottom, λ k p q. q))
     f
 
 pub zero_frac_fits : (f : Frac) → sum_fits zero_ℚ (frac_value f) ≡ true

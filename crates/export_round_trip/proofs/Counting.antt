@@ -6,16 +6,17 @@ use Rattle.fractions.specs.Rational.{ℚ, zero_ℚ, whole, ◌*ℚ◌}
 use Rattle.fractions.specs.Functions.{is_zero}
 use Rattle.fractions.proofs.Arithmetic.{*ℚ_zero}
 use Rattle.fractions.proofs.Tests.{is_zero-true, option_or-none}
-use Rattle.linear_programs.specs.Linear.{Form, Row, Variable, has_side}
+use Rattle.program_meaning.specs.Linear.{Form, Row, Variable, has_side}
 use Rattle.mps_model.specs.Mps.{Entry, Column}
 use Rattle.mps_model.specs.Valid.{entry_count}
-use Rattle.exported_program.specs.Program.{ScaledRow, nonzero, with_entry, entries_of, or_obj_zero, column_entries, columns_of, exported_rows, scaled_row}
-use Rattle.linear_programs.specs.Lines.{Line}
+use Rattle.scaled_program.specs.Program.{ScaledRow, nonzero, exported_rows, scaled_row}
+use Rattle.exported_program.specs.Program.{with_entry, entries_of, or_obj_zero, column_entries, columns_of}
+use Rattle.program_meaning.specs.Lines.{Line}
 use Rattle.nl_meaning.specs.Trees.{nothing_known}
 use Rattle.nl_model.specs.File.{File}
 use Rattle.file_meaning.specs.Expressions.{definitions_of}
 use Rattle.file_meaning.specs.FoldFaults.{Owner, FoldFault, Owned, coefficient_count, fold_fault, has_objective, head_fault, most_coefficients, owned_body, owned_definitions, owned_line, owned_objective, owners_fault}
-use Rattle.linear_programs.specs.Elements.{elements_from}
+use Rattle.program_meaning.specs.Elements.{elements_from}
 use Rattle.file_meaning.specs.LinearFile.{objective_form, linear_row}
 
 -- ---- sums over rows, and over columns

@@ -1,27 +1,27 @@
 -- The program that a file is exported as is a whole decimal program.
-use Rattle.std.proofs.Common.{◌≡◌, ◌≢◌, ◌∙◌, ⊎_elim, ℕ, zero, suc, ◌<◌, ◌≤◌, ◌^◌, Bool, true, false, cond, nat_eq, List, [], ◌∷◌, ◌++◌, get_or, Option, Some, None, ℤ, pos, negsuc, IsTrue, refl, sym, ap, subst, arith}
+use Rattle.std.proofs.Common.{◌≡◌, if◌then◌else◌, ◌≢◌, ◌∙◌, ⊎_elim, ℕ, zero, suc, ◌<◌, ◌≤◌, ◌^◌, Bool, true, false, cond, nat_eq, List, [], ◌∷◌, ◌++◌, get_or, Option, Some, None, pos, IsTrue, refl, sym, ap, subst, arith}
 use Rattle.std.specs.Prelude.{All, IfSome, option_map, is_some, ◌||◌}
 use Rattle.std.proofs.Math.ListN.{get_or-append}
 use Rattle.std.proofs.lemmas.Bool.{cases_lt, eq-eqb}
 use Rattle.std.proofs.lemmas.List.{length-append}
 use Rattle.std.proofs.lemmas.List.Elements.{All-head, All-tail}
-use Rattle.fractions.specs.Rational.{ℚ, zero_ℚ, one_ℚ, whole, neg_ℚ, ◌-ℚ◌, ◌*ℚ◌, unless_zero}
+use Rattle.fractions.specs.Rational.{ℚ, zero_ℚ, one_ℚ, whole, neg_ℚ, ◌-ℚ◌, ◌*ℚ◌, is_zero}
 use Rattle.fractions.proofs.Arithmetic.{*ℚ_zero, *ℚ_one, *ℚ-neg, +ℚ-neg, -ℚ_lem}
 use Rattle.fractions.proofs.Ring.{ring, v, num, ◌⊖◌, ◌⊗◌, opp}
 use Rattle.exact_numbers.specs.declared.dec.Dec.{Dec}
 use Rattle.exact_numbers.specs.Values.{FitsDec, dec_value}
-use Rattle.linear_programs.specs.Linear.{Form, Interval, Row, Variable, no_row}
+use Rattle.program_meaning.specs.Linear.{Form, Interval, Row, Variable, no_row}
 use Rattle.mps_model.specs.declared.kinds.RowKind.TheVariants.{N}
-use Rattle.exported_program.specs.Export.{IfBoth, IfSide, RangeFits, RowFits, ScaledFits, SideFits}
-use Rattle.exported_program.specs.Factor.{coefficients_below, objective_numbers}
-use Rattle.exported_program.specs.Program.{exported_rows, kind_of_row, nonzero, range_of, rhs_of, scaled_row, scaled_side, tie, two_sided, z_form, z_variable}
-use Rattle.exported_program.specs.Return.{is_exported}
+use Rattle.scaled_program.specs.Fits.{IfBoth, IfSide, RangeFits, RowFits, ScaledFits, SideFits}
+use Rattle.scaled_program.specs.Factor.{coefficients_below, objective_numbers}
+use Rattle.scaled_program.specs.Program.{exported_rows, nonzero, range_of, scaled_row, scaled_side, tie, z_form, z_variable, is_exported}
+use Rattle.exported_program.specs.Program.{kind_of_row, rhs_of, two_sided}
 use Rattle.linear_program.specs.declared.interval.Interval.{Interval as Sides}
 use Rattle.nl_model.specs.File.{File}
-use Rattle.linear_programs.specs.Elements.{elements_from}
+use Rattle.program_meaning.specs.Elements.{elements_from}
 use Rattle.file_meaning.specs.LinearFile.{linear_variable}
 use Rattle.linear_program.specs.Intervals.{interval_of, no_sides}
-use Rattle.linear_programs.proofs.Elements.{all_elements}
+use Rattle.program_meaning.proofs.Elements.{all_elements}
 use Rattle.exact_numbers.proofs.Fitting.{dec_fits, neg_fits, one_fits, whole_fits, zero_fits}
 use Rattle.export_round_trip.proofs.ProgramParts.{HasDecimalBounds, exported_all}
 use Rattle.export_round_trip.proofs.Whole.{IfFits, IsWritten}
@@ -29,20 +29,18 @@ use Rattle.export_round_trip.proofs.Whole.{IfFits, IsWritten}
 -- ---- numbers
 
 nonzero_fits : (x : ℚ) → FitsDec x → IfFits (nonzero x)
-nonzero_fits x h = by x.top
+nonzero_fits x h = by (is_zero x)
   where
-    by : (t : ℤ) → IfFits (unless_zero t x)
-    by (pos zero) = tt
-    by (pos (suc n)) = h
-    by (negsuc n) = h
+    by : (b : Bool) → IfFits (if b then None else Some x)
+    by true = tt
+    by false = h
 
 there_fits : (x : ℚ) → IfSide (λ r. FitsDec x) (nonzero x) → IfFits (nonzero x)
-there_fits x h = by x.top h
+there_fits x h = by (is_zero x) h
   where
-    by : (t : ℤ) → IfSide (λ r. FitsDec x) (unless_zero t x) → IfFits (unless_zero t x)
-    by (pos zero) g = tt
-    by (pos (suc n)) g = g
-    by (negsuc n) g = g
+    by : (b : Bool) → IfSide (λ r. FitsDec x) (if b then None else Some x) → IfFits (if b then None else Some x)
+    by true g = tt
+    by false g = g
 
 below_fits : (P : ℚ → Type 0) (c : ℕ → ℚ) (n : ℕ) → All P (coefficients_below c n) → (j : ℕ) → j < n → P (c j)
 below_fits P c zero h j l = absurd (omega (arith, l))

@@ -5,10 +5,11 @@ use Rattle.std.specs.Fmt.{decimal}
 use Rattle.std.proofs.lemmas.Fmt.{length-decimal-le}
 use Rattle.std.proofs.lemmas.List.Elements.{All-cons, All-map}
 use Rattle.fractions.specs.Rational.{ℚ}
-use Rattle.linear_programs.specs.Linear.{Form, Row, Variable, no_row}
-use Rattle.exported_program.specs.Program.{ScaledRow, exported_rows, mps_row, obj_name, program_of}
+use Rattle.program_meaning.specs.Linear.{Form, Row, Variable, no_row}
+use Rattle.scaled_program.specs.Program.{ScaledProgram, ScaledRow, exported_rows}
+use Rattle.exported_program.specs.Program.{mps_row, obj_name, mps_of}
 use Rattle.file_meaning.specs.LinearFile.{linear_row, linear_variable, linear_of}
-use Rattle.linear_programs.proofs.Elements.{all_elements}
+use Rattle.program_meaning.proofs.Elements.{all_elements}
 use Rattle.mps_model.specs.Mps.{MpsRow, Column, Mps}
 use Rattle.mps_model.specs.declared.kinds.RowKind.TheVariants.{N}
 use Rattle.nl_model.specs.File.{File}
@@ -45,13 +46,17 @@ ShortColumn V c = length c.name ≤ 8
 pub rows_exported : (factor : ℕ → ℕ) (i : ℕ) (rs : List Row) → All ShortRow rs → All ShortScaled (exported_rows factor i rs)
 rows_exported factor i rs h = exported_all ShortScaled factor i rs (λ j k e lt is. h j no_row lt)
 
+-- a scaled program by its parts
+abbrev pub scaled_of : List ScaledRow → Form → List Variable → Bool → ScaledProgram
+scaled_of rows objective vs maximise = record { rows = rows; objective = objective; variables = vs; maximise = maximise }
+
 -- a program with short names
 pub record IsShort (m : Mps ℚ) : Type 0 where
   pub rows : All (λ r. length r.name ≤ 8) m.rows
   pub columns : All (ShortColumn ℚ) m.columns
 
-pub short_program : (rows : List ScaledRow) (objective : Form) (vs : List Variable) (maximise : Bool) → All ShortScaled rows → All ShortVariable vs → IsShort (program_of rows objective vs maximise)
-unfolding program_of
+pub short_program : (rows : List ScaledRow) (objective : Form) (vs : List Variable) (maximise : Bool) → All ShortScaled rows → All ShortVariable vs → IsShort (mps_of (scaled_of rows objective vs maximise))
+unfolding mps_of
 short_program rows objective vs maximise named short_vs = record {
   rows = All-cons (λ (r : MpsRow). length r.name ≤ 8) (record { name = obj_name; kind = N }) (map mps_row rows) (omega arith) (All-map (λ (r : MpsRow). length r.name ≤ 8) mps_row rows named);
   columns = columns_all (ShortColumn ℚ) ShortVariable objective rows 0 vs (λ k v lt short. short) short_vs;

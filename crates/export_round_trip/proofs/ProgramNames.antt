@@ -6,13 +6,14 @@ use Rattle.std.proofs.lemmas.List.Elements.{All-nil, All-cons, All-weaker, All-p
 use Rattle.std.proofs.lemmas.List.Kept.{AllPairs-cons}
 use Rattle.std.proofs.lemmas.List.Quantifiers.{all_pairs_push}
 use Rattle.texts.specs.Names.{IsName}
-use Rattle.linear_programs.specs.Linear.{Variable, has_side}
-use Rattle.linear_programs.specs.Names.{row_name, variable_name}
+use Rattle.program_meaning.specs.Linear.{Variable, has_side}
+use Rattle.program_meaning.specs.Names.{row_name, variable_name}
 use Rattle.mps_model.specs.Valid.{marker_word}
-use Rattle.exported_program.specs.Program.{ScaledRow, exported_rows, scaled_row, obj_name, z_name, zdef_name, z_variable}
+use Rattle.scaled_program.specs.Program.{ScaledRow, exported_rows, scaled_row, z_name, zdef_name, z_variable}
+use Rattle.exported_program.specs.Program.{obj_name}
 use Rattle.exported_program.proofs.Names.{constraint_is_name, variable_is_name, z_is_name, zdef_is_name, constraints_apart, variables_apart, constraint_not_obj, constraint_not_zdef, constraint_not_marker, obj_not_zdef, zdef_not_marker, variable_not_z}
-use Rattle.linear_programs.specs.Elements.{elements_from}
-use Rattle.linear_programs.proofs.Elements.{all_elements, elements_at, elements_length}
+use Rattle.program_meaning.specs.Elements.{elements_from}
+use Rattle.program_meaning.proofs.Elements.{all_elements, elements_at, elements_length}
 use Rattle.file_meaning.specs.LinearFile.{linear_row, linear_variable}
 use Rattle.nl_model.specs.File.{File}
 

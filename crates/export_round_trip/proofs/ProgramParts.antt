@@ -6,12 +6,12 @@ use Rattle.std.proofs.lemmas.List.Elements.{All-nil, All-cons, All-weaker, All-h
 use Rattle.std.proofs.lemmas.List.Kept.{AllPairs-cons}
 use Rattle.fractions.specs.Rational.{ℚ, zero_ℚ, ◌-ℚ◌}
 use Rattle.exact_numbers.specs.Values.{FitsDec}
-use Rattle.linear_programs.specs.Linear.{Form, Row, Variable, no_row}
+use Rattle.program_meaning.specs.Linear.{Form, Row, Variable, no_row}
 use Rattle.mps_model.specs.declared.kinds.BoundKind.TheVariants.{Lo, Up, Fx, Fr, Mi, Pl}
 use Rattle.mps_model.specs.Mps.{Entry, Column, Bound}
 use Rattle.mps_model.specs.Valid.{AreEntries, IsOtherBound, IsWithoutNumber, SetOtherSides}
-use Rattle.exported_program.specs.Program.{ScaledRow, nonzero, with_entry, entries_of, or_obj_zero, column_entries, columns_of, exported_rows, scaled_row, bound_record, fixed_or_both, column_bounds, bounds_of}
-use Rattle.exported_program.specs.Return.{is_exported}
+use Rattle.scaled_program.specs.Program.{ScaledRow, nonzero, exported_rows, scaled_row, is_exported}
+use Rattle.exported_program.specs.Program.{with_entry, entries_of, or_obj_zero, column_entries, columns_of, bound_record, fixed_or_both, column_bounds, bounds_of}
 use Rattle.exact_numbers.proofs.Fitting.{zero_fits}
 
 -- ---- entries

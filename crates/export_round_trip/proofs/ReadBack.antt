@@ -8,26 +8,28 @@ use Rattle.fractions.specs.Rational.{ℚ, zero_ℚ, one_ℚ, neg_ℚ, whole, ◌
 use Rattle.fractions.proofs.Arithmetic.{*ℚ_zero}
 use Rattle.exact_numbers.specs.declared.dec.Dec.{Dec}
 use Rattle.exact_numbers.specs.Values.{FitsDec, value_text}
-use Rattle.linear_programs.specs.Linear.{Form, Row, Variable, row_at, variable_count}
+use Rattle.program_meaning.specs.Linear.{Form, Row, Variable, row_at, variable_count}
 use Rattle.mps_model.specs.Mps.{Mps, with_values}
 use Rattle.mps_model.specs.Text.{mps_text_by}
 use Rattle.mps_model.specs.Valid.{IsMps}
-use Rattle.exported_program.specs.Export.{ExportFits, IsDecimal, IsProgramOf, ObjectiveFits, RowFits, ScaledFits, factor_of_objective, factor_of_row}
-use Rattle.exported_program.specs.Factor.{objective_numbers}
-use Rattle.exported_program.specs.Program.{ScaledRow, exported_rows, nonzero, program, program_of, scaled_row, tie, tied_program, z_form, z_variable}
+use Rattle.scaled_program.specs.Fits.{ExportFits, IsDecimal, IsScaledProgramOf, ObjectiveFits, RowFits, ScaledFits, factor_of_objective, factor_of_row}
+use Rattle.exported_program.specs.Program.{IsProgramOf, program, mps_of, tied_program}
+use Rattle.scaled_program.specs.Factor.{objective_numbers}
+use Rattle.scaled_program.specs.Program.{ScaledProgram, ScaledRow, exported_rows, nonzero, scaled_row, tie, z_form, z_variable}
 use Rattle.nl_model.specs.File.{File}
 use Rattle.nl_model.specs.Rules.{IsFile}
 use Rattle.nl_model.proofs.Headers.{counts_of_header}
 use Rattle.file_meaning.specs.FoldFaults.{fold_fault}
-use Rattle.linear_programs.specs.Elements.{elements_from}
+use Rattle.program_meaning.specs.Elements.{elements_from}
 use Rattle.file_meaning.specs.LinearFile.{linear_of, objective_form, linear_row, linear_variable}
-use Rattle.linear_programs.proofs.Elements.{elements_length}
+use Rattle.program_meaning.proofs.Elements.{elements_length}
 use Rattle.file_meaning.proofs.Files.{linear_lem}
 use Rattle.file_meaning.proofs.Formed.{file_formed}
 use Rattle.export_round_trip.specs.ReadAs.{IsReadAs}
 use Rattle.export_round_trip.proofs.Counting.{counted, exported_count, exported_rows_count, few_coefficients, form_count, form_less, in_columns, most_entries, range_last, range_ones, range_sum, sums, sums-append, there_or_not}
 use Rattle.export_round_trip.proofs.Exports.{constant_fits, costs_fit, rows_written, tie_written, variables_decimal, z_constant, z_costs, z_decimal}
 use Rattle.exact_numbers.proofs.Fitting.{picked}
+use Rattle.export_round_trip.proofs.Names.{scaled_of}
 use Rattle.export_round_trip.proofs.Picked.{IsDecimalProgram, values_back, whole_picked}
 use Rattle.export_round_trip.proofs.ProgramNames.{exported_named, tied_named, tied_variables_named, variables_named}
 use Rattle.export_round_trip.proofs.ProgramParts.{HasDecimalBounds}
@@ -149,7 +151,7 @@ module _ (f : File) (k : ℕ) (file : IsFile f) (folded : fold_fault f k ≡ Non
     pub valid : IsMps (λ x. x) m
     pub decimal : IsDecimalProgram m
 
-  whole_of : (rs : List ScaledRow) (objective : Form) (vs : List Variable) (maximise : Bool) → CanBeWritten rs objective vs → IsWhole (program_of rs objective vs maximise)
+  whole_of : (rs : List ScaledRow) (objective : Form) (vs : List Variable) (maximise : Bool) → CanBeWritten rs objective vs → IsWhole (mps_of (scaled_of rs objective vs maximise))
   whole_of rs objective vs maximise can = record { valid = program_is_whole rs objective vs maximise can; decimal = program_is_decimal rs objective vs maximise can }
 
   plain_whole : IsDecimal (linear_of f k) → IsWhole (program (linear_of f k) (factor_of_row (linear_of f k)))
@@ -165,24 +167,23 @@ module _ (f : File) (k : ℕ) (file : IsFile f) (folded : fold_fault f k ≡ Non
       let g = factor_of_objective l in
       let own = exported_rows (factor_of_row l) 0 l.rows in
       let parts = subst (λ (m : ℕ). All (ScaledFits g) (objective_numbers m (objective_form f k))) width tied.parts in
-      subst (λ (m : ℕ). IsWhole (program_of (own ++ scaled_row g (tie m (objective_form f k)) ∷ []) (z_form m) (l.variables ++ z_variable ∷ []) l.maximise)) (sym width)
+      subst (λ (m : ℕ). IsWhole (mps_of (scaled_of (own ++ scaled_row g (tie m (objective_form f k)) ∷ []) (z_form m) (l.variables ++ z_variable ∷ []) l.maximise))) (sym width)
       (whole_of (own ++ scaled_row g (tie f.counts.n_var (objective_form f k)) ∷ []) (z_form f.counts.n_var) (l.variables ++ z_variable ∷ []) l.maximise (tied_can g tied.factor parts))
 
   -- the program that the file is exported as
-  pub program_whole : (m : Mps ℚ) → (IsDecimal (linear_of f k) ⊎ ObjectiveFits (linear_of f k)) → (IsDecimal (linear_of f k) → m ≡ program (linear_of f k) (factor_of_row (linear_of f k)))
-      → ((IsDecimal (linear_of f k) → ⊥) → m ≡ tied_program (linear_of f k) (factor_of_row (linear_of f k)) (factor_of_objective (linear_of f k))) → IsWhole m
-  program_whole m objective plain tied = by (is_decimal (linear_of f k)) objective
+  pub program_whole : (s : ScaledProgram) → (IsDecimal (linear_of f k) ⊎ ObjectiveFits (linear_of f k)) → IsScaledProgramOf (linear_of f k) s → IsWhole (mps_of s)
+  program_whole s objective is = by (is_decimal (linear_of f k)) objective
     where
-      by : (IsDecimal (linear_of f k) ⊎ (IsDecimal (linear_of f k) → ⊥)) → (IsDecimal (linear_of f k) ⊎ ObjectiveFits (linear_of f k)) → IsWhole m
-      by (inl d) o = subst IsWhole (sym (plain d)) (plain_whole d)
+      by : (IsDecimal (linear_of f k) ⊎ (IsDecimal (linear_of f k) → ⊥)) → (IsDecimal (linear_of f k) ⊎ ObjectiveFits (linear_of f k)) → IsWhole (mps_of s)
+      by (inl d) o = subst (λ p. IsWhole (mps_of p)) (sym (is.plain d)) (plain_whole d)
       by (inr not) (inl d) = absurd (not d)
-      by (inr not) (inr t) = subst IsWhole (sym (tied not)) (tied_whole t)
+      by (inr not) (inr t) = subst (λ p. IsWhole (mps_of p)) (sym (is.tied not)) (tied_whole t)
 
-  pub exported_back : (m : Mps ℚ) → (IsDecimal (linear_of f k) ⊎ ObjectiveFits (linear_of f k)) → (IsDecimal (linear_of f k) → m ≡ program (linear_of f k) (factor_of_row (linear_of f k)))
-      → ((IsDecimal (linear_of f k) → ⊥) → m ≡ tied_program (linear_of f k) (factor_of_row (linear_of f k)) (factor_of_objective (linear_of f k))) → IsReadAs (mps_text_by value_text m) m
-  exported_back m objective plain tied =
-      let whole = program_whole m objective plain tied in
+  pub exported_back : (s : ScaledProgram) → (IsDecimal (linear_of f k) ⊎ ObjectiveFits (linear_of f k)) → IsScaledProgramOf (linear_of f k) s → IsReadAs (mps_text_by value_text (mps_of s)) (mps_of s)
+  exported_back s objective is =
+      let m = mps_of s in
+      let whole = program_whole s objective is in
       let values = values_back m whole.decimal in
       let own : Mps Dec = with_values picked m in
-      let is : IsProgramOf (linear_of f k) own = record { plain = λ d. values ∙ plain d; tied = λ not. values ∙ tied not } in
-      subst (λ (p : Mps ℚ). IsReadAs (mps_text_by value_text p) p) values (read_back f k own file is (whole_picked m whole.valid whole.decimal))
+      let read : IsProgramOf (linear_of f k) own = record { plain = λ d. values ∙ ap mps_of (is.plain d); tied = λ not. values ∙ ap mps_of (is.tied not) } in
+      subst (λ (p : Mps ℚ). IsReadAs (mps_text_by value_text p) p) values (read_back f k own file read (whole_picked m whole.valid whole.decimal))

@@ -4,13 +4,14 @@ use Rattle.std.specs.Prelude.{All}
 use Rattle.std.proofs.lemmas.List.{length-map, get_or-map}
 use Rattle.std.proofs.lemmas.List.Elements.{All-nil, All-cons, All-head, All-tail, All-push}
 use Rattle.fractions.specs.Rational.{ℚ}
-use Rattle.linear_programs.specs.Linear.{Linear, variable_count}
+use Rattle.program_meaning.specs.Linear.{Linear, variable_count}
 use Rattle.exact_numbers.specs.declared.dec.Dec.{Dec}
 use Rattle.exact_numbers.specs.Values.{dec_value, value_text, FitsDec, fits_dec, text_of}
 use Rattle.exact_numbers.proofs.Spelling.{fits_dec_in, fits_dec_out, value_text-decimal}
-use Rattle.exported_program.specs.Export.{IsDecimal, IsProgramOf, factor_of_row, factor_of_objective}
-use Rattle.exported_program.specs.Factor.{objective_numbers}
-use Rattle.exported_program.specs.Program.{program, tied_program, exported_rows, scaled_row, tie, z_form, z_variable}
+use Rattle.scaled_program.specs.Fits.{IsDecimal, factor_of_row, factor_of_objective}
+use Rattle.exported_program.specs.Program.{IsProgramOf, program, tied_program}
+use Rattle.scaled_program.specs.Factor.{objective_numbers}
+use Rattle.scaled_program.specs.Program.{exported_rows, scaled_row, tie, z_form, z_variable}
 use Rattle.file_meaning.specs.LinearFile.{linear_of}
 use Rattle.mps_model.specs.Mps.{Column, Mps, column_with, with_values}
 use Rattle.mps_model.specs.Text.{mps_text_by}

@@ -8,12 +8,14 @@ use Rattle.std.proofs.lemmas.List.Kept.{AllPairs-cons}
 use Rattle.texts.specs.Names.{IsName}
 use Rattle.fractions.specs.Rational.{ℚ, zero_ℚ, neg_ℚ}
 use Rattle.exact_numbers.specs.Values.{FitsDec}
-use Rattle.linear_programs.specs.Linear.{Form, Variable}
+use Rattle.program_meaning.specs.Linear.{Form, Variable}
 use Rattle.mps_model.specs.declared.kinds.RowKind.TheVariants.{N}
 use Rattle.mps_model.specs.Mps.{MpsRow, Entry, Column, Bound, no_mps_row, objective_row}
 use Rattle.mps_model.specs.Valid.{AreRows, AreEntries, AreRanges, IsPartOfMps, IsMps, IsBounded, IsOtherRow, HasEntries, marker_word, entry_count}
-use Rattle.exported_program.specs.Program.{ScaledRow, nonzero, with_entry, entries_of, or_obj_zero, column_entries, columns_of, kind_of_row, mps_row, obj_name, program_of, range_of, rhs_of, bounds_of}
+use Rattle.scaled_program.specs.Program.{ScaledRow, nonzero, range_of}
+use Rattle.exported_program.specs.Program.{with_entry, entries_of, or_obj_zero, column_entries, columns_of, kind_of_row, mps_row, obj_name, mps_of, rhs_of, bounds_of}
 use Rattle.exported_program.proofs.Entries.{columns_length}
+use Rattle.export_round_trip.proofs.Names.{scaled_of}
 use Rattle.exported_program.proofs.Names.{nl_is_name, obj_is_name, obj_not_marker}
 use Rattle.exact_numbers.proofs.Fitting.{zero_fits}
 use Rattle.export_round_trip.proofs.Picked.{AreDecimal, IsDecimalProgram, pairs_mapped}
@@ -116,8 +118,8 @@ module _ (rows : List ScaledRow) (objective : Form) (vs : List Variable) (maximi
   bounds_are : AreBoundsFrom 0 (length vs) (bounds_of 0 vs)
   bounds_are = bounds_from 0 (length vs) vs (omega arith) can.bounds
 
-  program_part : IsPartOfMps (λ x. x) (program_of rows objective vs maximise)
-  unfolding program_of
+  program_part : IsPartOfMps (λ x. x) (mps_of (scaled_of rows objective vs maximise))
+  unfolding mps_of
   program_part =
       let cs = columns_of objective rows 0 vs in
       let es = with_entry 0 (nonzero (neg_ℚ objective.constant)) (entries_of (λ r. nonzero (rhs_of r.side.lower r.side.upper)) 1 rows) in
@@ -140,12 +142,12 @@ module _ (rows : List ScaledRow) (objective : Form) (vs : List Variable) (maximi
         };
       }
 
-  pub program_is_whole : IsMps (λ x. x) (program_of rows objective vs maximise)
-  unfolding program_of
+  pub program_is_whole : IsMps (λ x. x) (mps_of (scaled_of rows objective vs maximise))
+  unfolding mps_of
   program_is_whole = record { part = program_part; complete = record { objective = objective_first_row (map mps_row rows); filled = each_column HasEntries (λ j v lt named. some_entry (with_entry 0 (nonzero (objective.coefficient j)) (entries_of (λ r. nonzero (r.coefficient j)) 1 rows))) } }
 
-  pub program_is_decimal : IsDecimalProgram (program_of rows objective vs maximise)
-  unfolding program_of
+  pub program_is_decimal : IsDecimalProgram (mps_of (scaled_of rows objective vs maximise))
+  unfolding mps_of
   program_is_decimal = record {
     columns = each_column (λ (c : Column ℚ). AreDecimal c.entries) (λ j v lt named. column_fits j lt);
     rhs = with_fits 0 (nonzero (neg_ℚ objective.constant)) (entries_of (λ r. nonzero (rhs_of r.side.lower r.side.upper)) 1 rows) can.constant (entries_fit (λ r. nonzero (rhs_of r.side.lower r.side.upper)) 1 rows (All-weaker (IsWritten (length vs)) (λ r. IfFits (nonzero (rhs_of r.side.lower r.side.upper))) (λ r w. w.right) rows can.written));

@@ -3,8 +3,9 @@ ghost use Rattle.std.specs.Prelude.{◌≡◌, ◌⊎◌, ℕ, None};
 ghost use Rattle.fractions.specs.Rational.{ℚ};
 ghost use Rattle.exact_numbers.specs.declared.dec.Dec.{Dec};
 ghost use Rattle.exact_numbers.specs.Values.{dec_value, value_text};
-ghost use Rattle.exported_program.specs.Export.{ExportFits, IsDecimal, IsProgramOf, ObjectiveFits, factor_of_objective, factor_of_row};
-ghost use Rattle.exported_program.specs.Program.{program, tied_program};
+ghost use Rattle.scaled_program.specs.Fits.{ExportFits, IsDecimal, IsScaledProgramOf, ObjectiveFits};
+ghost use Rattle.scaled_program.specs.Program.{ScaledProgram};
+ghost use Rattle.exported_program.specs.Program.{IsProgramOf, mps_of};
 ghost use Rattle.file_meaning.specs.FoldFaults.{fold_fault};
 ghost use Rattle.file_meaning.specs.LinearFile.{linear_of};
 ghost use Rattle.mps_model.specs.Mps.{Mps, with_values};
@@ -29,12 +30,8 @@ pub fn exported_is_read()
         → IsMps dec_value m → IsReadAs (mps_text_by value_text (with_values dec_value m))
         (with_values dec_value m) }
     ensures program { (f : File) (k : ℕ) → IsFile f → fold_fault f k ≡ None
-        → ((i : ℕ) → ExportFits (linear_of f k) i) → (m : Mps ℚ)
+        → ((i : ℕ) → ExportFits (linear_of f k) i) → (s : ScaledProgram)
         → IsDecimal (linear_of f k) ⊎ ObjectiveFits (linear_of f k)
-        → (IsDecimal (linear_of f k)
-        → m ≡ program (linear_of f k) (factor_of_row (linear_of f k)))
-        → ((IsDecimal (linear_of f k) → ⊥)
-        → m ≡ tied_program (linear_of f k) (factor_of_row (linear_of f k))
-        (factor_of_objective (linear_of f k)))
-        → IsReadAs (mps_text_by value_text m) m }
+        → IsScaledProgramOf (linear_of f k) s
+        → IsReadAs (mps_text_by value_text (mps_of s)) (mps_of s) }
 {}

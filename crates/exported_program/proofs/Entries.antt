@@ -1,12 +1,13 @@
 -- What the records of a program say of each row and column.
-use Rattle.std.proofs.Common.{◌≡◌, ℕ, zero, suc, ◌+◌, ◌<◌, ◌∙◌, sym, ap, ap₂, refl, arith, Bool, true, false, cond, nat_eq, List, [], ◌∷◌, length, get_or, Option, Some, None, pos, negsuc}
+use Rattle.std.proofs.Common.{◌≡◌, if◌then◌else◌, ℕ, zero, suc, ◌+◌, ◌<◌, ◌∙◌, sym, ap, ap₂, refl, arith, Bool, true, false, cond, nat_eq, List, [], ◌∷◌, length, get_or, Option, Some, None}
 use Rattle.std.proofs.lemmas.Bool.{eq-eqb, ne_eqb}
-use Rattle.fractions.specs.Rational.{ℚ, zero_ℚ, ◌+ℚ◌, ◌*ℚ◌, unless_zero}
+use Rattle.fractions.specs.Rational.{ℚ, zero_ℚ, ◌+ℚ◌, ◌*ℚ◌, is_zero}
 use Rattle.fractions.specs.Sums.{sum_over}
-use Rattle.fractions.proofs.Arithmetic.{+ℚ_zero, zero-+ℚ, zero-*ℚ, zero_top}
-use Rattle.linear_programs.specs.Linear.{Form, Variable}
+use Rattle.fractions.proofs.Arithmetic.{+ℚ_zero, zero-+ℚ, zero-*ℚ, is_zero-true}
+use Rattle.program_meaning.specs.Linear.{Form, Variable}
 use Rattle.mps_model.specs.Mps.{Entry, at_row, part_of_row, or_zero, no_column}
-use Rattle.exported_program.specs.Program.{ScaledRow, nonzero, with_entry, entries_of, or_obj_zero, column_entries, columns_of}
+use Rattle.scaled_program.specs.Program.{ScaledRow, nonzero}
+use Rattle.exported_program.specs.Program.{with_entry, entries_of, or_obj_zero, column_entries, columns_of}
 
 same_row : (i : ℕ) → nat_eq i i ≡ true
 same_row i = eq-eqb i i refl
@@ -16,12 +17,11 @@ other_row i j h = ne_eqb i j h
 
 -- ---- zeros left out
 pub nonzero_back : (x : ℚ) → or_zero (nonzero x) ≡ x
-nonzero_back x = elim x.top as (λ t. x.top ≡ t → or_zero (unless_zero t x) ≡ x)
-    [ pos n ↦ from_pos n | negsuc n ↦ λ e. refl ] refl
+nonzero_back x = by (is_zero x) refl
   where
-    from_pos : (n : ℕ) → x.top ≡ pos n → or_zero (unless_zero (pos n) x) ≡ x
-    from_pos zero e = sym (zero_top x e)
-    from_pos (suc n) e = refl
+    by : (b : Bool) → is_zero x ≡ b → or_zero (if b then None else Some x) ≡ x
+    by true e = sym (is_zero-true x e)
+    by false e = refl
 
 -- ---- records with one entry more
 module _ (p i : ℕ) where

@@ -1,13 +1,14 @@
 -- The law of export for the decimal program.
 use Rattle.std.proofs.Common.{◌≡◌, ℕ, ◌<◌, ◌∙◌, sym, ap, subst, List, [], ◌∷◌, ◌++◌, length, ◌↔◌}
 use Rattle.fractions.specs.Rational.{ℚ}
-use Rattle.linear_programs.specs.Linear.{Linear, IsLinear, IsFeasible, objective_value, variable_count, row_at}
+use Rattle.program_meaning.specs.Linear.{Linear, IsLinear, IsFeasible, objective_value, variable_count, row_at}
 use Rattle.exact_numbers.specs.declared.dec.Dec.{Dec}
 use Rattle.exact_numbers.specs.Values.{dec_value}
 use Rattle.mps_model.specs.Mps.{Mps, with_values, IsMpsFeasible, mps_objective}
-use Rattle.exported_program.specs.Factor.{row_numbers, objective_numbers}
-use Rattle.exported_program.specs.Export.{IsProgramOf, IsDecimal, factor_of_row, factor_of_objective}
-use Rattle.exported_program.proofs.Factor.{factor_above}
+use Rattle.scaled_program.specs.Factor.{row_numbers, objective_numbers}
+use Rattle.exported_program.specs.Program.{IsProgramOf}
+use Rattle.scaled_program.specs.Fits.{IsDecimal, factor_of_row, factor_of_objective}
+use Rattle.scaled_program.proofs.Factor.{factor_above}
 use Rattle.exported_program.proofs.Export.{same_points, same_objective, tied_points, tied_objective}
 
 factors_above : (f : Linear) (i : ℕ) → 0 < factor_of_row f i

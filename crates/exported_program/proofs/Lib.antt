@@ -2,9 +2,7 @@ pub mod Entries
 pub mod Example
 pub mod Export
 pub mod Exported
-pub mod Factor
 pub mod Meaning
 pub mod Names
 pub mod Return
-pub mod Scaling
 pub mod Sides

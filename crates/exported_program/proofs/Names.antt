@@ -6,8 +6,9 @@ use Rattle.std.proofs.lemmas.Bool.{le-leb}
 use Rattle.std.proofs.lemmas.List.Folds.{list_all-append}
 use Rattle.texts.specs.Names.{IsName, has_name_bytes}
 use Rattle.mps_model.specs.Valid.{marker_word}
-use Rattle.linear_programs.specs.Names.{row_name, variable_name}
-use Rattle.exported_program.specs.Program.{nl_name, obj_name, z_name, zdef_name}
+use Rattle.program_meaning.specs.Names.{row_name, variable_name}
+use Rattle.exported_program.specs.Program.{nl_name, obj_name}
+use Rattle.scaled_program.specs.Program.{z_name, zdef_name}
 
 digit_byte : (d : ℕ) → nat_le 33 (48 + d) ≡ true
 digit_byte d = le-leb 33 (48 + d) (omega arith)

@@ -3,23 +3,18 @@ use Rattle.std.proofs.Common.{◌≡◌, ℕ, zero, suc, ◌+◌, ◌<◌, ◌�
 use Rattle.std.specs.Option.{option_or}
 use Rattle.std.proofs.lemmas.Bool.{eq-eqb, ne_eqb}
 use Rattle.std.proofs.lemmas.Int.{ints}
-use Rattle.fractions.specs.Rational.{ℚ, zero_ℚ, whole, ◌+ℚ◌, ◌-ℚ◌, neg_ℚ, ◌≤ℚ◌, unless_zero}
-use Rattle.fractions.proofs.Arithmetic.{+ℚ_comm, +ℚ_assoc, +ℚ_zero, +ℚ-neg, -ℚ_lem, zero_top, difference_above}
-use Rattle.linear_programs.specs.Linear.{Interval, AreOrdered, Variable}
+use Rattle.fractions.specs.Rational.{ℚ, zero_ℚ, whole, ◌+ℚ◌, ◌-ℚ◌, neg_ℚ, ◌≤ℚ◌}
+use Rattle.fractions.proofs.Arithmetic.{difference_above}
+use Rattle.program_meaning.specs.Linear.{Interval, AreOrdered, Variable}
 use Rattle.mps_model.specs.declared.kinds.BoundKind.{BoundKind}
 use Rattle.mps_model.specs.Mps.{row_sides, is_negative, size_of, Bound, side_set, lower_set, upper_set, usual_lower, or_usual, has_whole_record, is_below_zero}
 use Rattle.mps_model.specs.declared.kinds.BoundKind.TheVariants.{Lo, Up, Fx, Fr, Mi, Pl}
-use Rattle.exported_program.specs.Program.{nonzero, range_of, rhs_of, kind_of_row, two_sided, column_bounds, fixed_or_both, bound_record, bounds_of}
+use Rattle.scaled_program.specs.Program.{nonzero, range_of}
+use Rattle.scaled_program.proofs.Sides.{difference_zero, nonzero_cases, there_and_back}
+use Rattle.exported_program.specs.Program.{rhs_of, kind_of_row, two_sided, column_bounds, fixed_or_both, bound_record, bounds_of}
 
 abbrev sides : Option ℚ → Option ℚ → Interval
 sides l u = record { lower = l; upper = u }
-
--- l + (u - l) = u
-pub there_and_back : (l u : ℚ) → l +ℚ (u -ℚ l) ≡ u
-there_and_back l u = ap (λ v. l +ℚ v) (-ℚ_lem u l) ∙ +ℚ_comm l (u +ℚ neg_ℚ l) ∙ +ℚ_assoc u (neg_ℚ l) l ∙ ap (λ v. u +ℚ v) (+ℚ_comm (neg_ℚ l) l ∙ +ℚ-neg l) ∙ +ℚ_zero u
-
-pub difference_zero : (l u : ℚ) → u -ℚ l ≡ zero_ℚ → l ≡ u
-difference_zero l u e = sym (+ℚ_zero l) ∙ ap (λ v. l +ℚ v) (sym e) ∙ there_and_back l u
 
 -- a number at least 0 is its own size
 above_not_negative : (x : ℚ) → zero_ℚ ≤ℚ x → is_negative x ≡ false
@@ -28,15 +23,6 @@ above_not_negative x h = elim x.top as (λ t. x.top ≡ t → is_below_zero t �
 
 pub size_above : (x : ℚ) → zero_ℚ ≤ℚ x → size_of x ≡ x
 size_above x h = ap (λ b. cond b (neg_ℚ x) x) (above_not_negative x h)
-
--- the two cases of a number that is left out where it is 0
-pub nonzero_cases : (x : ℚ) → ((nonzero x ≡ None) × (x ≡ zero_ℚ)) ⊎ (nonzero x ≡ Some x)
-nonzero_cases x = elim x.top as (λ t. x.top ≡ t → ((unless_zero t x ≡ None) × (x ≡ zero_ℚ)) ⊎ (unless_zero t x ≡ Some x))
-    [ pos n ↦ from_pos n | negsuc n ↦ λ e. ◌⊎◌.inr refl ] refl
-  where
-    from_pos : (n : ℕ) → x.top ≡ pos n → ((unless_zero (pos n) x ≡ None) × (x ≡ zero_ℚ)) ⊎ (unless_zero (pos n) x ≡ Some x)
-    from_pos zero e = ◌⊎◌.inl (refl, zero_top x e)
-    from_pos (suc n) e = ◌⊎◌.inr refl
 
 -- a row's kind, right side and range say its sides
 pub row_sides_back : (l u : Option ℚ) → AreOrdered l u → row_sides (kind_of_row l u) (rhs_of l u) (range_of l u) ≡ sides l u

@@ -1,52 +1,17 @@
--- The MPS program of a linear program.
-use Rattle.std.specs.Prelude.{ℕ, suc, pos, nat_eq, Bool, false, cond, List, [], ◌∷◌, ◌++◌, map, Option, Some, None}
-use Rattle.fractions.specs.Rational.{ℚ, whole, unless_zero, zero_ℚ, one_ℚ, ◌-ℚ◌, ◌*ℚ◌, neg_ℚ}
-use Rattle.linear_programs.specs.Linear.{Interval, Form, Row, Variable, Linear, unbounded, variable_count, has_side}
+-- The MPS program of a scaled program.
+use Rattle.std.specs.Prelude.{◌≡◌, ℕ, suc, List, [], ◌∷◌, ◌++◌, map, Option, Some, None}
+use Rattle.fractions.specs.Rational.{ℚ, zero_ℚ, ◌-ℚ◌, neg_ℚ}
+use Rattle.program_meaning.specs.Linear.{Form, Variable, Linear}
+use Rattle.exact_numbers.specs.declared.dec.Dec.{Dec}
+use Rattle.exact_numbers.specs.Values.{dec_value}
 use Rattle.mps_model.specs.declared.kinds.RowKind.{RowKind}
 use Rattle.mps_model.specs.declared.kinds.BoundKind.{BoundKind}
-use Rattle.mps_model.specs.Mps.{MpsRow, Entry, Column, Bound, Mps}
+use Rattle.mps_model.specs.Mps.{MpsRow, Entry, Column, Bound, Mps, with_values}
 use Rattle.mps_model.specs.declared.kinds.RowKind.TheVariants.{N, L, G, E}
 use Rattle.mps_model.specs.declared.kinds.BoundKind.TheVariants.{Lo, Up, Fx, Fr, Mi, Pl}
-
--- a row times its factor, its constant taken to its sides
-pub record ScaledRow : Type 0 where
-  pub name : List ℕ
-  pub coefficient : ℕ → ℚ
-  pub side : Interval
-
--- a side less the constant, times k
-abbrev pub scaled_side : ℚ → ℚ → Option ℚ → Option ℚ
-scaled_side k constant None = None
-scaled_side k constant (Some s) = Some (k *ℚ (s -ℚ constant))
-
--- a row times k
-abbrev pub scaled_row : ℕ → Row → ScaledRow
-scaled_row k r =
-    record {
-      name = r.name;
-      coefficient = λ j. whole (pos k) *ℚ r.body.coefficient j;
-      side = record {
-        lower = scaled_side (whole (pos k)) r.body.constant r.side.lower;
-        upper = scaled_side (whole (pos k)) r.body.constant r.side.upper;
-      };
-    }
-
--- the rows with a finite side, in order, each times its factor; the first is row i of the file
-unfoldable pub exported_rows : (ℕ → ℕ) → ℕ → List Row → List ScaledRow
-exported_rows factor i [] = []
-exported_rows factor i (r ∷ rs) =
-    cond (has_side r.side)
-    (scaled_row (factor i) r ∷ exported_rows factor (suc i) rs)
-    (exported_rows factor (suc i) rs)
-
--- x, but none where it is 0
-abbrev pub nonzero : ℚ → Option ℚ
-nonzero x = unless_zero x.top x
-
--- the upper side less the lower, where both are there and differ
-abbrev pub range_of : Option ℚ → Option ℚ → Option ℚ
-range_of (Some l) (Some u) = nonzero (u -ℚ l)
-range_of _ _ = None
+use Rattle.scaled_program.specs.Program.{ScaledProgram, ScaledRow, scaled_by, scaled_and_tied, nonzero, range_of}
+use Rattle.scaled_program.specs.Fits.{IsDecimal, factor_of_row, factor_of_objective}
+use Rattle.scaled_program.specs.Return.{place_of}
 
 -- the lower side, or else the upper
 abbrev pub rhs_of : Option ℚ → Option ℚ → ℚ
@@ -127,60 +92,34 @@ nl_name = 110 ∷ 108 ∷ []
 abbrev pub obj_name : List ℕ
 obj_name = 111 ∷ 98 ∷ 106 ∷ []
 
--- the program of scaled rows, an objective and variables
-unfoldable pub program_of : List ScaledRow → Form → List Variable → Bool → Mps ℚ
-program_of rows objective variables maximise =
-    record {
-      name = nl_name;
-      maximise = maximise;
-      rows = record { name = obj_name; kind = N } ∷ map mps_row rows;
-      columns = columns_of objective rows 0 variables;
-      rhs = with_entry 0 (nonzero (neg_ℚ objective.constant))
-          (entries_of (λ r. nonzero (rhs_of r.side.lower r.side.upper)) 1 rows);
-      ranges = entries_of (λ r. range_of r.side.lower r.side.upper) 1 rows;
-      bounds = bounds_of 0 variables;
-    }
+-- the MPS program of a scaled program
+unfoldable pub mps_of : ScaledProgram → Mps ℚ
+mps_of s = record {
+  name = nl_name;
+  maximise = s.maximise;
+  rows = record { name = obj_name; kind = N } ∷ map mps_row s.rows;
+  columns = columns_of s.objective s.rows 0 s.variables;
+  rhs = with_entry 0 (nonzero (neg_ℚ s.objective.constant))
+      (entries_of (λ r. nonzero (rhs_of r.side.lower r.side.upper)) 1 s.rows);
+  ranges = entries_of (λ r. range_of r.side.lower r.side.upper) 1 s.rows;
+  bounds = bounds_of 0 s.variables;
+}
 
+-- ---- of a linear program
 -- the program of an objective with finite decimals
 abbrev pub program : Linear → (ℕ → ℕ) → Mps ℚ
-program f factor = program_of (exported_rows factor 0 f.rows) f.objective f.variables f.maximise
+program f factor = mps_of (scaled_by f factor)
 
--- ---- an objective that is tied to a column z
--- the text z
-abbrev pub z_name : List ℕ
-z_name = 122 ∷ []
-
--- the text zdef
-abbrev pub zdef_name : List ℕ
-zdef_name = 122 ∷ 100 ∷ 101 ∷ 102 ∷ []
-
--- the coefficients of the first n variables, and then v
-abbrev pub then_at : ℕ → ℚ → (ℕ → ℚ) → ℕ → ℚ
-then_at n v c j = cond (nat_eq j n) v (c j)
-
--- objective - z = 0, z being variable n
-abbrev pub tie : ℕ → Form → Row
-tie n objective =
-    record {
-      name = zdef_name;
-      body = record {
-        constant = objective.constant;
-        coefficient = then_at n (neg_ℚ one_ℚ) objective.coefficient;
-      };
-      side = record { lower = Some zero_ℚ; upper = Some zero_ℚ };
-    }
-
--- a variable with any value
-abbrev pub z_variable : Variable
-z_variable = record { name = z_name; bound = unbounded; whole = false }
-
--- z alone
-abbrev pub z_form : ℕ → Form
-z_form n = record { constant = zero_ℚ; coefficient = then_at n one_ℚ (λ j. zero_ℚ) }
-
--- z is the last variable and zdef, times g, the last row
+-- the program with a tied objective
 abbrev pub tied_program : Linear → (ℕ → ℕ) → ℕ → Mps ℚ
-tied_program f factor g =
-    let n = variable_count f in
-    program_of (exported_rows factor 0 f.rows ++ scaled_row g (tie n f.objective) ∷ []) (z_form n)
-    (f.variables ++ z_variable ∷ []) f.maximise
+tied_program f factor g = mps_of (scaled_and_tied f factor g)
+
+-- the decimal program that a linear program is exported as
+pub record IsProgramOf (f : Linear) (m : Mps Dec) : Type 0 where
+  pub plain : IsDecimal f → with_values dec_value m ≡ program f (factor_of_row f)
+  pub tied : ¬ IsDecimal f
+      → with_values dec_value m ≡ tied_program f (factor_of_row f) (factor_of_objective f)
+
+-- the row of the program that row i becomes; row 0 is the objective
+abbrev pub program_row : Linear → ℕ → ℕ
+program_row f i = suc (place_of f.rows i)

@@ -1,23 +1,32 @@
 // Each law is proved by a function with an empty body.
-ghost use Rattle.std.specs.Prelude.{◌≢◌, ◌^◌};
+ghost use Rattle.std.specs.Prelude.{◌≡◌, ◌≢◌, ◌↔◌, ℕ, suc, ◌<◌, ◌^◌, List, [], ◌∷◌, ◌++◌, length, IsTrue};
+ghost use Rattle.fractions.specs.Rational.{ℚ, ◌-ℚ◌, ◌*ℚ◌};
+ghost use Rattle.program_meaning.specs.Linear.{Linear, IsLinear, IsFeasible, objective_value, variable_count, form_value, row_at};
+ghost use Rattle.program_meaning.specs.Names.{row_name, variable_name};
 ghost use Rattle.texts.specs.Names.{IsName};
-ghost use Rattle.mps_model.specs.Valid.{marker_word};
-ghost use Rattle.linear_programs.specs.Names.{row_name, variable_name};
-ghost use Rattle.exported_program.specs.Program.{nl_name, obj_name, z_name, zdef_name};
-ghost use Rattle.std.specs.Prelude.{◌≡◌, ◌↔◌, ℕ, ◌<◌, pos, List, [], ◌∷◌, ◌++◌, length, All, IsTrue};
-ghost use Prim.Native.Nat.{◌∣◌};
-ghost use Rattle.fractions.specs.Divisors.{AreCoprime};
-ghost use Rattle.fractions.specs.Rational.{ℚ, whole, ◌-ℚ◌, ◌*ℚ◌};
-ghost use Rattle.exported_program.specs.Example.{spelled, knapsack, knapsack_text};
-ghost use Rattle.exported_program.specs.Factor.{IsFinite, IsLeastFactor, least_factor, cofactor_of};
-ghost use Rattle.linear_programs.specs.Linear.{Linear, IsLinear, IsFeasible, objective_value, variable_count, form_value, row_at};
-ghost use Rattle.exported_program.specs.Export.{IsProgramOf, IsDecimal};
 ghost use Rattle.exact_numbers.specs.declared.dec.Dec.{Dec};
 ghost use Rattle.exact_numbers.specs.Values.{dec_value};
 ghost use Rattle.mps_model.specs.Mps.{Mps, with_values, IsMpsFeasible, mps_objective, row_value};
-ghost use Rattle.exported_program.specs.Program.{program, tied_program};
-ghost use Rattle.exported_program.specs.Return.{dual_of, is_exported, program_row};
 ghost use Rattle.mps_model.specs.Text.{mps_text_by};
+ghost use Rattle.mps_model.specs.Valid.{marker_word};
+ghost use Rattle.scaled_program.specs.Fits.{IsDecimal};
+ghost use Rattle.scaled_program.specs.Meaning.{HasOrderedSides, IsScaledFeasible, scaled_objective, scaled_row_value};
+ghost use Rattle.scaled_program.specs.Program.{ScaledProgram, is_exported, z_name, zdef_name};
+ghost use Rattle.scaled_program.specs.Return.{dual_of};
+ghost use Rattle.exported_program.specs.Example.{spelled, knapsack, knapsack_text};
+ghost use Rattle.exported_program.specs.Program.{IsProgramOf, mps_of, nl_name, obj_name, program, program_row, tied_program};
+
+/// The MPS program of a scaled program means what the scaled program means, where no lower side of
+/// a row is above its upper side: row 0 is the objective, and the others are its rows in order.
+pub fn mps_keeps_meaning()
+    ensures points { (s : ScaledProgram) (xs : List ℚ) → HasOrderedSides s
+        → IsMpsFeasible (mps_of s) xs ↔ IsScaledFeasible s xs }
+    ensures objective { (s : ScaledProgram) (xs : List ℚ)
+        → mps_objective (mps_of s) xs ≡ scaled_objective s xs }
+    ensures sense { (s : ScaledProgram) → (mps_of s).maximise ≡ s.maximise }
+    ensures rows { (s : ScaledProgram) (xs : List ℚ) (k : ℕ) → k < length s.rows
+        → row_value (mps_of s) xs (suc k) ≡ scaled_row_value s xs k }
+{}
 
 /// The exported program has the file's points, objective and sense, whatever the factors above 0.
 pub fn export_keeps_meaning()
@@ -39,16 +48,6 @@ pub fn tied_export_keeps_meaning()
         → mps_objective (tied_program f factor g) (xs ++ z ∷ []) ≡ z }
     ensures sense { (f : Linear) (factor : ℕ → ℕ) (g : ℕ)
         → (tied_program f factor g).maximise ≡ f.maximise }
-{}
-
-/// The least common multiple of the parts of the denominators that are prime to 10 is the least
-/// factor, and its multiples are the factors.
-pub fn least_factors()
-    ensures least { (xs : List ℚ) → IsLeastFactor xs (least_factor xs) }
-    ensures multiples { (xs : List ℚ) (k : ℕ)
-        → All (λ x. IsFinite (whole (pos k) *ℚ x)) xs ↔ (least_factor xs ∣ k) }
-    ensures cofactor { (n c : ℕ) → 0 < n → c ∣ n → AreCoprime c 10
-        → ((d : ℕ) → d ∣ n → AreCoprime d 10 → d ∣ c) → c ≡ cofactor_of n }
 {}
 
 /// A dual times the change of its row's body is s times the answer's value times the program's row.

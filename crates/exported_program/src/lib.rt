@@ -1,5 +1,5 @@
-//! The MPS program that a linear program is exported as, and that it means the same. There is no
-//! code.
+//! The MPS program of a scaled program, and so of a linear program, and that it means the same.
+//! There is no code.
 #![tactic(auto)]
 
 pub mod laws;

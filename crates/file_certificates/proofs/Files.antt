@@ -3,8 +3,8 @@ use Rattle.std.proofs.Common.{◌≡◌, ◌↔◌, ◌∙◌, ℕ, ◌<◌, sym
 use Rattle.std.specs.Prelude.{if◌then◌else◌}
 use Rattle.std.proofs.lemmas.Option.{same_Some}
 use Rattle.fractions.specs.Rational.{ℚ}
-use Rattle.linear_programs.specs.Linear.{Interval, Row, Variable, IsFeasible as IsFeasibleProgram, IsInside, IsRelaxed as IsRelaxedProgram, form_value, no_row, row_at, row_count, value_at, variable_count}
-use Rattle.linear_programs.proofs.Elements.{elements_at, elements_length}
+use Rattle.program_meaning.specs.Linear.{Interval, Row, Variable, IsFeasible as IsFeasibleProgram, IsInside, IsRelaxed as IsRelaxedProgram, form_value, no_row, row_at, row_count, value_at, variable_count}
+use Rattle.program_meaning.proofs.Elements.{elements_at, elements_length}
 use Rattle.duality.specs.Means.{Means}
 use Rattle.duality.specs.Problem.{IsBoundBroken, IsConstraintBroken, IsFeasible, IsNotWhole, IsRelaxed}
 use Rattle.duality.specs.Says.{IsBoundBroken as IsBoundBrokenProgram, IsNotWhole as IsNotWholeProgram, IsRowBroken}

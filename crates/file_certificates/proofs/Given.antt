@@ -1,7 +1,7 @@
 -- What is given for a claim: over a file it is over its linear program, and what it shows there it shows of the file.
 use Rattle.std.proofs.Common.{◌≡◌, ℕ, length, subst, Option, None}
 use Rattle.fractions.specs.Rational.{ℚ}
-use Rattle.linear_programs.specs.Linear.{variable_count, row_count}
+use Rattle.program_meaning.specs.Linear.{variable_count, row_count}
 use Rattle.duality.specs.Certificate.{holds, Cause, fails}
 use Rattle.duality.specs.Parts.{IsWholeVariable}
 use Rattle.nl_model.specs.File.{File}

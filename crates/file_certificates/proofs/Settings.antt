@@ -1,7 +1,7 @@
 -- The setting of a file is that of its linear program, whichever objective is chosen.
 use Rattle.std.proofs.Common.{◌≡◌, ◌∙◌, ℕ, ◌+◌, ◌<◌, length, sym, ap, subst, arith}
-use Rattle.linear_programs.specs.Linear.{Variable}
-use Rattle.linear_programs.proofs.Elements.{elements_at, elements_length}
+use Rattle.program_meaning.specs.Linear.{Variable}
+use Rattle.program_meaning.proofs.Elements.{elements_at, elements_length}
 use Rattle.linear_program.specs.Intervals.{is_whole_kind}
 use Rattle.linear_program.specs.declared.kind.Kind.TheVariants.{Continuous}
 use Rattle.nl_model.specs.File.{File}

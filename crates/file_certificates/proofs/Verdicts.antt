@@ -1,7 +1,7 @@
 -- What verdicts on the linear program of a file say of the file: what they say of the problem that it states.
 use Rattle.std.proofs.Common.{◌≡◌, ℕ, List, None}
 use Rattle.fractions.specs.Rational.{ℚ}
-use Rattle.linear_programs.specs.Linear.{IsRelaxed as IsRelaxedProgram}
+use Rattle.program_meaning.specs.Linear.{IsRelaxed as IsRelaxedProgram}
 use Rattle.duality.specs.Branch.{Tree, duals, open_gap, weights, AreSplitsWhole, proof_fault}
 use Rattle.duality.specs.Certificate.{Certificate, IsCertificate, outcome}
 use Rattle.duality.specs.LeafSays.{IsLeafDenied}

@@ -5,7 +5,7 @@ use Rattle.std.proofs.lemmas.Bool.{eqb-true}
 use Rattle.std.proofs.lemmas.List.Folds.{list_any-append}
 use Rattle.fractions.specs.Rational.{ℚ, ◌+ℚ◌, ◌*ℚ◌}
 use Rattle.fractions.specs.Sums.{sum_below}
-use Rattle.linear_programs.specs.Lines.{line_by, Point}
+use Rattle.program_meaning.specs.Lines.{line_by, Point}
 use Rattle.nl_meaning.specs.Parts.{IsLinearTree, IsPart, IsPartOfOne}
 use Rattle.nl_meaning.specs.Trees.{Tree, number, variable, defined, operator, Trees, none, more, Known, Definition as Meant, with_value, applied, rule_of, tree_given, trees_given, expression_given, values_after, nothing_known, tree_value}
 use Rattle.nl_model.specs.File.{File}

@@ -1,13 +1,13 @@
 -- A file and its linear program have the same feasible assignments and the same objective.
 use Rattle.std.proofs.Common.{◌≡◌, ℕ, ◌<◌, ◌≤◌, ◌↔◌, ◌∙◌, sym, ap, refl, subst, arith, IsTrue, Some, List, All}
 use Rattle.fractions.specs.Rational.{ℚ, zero_ℚ}
-use Rattle.linear_programs.specs.Linear.{Row, IsInside, AreOrdered, value_at, form_value, no_variable, variable_at, variable_count, RowHolds, IsLinear, IsRelaxed as IsRelaxedProgram, IsFeasible as IsFeasibleProgram, objective_value as program_objective}
+use Rattle.program_meaning.specs.Linear.{Row, IsInside, AreOrdered, value_at, form_value, no_variable, variable_at, variable_count, RowHolds, IsLinear, IsRelaxed as IsRelaxedProgram, IsFeasible as IsFeasibleProgram, objective_value as program_objective}
 use Rattle.nl_model.specs.File.{File}
 use Rattle.nl_meaning.proofs.Local.{no_coefficient_beyond}
 use Rattle.file_meaning.specs.Expressions.{definitions_of, body_of, maximises}
 use Rattle.file_meaning.specs.Meaning.{objective_value, side_of, HasValueInside, IsRelaxed, IsFeasible}
 use Rattle.file_meaning.specs.LinearFile.{body_form, objective_form, linear_row, linear_variable, linear_of, HasLines, IsFormedFile}
-use Rattle.linear_programs.proofs.Elements.{elements_length, elements_at, all_elements, elements_all}
+use Rattle.program_meaning.proofs.Elements.{elements_length, elements_at, all_elements, elements_all}
 
 module _ (f : File) (k : ℕ) where
   pub count_lem : variable_count (linear_of f k) ≡ f.counts.n_var

@@ -1,20 +1,20 @@
 -- A file without a fold fault is linear.
 use Rattle.std.proofs.Common.{◌≡◌, ℕ, zero, suc, ◌+◌, ◌<◌, ◌∙◌, ap, refl, subst, arith, Bool, true, false, if◌then◌else◌, Option, Some, None, List, [], ◌∷◌, ◌++◌, slice_get, take}
 use Rattle.std.specs.Option.{option_or}
-use Rattle.linear_programs.specs.Linear.{value_at}
+use Rattle.program_meaning.specs.Linear.{value_at}
 use Rattle.nl_meaning.specs.declared.Fault.{Fault}
 use Rattle.nl_meaning.specs.Faults.{expression_fault, definitions_fault, tree_line, line_with_terms, expression_line}
 use Rattle.nl_meaning.specs.Parts.{IsPart, IsLinearTree}
 use Rattle.nl_meaning.specs.Trees.{Tree, Known, nothing_known, with_value, Expression, Definition, expression_given, known_values, expression_value, IsExpressionFormed, AreDefined, IsOneOf, indices_of}
-use Rattle.linear_programs.specs.Lines.{Point, line_value}
-use Rattle.linear_programs.proofs.LineLemmas.{line_by_lem}
+use Rattle.program_meaning.specs.Lines.{Point, line_value}
+use Rattle.program_meaning.proofs.LineLemmas.{line_by_lem}
 use Rattle.fractions.proofs.Tests.{option_or-none}
 use Rattle.nl_meaning.proofs.Linear.{AreLinear, HasValues, known_linear, none_linear, expression_linear}
 use Rattle.nl_meaning.proofs.PartLemmas.{definition_parts, part_linear}
 use Rattle.nl_model.specs.File.{File}
 use Rattle.file_meaning.specs.Expressions.{definitions_of, body_of, objective_of}
 use Rattle.file_meaning.specs.FoldFaults.{Owner, definition, FoldFault, no_such_objective, Owned, owned_line, coefficient_count, at_owner, owners_fault, owned_definitions, owned_body, owned_objective, defined_line, owners_of, has_objective, fold_fault}
-use Rattle.linear_programs.specs.Elements.{elements_from}
+use Rattle.program_meaning.specs.Elements.{elements_from}
 use Rattle.file_meaning.specs.LinearFile.{HasLines, IsFormedFile}
 use Rattle.file_meaning.proofs.Plain.{form_value_lem}
 

@@ -5,7 +5,7 @@ use Rattle.std.proofs.lemmas.List.{get_or_past}
 use Rattle.std.proofs.lemmas.List.Elements.{All-head, All-tail}
 use Rattle.std.proofs.lemmas.List.Folds.{list_any-append}
 use Rattle.exact_numbers.specs.declared.dec.Dec.{Dec}
-use Rattle.linear_programs.specs.Linear.{AreOrdered}
+use Rattle.program_meaning.specs.Linear.{AreOrdered}
 use Rattle.nl_meaning.specs.Trees.{Tree, number, variable, defined, operator, Trees, none, more, IsOneOf, IsFormed, AreFormed, AreTermsBelow, IsExpressionFormed, indices_after, indices_of, AreDefined}
 use Rattle.nl_model.specs.File.{Term, File}
 use Rattle.nl_model.specs.declared.objective.Objective.{Objective}

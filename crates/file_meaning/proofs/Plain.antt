@@ -7,11 +7,11 @@ use Rattle.fractions.specs.Sums.{sum_over}
 use Rattle.fractions.proofs.Arithmetic.{*ℚ_zero, *ℚ_one, +ℚ_zero}
 use Rattle.fractions.proofs.Adding.{sum_over-map, sum_over_same, sum_over-zero}
 use Rattle.fractions.proofs.Ring.{ring, v, ◌⊕◌, ◌⊖◌}
-use Rattle.linear_programs.specs.Linear.{value_at, linear_part, form_value}
+use Rattle.program_meaning.specs.Linear.{value_at, linear_part, form_value}
 use Rattle.nl_meaning.specs.Faults.{expression_line, line_with_terms}
-use Rattle.linear_programs.specs.Lines.{constant_line, Line, line_value, origin, unit_point, one_if, Point, form_of_line}
+use Rattle.program_meaning.specs.Lines.{constant_line, Line, line_value, origin, unit_point, one_if, Point, form_of_line}
 use Rattle.nl_meaning.specs.Trees.{Tree, number, variable, defined, operator, Expression, Definition, known_values, tree_value, expression_value, AreTermsBelow}
-use Rattle.linear_programs.proofs.LineLemmas.{line_by_lem}
+use Rattle.program_meaning.proofs.LineLemmas.{line_by_lem}
 use Rattle.nl_meaning.proofs.Linear.{HasValues, constant_value, terms_added}
 use Rattle.nl_model.specs.File.{Term, File}
 use Rattle.file_meaning.specs.Expressions.{linear_term, linear_terms, definitions_of, body_of, objective_of}

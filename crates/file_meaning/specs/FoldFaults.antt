@@ -3,11 +3,11 @@ use Rattle.std.specs.Prelude.{ℕ, zero, suc, ◌+◌, ◌^◌, ◌==◌, ◌&&�
 use Rattle.std.specs.Option.{option_or}
 use Rattle.nl_meaning.specs.declared.Fault.{Fault}
 use Rattle.nl_meaning.specs.Faults.{expression_fault}
-use Rattle.linear_programs.specs.Lines.{Line, line_by, is_zero, Point}
+use Rattle.program_meaning.specs.Lines.{Line, line_by, is_zero, Point}
 use Rattle.nl_meaning.specs.Trees.{Known, nothing_known, with_value, Expression, Definition, expression_given, known_values}
 use Rattle.nl_model.specs.File.{File}
 use Rattle.file_meaning.specs.Expressions.{definitions_of, body_of, objective_of}
-use Rattle.linear_programs.specs.Elements.{elements_from}
+use Rattle.program_meaning.specs.Elements.{elements_from}
 
 -- a defined variable by its position in the file, a constraint, or an objective
 pub data Owner : Type 0 where

@@ -1,15 +1,15 @@
 -- The linear program of an .nl file, by the values of its bodies and of an objective.
 use Rattle.std.specs.Prelude.{◌≡◌, ℕ, ◌<◌, List, [], Some}
 use Rattle.fractions.specs.Rational.{ℚ, zero_ℚ, decimal_value}
-use Rattle.linear_programs.specs.Linear.{Form, Row, Variable, Linear, form_value, AreOrdered}
-pub use Rattle.linear_programs.specs.Names.{row_name, variable_name}
+use Rattle.program_meaning.specs.Linear.{Form, Row, Variable, Linear, form_value, AreOrdered}
+pub use Rattle.program_meaning.specs.Names.{row_name, variable_name}
 use Rattle.nl_meaning.specs.Faults.{expression_line}
-use Rattle.linear_programs.specs.Lines.{form_of_line}
+use Rattle.program_meaning.specs.Lines.{form_of_line}
 use Rattle.nl_meaning.specs.Trees.{Tree, number, Expression, indices_of, IsExpressionFormed, AreDefined}
 use Rattle.nl_model.specs.File.{File}
 use Rattle.file_meaning.specs.Expressions.{definitions_of, body_of, objective_of, maximises}
 use Rattle.file_meaning.specs.Meaning.{body_value, objective_value, side_of, bound_of, is_whole_variable}
-use Rattle.linear_programs.specs.Elements.{elements_from}
+use Rattle.program_meaning.specs.Elements.{elements_from}
 
 -- the constant is the value at 0; the coefficient of variable j is the value with 1 at j and 0
 -- elsewhere, less the constant

@@ -2,7 +2,7 @@
 -- assignments are feasible.
 use Rattle.std.specs.Prelude.{ℕ, ◌<◌, Bool, true, false, IsTrue, List, get_or, Option, Some, None}
 use Rattle.fractions.specs.Rational.{ℚ, ◌<ℚ◌, IsWhole}
-use Rattle.linear_programs.specs.Linear.{Interval, IsInside, value_at}
+use Rattle.program_meaning.specs.Linear.{Interval, IsInside, value_at}
 use Rattle.nl_meaning.specs.Trees.{expression_value}
 use Rattle.nl_model.specs.File.{File}
 use Rattle.nl_model.specs.Kinds.{variable_kind}

@@ -1,8 +1,8 @@
 // Each law is proved by a function with an empty body.
 ghost use Rattle.std.specs.Prelude.{◌≡◌, ◌<◌, ◌↔◌, ℕ, List, [], None, Some, get_or, slice_get, take};
 ghost use Rattle.fractions.specs.Rational.{ℚ};
-ghost use Rattle.linear_programs.specs.Linear.{IsLinear, IsFeasible as IsFeasibleProgram, IsRelaxed as IsRelaxedProgram, objective_value as program_objective};
-ghost use Rattle.linear_programs.specs.Lines.{line_value, Point};
+ghost use Rattle.program_meaning.specs.Linear.{IsLinear, IsFeasible as IsFeasibleProgram, IsRelaxed as IsRelaxedProgram, objective_value as program_objective};
+ghost use Rattle.program_meaning.specs.Lines.{line_value, Point};
 ghost use Rattle.nl_meaning.specs.Parts.{IsLinearTree, IsPart};
 ghost use Rattle.nl_meaning.specs.Trees.{Definition, IsOneOf, Tree, indices_of, known_values, tree_value};
 ghost use Rattle.nl_model.specs.File.{File};

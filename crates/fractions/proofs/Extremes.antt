@@ -1,15 +1,11 @@
 -- Powers, least and greatest, whole parts and absolute values: what their definitions say.
-use Rattle.std.proofs.Common.{◌≡◌, ℕ, zero, suc, ◌+◌, ◌*◌, ◌/◌, ◌<◌, ◌⊎◌, inl, inr, ⊎_elim, ◌∙◌, sym, ap, refl, subst, subst₂, one-mul, arith, Bool, true, false, if◌then◌else◌, ℤ, pos, negsuc, ◌+ℤ◌, ◌*ℤ◌, ◌≤ℤ◌, ◌<ℤ◌, neg_ℤ, List, [], ◌∷◌, All, Contains}
-use Rattle.std.specs.Int.{int_div_euclid}
+use Rattle.std.proofs.Common.{◌≡◌, ℕ, suc, ◌⊎◌, ◌↔◌, IsTrue, inl, inr, ⊎_elim, ◌∙◌, sym, ap, refl, subst, subst₂, arith, Bool, true, false, if◌then◌else◌, pos, ◌*ℤ◌, ◌<ℤ◌, neg_ℤ, List, [], ◌∷◌, All, Contains}
 use Rattle.std.proofs.lemmas.Int.{ints}
-use Rattle.std.proofs.lemmas.Nat.{div-add-mod'}
-use Rattle.std.proofs.Math.Nat.{mod-lt}
 use Rattle.std.proofs.lemmas.List.Elements.{All-nil, All-cons}
-use Rattle.fractions.specs.Functions.{power_of, is_smaller, lesser_of, greater_of, least_of, greatest_of, floor_of, ceiling_of, without_sign, absolute_of}
-use Rattle.fractions.specs.Rational.{ℚ, whole, zero_ℚ, one_ℚ, ◌+ℚ◌, ◌-ℚ◌, ◌*ℚ◌, neg_ℚ, ◌≤ℚ◌, ◌<ℚ◌, IsWhole}
-use Rattle.fractions.proofs.Signed.{neg-*ℤ}
-use Rattle.fractions.proofs.Values.{HasValue, scaled_value, own_value, whole_value, value_le, value_lt}
-use Rattle.fractions.proofs.Arithmetic.{≤ℚ_refl, ≤ℚ_trans, neg-≤ℚ, neg-neg, neg-+ℚ, neg_zero, -ℚ_lem, not_both, le_or_lt, zero_value, whole_of, whole-+ℚ, whole-neg, IsWhole-whole}
+use Rattle.fractions.specs.Functions.{power_of, is_smaller, lesser_of, greater_of, least_of, greatest_of, floor_of, ceiling_of, absolute_of}
+use Rattle.fractions.specs.Rational.{ℚ, zero_ℚ, one_ℚ, ◌+ℚ◌, ◌-ℚ◌, ◌*ℚ◌, neg_ℚ, ◌≤ℚ◌, ◌<ℚ◌, IsWhole}
+use Rattle.fractions.specs.FloorLemmas.{a_floor}
+use Rattle.fractions.proofs.Arithmetic.{≤ℚ_refl, ≤ℚ_of_<ℚ, ≤ℚ_trans, neg-≤ℚ, neg-neg, neg-+ℚ, neg_zero, -ℚ_lem, not_both, le_or_lt, whole_of, whole-+ℚ, whole-neg, IsWhole-whole}
 
 -- ---- powers
 pub power_of-zero : (x : ℚ) → power_of x 0 ≡ one_ℚ
@@ -21,6 +17,13 @@ unfolding power_of
 power_of-suc x n = refl
 
 -- ---- least and greatest
+pub is_smaller_test : (x y : ℚ) → IsTrue (is_smaller x y) ↔ (x <ℚ y)
+is_smaller_test x y = ((λ e. record { crosswise = omega (arith, ints) }), (λ h. by (is_smaller x y) refl h.crosswise))
+  where
+    by : (b : Bool) → is_smaller x y ≡ b → (x.top *ℤ pos y.bottom) <ℤ (y.top *ℤ pos x.bottom) → is_smaller x y ≡ true
+    by true e h = e
+    by false e h = absurd (omega (arith, ints))
+
 -- the lesser of two is one of them, and at most both
 pub record IsLesser (x y z : ℚ) : Type 0 where
   pub one : (z ≡ x) ⊎ (z ≡ y)
@@ -71,7 +74,7 @@ one_of x y w z ys (inr e) (inl f) = inr (subst (Contains (y ∷ ys)) (sym (f ∙
 one_of x y w z ys h (inr c) = inr (contains_later y z ys c)
 
 least_is : (x : ℚ) (xs : List ℚ) → IsLeast x xs (least_of x xs)
-unfolding least_of
+unfolding least_of lesser_of
 least_is x [] = record { one = inl refl; first = ≤ℚ_refl x; rest = All-nil (λ y. x ≤ℚ y) }
 least_is x (y ∷ ys) =
     let w = lesser_of x y in
@@ -84,7 +87,7 @@ least_is x (y ∷ ys) =
     }
 
 greatest_is : (x : ℚ) (xs : List ℚ) → IsGreatest x xs (greatest_of x xs)
-unfolding greatest_of
+unfolding greatest_of greater_of
 greatest_is x [] = record { one = inl refl; first = ≤ℚ_refl x; rest = All-nil (λ y. y ≤ℚ x) }
 greatest_is x (y ∷ ys) =
     let w = greater_of x y in
@@ -107,46 +110,17 @@ pub greatest_law : (x : ℚ) (xs : List ℚ) → Contains (x ∷ xs) (greatest_o
 greatest_law x xs = let r = greatest_is x xs in (among x xs (greatest_of x xs) r.one, All-cons (λ y. y ≤ℚ greatest_of x xs) x xs r.first r.rest)
 
 -- ---- whole parts
-floor_below_ℤ : (z : ℤ) (b : ℕ) → 0 < b → (int_div_euclid z (pos b) *ℤ pos b) ≤ℤ z
-floor_below_ℤ (pos a) b some = let split = div-add-mod' a b in let h : pos (a / b * b) ≤ℤ pos a = omega (arith, ints) in h
-floor_below_ℤ (negsuc a) b some =
-    let split = div-add-mod' a b in let small = mod-lt a some in
-    let q = a / b in
-    omega (arith, ints)
-
-floor_near_ℤ : (z : ℤ) (b : ℕ) → 0 < b → z <ℤ ((int_div_euclid z (pos b) +ℤ pos 1) *ℤ pos b)
-floor_near_ℤ (pos a) b some = let split = div-add-mod' a b in let small = mod-lt a some in let h : pos a <ℤ pos ((a / b + 1) * b) = omega (arith, ints) in h
-floor_near_ℤ (negsuc a) b some =
-    let q = a / b in
-    let split = div-add-mod' a b in
-    let below : negsuc a <ℤ neg_ℤ (pos (q * b)) = omega (arith, ints, split) in
-    subst (λ z. negsuc a <ℤ (z *ℤ pos b)) (sym (one_more q)) (subst (λ z. negsuc a <ℤ z) (sym (neg-*ℤ (pos q) (pos b))) below)
-  where
-    one_more : (q : ℕ) → negsuc q +ℤ pos 1 ≡ neg_ℤ (pos q)
-    one_more zero = refl
-    one_more (suc q) = omega (arith, ints)
-
 -- the greatest whole number that is not above x
 pub record IsFloor (x z : ℚ) : Type 0 where
   pub whole : IsWhole z
   pub below : z ≤ℚ x
   pub near : x <ℚ (z +ℚ one_ℚ)
 
-at_most_by : (x : ℚ) (q : ℤ) → (q *ℤ pos x.bottom) ≤ℤ x.top → whole q ≤ℚ x
-at_most_by x q h = value_le (subst (λ n. HasValue (whole q) (q *ℤ pos x.bottom) n) (one-mul x.bottom) (scaled_value x.bottom x.above (whole_value q))) (own_value x) h
-
-above_by : (x : ℚ) (q : ℤ) → x.top <ℤ (q *ℤ pos x.bottom) → x <ℚ whole q
-above_by x q h = value_lt (own_value x) (subst (λ n. HasValue (whole q) (q *ℤ pos x.bottom) n) (one-mul x.bottom) (scaled_value x.bottom x.above (whole_value q))) h
-
 pub floor_is : (x : ℚ) → IsFloor x (floor_of x)
 unfolding floor_of
 floor_is x =
-    let q = int_div_euclid x.top (pos x.bottom) in
-    record {
-      whole = IsWhole-whole q;
-      below = at_most_by x q (floor_below_ℤ x.top x.bottom x.above);
-      near = subst (λ v. x <ℚ v) (sym (whole-+ℚ q (pos 1))) (above_by x (q +ℤ pos 1) (floor_near_ℤ x.top x.bottom x.above));
-    }
+    let f = a_floor x in
+    record { whole = IsWhole-whole f.0; below = f.1; near = subst (λ v. x <ℚ v) (sym (whole-+ℚ f.0 (pos 1))) f.2 }
 
 -- the least whole number that is not below x
 pub record IsCeiling (x z : ℚ) : Type 0 where
@@ -176,15 +150,23 @@ pub record IsAbsolute (x z : ℚ) : Type 0 where
   pub one : (z ≡ x) ⊎ (z ≡ neg_ℚ x)
   pub above : zero_ℚ ≤ℚ z
 
-zero_below : (x : ℚ) → pos 0 ≤ℤ x.top → zero_ℚ ≤ℚ x
-zero_below x h = value_le (zero_value x.bottom x.above) (own_value x) h
+pub absolute_below : (x : ℚ) → x <ℚ zero_ℚ → absolute_of x ≡ neg_ℚ x
+unfolding absolute_of
+absolute_below x h = ap (λ b. if b then neg_ℚ x else x) ((is_smaller_test x zero_ℚ).1 h)
+
+pub absolute_above : (x : ℚ) → zero_ℚ ≤ℚ x → absolute_of x ≡ x
+unfolding absolute_of
+absolute_above x h = by (is_smaller x zero_ℚ) refl
+  where
+    by : (b : Bool) → is_smaller x zero_ℚ ≡ b → (if b then neg_ℚ x else x) ≡ x
+    by true e = absurd (not_both zero_ℚ x h ((is_smaller_test x zero_ℚ).0 e))
+    by false e = refl
 
 pub absolute_is : (x : ℚ) → IsAbsolute x (absolute_of x)
-unfolding absolute_of
-absolute_is x = by x.top refl
-  where
-    by : (t : ℤ) → x.top ≡ t → IsAbsolute x (without_sign t x)
-    by (pos n) e = record { one = inl refl; above = zero_below x (subst (λ z. pos 0 ≤ℤ z) (sym e) (omega (arith, ints))) }
-    by (negsuc n) e =
-        let low : x ≤ℚ zero_ℚ = value_le (own_value x) (zero_value x.bottom x.above) (subst (λ z. z ≤ℤ pos 0) (sym e) (omega (arith, ints))) in
-        record { one = inr refl; above = subst (λ v. v ≤ℚ neg_ℚ x) neg_zero (neg-≤ℚ x zero_ℚ low) }
+absolute_is x =
+    ⊎_elim
+    (λ (h : zero_ℚ ≤ℚ x). record { one = inl (absolute_above x h); above = subst (λ v. zero_ℚ ≤ℚ v) (sym (absolute_above x h)) h })
+    (λ (h : x <ℚ zero_ℚ).
+    let e = absolute_below x h in
+    record { one = inr e; above = subst₂ (λ a b. a ≤ℚ b) neg_zero (sym e) (neg-≤ℚ x zero_ℚ (≤ℚ_of_<ℚ x zero_ℚ h)) })
+    (le_or_lt zero_ℚ x)

@@ -1,6 +1,7 @@
 -- Which numbers, and which sums, stay within fractions of 128 bits (own profile).
-use Rattle.std.specs.Prelude.{ℕ, ◌*◌, ◌/◌, ◌^◌, ℤ, pos, ◌+ℤ◌, ◌*ℤ◌, unsigned_abs, Bool, ◌&&◌, nat_lt}
-use Rattle.fractions.specs.Divisors.{gcd_of}
+use Rattle.std.specs.Prelude.{ℕ, ◌/◌, ◌^◌, ℤ, pos, ◌+ℤ◌, ◌*ℤ◌, unsigned_abs, Bool, ◌&&◌, nat_lt}
+use Rattle.fractions.specs.Divisors.{IsLcm}
+use Rattle.fractions.specs.LowestLemmas.{a_least_multiple}
 use Rattle.fractions.specs.Rational.{ℚ}
 
 -- below 2 ^ 127
@@ -11,9 +12,9 @@ is_small k = nat_lt k (2 ^ 127)
 abbrev pub fits : ℚ → Bool
 fits x = is_small (unsigned_abs x.top) && is_small x.bottom
 
--- the least common multiple, of numbers above 0
+-- the least common multiple
 abbrev pub least_multiple : ℕ → ℕ → ℕ
-least_multiple a b = a * (b / gcd_of a b)
+least_multiple a b = (let it : (m : ℕ) × IsLcm a b m = a_least_multiple a b in it.0)
 
 -- a common denominator, two numerators over it and their sum are small
 abbrev pub parts_fit : ℕ → ℤ → ℤ → Bool

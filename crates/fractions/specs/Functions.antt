@@ -1,7 +1,8 @@
 -- Powers, least and greatest, whole parts and absolute values.
-use Rattle.std.specs.Prelude.{ℕ, zero, suc, ℤ, pos, negsuc, ◌*ℤ◌, int_lt, Bool, true, false, ◌==◌, if◌then◌else◌, nat_lt, List, [], ◌∷◌, Option, Some, None}
-use Rattle.std.specs.Int.{int_div_euclid}
-use Rattle.fractions.specs.Rational.{ℚ, zero_ℚ, one_ℚ, whole, ◌*ℚ◌, neg_ℚ}
+use Rattle.std.specs.Prelude.{ℕ, zero, suc, ℤ, pos, negsuc, ◌+ℤ◌, ◌*ℤ◌, int_lt, Bool, ◌==◌, if◌then◌else◌, nat_lt, List, [], ◌∷◌, Option, Some, None}
+use Rattle.fractions.specs.Rational.{ℚ, zero_ℚ, one_ℚ, whole, ◌*ℚ◌, neg_ℚ, ◌≤ℚ◌, ◌<ℚ◌}
+pub use Rattle.fractions.specs.Rational.{is_zero}
+use Rattle.fractions.specs.FloorLemmas.{a_floor}
 
 -- the number, and 0 where there is none
 abbrev pub or_zero : Option ℚ → ℚ
@@ -21,15 +22,7 @@ small_exponent (negsuc n) = None
 abbrev pub exponent_of : ℚ → Option ℕ
 exponent_of x = (if x.bottom == 1 then small_exponent x.top else None)
 
-abbrev pub is_pos_zero : ℤ → Bool
-is_pos_zero (pos zero) = true
-is_pos_zero (pos (suc n)) = false
-is_pos_zero (negsuc n) = false
-
-abbrev pub is_zero : ℚ → Bool
-is_zero x = is_pos_zero x.top
-
--- x is below y
+-- whether x <ℚ y
 abbrev pub is_smaller : ℚ → ℚ → Bool
 is_smaller x y = int_lt (x.top *ℤ pos y.bottom) (y.top *ℤ pos x.bottom)
 
@@ -42,23 +35,21 @@ greater_of x y = (if is_smaller x y then y else x)
 -- the least, and the greatest, of a number and those of a list
 unfoldable pub least_of : ℚ → List ℚ → ℚ
 least_of x [] = x
-least_of x (y ∷ ys) = least_of (lesser_of x y) ys
+least_of x (y ∷ ys) = least_of (if is_smaller y x then y else x) ys
 
 unfoldable pub greatest_of : ℚ → List ℚ → ℚ
 greatest_of x [] = x
-greatest_of x (y ∷ ys) = greatest_of (greater_of x y) ys
+greatest_of x (y ∷ ys) = greatest_of (if is_smaller x y then y else x) ys
 
--- the greatest whole number not above x, and the least not below x
+-- the whole number z with z ≤ x < z + 1
 unfoldable pub floor_of : ℚ → ℚ
-floor_of x = whole (int_div_euclid x.top (pos x.bottom))
+floor_of x =
+    let it : (z : ℤ) × (whole z ≤ℚ x) × (x <ℚ whole (z +ℤ pos 1)) = a_floor x in whole it.0
 
+-- the least whole number that is at least x: -z, where z is the greatest that is at most -x
 unfoldable pub ceiling_of : ℚ → ℚ
 ceiling_of x = neg_ℚ (floor_of (neg_ℚ x))
 
 -- x, or -x where x is below 0
-abbrev pub without_sign : ℤ → ℚ → ℚ
-without_sign (pos n) x = x
-without_sign (negsuc n) x = neg_ℚ x
-
 unfoldable pub absolute_of : ℚ → ℚ
-absolute_of x = without_sign x.top x
+absolute_of x = (if is_smaller x zero_ℚ then neg_ℚ x else x)

@@ -11,7 +11,7 @@ use Rattle.std.proofs.lemmas.List.Sums.{sum_by-append, sum_by-set, sum_by-take-l
 use Rattle.std.proofs.lemmas.List.Folds.{list_any-append}
 use Rattle.texts.specs.declared.stop.Stop.{Stop}
 use Rattle.texts.specs.declared.stop.Stop.TheVariants.{Fault, Memory}
-use Rattle.linear_programs.specs.Lines.{line_value, Point, constant_line, form_of_line}
+use Rattle.program_meaning.specs.Lines.{line_value, Point, constant_line, form_of_line}
 use Rattle.nl_meaning.specs.Trees.{Known, nothing_known, with_value, Definition as Meaning, expression_given, tree_size, values_after, Tree}
 use Rattle.nl_model.specs.File.{File, Term}
 use Rattle.nl_model.specs.declared.definition.Def.{Def as Definition}
@@ -20,7 +20,7 @@ use Rattle.nl_model.specs.Rules.{IsDefinition, is_defined, IsFile}
 use Rattle.nl_model.specs.declared.at.Owner.TheVariants.{Def, Con, Obj}
 use Rattle.file_meaning.specs.Expressions.{definition_of, linear_terms, tree_or_zero, no_objective, zero_tree, maximises}
 use Rattle.file_meaning.specs.FoldFaults.{Owned, owners_fault, definition, constraint, objective, owned_body, owned_definitions, owned_objective, most_coefficients, owners_of, fold_fault, has_objective, no_such_objective, owned_line}
-use Rattle.linear_programs.specs.Elements.{elements_from}
+use Rattle.program_meaning.specs.Elements.{elements_from}
 use Rattle.linear_fold.specs.declared.fold_fault.FoldFault.{FoldFault}
 use Rattle.linear_program.specs.declared.form.Form.{Form}
 use Rattle.linear_fold.specs.FoldedFaults.{named_fault, nodes_in_all, step_bound, term_total, first_fold_fault}
@@ -37,12 +37,12 @@ use Rattle.fractions.specs.Rational.{zero_ℚ}
 use Rattle.nl_model.specs.FilePlaces.{terms_at, tree_at}
 use Rattle.linear_fold.proofs.Expressions.{no_terms, zero_folded}
 use Rattle.linear_fold.proofs.Folding.{constant_within}
-use Rattle.linear_programs.specs.Linear.{Row}
+use Rattle.program_meaning.specs.Linear.{Row}
 use Rattle.linear_program.specs.declared.interval.Interval.{Interval}
 use Rattle.linear_program.specs.declared.kind.Kind.{Kind}
 use Rattle.nl_model.specs.Kinds.{variable_kind}
 use Rattle.linear_program.specs.Intervals.{IsOrdered, no_sides}
-use Rattle.linear_programs.proofs.Elements.{elements_length}
+use Rattle.program_meaning.proofs.Elements.{elements_length}
 use Rattle.file_meaning.specs.LinearFile.{linear_of, linear_row, linear_variable, HasLines}
 use Rattle.linear_program.specs.Programs.{IsFormOver, IsLinear, LinearValue, linear_value, rows_from, variables_from}
 use Rattle.file_meaning.proofs.Folding.{clean_has_lines}

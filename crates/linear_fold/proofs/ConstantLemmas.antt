@@ -10,13 +10,14 @@ use Rattle.exact_numbers.specs.Values.{frac_value, order_of}
 use Rattle.fractions.specs.Divisors.{AreCoprime}
 use Rattle.fractions.specs.LowestLemmas.{coprime-swap}
 use Rattle.fractions.specs.Fits.{fits}
-use Rattle.fractions.specs.Functions.{exponent_of, or_zero, power_of, is_smaller, lesser_of, greater_of, least_of, greatest_of, floor_of, ceiling_of, absolute_of, without_sign}
+use Rattle.fractions.specs.Functions.{exponent_of, or_zero, power_of, is_smaller, lesser_of, greater_of, least_of, greatest_of, floor_of, ceiling_of, absolute_of}
 use lib.IntN.{*ℤ-one, zero-*ℤ}
 use Rattle.fractions.specs.Rational.{ℚ, whole, ◌<ℚ◌, over, zero_ℚ, one_ℚ, ◌*ℚ◌, neg_ℚ}
 use Rattle.fractions.proofs.Coprimes.{coprime-mul, coprime-pow}
-use Rattle.fractions.proofs.Extremes.{power_of-zero, power_of-suc}
-use Rattle.fractions.proofs.Arithmetic.{over_lowest, over_parts}
-use Rattle.linear_programs.specs.Lines.{constant_line, Line, is_constant, are_constant, constants_of}
+use Rattle.fractions.proofs.Extremes.{absolute_above, absolute_below, power_of-zero, power_of-suc}
+use Rattle.fractions.proofs.Arithmetic.{over_lowest, over_parts, zero_value}
+use Rattle.fractions.proofs.Values.{own_value, value_le, value_lt}
+use Rattle.program_meaning.specs.Lines.{constant_line, Line, is_constant, are_constant, constants_of}
 use Rattle.nl_meaning.specs.Faults.{constants_line, nonlinear_unless, operator_fault, operator_line, power_fault, too_wide_unless}
 use Rattle.nl_meaning.specs.declared.Reason.TheVariants.{Nonlinear, RefusedPower, TooWide}
 use Rattle.nl_meaning.specs.Trees.{applied, rule_of}
@@ -53,12 +54,10 @@ above_case P f (negsuc n) h = absurd (omega (arith, ints))
 
 -- ---- absolute values
 pub absolute_neg : (x : ℚ) → x.top <ℤ pos 0 → neg_ℚ x ≡ absolute_of x
-unfolding absolute_of
-absolute_neg x h = under_case (λ t. neg_ℚ x ≡ without_sign t x) (λ n. refl) x.top h
+absolute_neg x h = sym (absolute_below x (value_lt (own_value x) (zero_value x.bottom x.above) h))
 
 pub absolute_pos : (x : ℚ) → pos 0 ≤ℤ x.top → x ≡ absolute_of x
-unfolding absolute_of
-absolute_pos x h = above_case (λ t. x ≡ without_sign t x) (λ n. refl) x.top h
+absolute_pos x h = sym (absolute_above x (value_le (zero_value x.bottom x.above) (own_value x) h))
 
 -- ---- order
 first_where : (b d : Bool) (x y : ℚ) → cond b Less (cond d Greater Equal) ≡ Less → x ≡ (if b then x else y)
@@ -206,7 +205,7 @@ best_none true x = refl
 best_none false x = refl
 
 best_more : (b : Bool) (x y : ℚ) (ys : List ℚ) → best_of b x (y ∷ ys) ≡ best_of b (better_of b x y) ys
-unfolding least_of greatest_of
+unfolding least_of greatest_of lesser_of greater_of
 best_more true x y ys = refl
 best_more false x y ys = refl
 

@@ -3,8 +3,8 @@ use Rattle.std.proofs.Common.{◌≡◌, ◌≢◌, ℕ, zero, suc, ◌+◌, ◌
 use Rattle.std.proofs.lemmas.Bool.{cases_eq, false_from_ne_true}
 use Rattle.exact_numbers.specs.Values.{frac_value}
 use Rattle.fractions.specs.Rational.{ℚ, zero_ℚ}
-use Rattle.linear_programs.specs.Lines.{Line, is_zero}
-use Rattle.linear_programs.proofs.LineLemmas.{is_zero-true}
+use Rattle.program_meaning.specs.Lines.{Line, is_zero}
+use Rattle.program_meaning.proofs.LineLemmas.{is_zero-true}
 use Rattle.file_meaning.specs.FoldFaults.{coefficient_count}
 use Rattle.linear_program.specs.declared.form.Form.{Form}
 use Rattle.linear_program.specs.Coefs.{Term, AreAscending, AreBelow, coef_in, value_or_zero}

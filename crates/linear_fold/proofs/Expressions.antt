@@ -10,7 +10,7 @@ use Rattle.fractions.proofs.Arithmetic.{zero-+ℚ, *ℚ_zero, +ℚ_zero}
 use Rattle.nl_meaning.specs.declared.Fault.{Fault}
 use Rattle.nl_meaning.specs.declared.Reason.TheVariants.{TooWide}
 use Rattle.nl_meaning.specs.Faults.{fault_at, too_wide_unless, line_with_terms, terms_fault, tree_fault}
-use Rattle.linear_programs.specs.Lines.{line_with, Line, line_value, constant_line, products_fit, Point}
+use Rattle.program_meaning.specs.Lines.{line_with, Line, line_value, constant_line, products_fit, Point}
 use Rattle.nl_meaning.specs.Trees.{LinearTerm, Known, Tree, Trees, AreTermsBelow, tree_size, trees_size, tree_given}
 use Rattle.nl_model.specs.File.{Term as FileTerm}
 use Rattle.file_meaning.specs.Expressions.{linear_terms, zero_tree}
@@ -28,7 +28,7 @@ use Rattle.texts.specs.declared.stop.Stop.{Stop}
 use Rattle.texts.specs.declared.stop.Stop.TheVariants.{Fault as Stopped}
 use Rattle.exact_numbers.proofs.Bridge.{zero_decimal}
 use Rattle.nl_meaning.proofs.Linear.{terms_added}
-use Rattle.linear_programs.proofs.LineLemmas.{apart-eqb}
+use Rattle.program_meaning.proofs.LineLemmas.{apart-eqb}
 use Rattle.nl_model.specs.declared.node.Node.{Node}
 use Rattle.nl_model.specs.Nodes.{IsPrefix, a_number, a_variable, a_defined, an_operation, ArePrefixes, no_tree, one_more}
 use Rattle.nl_model.specs.Rules.{AreTermsBelow as AreFileTermsBelow}

@@ -6,7 +6,7 @@ use Rattle.exact_numbers.specs.declared.frac.Frac.{Frac}
 use Rattle.exact_numbers.specs.Values.{dec_value, frac_value}
 use Rattle.fractions.specs.Fits.{fits}
 use Rattle.fractions.specs.Rational.{zero_ℚ}
-use Rattle.linear_programs.specs.Lines.{constant_line}
+use Rattle.program_meaning.specs.Lines.{constant_line}
 use Rattle.nl_meaning.specs.declared.Fault.{Fault}
 use Rattle.nl_meaning.specs.Faults.{fault_at, too_wide_unless}
 use Rattle.nl_meaning.specs.Trees.{Tree, number, tree_size}

@@ -15,7 +15,7 @@ use Rattle.fractions.specs.Functions.{is_zero}
 use Rattle.fractions.specs.Rational.{ℚ, whole, zero_ℚ, one_ℚ, ◌+ℚ◌, ◌*ℚ◌}
 use Rattle.fractions.proofs.Arithmetic.{zero-+ℚ, +ℚ_zero, *ℚ_one}
 use Rattle.fractions.proofs.Values.{own_value, same_value}
-use Rattle.linear_programs.specs.Lines.{Line, Point, constant_line, is_constant, line_scaled, line_sum, line_value, one_if, products_fit, running_line, running_sums_fit, sums_fit}
+use Rattle.program_meaning.specs.Lines.{Line, Point, constant_line, is_constant, line_scaled, line_sum, line_value, one_if, products_fit, running_line, running_sums_fit, sums_fit}
 use Rattle.nl_meaning.specs.Faults.{fault_at, operator_fault, operator_line, too_wide_unless, trees_fault, trees_lines, tree_line}
 use Rattle.nl_meaning.specs.Trees.{Known, Tree, Trees, number, variable, operator, none, more, first_trees, count_of, tree_size, tree_given, Takes, applied, rule_of}
 use Rattle.nl_meaning.proofs.Linear.{operator_has_line}

@@ -12,8 +12,8 @@ use Rattle.exact_numbers.proofs.Bridge.{frac_fits_lem}
 use Rattle.fractions.specs.Fits.{fits, sum_fits}
 use Rattle.fractions.specs.Rational.{ℚ, zero_ℚ, ◌+ℚ◌, ◌*ℚ◌, one_ℚ, neg_ℚ, inverse_of}
 use Rattle.fractions.proofs.Arithmetic.{*ℚ_one, *ℚ_zero, +ℚ_zero, zero-+ℚ, one-*ℚ, neg-*ℚ}
-use Rattle.linear_programs.specs.Lines.{constant_line, line_scaled, line_sum, products_fit, Line, is_zero, is_constant, one_if, line_neg, sums_fit, running_sums_fit, running_line, all_below}
-use Rattle.linear_programs.proofs.LineLemmas.{all_below-true, apart-eqb}
+use Rattle.program_meaning.specs.Lines.{constant_line, line_scaled, line_sum, products_fit, Line, is_zero, is_constant, one_if, line_neg, sums_fit, running_sums_fit, running_line, all_below}
+use Rattle.program_meaning.proofs.LineLemmas.{all_below-true, apart-eqb}
 use Rattle.linear_program.specs.declared.form.Form.{Form}
 use Rattle.linear_program.specs.declared.sum.Sum.{Sum}
 use Rattle.linear_fold.specs.declared.parts.PartialForm.{PartialForm}

@@ -10,11 +10,11 @@ use Rattle.exact_numbers.proofs.Bridge.{zero_decimal}
 use Rattle.nl_meaning.specs.declared.Fault.{Fault}
 use Rattle.nl_meaning.specs.declared.Reason.{Reason}
 use Rattle.nl_meaning.specs.declared.Reason.TheVariants.{Nonlinear as IsNonlinear}
-use Rattle.linear_programs.specs.Lines.{Line, constant_line, line_with, Point}
+use Rattle.program_meaning.specs.Lines.{Line, constant_line, line_with, Point}
 use Rattle.nl_meaning.specs.Faults.{fault_at, too_wide_unless, tree_fault, trees_fault, terms_fault, expression_fault, tree_line, trees_lines, operator_fault}
 use Rattle.nl_meaning.specs.Trees.{Known, Tree, number, variable, defined, operator, Trees, none, more, Expression, expression_given, tree_size, trees_size}
 use Rattle.nl_meaning.proofs.Linear.{terms_added}
-use Rattle.linear_programs.proofs.LineLemmas.{same_coef}
+use Rattle.program_meaning.proofs.LineLemmas.{same_coef}
 use Rattle.nl_model.specs.declared.at.At.{At}
 use Rattle.nl_model.specs.declared.at.At.TheVariants.{Node, Term as TermOf, Head}
 use Rattle.nl_model.specs.declared.at.Owner.{Owner}

@@ -6,7 +6,7 @@ use Rattle.code_tables.specs.Opcodes.{class_of}
 use Rattle.fractions.specs.Rational.{ℚ}
 use Rattle.nl_meaning.specs.declared.Fault.{Fault}
 use Rattle.nl_meaning.specs.Faults.{expression_fault, line_with_terms, terms_fault, tree_fault, trees_fault}
-use Rattle.linear_programs.specs.Lines.{Line, line_value, Point}
+use Rattle.program_meaning.specs.Lines.{Line, line_value, Point}
 use Rattle.nl_meaning.specs.Trees.{Known, Tree, number, variable, defined, operator, Trees, none, more, LinearTerm, Expression, Takes, rule_of, expression_given, tree_size, tree_given}
 use Rattle.nl_model.specs.declared.node.Node.{Node}
 use Rattle.nl_model.specs.declared.node.Node.TheVariants.{Num, Var, Defined, Op}

@@ -2,7 +2,7 @@
 use Rattle.std.specs.Prelude.{◌≡◌, ℕ, List}
 use Rattle.exact_numbers.specs.declared.frac.Frac.{Frac}
 use Rattle.exact_numbers.specs.Values.{frac_value}
-use Rattle.linear_programs.specs.Lines.{Line, Point, constant_line}
+use Rattle.program_meaning.specs.Lines.{Line, Point, constant_line}
 use Rattle.nl_meaning.specs.Trees.{Known, Tree}
 use Rattle.nl_model.specs.Rules.{AreTermsBelow}
 use Rattle.file_meaning.specs.Expressions.{linear_terms}

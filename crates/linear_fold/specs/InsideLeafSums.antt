@@ -6,7 +6,7 @@ use Rattle.exact_numbers.specs.declared.frac.Frac.{Frac}
 use Rattle.exact_numbers.specs.Values.{dec_value}
 use Rattle.fractions.specs.Fits.{fits}
 use Rattle.fractions.specs.Rational.{ℚ}
-use Rattle.linear_programs.specs.Lines.{Line, Point, constant_line, running_line, running_sums_fit, sums_fit, line_sum}
+use Rattle.program_meaning.specs.Lines.{Line, Point, constant_line, running_line, running_sums_fit, sums_fit, line_sum}
 use Rattle.nl_meaning.specs.Faults.{trees_fault, trees_lines}
 use Rattle.nl_meaning.specs.Trees.{Known, Tree, Trees, tree_size}
 use Rattle.nl_model.specs.declared.node.Node.{Node}

@@ -7,7 +7,7 @@ use Rattle.code_tables.specs.declared.class.OpClass.TheVariants.{Least, Greatest
 use Rattle.fractions.specs.Functions.{lesser_of, greater_of}
 use Rattle.fractions.specs.Rational.{ℚ, zero_ℚ}
 use Rattle.nl_meaning.specs.declared.Reason.TheVariants.{TooWide}
-use Rattle.linear_programs.specs.Lines.{constant_line, line_with, Line, are_constant, constants_of}
+use Rattle.program_meaning.specs.Lines.{constant_line, line_with, Line, are_constant, constants_of}
 use Rattle.nl_meaning.specs.Faults.{operator_fault, operator_line}
 use Rattle.nl_meaning.specs.Trees.{applied, rule_of}
 use Rattle.exact_numbers.specs.declared.frac.Frac.{Frac}

@@ -1,7 +1,7 @@
 // Terms that ascend by variable: as they stand, they are the coefficients of a form.
 ghost use Rattle.std.specs.Prelude.{◌≡◌, ◌+◌, ◌^◌, ◌≤◌, ◌↔◌, [], length, IfOk, IsTrue};
 ghost use Rattle.exact_numbers.specs.Values.{frac_value};
-ghost use Rattle.linear_programs.specs.Lines.{constant_line};
+ghost use Rattle.program_meaning.specs.Lines.{constant_line};
 ghost use Rattle.file_meaning.specs.Expressions.{linear_terms};
 ghost use Rattle.linear_fold.specs.InsideHeld.{ComesToHeld};
 ghost use Rattle.linear_fold.specs.InsideLinearTerms.{AreStrictlyAscending, AreZeroTerms};

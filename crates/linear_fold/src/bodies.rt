@@ -5,7 +5,7 @@ ghost use Rattle.nl_model.specs.HeaderRules.{AreCounts};
 ghost use Rattle.nl_model.specs.Rules.{IsFile};
 ghost use Rattle.nl_model.specs.declared.at.Owner.TheVariants.{Con as OfConstraint, Obj as OfObjective};
 ghost use Rattle.file_meaning.specs.FoldFaults.{has_objective, most_coefficients, owners_fault, owners_of};
-ghost use Rattle.linear_programs.specs.Elements.{elements_from};
+ghost use Rattle.program_meaning.specs.Elements.{elements_from};
 ghost use Rattle.linear_fold.specs.FoldedFaults.{HasFaultPlace, named_fault, step_bound};
 ghost use Rattle.linear_program.specs.Forms.{form_terms};
 ghost use Rattle.linear_fold.specs.InsideHeldBodies.{HasBodies, bodies_in};

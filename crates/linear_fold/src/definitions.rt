@@ -5,7 +5,7 @@ ghost use Rattle.nl_meaning.specs.Trees.{tree_size};
 ghost use Rattle.nl_model.specs.HeaderRules.{AreCounts};
 ghost use Rattle.nl_model.specs.Rules.{IsFile};
 ghost use Rattle.nl_model.specs.declared.at.Owner.TheVariants.{Def as OfDefinition};
-ghost use Rattle.linear_programs.specs.Elements.{elements_from};
+ghost use Rattle.program_meaning.specs.Elements.{elements_from};
 ghost use Rattle.linear_fold.specs.FoldedFaults.{HasFaultPlace};
 ghost use Rattle.linear_fold.specs.InsideOwnerFolds.{AreOwnersFolded, HasFolded, definitions_size, owned_at};
 

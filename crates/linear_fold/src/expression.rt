@@ -2,7 +2,7 @@
 ghost use Rattle.std.specs.Prelude.{◌≡◌, ℕ, ◌+◌, ◌*◌, ◌^◌, ◌<◌, ◌≤◌, List, [], ◌∷◌, IfOk, IfSome, OnOk, OnErr, length, option_copied};
 ghost use Rattle.std.specs.Option.{option_map_or};
 ghost use Rattle.texts.specs.Stopped.{IfFault};
-ghost use Rattle.linear_programs.specs.Lines.{Line, Point};
+ghost use Rattle.program_meaning.specs.Lines.{Line, Point};
 ghost use Rattle.nl_meaning.specs.Trees.{Known, LinearTerm, Tree, tree_size};
 ghost use Rattle.nl_model.specs.Nodes.{IsTreeFormed};
 ghost use Rattle.nl_model.specs.Rules.{AreTermsBelow};

@@ -1,7 +1,7 @@
 // Trees folded to forms, from the last node to the first.
 ghost use Rattle.std.specs.Prelude.{◌≡◌, ℕ, ◌+◌, ◌*◌, ◌<◌, ◌≤◌, List, [], ◌∷◌, IfOk, OnOk, length, reverse, vec_len};
 ghost use Rattle.nl_meaning.specs.Trees.{Takes, rule_of, Known, Tree, Trees, defined, number, operator, variable};
-ghost use Rattle.linear_programs.specs.Lines.{Point};
+ghost use Rattle.program_meaning.specs.Lines.{Point};
 ghost use Rattle.nl_model.specs.Nodes.{AreNodesFormed, trees_of, with_node};
 ghost use Rattle.linear_fold.specs.InsideFolds.{AreKnown, AreNodesWithin, AreOperandsOf, ArePartsFolded, ArePartsWithin, AreSlotsWithin, IsEntryWithin, IsFolded, IsGiven, IsPartFolded, IsPartWithin, NodeFinds};
 ghost use Rattle.linear_program.specs.Forms.{place_count};

@@ -2,7 +2,7 @@
 // coefficients of a form as they stand.
 ghost use Rattle.std.specs.Prelude.{◌≡◌, ◌∷◌, [], ℕ, ◌+◌, ◌≤◌, None, Some, drop, IfOk, IfSome, length, true};
 ghost use Rattle.exact_numbers.specs.Values.{dec_value, frac_value};
-ghost use Rattle.linear_programs.specs.Lines.{Point};
+ghost use Rattle.program_meaning.specs.Lines.{Point};
 ghost use Rattle.nl_meaning.specs.Trees.{Known, Tree, first_trees};
 ghost use Rattle.nl_model.specs.Nodes.{IsTreeFormed, trees_of};
 ghost use Rattle.linear_program.specs.Coefs.{value_or_zero};

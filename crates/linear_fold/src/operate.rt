@@ -2,7 +2,7 @@
 ghost use Rattle.std.specs.Prelude.{◌≡◌, Bool, ◌+◌, ◌*◌, ◌≤◌, [], ◌∷◌, IfOk, OnOk, OnErr, length, ℕ, ◌<◌, reverse};
 ghost use Rattle.code_tables.specs.declared.class.OpClass.TheVariants.{Difference, Product, Quotient, Negation};
 ghost use Rattle.exact_numbers.specs.Values.{frac_value};
-ghost use Rattle.linear_programs.specs.Lines.{constant_line, line_neg, line_scaled, line_sum, products_fit, running_line, running_sums_fit, sums_fit, Line};
+ghost use Rattle.program_meaning.specs.Lines.{constant_line, line_neg, line_scaled, line_sum, products_fit, running_line, running_sums_fit, sums_fit, Line};
 ghost use Rattle.nl_meaning.specs.Trees.{Takes, rule_of};
 ghost use Rattle.linear_program.specs.Forms.{AddsScaled, IsWithin, form_line, place_count, sum_line};
 ghost use Rattle.linear_fold.specs.InsideOperates.{AreOperands, ComesTo, IsBlank, IsOperand, IsSound, Operates, StaysBlank, SumsTo, lines_of_parts, multiple_line, part_line, zero_line};

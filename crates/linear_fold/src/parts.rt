@@ -3,7 +3,7 @@
 ghost use Rattle.std.specs.Prelude.{◌≡◌, ◌∷◌, List, ℕ, IfOk, IfSome, is_some, reverse};
 ghost use Rattle.exact_numbers.specs.Values.{frac_value};
 ghost use Rattle.fractions.specs.Rational.{zero_ℚ};
-ghost use Rattle.linear_programs.specs.Lines.{is_constant, is_zero};
+ghost use Rattle.program_meaning.specs.Lines.{is_constant, is_zero};
 ghost use Rattle.linear_program.specs.Forms.{IsWithin, form_line};
 ghost use Rattle.linear_fold.specs.InsideFolds.{IsEntryOf, first_broken};
 ghost use Rattle.linear_fold.specs.InsideOperates.{IsOperand, IsUnbroken, multiple_line, part_line};

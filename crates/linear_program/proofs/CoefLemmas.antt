@@ -5,8 +5,8 @@ use Rattle.exact_numbers.specs.declared.frac.Frac.{Frac}
 use Rattle.exact_numbers.specs.Values.{frac_value}
 use Rattle.fractions.specs.Rational.{ℚ, zero_ℚ, ◌+ℚ◌, ◌*ℚ◌}
 use Rattle.fractions.proofs.Arithmetic.{+ℚ_zero, *ℚ_zero, *ℚ_one}
-use Rattle.linear_programs.specs.Lines.{one_if}
-use Rattle.linear_programs.proofs.LineLemmas.{same-eqb, apart-eqb}
+use Rattle.program_meaning.specs.Lines.{one_if}
+use Rattle.program_meaning.proofs.LineLemmas.{same-eqb, apart-eqb}
 use Rattle.linear_program.specs.Coefs.{Term, found, AreAscending, AreBelow}
 
 pub apart_test : (i j : ℕ) → i ≢ j → i == j ≡ false

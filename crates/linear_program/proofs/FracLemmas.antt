@@ -10,8 +10,8 @@ use Rattle.fractions.specs.Rational.{ℚ, whole, neg_ℚ, zero_ℚ}
 use Rattle.fractions.proofs.Arithmetic.{over_lowest}
 use Rattle.linear_program.specs.Coefs.{Term, found, value_or_zero, coef_in}
 use Rattle.linear_program.specs.Places.{place_in}
-use Rattle.linear_programs.proofs.LineLemmas.{is_zero-true}
-use Rattle.linear_programs.specs.Lines.{is_zero}
+use Rattle.program_meaning.proofs.LineLemmas.{is_zero-true}
+use Rattle.program_meaning.specs.Lines.{is_zero}
 
 neg_size : (z : ℤ) → unsigned_abs (neg_ℤ z) ≡ unsigned_abs z
 neg_size (pos zero) = refl

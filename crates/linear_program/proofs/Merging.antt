@@ -5,7 +5,7 @@ use Rattle.exact_numbers.specs.Values.{frac_value}
 use Rattle.fractions.specs.Rational.{ℚ, zero_ℚ, ◌+ℚ◌, ◌*ℚ◌}
 use Rattle.fractions.proofs.Arithmetic.{+ℚ_zero, zero-+ℚ}
 use Rattle.fractions.specs.Fits.{fits, sum_fits}
-use Rattle.linear_programs.specs.Lines.{Line}
+use Rattle.program_meaning.specs.Lines.{Line}
 use Rattle.texts.specs.declared.stop.Stop.{Stop}
 use Rattle.texts.specs.declared.stop.Stop.TheVariants.{Fault, Memory}
 use Rattle.texts.specs.Stopped.{IfFault}

@@ -6,7 +6,7 @@ use Rattle.exact_numbers.specs.Values.{frac_value}
 use Rattle.fractions.specs.Fits.{fits}
 use Rattle.fractions.specs.Rational.{ℚ, zero_ℚ, ◌*ℚ◌}
 use Rattle.fractions.proofs.Arithmetic.{*ℚ_cancel, *ℚ_zero, zero-*ℚ}
-use Rattle.linear_programs.specs.Lines.{line_scaled, products_fit, Line}
+use Rattle.program_meaning.specs.Lines.{line_scaled, products_fit, Line}
 use Rattle.linear_program.specs.Coefs.{Term, value_or_zero, coef_in, AreAscending, AreProducts, HasWideProduct}
 use Rattle.texts.specs.declared.stop.Stop.{Stop}
 use Rattle.texts.specs.declared.stop.Stop.TheVariants.{Fault, Memory}

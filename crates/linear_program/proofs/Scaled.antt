@@ -8,8 +8,8 @@ use Rattle.exact_numbers.specs.Values.{frac_value}
 use Rattle.fractions.specs.Fits.{fits, sum_fits}
 use Rattle.fractions.specs.Rational.{ℚ, whole, zero_ℚ, ◌+ℚ◌, ◌*ℚ◌}
 use Rattle.fractions.proofs.Arithmetic.{*ℚ_one, *ℚ_zero, +ℚ_zero}
-use Rattle.linear_programs.specs.Lines.{line_sum, line_scaled, line_with, Line, all_below, is_zero, is_constant}
-use Rattle.linear_programs.proofs.LineLemmas.{same-eqb, apart-eqb, all_below-true, is_zero-true}
+use Rattle.program_meaning.specs.Lines.{line_sum, line_scaled, line_with, Line, all_below, is_zero, is_constant}
+use Rattle.program_meaning.proofs.LineLemmas.{same-eqb, apart-eqb, all_below-true, is_zero-true}
 use Rattle.linear_program.specs.declared.too_wide.Wide.{Wide}
 use Rattle.linear_program.specs.Coefs.{Term, found, value_or_zero, coef_in, AreAscending, AreBelow}
 use Rattle.linear_program.specs.Forms.{IsZeroFrom, ScaledSumFits, stepped, step_fits, adds_fit, with_scaled, SumsUp, AddsScaled}

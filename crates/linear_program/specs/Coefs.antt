@@ -7,7 +7,7 @@ use Rattle.exact_numbers.specs.declared.frac.Frac.{Frac}
 use Rattle.exact_numbers.specs.Values.{dec_value, frac_value}
 use Rattle.fractions.specs.Fits.{fits, sum_fits}
 use Rattle.fractions.specs.Rational.{ℚ, zero_ℚ, ◌+ℚ◌, ◌*ℚ◌}
-use Rattle.linear_programs.specs.Lines.{one_if}
+use Rattle.program_meaning.specs.Lines.{one_if}
 use Rattle.linear_program.specs.declared.too_wide.Wide.{Wide}
 
 -- a variable and its coefficient

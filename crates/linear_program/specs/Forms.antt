@@ -4,7 +4,7 @@ use Rattle.exact_numbers.specs.declared.frac.Frac.{Frac}
 use Rattle.exact_numbers.specs.Values.{frac_value}
 use Rattle.fractions.specs.Fits.{fits, sum_fits}
 use Rattle.fractions.specs.Rational.{ℚ, zero_ℚ, ◌*ℚ◌}
-use Rattle.linear_programs.specs.Lines.{line_sum, line_scaled, line_with, products_fit, Line}
+use Rattle.program_meaning.specs.Lines.{line_sum, line_scaled, line_with, products_fit, Line}
 use Rattle.texts.specs.declared.stop.Stop.{Stop}
 use Rattle.texts.specs.declared.stop.Stop.TheVariants.{Fault, Memory}
 use Rattle.linear_program.specs.declared.too_wide.Wide.{Wide}

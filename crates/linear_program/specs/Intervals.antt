@@ -5,7 +5,7 @@ use Rattle.exact_numbers.specs.Values.{dec_value}
 use Rattle.exact_numbers.specs.declared.dec.Dec.{Dec}
 use Rattle.linear_program.specs.declared.interval.Interval.{Interval as Sides}
 use Rattle.std.specs.Option.{option_map}
-use Rattle.linear_programs.specs.Linear.{Interval, has_side}
+use Rattle.program_meaning.specs.Linear.{Interval, has_side}
 use Rattle.linear_program.specs.declared.kind.Kind.{Kind}
 use Rattle.linear_program.specs.declared.kind.Kind.TheVariants.{Continuous, Binary, Integer}
 

@@ -3,7 +3,7 @@ ghost use Rattle.std.specs.Prelude.{◌≡◌, ◌+◌, ◌<◌, ◌≤◌, ◌^
 ghost use Rattle.texts.specs.Stopped.{IfFault};
 ghost use Rattle.exact_numbers.specs.Values.{frac_value};
 ghost use Rattle.fractions.specs.Rational.{zero_ℚ};
-ghost use Rattle.linear_programs.specs.Lines.{constant_line, is_constant};
+ghost use Rattle.program_meaning.specs.Lines.{constant_line, is_constant};
 ghost use Rattle.linear_program.specs.Coefs.{AreAscending, AreDecimalsOf, AreProducts, HasWideProduct, coef_in};
 ghost use Rattle.linear_program.specs.Decimals.{AreDecimals, fraction_terms};
 ghost use Rattle.linear_program.specs.Forms.{AddsScaled, HasRoom, IsWithin, Multiplies, form_line, form_terms, is_open, pad_places, terms_left};

@@ -4,7 +4,7 @@ ghost use Rattle.texts.specs.Stopped.{IfFault};
 ghost use Rattle.exact_numbers.specs.Values.{frac_value};
 ghost use Rattle.fractions.specs.Fits.{sum_fits};
 ghost use Rattle.fractions.specs.Rational.{ℚ, zero_ℚ};
-ghost use Rattle.linear_programs.specs.Lines.{constant_line};
+ghost use Rattle.program_meaning.specs.Lines.{constant_line};
 ghost use Rattle.linear_program.specs.Coefs.{AreAscending, AreBelow, IsAdded, coef_in};
 ghost use Rattle.linear_program.specs.Forms.{AddsScaled, AreSummedUp, IsScaledSum, ScaledSumFits, adds_fit, form_line, form_terms, parts_line, terms_left};
 

@@ -2,7 +2,7 @@
 ghost use Rattle.std.specs.Prelude.{◌≡◌, ◌+◌, ◌<◌, ◌≤◌, IfOk, OnErr, OnOk, false, length};
 ghost use Rattle.exact_numbers.specs.Values.{frac_value};
 ghost use Rattle.fractions.specs.Rational.{zero_ℚ};
-ghost use Rattle.linear_programs.specs.Lines.{constant_line};
+ghost use Rattle.program_meaning.specs.Lines.{constant_line};
 ghost use Rattle.linear_program.specs.Coefs.{AddsAt, AreAscending, AreBelow};
 ghost use Rattle.linear_program.specs.Forms.{AddsScaled, IsWithin, SumsUp, form_line, form_terms, is_open, place_count, sum_line, terms_left};
 ghost use Rattle.linear_program.specs.Places.{terms_from};

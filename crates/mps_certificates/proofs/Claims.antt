@@ -1,7 +1,7 @@
 -- What a verdict on a certificate says of the problem of an MPS program.
 use Rattle.std.proofs.Common.{◌≡◌, length, sym, subst, Option}
 use Rattle.fractions.specs.Rational.{ℚ}
-use Rattle.linear_programs.specs.Linear.{variable_count}
+use Rattle.program_meaning.specs.Linear.{variable_count}
 use Rattle.duality.specs.Certificate.{Cause, fails, holds}
 use Rattle.duality.specs.ProblemSays.{Denies}
 use Rattle.duality.specs.Told.{IsToldTrue}

@@ -3,7 +3,7 @@ use Rattle.std.proofs.Common.{◌≡◌, ◌∙◌, ◌↔◌, ℕ, zero, suc, �
 use Rattle.std.proofs.lemmas.List.{get_or_default}
 use Rattle.std.proofs.lemmas.Option.{same_Some}
 use Rattle.fractions.specs.Rational.{ℚ}
-use Rattle.linear_programs.specs.Linear.{IsInside, RowHolds, Variable, no_row, row_at, row_count, value_at, variable_count, IsFeasible as IsFeasibleProgram, IsRelaxed as IsRelaxedProgram}
+use Rattle.program_meaning.specs.Linear.{IsInside, RowHolds, Variable, no_row, row_at, row_count, value_at, variable_count, IsFeasible as IsFeasibleProgram, IsRelaxed as IsRelaxedProgram}
 use Rattle.duality.specs.Says.{IsRowBroken, IsBoundBroken as IsBoundBrokenProgram, IsNotWhole as IsNotWholeProgram}
 use Rattle.duality.specs.Problem.{IsBoundBroken, IsConstraintBroken, IsConstraintMet, IsFeasible, IsNotWhole, IsRelaxed}
 use Rattle.duality.specs.Means.{Means}

@@ -1,7 +1,7 @@
 -- The setting of an MPS program is that of its linear program.
 use Rattle.std.proofs.Common.{◌≡◌, ◌∙◌, ◌<◌, Bool, true, false, length, refl, sym, ap, subst}
 use Rattle.std.proofs.lemmas.List.{length-map}
-use Rattle.linear_programs.specs.Linear.{Variable, row_count}
+use Rattle.program_meaning.specs.Linear.{Variable, row_count}
 use Rattle.linear_program.specs.Intervals.{is_whole_kind}
 use Rattle.linear_program.specs.declared.kind.Kind.TheVariants.{Continuous}
 use Rattle.exact_numbers.specs.Values.{dec_value}

@@ -9,7 +9,7 @@ pub use Rattle.mps_model.specs.declared.kinds.RowKind.{RowKind}
 use Rattle.mps_model.specs.declared.kinds.RowKind.TheVariants.{N, L, G, E}
 pub use Rattle.mps_model.specs.declared.kinds.BoundKind.{BoundKind}
 use Rattle.mps_model.specs.declared.kinds.BoundKind.TheVariants.{Lo, Up, Fx, Fr, Mi, Pl, Bv, Li, Ui}
-use Rattle.linear_programs.specs.Linear.{Interval, IsInside, unbounded, value_at}
+use Rattle.program_meaning.specs.Linear.{Interval, IsInside, unbounded, value_at}
 
 -- a row: its name and its kind
 pub record MpsRow : Type 0 where

@@ -8,7 +8,7 @@ use Rattle.std.specs.Ordering.{is_gt}
 use Rattle.texts.specs.Stopped.{IfFault}
 use Rattle.texts.specs.declared.stop.Stop.{Stop}
 use Rattle.texts.specs.declared.stop.Stop.TheVariants.{Fault, Memory}
-use Rattle.linear_programs.specs.Linear.{Interval}
+use Rattle.program_meaning.specs.Linear.{Interval}
 use Rattle.exact_numbers.specs.declared.dec.Dec.{Dec}
 use Rattle.linear_program.specs.Intervals.{interval_of, no_sides}
 use Rattle.linear_program.specs.declared.interval.Interval.{Interval as Sides}

@@ -10,8 +10,8 @@ use Rattle.std.specs.List.{sum_by}
 use Rattle.fractions.specs.Rational.{ℚ, zero_ℚ, neg_ℚ}
 use Rattle.exact_numbers.specs.declared.dec.Dec.{Dec}
 use Rattle.exact_numbers.specs.Values.{dec_value, frac_value}
-use Rattle.linear_programs.specs.Linear.{Row}
-use Rattle.linear_programs.specs.Lines.{Line, form_of_line}
+use Rattle.program_meaning.specs.Linear.{Row}
+use Rattle.program_meaning.specs.Lines.{Line, form_of_line}
 use Rattle.linear_program.specs.Coefs.{Term, AreAscending, coef_in, value_or_zero}
 use Rattle.linear_program.specs.Decimals.{DecimalTerm, fraction_term, fraction_terms}
 use Rattle.linear_program.specs.Forms.{form_terms}

@@ -6,9 +6,9 @@ use Rattle.fractions.specs.Fits.{fits}
 use Rattle.fractions.specs.Rational.{neg_ℚ}
 use Rattle.exact_numbers.specs.declared.dec.Dec.{Dec}
 use Rattle.exact_numbers.specs.Values.{dec_value}
-use Rattle.linear_programs.specs.Elements.{elements_from}
-use Rattle.linear_programs.specs.Linear.{Variable}
-use Rattle.linear_programs.proofs.Elements.{elements_length, elements_at}
+use Rattle.program_meaning.specs.Elements.{elements_from}
+use Rattle.program_meaning.specs.Linear.{Variable}
+use Rattle.program_meaning.proofs.Elements.{elements_length, elements_at}
 use Rattle.linear_program.specs.Intervals.{interval_of, is_whole_kind, IsOrdered}
 use Rattle.linear_program.specs.Programs.{LinearValue, IsLinear, rows_from, variables_from, linear_value}
 use Rattle.linear_program.specs.declared.form.Form.{Form}

@@ -4,7 +4,7 @@ use Rattle.std.proofs.lemmas.Int.{ints}
 use Rattle.fractions.specs.Rational.{ℚ, zero_ℚ, whole, ◌+ℚ◌, ◌<ℚ◌}
 use Rattle.fractions.specs.Fits.{fits, sum_fits}
 use Rattle.mps_program.proofs.MinusLemmas.{minus_is}
-use Rattle.linear_programs.specs.Linear.{Interval}
+use Rattle.program_meaning.specs.Linear.{Interval}
 use Rattle.exact_numbers.specs.declared.dec.Dec.{Dec}
 use Rattle.exact_numbers.specs.Values.{dec_value, FitsDec, fits_dec}
 use Rattle.exact_numbers.proofs.Bridge.{not_true}

@@ -6,7 +6,7 @@ use Rattle.std.specs.Prelude.{option_and_then}
 use Rattle.fractions.specs.Rational.{ℚ, zero_ℚ, ◌+ℚ◌, decimal_value}
 use Rattle.fractions.specs.Fits.{fits, sum_fits}
 use Rattle.mps_program.proofs.MinusLemmas.{minus_is}
-use Rattle.linear_programs.specs.Linear.{Interval}
+use Rattle.program_meaning.specs.Linear.{Interval}
 use Rattle.exact_numbers.specs.Values.{dec_value, decimal_of, FitsDec, fits_dec}
 use Rattle.exact_numbers.specs.declared.dec.Dec.{Dec}
 use Rattle.exact_numbers.proofs.Fitting.{dec_fits, one_fits, zero_fits}

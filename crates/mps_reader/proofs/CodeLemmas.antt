@@ -94,6 +94,12 @@ last_is_name [] name h e some = let none : length name ≡ 0 = ap length (bytes_
 last_is_name (n ∷ []) name h e some = ap is_name (bytes_same name n e) ∙ All-head (λ n. is_name n ≡ true) n [] h
 last_is_name (n ∷ o ∷ names) name h e some = last_is_name (o ∷ names) name (All-tail (λ n. is_name n ≡ true) n (o ∷ names) h) e some
 
+pub last_named : (names : List (List ℕ)) → All (λ n. is_name n ≡ true) names → 0 < length names → is_name (last_name names) ≡ true
+unfolding last_name
+last_named [] h some = absurd (omega (arith, some))
+last_named (n ∷ []) h some = All-head (λ n. is_name n ≡ true) n [] h
+last_named (n ∷ o ∷ names) h some = last_named (o ∷ names) (All-tail (λ n. is_name n ≡ true) n (o ∷ names) h) (omega arith)
+
 -- ---- places
 
 -- a name whose code stands at a place has that place

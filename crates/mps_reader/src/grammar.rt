@@ -11,7 +11,7 @@ use crate::words::{is_data, is_left_out, three_words};
 use mps_model::Mps;
 use std::alloc::{AllocError, Global};
 use std::marker::Model;
-use texts::{Grammar, LineFault, Row, Stop};
+use texts::{Front, Grammar, LineFault, Row, Stop};
 
 /// The grammar of MPS texts, with the lines that it took.
 #[derive(Drop)]
@@ -58,6 +58,14 @@ impl Grammar for MpsGrammar {
             return Ok(());
         }
         self.take_words(is_data(line), row.words())
+    }
+
+    fn take_front(&mut self, piece: &[u8], number: u32) -> Front {
+        let _ = number;
+        if self.is_broken {
+            return Front { len: 0, lines: 0 };
+        }
+        self.state.take_entries(piece)
     }
 
     fn line_fault(&self, fault: LineFault) -> MpsReason {

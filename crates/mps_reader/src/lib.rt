@@ -4,6 +4,7 @@
 mod bounds;
 mod codes;
 mod columns;
+mod entry_lines;
 mod fault;
 mod grammar;
 mod keyword;

@@ -3,11 +3,12 @@ use Rattle.std.proofs.Common.{inl, inr, ℕ, zero, suc, List, [], ◌∷◌, ◌
 use Rattle.std.specs.List.{AllByRecursion}
 use Rattle.std.proofs.lemmas.Bool.{cond_both}
 use Rattle.std.proofs.lemmas.List.Elements.{All-cons, recursion_from_All}
-use Rattle.linear_programs.specs.Linear.{Form, Row, Variable, Linear, has_side}
-use Rattle.linear_programs.specs.Names.{row_name, variable_name}
+use Rattle.program_meaning.specs.Linear.{Form, Row, Variable, Linear, has_side}
+use Rattle.program_meaning.specs.Names.{row_name, variable_name}
 use Rattle.mps_model.specs.Mps.{MpsRow, Column}
 use Rattle.fractions.specs.Rational.{ℚ}
-use Rattle.exported_program.specs.Program.{ScaledRow, scaled_row, exported_rows, mps_row, columns_of, program_of, program, tied_program, tie, z_form, z_variable}
+use Rattle.scaled_program.specs.Program.{ScaledRow, scaled_row, exported_rows, tie, z_form, z_variable}
+use Rattle.exported_program.specs.Program.{mps_row, columns_of, mps_of, program, tied_program}
 use Rattle.name_files.specs.Renamed.{IsExportedName, HasExportedNames, IsNamedLinear}
 
 with_last : {X : Type 0} (P : X → Type 0) (xs : List X) (x : X) → AllByRecursion P xs → P x → AllByRecursion P (xs ++ x ∷ [])
@@ -49,7 +50,7 @@ module _ (f : Linear) (factor : ℕ → ℕ) (is : IsNamedLinear f) where
   variable_names = recursion_from_All (λ (v : Variable). VariableName v.name) f.variables (λ k d lt. inr (is.variables k d lt))
 
   pub plain_names : HasExportedNames (length f.rows) (length f.variables) (program f factor)
-  unfolding program_of RowName VariableName
+  unfolding mps_of RowName VariableName
   plain_names = record {
     rows = record {
       few = is.few_rows;
@@ -59,7 +60,7 @@ module _ (f : Linear) (factor : ℕ → ℕ) (is : IsNamedLinear f) where
   }
 
   pub tied_names : (g : ℕ) → HasExportedNames (length f.rows) (length f.variables) (tied_program f factor g)
-  unfolding program_of RowName VariableName
+  unfolding mps_of RowName VariableName
   tied_names g =
       let last : ScaledRow = scaled_row g (tie (length f.variables) f.objective) in
       let rows = with_last (λ (r : ScaledRow). RowName r.name) (exported_rows factor 0 f.rows) last (exported RowName factor 0 f.rows row_names) (inl (inr (inl refl))) in

@@ -10,7 +10,7 @@ use Rattle.std.proofs.lemmas.List.Sums.{sum_by-cons}
 use Rattle.texts.specs.Names.{IsName}
 use Rattle.exact_numbers.specs.declared.dec.Dec.{Dec}
 use Rattle.exact_numbers.specs.Values.{dec_value}
-use Rattle.linear_programs.specs.Names.{row_name, variable_name}
+use Rattle.program_meaning.specs.Names.{row_name, variable_name}
 use Rattle.mps_model.specs.Mps.{MpsRow, Column, Mps, no_mps_row}
 use Rattle.mps_model.specs.Valid.{AreRows, AreColumns, AreEntries, AreRanges, AreBounds, IsPartOfMps, IsComplete, IsMps, IsOtherRow, HasEntries, IsNameOrEmpty, marker_word, entry_count}
 use Rattle.name_lists.specs.Names.{AreNames, is_reserved}

@@ -8,7 +8,7 @@ ghost use Rattle.mps_model.specs.Mps.{Mps, with_values};
 ghost use Rattle.mps_model.specs.Valid.{IsMps};
 ghost use Rattle.name_lists.specs.Names.{AreNames};
 ghost use Rattle.name_files.specs.Names.{Counts, name_rules, SaysNames};
-ghost use Rattle.linear_programs.specs.Linear.{Linear};
+ghost use Rattle.program_meaning.specs.Linear.{Linear};
 ghost use Rattle.exported_program.specs.Program.{program, tied_program};
 ghost use Rattle.name_files.specs.Renamed.{named, HasExportedNames, HaveOneMeaning, IsNamedLinear};
 

@@ -1,13 +1,13 @@
 -- The value and the faults of the example.
 use Rattle.std.proofs.Common.{◌≡◌, ap, refl, pos, negsuc, Some, []}
-use Rattle.fractions.specs.Divisors.{gcd_of, steps_of_euclid}
+use Rattle.fractions.specs.LowestLemmas.{gcd_of, steps_of_euclid}
 use Rattle.fractions.specs.Functions.{power_of, lesser_of, least_of, floor_of, ceiling_of}
 use Rattle.fractions.specs.Rational.{over, whole, ◌+ℚ◌, ◌*ℚ◌, ◌-ℚ◌, neg_ℚ, decimal_value}
 use Rattle.fractions.proofs.Values.{same_parts}
 use Rattle.nl_meaning.specs.declared.Reason.TheVariants.{Nonlinear, TooWide, RefusedPower}
 use Rattle.nl_meaning.specs.Example.{power_and_least}
 use Rattle.nl_meaning.specs.Faults.{first_fault}
-use Rattle.linear_programs.specs.Lines.{Point}
+use Rattle.program_meaning.specs.Lines.{Point}
 use Rattle.nl_meaning.specs.Trees.{number, variable, tree_value}
 
 pub example_value : (at : Point) → tree_value [] (power_and_least (number (pos 15) (negsuc 0)) (number (pos 3) (pos 0))) at ≡ Some (decimal_value (negsuc 3624) (negsuc 2))

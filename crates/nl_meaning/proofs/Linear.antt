@@ -11,10 +11,10 @@ use Rattle.fractions.proofs.Tests.{option_or-none}
 use Rattle.fractions.proofs.Adding.{sum_over_nil, sum_over_cons, sum_below_all_zero}
 use Rattle.nl_meaning.specs.declared.Reason.{Reason}
 use Rattle.nl_meaning.specs.declared.Reason.TheVariants.{Nonlinear, DivideByZero}
-use Rattle.linear_programs.specs.Lines.{Line, line_value, line_values, is_zero, is_constant, are_constant, constants_of, constant_line, running_line, line_sum, line_scaled, line_neg, line_with, Point}
+use Rattle.program_meaning.specs.Lines.{Line, line_value, line_values, is_zero, is_constant, are_constant, constants_of, constant_line, running_line, line_sum, line_scaled, line_neg, line_with, Point}
 use Rattle.nl_meaning.specs.Faults.{nonlinear_unless, power_fault, constants_line, operator_line, line_with_terms, operator_fault, fault_at, tree_line, trees_lines, tree_fault, trees_fault, expression_fault, definitions_fault, first_fault, first_expression_fault, coef, constant_of, expression_line}
 use Rattle.nl_meaning.specs.Trees.{Known, nothing_known, with_value, Tree, number, variable, defined, operator, Trees, none, more, applied, rule_of, tree_given, trees_given, LinearTerm, Expression, Definition, terms_value, expression_given, values_after, known_values, tree_value, expression_value, tree_size, count_of, Takes, IsOneOf, IsFormed, AreFormed, AreTermsBelow, IsExpressionFormed, indices_after, indices_of, AreDefined}
-use Rattle.linear_programs.proofs.LineLemmas.{is_zero-false, line_value-sum, line_value-scaled, line_value-neg, line_value-constant, line_values-constant, line_value-with, line_by_lem}
+use Rattle.program_meaning.proofs.LineLemmas.{is_zero-false, line_value-sum, line_value-scaled, line_value-neg, line_value-constant, line_values-constant, line_value-with, line_by_lem}
 
 pub constant_value : (n : ℕ) (k : ℚ) (at : Point) → line_value n (constant_line k) at ≡ k
 constant_value n k at = ap (λ s. k +ℚ s) (sum_below_all_zero (λ j. zero_ℚ *ℚ at j) n (λ j h. zero-*ℚ (at j))) ∙ +ℚ_zero k

@@ -6,9 +6,9 @@ use Rattle.fractions.specs.Rational.{ℚ, zero_ℚ, ◌+ℚ◌, ◌-ℚ◌, ◌*
 use Rattle.fractions.proofs.Arithmetic.{+ℚ-neg, -ℚ_lem}
 use Rattle.fractions.proofs.Adding.{sum_over_nil, sum_over_cons}
 use Rattle.nl_meaning.specs.Faults.{expression_line}
-use Rattle.linear_programs.specs.Lines.{origin, unit_point, Point}
+use Rattle.program_meaning.specs.Lines.{origin, unit_point, Point}
 use Rattle.nl_meaning.specs.Trees.{Known, nothing_known, with_value, Tree, number, variable, defined, operator, Trees, none, more, applied, rule_of, tree_given, trees_given, LinearTerm, Expression, Definition, terms_value, expression_given, values_after, known_values, expression_value, IsOneOf, IsFormed, AreFormed, AreTermsBelow, IsExpressionFormed, indices_after, indices_of, AreDefined}
-use Rattle.linear_programs.proofs.LineLemmas.{apart-eqb}
+use Rattle.program_meaning.proofs.LineLemmas.{apart-eqb}
 
 module _ (n : ℕ) (p q : Point) (same : (j : ℕ) → j < n → p j ≡ q j) where
   -- two tables of values agree on the defined variables of `is`

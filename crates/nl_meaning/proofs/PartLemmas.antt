@@ -4,7 +4,7 @@ use Rattle.std.specs.Option.{option_map_or}
 use Rattle.nl_meaning.specs.Faults.{tree_line, line_with_terms, tree_fault, trees_fault, definitions_fault, first_fault}
 use Rattle.nl_meaning.specs.Parts.{IsPart, IsPartOfOne, IsLinearTree}
 use Rattle.nl_meaning.specs.Trees.{Tree, number, variable, defined, operator, Trees, none, more, Known, with_value, Definition, expression_given, values_after, known_values, tree_given, tree_size, IsFormed, AreFormed, indices_of, AreDefined}
-use Rattle.linear_programs.specs.Lines.{Point}
+use Rattle.program_meaning.specs.Lines.{Point}
 use Rattle.fractions.proofs.Tests.{option_or-none}
 use Rattle.nl_meaning.proofs.Linear.{AreLinear, HasValues, tree_linear, expression_linear, more_linear, known_linear}
 

@@ -9,7 +9,7 @@ use Rattle.fractions.specs.Rational.{ℚ, inverse_of, decimal_value}
 use Rattle.nl_meaning.specs.declared.Fault.{Fault}
 use Rattle.nl_meaning.specs.declared.Reason.{Reason}
 use Rattle.nl_meaning.specs.declared.Reason.TheVariants.{Nonlinear, DivideByZero, TooWide, RefusedPower}
-use Rattle.linear_programs.specs.Lines.{Line, line_by, is_zero, is_constant, are_constant, constants_of, Point, line_sum, line_scaled, line_neg, constant_line, running_line, line_with, sums_fit, products_fit, running_sums_fit}
+use Rattle.program_meaning.specs.Lines.{Line, line_by, is_zero, is_constant, are_constant, constants_of, Point, line_sum, line_scaled, line_neg, constant_line, running_line, line_with, sums_fit, products_fit, running_sums_fit}
 use Rattle.nl_meaning.specs.Trees.{Tree, number, variable, defined, operator, Trees, none, more, Known, nothing_known, with_value, LinearTerm, Expression, Definition, applied, rule_of, tree_given, known_values, tree_value, expression_given, expression_value, tree_size}
 
 abbrev pub too_wide_unless : Bool → Option Reason

@@ -4,7 +4,7 @@ use Rattle.fractions.specs.Rational.{◌+ℚ◌, ◌*ℚ◌}
 use Rattle.fractions.specs.Sums.{sum_below}
 use Rattle.nl_meaning.specs.Faults.{coef, constant_of}
 use Rattle.nl_meaning.specs.Trees.{Tree, number, variable, defined, operator, Trees, none, more, Definition, tree_value}
-use Rattle.linear_programs.specs.Lines.{Point}
+use Rattle.program_meaning.specs.Lines.{Point}
 
 -- u is the tree itself, or a part of one of its operands
 abbrev mutual

@@ -5,7 +5,7 @@ use Rattle.code_tables.specs.declared.class.OpClass.TheVariants.{Sum, Difference
 use Rattle.fractions.specs.Functions.{power_of, exponent_of, least_of, greatest_of, floor_of, ceiling_of, absolute_of}
 use Rattle.fractions.specs.Rational.{ℚ, ◌+ℚ◌, ◌-ℚ◌, ◌*ℚ◌, neg_ℚ, quotient_of, decimal_value}
 use Rattle.fractions.specs.Sums.{sum_of_all, sum_over}
-use Rattle.linear_programs.specs.Lines.{Point}
+use Rattle.program_meaning.specs.Lines.{Point}
 
 -- a tree; `number m e` is m * 10 ^ e
 mutual

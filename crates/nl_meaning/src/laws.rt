@@ -5,7 +5,7 @@ ghost use Rattle.fractions.specs.Sums.{sum_below};
 ghost use Rattle.nl_meaning.specs.declared.Reason.TheVariants.{Nonlinear, RefusedPower, TooWide};
 ghost use Rattle.nl_meaning.specs.Example.{power_and_least};
 ghost use Rattle.nl_meaning.specs.Faults.{coef, constant_of, expression_line, first_expression_fault, first_fault};
-ghost use Rattle.linear_programs.specs.Lines.{line_value, Point};
+ghost use Rattle.program_meaning.specs.Lines.{line_value, Point};
 ghost use Rattle.nl_meaning.specs.Parts.{IsLinearTree, IsPart};
 ghost use Rattle.nl_meaning.specs.Trees.{AreDefined, Definition, Expression, IsExpressionFormed, IsFormed, Tree, expression_value, indices_of, number, tree_value, variable};
 

@@ -6,7 +6,7 @@ use Rattle.exact_numbers.specs.Numbers.{whole_of, signed_of, is_dec_text, dec_fr
 use Rattle.code_tables.specs.Opcodes.{class_of, operands_of}
 use Rattle.nl_model.specs.Kinds.{variable_kind}
 use Rattle.fractions.specs.Rational.{whole, decimal_value, over}
-use Rattle.fractions.specs.Divisors.{gcd_of, steps_of_euclid}
+use Rattle.fractions.specs.LowestLemmas.{gcd_of, steps_of_euclid}
 use Rattle.exact_numbers.specs.Values.{exponent_below, decimal_of, fits_dec}
 use Rattle.nl_lines.specs.Nodes.{dec_of_signed, node_in, opcode_in, nodes_from, pending_from}
 use Rattle.nl_lines.specs.Rows.{rows_from}

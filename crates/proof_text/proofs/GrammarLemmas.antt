@@ -9,7 +9,7 @@ use Rattle.texts.specs.Reading.{Stands}
 use Rattle.certificates.specs.Proofs.{ProofValue}
 use Rattle.proof_text.specs.declared.fault.ProofReason.{ProofReason}
 use Rattle.certificates.specs.Setting.{Setting}
-use Rattle.proof_text.specs.Rows.{rows_in}
+use Rattle.tree_text.specs.Rows.{rows_in}
 use Rattle.proof_text.specs.Standing.{ProofStanding, proof_standing}
 use Rattle.proof_text.specs.Steps.{ReadSoFar, moved, with_line}
 use Rattle.proof_text.proofs.Steps.{line_push}

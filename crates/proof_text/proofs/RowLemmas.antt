@@ -1,15 +1,13 @@
 -- A row says one thing at most, by its first word: the claim, a node, or a pair.
-use Rattle.std.proofs.Common.{◌≡◌, ◌∙◌, ◌⊎◌, ⊎_elim, inl, inr, ℕ, zero, suc, ◌<◌, ◌≤◌, ◌==◌, Bool, true, false, not, ◌&&◌, ◌||◌, nat_lt, List, ◌++◌, length, codes, Option, Some, None, is_none, Result, Ok, Err, refl, sym, ap, subst, arith, append-nil}
-use Rattle.std.proofs.lemmas.Bool.{and_parts, lt-ltb, not-false}
+use Rattle.std.proofs.Common.{◌≡◌, ◌∙◌, ◌⊎◌, ⊎_elim, inl, inr, ℕ, Bool, true, false, not, ◌&&◌, ◌||◌, nat_lt, List, ◌++◌, codes, Option, Some, None, is_none, Result, refl, sym, ap, append-nil}
+use Rattle.std.proofs.lemmas.Bool.{and_parts, not-false}
 use Rattle.std.specs.Option.{option_or}
 use Rattle.std.specs.Prelude.{option_to_list}
 use Rattle.std.specs.Str.{bytes_eq}
 use Rattle.texts.specs.Judged.{Takes, first_reason}
 use Rattle.texts.specs.Words.{begins, word_at}
 use Rattle.texts.specs.declared.stop.Stop.{Stop}
-use Rattle.texts.specs.declared.stop.Stop.TheVariants.{Fault, Memory}
 use Rattle.texts.proofs.FirstReasons.{none_each}
-use Rattle.texts.proofs.NamePlaces.{bytes_same}
 use Rattle.exact_numbers.specs.Numbers.{dec_of, whole_of}
 use Rattle.exact_numbers.specs.declared.dec.Dec.{Dec}
 use Rattle.proof_text.specs.declared.fault.ProofReason.{ProofReason}
@@ -17,42 +15,42 @@ use Rattle.certificates.specs.declared.proof.Claim.{Claim}
 use Rattle.certificates.specs.declared.proof.ProofNode.{ProofNode}
 use Rattle.certificates.specs.Proofs.{Pair}
 use Rattle.certificates.specs.Setting.{Setting}
-use Rattle.proof_text.specs.Rows.{ProofRow, claim_in, is_alone, is_claim_row, is_node_row, is_row, pair_of, proof_node_in, proof_pair_in}
+use Rattle.proof_text.specs.Rows.{claim_in, is_alone, is_claim_row, is_node_row, pair_of, proof_node_in, proof_pair_in}
+use Rattle.tree_text.specs.Rows.{TextRow, is_row, is_first_row}
 use Rattle.proof_text.specs.Standing.{ProofStanding, pairs_left, subtrees_left}
 use Rattle.proof_text.specs.Steps.{ReadSoFar, moved, with_claim, with_node, with_pair, with_row}
-use Rattle.proof_text.specs.Tests.{claim_tests, first_tests, is_first, proof_node_tests, proof_pair_tests, proof_row_tests}
+use Rattle.proof_text.specs.Tests.{claim_tests, first_tests, proof_node_tests, proof_pair_tests, proof_row_tests}
+use Rattle.tree_text.proofs.RowLemmas.{format_is, not_word, word_is}
+use Rattle.tree_text.proofs.TestLemmas.{takes_next}
 
 -- what a row says
-pub record Says (words : ProofRow) (c : Option Claim) (n : Option ProofNode) (p : Option Pair) : Type 0 where
+pub record Says (words : TextRow) (c : Option Claim) (n : Option ProofNode) (p : Option Pair) : Type 0 where
   pub claim : claim_in words ≡ c
   pub node : proof_node_in words ≡ n
   pub pair : proof_pair_in words ≡ p
 
 -- ---- by the first word
 
-no_claim : (words : ProofRow) → begins words (codes "infeasible") ≡ false → begins words (codes "value") ≡ false → claim_in words ≡ None
+no_claim : (words : TextRow) → begins words (codes "infeasible") ≡ false → begins words (codes "value") ≡ false → claim_in words ≡ None
 unfolding claim_in
 no_claim words a b = rw (a, b) refl
 
-no_node : (words : ProofRow) → begins words (codes "split") ≡ false → begins words (codes "duals") ≡ false → begins words (codes "weights") ≡ false → proof_node_in words ≡ None
+no_node : (words : TextRow) → begins words (codes "split") ≡ false → begins words (codes "duals") ≡ false → begins words (codes "weights") ≡ false → proof_node_in words ≡ None
 unfolding proof_node_in
 no_node words a b c = rw (a, b, c) refl
 
-no_pair : (words : ProofRow) → whole_of (word_at words 0) ≡ None → proof_pair_in words ≡ None
+no_pair : (words : TextRow) → whole_of (word_at words 0) ≡ None → proof_pair_in words ≡ None
 unfolding proof_pair_in
 no_pair words none = rw none refl
 
-abbrev IsWord : ProofRow → List ℕ → Type 0
+abbrev IsWord : TextRow → List ℕ → Type 0
 IsWord words first = word_at words 0 ≡ first
 
-not_first : (words : ProofRow) (first other : List ℕ) → IsWord words first → bytes_eq first other ≡ false → begins words other ≡ false
+not_first : (words : TextRow) (first other : List ℕ) → IsWord words first → bytes_eq first other ≡ false → begins words other ≡ false
 not_first words first other same e = ap (λ w. bytes_eq w other) same ∙ e
 
-word_is : (words : ProofRow) (first : List ℕ) (count : ℕ) → is_row first count words ≡ true → IsWord words first
-word_is words first count e = bytes_same (word_at words 0) first (and_parts (begins words first) (length words == count) e).0
-
 -- a row of a claim, and one of a node
-claim_says : (words : ProofRow) (first : List ℕ) → IsWord words first → bytes_eq first (codes "split") ≡ false → bytes_eq first (codes "duals") ≡ false → bytes_eq first (codes "weights") ≡ false → whole_of first ≡ None
+claim_says : (words : TextRow) (first : List ℕ) → IsWord words first → bytes_eq first (codes "split") ≡ false → bytes_eq first (codes "duals") ≡ false → bytes_eq first (codes "weights") ≡ false → whole_of first ≡ None
     → Says words (claim_in words) None None
 claim_says words first is a b c none = record {
   claim = refl;
@@ -60,23 +58,14 @@ claim_says words first is a b c none = record {
   pair = no_pair words (ap whole_of is ∙ none);
 }
 
-node_says : (words : ProofRow) (first : List ℕ) → IsWord words first → bytes_eq first (codes "infeasible") ≡ false → bytes_eq first (codes "value") ≡ false → whole_of first ≡ None → Says words None (proof_node_in words) None
+node_says : (words : TextRow) (first : List ℕ) → IsWord words first → bytes_eq first (codes "infeasible") ≡ false → bytes_eq first (codes "value") ≡ false → whole_of first ≡ None → Says words None (proof_node_in words) None
 node_says words first is a b none = record {
   claim = no_claim words (not_first words first (codes "infeasible") is a) (not_first words first (codes "value") is b);
   node = refl;
   pair = no_pair words (ap whole_of is ∙ none);
 }
 
--- a word that is a number is none of the first words
-not_word : (w first : List ℕ) (o : Option ℕ) → whole_of w ≡ o → is_none o ≡ false → whole_of first ≡ None → bytes_eq w first ≡ false
-not_word w first None is some none = absurd cc
-not_word w first (Some i) is some none = by (bytes_eq w first) refl
-  where
-    by : (b : Bool) → bytes_eq w first ≡ b → bytes_eq w first ≡ false
-    by true e = absurd (let same = ap whole_of (bytes_same w first e) in cc)
-    by false e = e
-
-pair_says : (words : ProofRow) → is_none (whole_of (word_at words 0)) ≡ false → Says words None None (proof_pair_in words)
+pair_says : (words : TextRow) → is_none (whole_of (word_at words 0)) ≡ false → Says words None None (proof_pair_in words)
 unfolding whole_of
 pair_says words some =
     let no = λ (first : List ℕ) (none : whole_of first ≡ None). not_word (word_at words 0) first (whole_of (word_at words 0)) refl some none in
@@ -92,7 +81,7 @@ either : (a b : Bool) → (a || b) ≡ true → (a ≡ true) ⊎ (b ≡ true)
 either true b e = inl refl
 either false b e = inr e
 
-pub claim_row_says : (words : ProofRow) → first_reason (claim_tests words) ≡ None → Says words (claim_in words) None None
+pub claim_row_says : (words : TextRow) → first_reason (claim_tests words) ≡ None → Says words (claim_in words) None None
 unfolding claim_tests whole_of
 claim_row_says words none =
     ⊎_elim
@@ -100,7 +89,7 @@ claim_row_says words none =
     (λ (e : is_row (codes "value") 3 words ≡ true). claim_says words (codes "value") (word_is words (codes "value") 3 e) refl refl refl refl)
     (either (is_row (codes "infeasible") 1 words) (is_row (codes "value") 3 words) (not-false (is_claim_row words) (none_each (claim_tests words) none).0))
 
-node_row_by : (c : Option Claim) (words : ProofRow) → is_node_row c words ≡ true → Says words None (proof_node_in words) None
+node_row_by : (c : Option Claim) (words : TextRow) → is_node_row c words ≡ true → Says words None (proof_node_in words) None
 unfolding whole_of
 node_row_by c words is =
     let others : Bool = is_row (codes "duals") 2 words || is_row (codes "split") 3 words in
@@ -112,7 +101,7 @@ node_row_by c words is =
     (either (is_row (codes "duals") 2 words) (is_row (codes "split") 3 words) (and_parts (not (is_alone c)) others e).1))
     (either (is_row (codes "weights") 2 words) (not (is_alone c) && others) is)
 
-pub node_row_says : (s : Setting) (st : ProofStanding) (words : ProofRow) → first_reason (proof_node_tests s st words) ≡ None → Says words None (proof_node_in words) None
+pub node_row_says : (s : Setting) (st : ProofStanding) (words : TextRow) → first_reason (proof_node_tests s st words) ≡ None → Says words None (proof_node_in words) None
 unfolding proof_node_tests
 node_row_says s st words none = node_row_by st.claim words (not-false (is_node_row st.claim words) (none_each (proof_node_tests s st words) none).0)
 
@@ -120,17 +109,14 @@ pair_index : (i : Option ℕ) (v : Option Dec) → is_none (pair_of i v) ≡ fal
 pair_index None v e = absurd cc
 pair_index (Some i) v e = refl
 
-pub pair_row_says : (s : Setting) (st : ProofStanding) (words : ProofRow) → first_reason (proof_pair_tests s st words) ≡ None → Says words None None (proof_pair_in words)
+pub pair_row_says : (s : Setting) (st : ProofStanding) (words : TextRow) → first_reason (proof_pair_tests s st words) ≡ None → Says words None None (proof_pair_in words)
 unfolding proof_pair_tests proof_pair_in
 pair_row_says s st words none = pair_says words (pair_index (whole_of (word_at words 0)) (dec_of (word_at words 1)) (none_each (proof_pair_tests s st words) none).1.0)
 
-pub first_row_says : (words : ProofRow) → first_reason (first_tests words) ≡ None → Says words None None None
+pub first_row_says : (words : TextRow) → first_reason (first_tests words) ≡ None → Says words None None None
 unfolding first_tests whole_of
 first_row_says words none =
-    let is = not-false (is_first words) (none_each (first_tests words) none).0 in
-    let both = and_parts ((length words == 2) && bytes_eq (word_at words 0) (codes "proof")) (bytes_eq (word_at words 1) (codes "1")) is in
-    let first = and_parts (length words == 2) (bytes_eq (word_at words 0) (codes "proof")) both.0 in
-    let same = bytes_same (word_at words 0) (codes "proof") first.1 in
+    let same = format_is words (codes "proof") (not-false (is_first_row (codes "proof") words) (none_each (first_tests words) none).0) in
     record {
       claim = (node_says words (codes "proof") same refl refl refl).claim;
       node = (claim_says words (codes "proof") same refl refl refl refl).node;
@@ -149,66 +135,51 @@ or_none : (o : Option Claim) → o ≡ option_or o None
 or_none None = refl
 or_none (Some c) = refl
 
-pub row_is : (st : ProofStanding) (words : ProofRow) (c : Option Claim) (n : Option ProofNode) (p : Option Pair) (now : ProofStanding) → Says words c n p → now.begun ≡ true → now.claim ≡ option_or st.claim c
+pub row_is : (st : ProofStanding) (words : TextRow) (c : Option Claim) (n : Option ProofNode) (p : Option Pair) (now : ProofStanding) → Says words c n p → now.begun ≡ true → now.claim ≡ option_or st.claim c
     → now.nodes ≡ st.nodes ++ option_to_list n → now.pairs ≡ st.pairs ++ option_to_list p → now ≡ with_row st words
 unfolding full
 row_is st words c n p now says b e f g =
     full_same _ _ _ _ _ _ _ _ b (e ∙ ap (option_or st.claim) (sym says.claim)) (f ∙ ap (λ o. st.nodes ++ option_to_list o) (sym says.node)) (g ∙ ap (λ o. st.pairs ++ option_to_list o) (sym says.pair))
 
-pub first_is : (st : ProofStanding) (words : ProofRow) → Says words None None None → record st { begun = true } ≡ with_row st words
+pub first_is : (st : ProofStanding) (words : TextRow) → Says words None None None → record st { begun = true } ≡ with_row st words
 first_is st words says = row_is st words None None None _ says refl (or_none st.claim) (sym (append-nil st.nodes)) (sym (append-nil st.pairs))
 
 none_or : (o p : Option Claim) → is_none o ≡ true → p ≡ option_or o p
 none_or None p e = refl
 none_or (Some c) p e = absurd cc
 
-pub claim_is : (st : ProofStanding) (words : ProofRow) (c : Option Claim) → Says words c None None → st.begun ≡ true → is_none st.claim ≡ true → with_claim st c ≡ with_row st words
+pub claim_is : (st : ProofStanding) (words : TextRow) (c : Option Claim) → Says words c None None → st.begun ≡ true → is_none st.claim ≡ true → with_claim st c ≡ with_row st words
 claim_is st words c says b none = row_is st words c None None _ says b (none_or st.claim c none) (sym (append-nil st.nodes)) (sym (append-nil st.pairs))
 
-pub node_is : (st : ProofStanding) (words : ProofRow) (n : Option ProofNode) → Says words None n None → st.begun ≡ true → with_node st n ≡ with_row st words
+pub node_is : (st : ProofStanding) (words : TextRow) (n : Option ProofNode) → Says words None n None → st.begun ≡ true → with_node st n ≡ with_row st words
 node_is st words n says b = row_is st words None n None _ says b (or_none st.claim) refl (sym (append-nil st.pairs))
 
-pub pair_is : (st : ProofStanding) (words : ProofRow) (p : Option Pair) → Says words None None p → st.begun ≡ true → with_pair st p ≡ with_row st words
+pub pair_is : (st : ProofStanding) (words : TextRow) (p : Option Pair) → Says words None None p → st.begun ≡ true → with_pair st p ≡ with_row st words
 pair_is st words p says b = row_is st words None None p _ says b (or_none st.claim) (sym (append-nil st.nodes)) refl
 
 -- ---- what a call answers
 
-takes_next : {R A : Type 0} (tests : List (Bool × R)) (next other new : A) (r : Result (Unit {0}) (Stop R)) → (first_reason tests ≡ None → next ≡ other) → Takes tests next r new → Takes tests other r new
-takes_next tests next other new (Ok u) same h = (h.0, h.1 ∙ same h.0)
-takes_next tests next other new (Err (Fault reason)) same h = h
-takes_next tests next other new (Err Memory) same h = tt
-
 abbrev Answer : Type 0
 Answer = Result (Unit {0}) (Stop ProofReason)
 
-pub at_first : (read new : ReadSoFar) (words : ProofRow) (r : Answer) → read.standing.begun ≡ false
+pub at_first : (read new : ReadSoFar) (words : TextRow) (r : Answer) → read.standing.begun ≡ false
     → Takes (first_tests words) (moved read (record read.standing { begun = true })) r new → Takes (proof_row_tests read.setting read.standing words) (moved read (with_row read.standing words)) r new
 unfolding proof_row_tests
 at_first read new words r a h = rw a (takes_next (first_tests words) _ _ new r (λ none. ap (moved read) (first_is read.standing words (first_row_says words none))) h)
 
-pub at_claim : (read new : ReadSoFar) (words : ProofRow) (r : Answer) → read.standing.begun ≡ true → is_none read.standing.claim ≡ true
+pub at_claim : (read new : ReadSoFar) (words : TextRow) (r : Answer) → read.standing.begun ≡ true → is_none read.standing.claim ≡ true
     → Takes (claim_tests words) (moved read (with_claim read.standing (claim_in words))) r new → Takes (proof_row_tests read.setting read.standing words) (moved read (with_row read.standing words)) r new
 unfolding proof_row_tests
 at_claim read new words r a b h = rw (a, b) (takes_next (claim_tests words) _ _ new r (λ none. ap (moved read) (claim_is read.standing words (claim_in words) (claim_row_says words none) a b)) h)
 
-pub at_pair : (read new : ReadSoFar) (words : ProofRow) (r : Answer) → read.standing.begun ≡ true → is_none read.standing.claim ≡ false → nat_lt 0 (pairs_left read.standing) ≡ true
+pub at_pair : (read new : ReadSoFar) (words : TextRow) (r : Answer) → read.standing.begun ≡ true → is_none read.standing.claim ≡ false → nat_lt 0 (pairs_left read.standing) ≡ true
     → Takes (proof_pair_tests read.setting read.standing words) (moved read (with_pair read.standing (proof_pair_in words))) r new → Takes (proof_row_tests read.setting read.standing words) (moved read (with_row read.standing words)) r new
 unfolding proof_row_tests proof_pair_tests proof_node_tests
 at_pair read new words r a b d h =
     rw (a, b, d) (takes_next (proof_pair_tests read.setting read.standing words) _ _ new r (λ none. ap (moved read) (pair_is read.standing words (proof_pair_in words) (pair_row_says read.setting read.standing words none) a)) h)
 
-pub at_node : (read new : ReadSoFar) (words : ProofRow) (r : Answer) → read.standing.begun ≡ true → is_none read.standing.claim ≡ false → nat_lt 0 (pairs_left read.standing) ≡ false → nat_lt 0 (subtrees_left read.standing) ≡ true
+pub at_node : (read new : ReadSoFar) (words : TextRow) (r : Answer) → read.standing.begun ≡ true → is_none read.standing.claim ≡ false → nat_lt 0 (pairs_left read.standing) ≡ false → nat_lt 0 (subtrees_left read.standing) ≡ true
     → Takes (proof_node_tests read.setting read.standing words) (moved read (with_node read.standing (proof_node_in words))) r new → Takes (proof_row_tests read.setting read.standing words) (moved read (with_row read.standing words)) r new
 unfolding proof_row_tests proof_node_tests
 at_node read new words r a b d e h =
     rw (a, b, d, e) (takes_next (proof_node_tests read.setting read.standing words) _ _ new r (λ none. ap (moved read) (node_is read.standing words (proof_node_in words) (node_row_says read.setting read.standing words none) a)) h)
-
-pub some_left : (n m : ℕ) → n ≡ m → 0 < n → nat_lt 0 m ≡ true
-some_left n m e h = lt-ltb 0 m (subst (λ k. 0 < k) e h)
-
-pub none_left : (n m : ℕ) → n ≡ m → n ≤ 0 → nat_lt 0 m ≡ false
-none_left n m e h = by m (subst (λ k. k ≤ 0) e h)
-  where
-    by : (k : ℕ) → k ≤ 0 → nat_lt 0 k ≡ false
-    by zero le = refl
-    by (suc k) le = absurd (omega (arith, le))

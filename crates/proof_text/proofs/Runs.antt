@@ -1,8 +1,6 @@
 -- A text without faults as a run of pieces, each of which may come where it stands.
-use Rattle.std.proofs.Common.{◌≡◌, ◌∙◌, ℕ, ◌+◌, ◌<◌, ◌≤◌, ◌^◌, ◌==◌, Bool, true, false, cond, not, ◌&&◌, ◌||◌, nat_le, nat_lt, List, [], ◌∷◌, ◌++◌, length, get_or, Option, Some, None, is_none, is_some, codes, refl, sym, ap, ap₂, subst, arith, append-nil, append_assoc, length-append}
-use Rattle.std.proofs.lemmas.Bool.{and_parts, not-false, ltb-true}
-use Rattle.std.proofs.lemmas.Bool.Decides.{nat_tests}
-use Rattle.std.proofs.lemmas.List.{take_at, drop_at}
+use Rattle.std.proofs.Common.{◌≡◌, ◌∙◌, ℕ, ◌+◌, ◌<◌, ◌^◌, ◌==◌, Bool, true, false, cond, not, ◌&&◌, ◌||◌, nat_le, nat_lt, List, [], ◌∷◌, ◌++◌, length, get_or, Option, Some, None, is_none, is_some, codes, refl, sym, ap, ap₂, subst, append-nil}
+use Rattle.std.proofs.lemmas.Bool.{and_parts, not-false, ltb-true, leb-false, not-true}
 use Rattle.std.specs.List.{cons_option, filter_map}
 use Rattle.std.specs.Str.{bytes_eq}
 use Rattle.fractions.specs.Fits.{fits}
@@ -10,13 +8,10 @@ use Rattle.fractions.specs.Rational.{whole, zero_ℚ}
 use Rattle.exact_numbers.specs.declared.dec.Dec.{Dec}
 use Rattle.exact_numbers.specs.Numbers.{dec_of, whole_of}
 use Rattle.exact_numbers.specs.Values.{dec_value}
-use Rattle.texts.specs.Judged.{End, IsClean, Last, first_reason, last_reason, reason_after, reason_at}
-use Rattle.texts.specs.declared.lines.LineFault.{LineFault}
-use Rattle.texts.specs.Lines.{scan}
-use Rattle.texts.specs.Reading.{last_by, last_of, lines_of}
+use Rattle.texts.specs.Judged.{IsClean, Last, first_reason}
+use Rattle.texts.specs.Reading.{last_of, lines_of}
 use Rattle.texts.specs.Words.{begins, row_of, word_at}
 use Rattle.texts.proofs.FirstReasons.{none_each}
-use Rattle.texts.proofs.NamePlaces.{bytes_same}
 use Rattle.linear_program.specs.declared.kind.Kind.TheVariants.{Continuous}
 use Rattle.linear_program.specs.Intervals.{is_whole_kind}
 use Rattle.certificates.specs.declared.proof.Claim.{Claim}
@@ -26,13 +21,17 @@ use Rattle.certificates.specs.declared.proof.ProofNode.TheVariants.{Split, Weigh
 use Rattle.proof_text.specs.declared.fault.ProofReason.TheVariants.{Extra}
 use Rattle.certificates.specs.Proofs.{Pair, claim_value}
 use Rattle.certificates.specs.Setting.{IsWholeFor, Setting}
-use Rattle.proof_text.specs.Rows.{ProofRow, claim_in, is_alone, is_node_row, is_row, leaf_in, proof_node_in, proof_pair_in, rows_in, value_claim}
+use Rattle.proof_text.specs.Rows.{claim_in, is_alone, is_node_row, leaf_in, proof_node_in, proof_pair_in, value_claim}
+use Rattle.tree_text.specs.Rows.{TextRow, is_row, rows_in}
 use Rattle.proof_text.specs.Standing.{ProofStanding, is_whole_proof, pairs_left, proof_standing, subtrees_left}
 use Rattle.proof_text.specs.Steps.{with_claim, with_line, with_node, with_pair, with_row}
 use Rattle.proof_text.specs.Tests.{claim_tests, first_tests, is_pair_out, is_split_continuous, is_split_out, proof_end_tests, proof_line_tests, proof_node_tests, proof_pair_tests, proof_row_tests}
 use Rattle.proof_text.specs.Grammar.{proof_rules}
 use Rattle.proof_text.proofs.RowLemmas.{Says, claim_is, claim_row_says, first_is, first_row_says, node_is, node_row_says, pair_is, pair_row_says}
 use Rattle.proof_text.proofs.Steps.{line_push}
+use Rattle.tree_text.proofs.CleanLines.{EndsFine, after_line, end_clean, line_clean, text_fine}
+use Rattle.tree_text.proofs.TestLemmas.{is_there, zero_left}
+use Rattle.tree_text.proofs.RowLemmas.{word_is}
 
 -- ---- the pieces, and what may come
 
@@ -59,7 +58,7 @@ with_piece st (claim_row c) = with_claim st (Some c)
 with_piece st (node_row n) = with_node st (Some n)
 with_piece st (pair_row p) = with_pair st (Some p)
 
-abbrev Is : ProofRow → Piece → Type 0
+abbrev Is : TextRow → Piece → Type 0
 Is words p = Says words (as_claim p) (as_node p) (as_pair p)
 
 -- under `infeasible` there is one leaf with weights
@@ -87,23 +86,13 @@ abbrev pub begun_only : ProofStanding
 begun_only = record { begun = true; claim = None; nodes = []; pairs = [] }
 
 -- the row says a piece that may come
-record Here (s : Setting) (st : ProofStanding) (words : ProofRow) : Type 0 where
+record Here (s : Setting) (st : ProofStanding) (words : TextRow) : Type 0 where
   piece : Piece
   may : MayCome s st piece
   is : Is words piece
   next : with_row st words ≡ with_piece st piece
 
 -- ---- by the tests of a row
-
-le_false : (a b : ℕ) → nat_le a b ≡ false → b < a
-le_false a b e = grind arith
-
-zero_left : (n : ℕ) → nat_lt 0 n ≡ false → n ≡ 0
-zero_left n e = (let le : n ≤ 0 = grind (arith, nat_tests) in omega (arith, le))
-
-is_there : (o : Option Claim) → is_none o ≡ false → is_some o ≡ true
-is_there None e = absurd cc
-is_there (Some c) e = refl
 
 -- ---- the claim
 
@@ -120,7 +109,7 @@ none_fits : fits zero_ℚ ≡ true
 unfolding whole
 none_fits = refl
 
-claim_in_fits : (words : ProofRow) (c : Claim) → claim_in words ≡ Some c → fits (claim_value c) ≡ true
+claim_in_fits : (words : TextRow) (c : Claim) → claim_in words ≡ Some c → fits (claim_value c) ≡ true
 unfolding claim_in
 claim_in_fits words c e = by (is_row (codes "infeasible") 1 words) e
   where
@@ -132,16 +121,16 @@ claim_in_fits words c e = by (is_row (codes "infeasible") 1 words) e
     by true e = (let same : Infeasible ≡ c = cc in subst (λ (d : Claim). fits (claim_value d) ≡ true) same none_fits)
     by false e = value (is_row (codes "value") 3 words) e
 
-claim_may : (s : Setting) (st : ProofStanding) (words : ProofRow) (o : Option Claim) → claim_in words ≡ o → Says words o None None → is_none st.claim ≡ true → is_none o ≡ false → st.begun ≡ true → Here s st words
+claim_may : (s : Setting) (st : ProofStanding) (words : TextRow) (o : Option Claim) → claim_in words ≡ o → Says words o None None → is_none st.claim ≡ true → is_none o ≡ false → st.begun ≡ true → Here s st words
 claim_may s st words None e says none given b = absurd cc
 claim_may s st words (Some c) e says none given b = record { piece = claim_row c; may = (none, claim_in_fits words c e); is = says; next = sym (claim_is st words (Some c) says b none) }
 
 -- ---- a node
 
-weights_node : (words : ProofRow) → is_row (codes "weights") 2 words ≡ true → proof_node_in words ≡ leaf_in Weights (whole_of (word_at words 1))
+weights_node : (words : TextRow) → is_row (codes "weights") 2 words ≡ true → proof_node_in words ≡ leaf_in Weights (whole_of (word_at words 1))
 unfolding proof_node_in
 weights_node words e =
-    let same : word_at words 0 ≡ codes "weights" = bytes_same (word_at words 0) (codes "weights") (and_parts (begins words (codes "weights")) (length words == 2) e).0 in
+    let same : word_at words 0 ≡ codes "weights" = word_is words (codes "weights") 2 e in
     let no_split : begins words (codes "split") ≡ false = ap (λ w. bytes_eq w (codes "split")) same in
     let no_duals : begins words (codes "duals") ≡ false = ap (λ w. bytes_eq w (codes "duals")) same in
     rw (no_split, no_duals, e) refl
@@ -154,60 +143,56 @@ other_stand : (c : Option Claim) (n : ProofNode) → is_alone c ≡ false → Ma
 other_stand c (Weights n) e = tt
 other_stand c n e = e
 
-not_true : (b : Bool) → not b ≡ true → b ≡ false
-not_true true e = absurd cc
-not_true false e = refl
-
-may_stand : (c : Option Claim) (words : ProofRow) (n : ProofNode) → proof_node_in words ≡ Some n → is_node_row c words ≡ true → MayStand c n
+may_stand : (c : Option Claim) (words : TextRow) (n : ProofNode) → proof_node_in words ≡ Some n → is_node_row c words ≡ true → MayStand c n
 may_stand c words n is row = by (is_row (codes "weights") 2 words) refl row
   where
     by : (b : Bool) → is_row (codes "weights") 2 words ≡ b → (b || (not (is_alone c) && (is_row (codes "duals") 2 words || is_row (codes "split") 3 words))) ≡ true → MayStand c n
     by true e h = weights_stand c (whole_of (word_at words 1)) n (sym (weights_node words e) ∙ is)
-    by false e h = other_stand c n (not_true (is_alone c) (and_parts (not (is_alone c)) (is_row (codes "duals") 2 words || is_row (codes "split") 3 words) h).0)
+    by false e h = other_stand c n (not-true (is_alone c) (and_parts (not (is_alone c)) (is_row (codes "duals") 2 words || is_row (codes "split") 3 words) h).0)
 
 -- the variable of a split that is no fault
 fits_node : (s : Setting) (n : ProofNode) → is_split_out s.kinds (Some n) ≡ false → is_split_continuous s.kinds (Some n) ≡ false → FitsNode s n
-fits_node s (Split j t) out continuous = (le_false (length s.kinds) j out, not-false (is_whole_kind (get_or s.kinds j Continuous)) continuous)
+fits_node s (Split j t) out continuous = (leb-false (length s.kinds) j out, not-false (is_whole_kind (get_or s.kinds j Continuous)) continuous)
 fits_node s n out continuous = tt
 
 -- ---- a row
 
-node_may : (s : Setting) (st : ProofStanding) (words : ProofRow) (o : Option ProofNode) → proof_node_in words ≡ o → Says words None o None → st.begun ≡ true → is_some st.claim ≡ true → pairs_left st ≡ 0 → 0 < subtrees_left st
+node_may : (s : Setting) (st : ProofStanding) (words : TextRow) (o : Option ProofNode) → proof_node_in words ≡ o → Says words None o None → st.begun ≡ true → is_some st.claim ≡ true → pairs_left st ≡ 0 → 0 < subtrees_left st
     → is_node_row st.claim words ≡ true → is_none o ≡ false → is_split_out s.kinds o ≡ false
     → is_split_continuous s.kinds o ≡ false → nat_le (2 ^ 16) (length st.nodes) ≡ false → Here s st words
 node_may s st words None e says b claim none some row given out continuous few = absurd cc
 node_may s st words (Some n) e says b claim none some row given out continuous few =
     record {
       piece = node_row n;
-      may = (claim, none, some, le_false (2 ^ 16) (length st.nodes) few, fits_node s n out continuous, may_stand st.claim words n e row);
+      may = (claim, none, some, leb-false (2 ^ 16) (length st.nodes) few, fits_node s n out continuous, may_stand st.claim words n e row);
       is = says;
       next = sym (node_is st words (Some n) says b);
     }
 
-pair_may : (s : Setting) (st : ProofStanding) (words : ProofRow) (o : Option Pair) → Says words None None o → st.begun ≡ true → is_some st.claim ≡ true → 0 < pairs_left st → is_none o ≡ false → is_pair_out s.rows o ≡ false → Here s st words
+pair_may : (s : Setting) (st : ProofStanding) (words : TextRow) (o : Option Pair) → Says words None None o → st.begun ≡ true → is_some st.claim ≡ true → 0 < pairs_left st → is_none o ≡ false → is_pair_out s.rows o ≡ false → Here s st words
 pair_may s st words None says b claim left given out = absurd cc
 pair_may s st words (Some p) says b claim left given out =
-    record { piece = pair_row p; may = (claim, left, le_false s.rows p.0 out); is = says; next = sym (pair_is st words (Some p) says b) }
+    record { piece = pair_row p; may = (claim, left, leb-false s.rows p.0 out); is = says; next = sym (pair_is st words (Some p) says b) }
 
-claim_here : (s : Setting) (st : ProofStanding) (words : ProofRow) → st.begun ≡ true → is_none st.claim ≡ true → first_reason (claim_tests words) ≡ None → Here s st words
+claim_here : (s : Setting) (st : ProofStanding) (words : TextRow) → st.begun ≡ true → is_none st.claim ≡ true → first_reason (claim_tests words) ≡ None → Here s st words
 unfolding claim_tests
 claim_here s st words b none tests =
     let each = none_each (claim_tests words) tests in
     claim_may s st words (claim_in words) refl (claim_row_says words tests) none each.1.0 b
 
-node_here : (s : Setting) (st : ProofStanding) (words : ProofRow) → st.begun ≡ true → is_some st.claim ≡ true → pairs_left st ≡ 0 → 0 < subtrees_left st → first_reason (proof_node_tests s st words) ≡ None → Here s st words
+node_here : (s : Setting) (st : ProofStanding) (words : TextRow) → st.begun ≡ true → is_some st.claim ≡ true → pairs_left st ≡ 0 → 0 < subtrees_left st → first_reason (proof_node_tests s st words) ≡ None → Here s st words
 unfolding proof_node_tests
 node_here s st words b claim none some tests =
     let each = none_each (proof_node_tests s st words) tests in
     node_may s st words (proof_node_in words) refl (node_row_says s st words tests) b claim none some (not-false (is_node_row st.claim words) each.0) each.1.0 each.1.1.0 each.1.1.1.0 each.1.1.1.1.0
 
-pair_here : (s : Setting) (st : ProofStanding) (words : ProofRow) → st.begun ≡ true → is_some st.claim ≡ true → 0 < pairs_left st → first_reason (proof_pair_tests s st words) ≡ None → Here s st words
+pair_here : (s : Setting) (st : ProofStanding) (words : TextRow) → st.begun ≡ true → is_some st.claim ≡ true → 0 < pairs_left st → first_reason (proof_pair_tests s st words) ≡ None → Here s st words
 unfolding proof_pair_tests
 pair_here s st words b claim left tests =
     let each = none_each (proof_pair_tests s st words) tests in
     pair_may s st words (proof_pair_in words) (pair_row_says s st words tests) b claim left each.1.0 each.1.1.0
 
-row_may : (s : Setting) (st : ProofStanding) (words : ProofRow) → st.begun ≡ true → first_reason (proof_row_tests s st words) ≡ None → Here s st words
+row_may : (s : Setting) (st : ProofStanding) (words : TextRow) → st.begun ≡ true → first_reason (proof_row_tests s st words) ≡ None → Here s st words
 unfolding proof_row_tests proof_pair_tests proof_node_tests
 row_may s st words begun tests = claim (is_none st.claim) refl (rw begun at tests)
   where
@@ -228,25 +213,8 @@ row_may s st words begun tests = claim (is_none st.claim) refl (rw begun at test
 
 -- ---- a text
 
-at_here : (s : Setting) (last : Last) (before rest : List (List ℕ)) → reason_at (proof_rules s) (before ++ rest) last (length before) ≡ reason_after (proof_rules s) last before rest
-at_here s last before rest = rw (take_at before rest (length before) refl, drop_at before rest (length before) refl) refl
-
--- what is said at a line, and at the end
-line_clean : (s : Setting) (last : Last) (before rest : List (List ℕ)) (line : List ℕ) → IsClean (proof_rules s) (before ++ line ∷ rest) last → first_reason (proof_line_tests s (proof_standing (rows_in before)) line) ≡ None
-line_clean s last before rest line clean = sym (at_here s last before (line ∷ rest)) ∙ clean.clean (length before) (omega (arith, length-append before (line ∷ rest)))
-
-end_clean : (s : Setting) (last : Last) (before : List (List ℕ)) → IsClean (proof_rules s) (before ++ []) last → last_reason (proof_rules s) before last ≡ None
-end_clean s last before clean = sym (at_here s last before []) ∙ clean.clean (length before) (omega (arith, length-append before []))
-
-after_line : (before rest : List (List ℕ)) (line : List ℕ) (s : Setting) (last : Last) → IsClean (proof_rules s) (before ++ line ∷ rest) last → IsClean (proof_rules s) ((before ++ line ∷ []) ++ rest) last
-after_line before rest line s last clean = subst (λ ls. IsClean (proof_rules s) ls last) (sym (append_assoc before (line ∷ []) rest)) clean
-
--- the end has no fault
-abbrev EndsFine : Setting → Last → Type 0
-EndsFine s last = (lines : List (List ℕ)) → last_reason (proof_rules s) lines last ≡ None → first_reason (proof_end_tests (proof_standing (rows_in lines))) ≡ None
-
 -- the rows are those of a run of pieces
-pub record Runs (s : Setting) (st : ProofStanding) (rows : List ProofRow) : Type 0 where
+pub record Runs (s : Setting) (st : ProofStanding) (rows : List TextRow) : Type 0 where
   pub pieces : List Piece
   pub run : IsRun s st pieces
   pub claims : filter_map claim_in rows ≡ filter_map as_claim pieces
@@ -254,7 +222,7 @@ pub record Runs (s : Setting) (st : ProofStanding) (rows : List ProofRow) : Type
   pub pairs : filter_map proof_pair_in rows ≡ filter_map as_pair pieces
 
 -- a row before them
-runs_more : (s : Setting) (st : ProofStanding) (words : ProofRow) (rows : List ProofRow) → Here s st words → Runs s (with_row st words) rows → Runs s st (words ∷ rows)
+runs_more : (s : Setting) (st : ProofStanding) (words : TextRow) (rows : List TextRow) → Here s st words → Runs s (with_row st words) rows → Runs s st (words ∷ rows)
 unfolding IsRun
 runs_more s st words rows here more =
     record {
@@ -265,32 +233,32 @@ runs_more s st words rows here more =
       pairs = ap₂ cons_option here.is.pair more.pairs;
     }
 
-runs_from : (s : Setting) (last : Last) → EndsFine s last → (rest before : List (List ℕ)) → (proof_standing (rows_in before)).begun ≡ true → IsClean (proof_rules s) (before ++ rest) last
+runs_from : (s : Setting) (last : Last) → EndsFine (proof_rules s) last → (rest before : List (List ℕ)) → (proof_standing (rows_in before)).begun ≡ true → IsClean (proof_rules s) (before ++ rest) last
     → Runs s (proof_standing (rows_in before)) (rows_in rest)
 unfolding IsRun proof_end_tests proof_line_tests rows_in
 runs_from s last ends [] before begun clean =
-    let tests = none_each (proof_end_tests (proof_standing (rows_in before))) (ends before (end_clean s last before clean)) in
+    let tests = none_each (proof_end_tests (proof_standing (rows_in before))) (ends before (end_clean (proof_rules s) last before (subst (λ ls. IsClean (proof_rules s) ls last) (append-nil before) clean))) in
     record { pieces = []; run = not-false (is_whole_proof (proof_standing (rows_in before))) tests.1.0; claims = refl; nodes = refl; pairs = refl }
 runs_from s last ends (line ∷ rest) before begun clean =
-    by (length (row_of line) == 0) (line_clean s last before rest line clean) (line_push before line)
-    (λ more. runs_from s last ends rest (before ++ line ∷ []) more (after_line before rest line s last clean))
+    by (length (row_of line) == 0) (line_clean (proof_rules s) last before rest line clean) (line_push before line)
+    (λ more. runs_from s last ends rest (before ++ line ∷ []) more (after_line (proof_rules s) last before rest line clean))
   where
     st : ProofStanding
     st = proof_standing (rows_in before)
 
-    words : ProofRow
+    words : TextRow
     words = row_of line
 
     by : (b : Bool) → first_reason (cond b [] (proof_row_tests s st words)) ≡ None → proof_standing (rows_in (before ++ line ∷ [])) ≡ cond b st (with_row st words)
         → ((proof_standing (rows_in (before ++ line ∷ []))).begun ≡ true → Runs s (proof_standing (rows_in (before ++ line ∷ []))) (rows_in rest))
-        → Runs s st (cond (not b) (words ∷ rows_in rest) (rows_in rest))
+        → Runs s st (cond b [] (words ∷ []) ++ rows_in rest)
     by true tests is next = subst (λ (now : ProofStanding). Runs s now (rows_in rest)) is (next (ap (λ (now : ProofStanding). now.begun) is ∙ begun))
     by false tests is next =
         runs_more s st words (rows_in rest) (row_may s st words begun tests)
         (subst (λ (now : ProofStanding). Runs s now (rows_in rest)) is (next (ap (λ (now : ProofStanding). now.begun) is)))
 
 -- the first row, and a run behind it
-first_runs : (s : Setting) (words : ProofRow) (rows : List ProofRow) → first_reason (first_tests words) ≡ None → Runs s (with_row (proof_standing []) words) rows → Runs s begun_only (words ∷ rows)
+first_runs : (s : Setting) (words : TextRow) (rows : List TextRow) → first_reason (first_tests words) ≡ None → Runs s (with_row (proof_standing []) words) rows → Runs s begun_only (words ∷ rows)
 first_runs s words rows tests more =
     let says = first_row_says words tests in
     record {
@@ -301,43 +269,32 @@ first_runs s words rows tests more =
       pairs = ap₂ cons_option says.pair more.pairs;
     }
 
-begins_from : (s : Setting) (last : Last) → EndsFine s last → (rest before : List (List ℕ)) → proof_standing (rows_in before) ≡ proof_standing [] → IsClean (proof_rules s) (before ++ rest) last → Runs s begun_only (rows_in rest)
+begins_from : (s : Setting) (last : Last) → EndsFine (proof_rules s) last → (rest before : List (List ℕ)) → proof_standing (rows_in before) ≡ proof_standing [] → IsClean (proof_rules s) (before ++ rest) last → Runs s begun_only (rows_in rest)
 unfolding proof_end_tests proof_line_tests proof_row_tests rows_in
 begins_from s last ends [] before none clean =
-    let tests = none_each (proof_end_tests (proof_standing (rows_in before))) (ends before (end_clean s last before clean)) in
+    let tests = none_each (proof_end_tests (proof_standing (rows_in before))) (ends before (end_clean (proof_rules s) last before (subst (λ ls. IsClean (proof_rules s) ls last) (append-nil before) clean))) in
     absurd (let wrong = tests.0 in let no_rows = ap (λ (st : ProofStanding). not st.begun) none in cc)
 begins_from s last ends (line ∷ rest) before none clean =
-    by (length (row_of line) == 0) (subst (λ (st : ProofStanding). first_reason (proof_line_tests s st line) ≡ None) none (line_clean s last before rest line clean))
+    by (length (row_of line) == 0) (subst (λ (st : ProofStanding). first_reason (proof_line_tests s st line) ≡ None) none (line_clean (proof_rules s) last before rest line clean))
     (line_push before line ∙ ap (λ st. with_line st line) none)
-    (λ more. begins_from s last ends rest (before ++ line ∷ []) more (after_line before rest line s last clean))
-    (λ more. runs_from s last ends rest (before ++ line ∷ []) more (after_line before rest line s last clean))
+    (λ more. begins_from s last ends rest (before ++ line ∷ []) more (after_line (proof_rules s) last before rest line clean))
+    (λ more. runs_from s last ends rest (before ++ line ∷ []) more (after_line (proof_rules s) last before rest line clean))
   where
-    words : ProofRow
+    words : TextRow
     words = row_of line
 
     now : ProofStanding
     now = proof_standing (rows_in (before ++ line ∷ []))
 
     by : (b : Bool) → first_reason (cond b [] (first_tests words)) ≡ None → now ≡ cond b (proof_standing []) (with_row (proof_standing []) words) → (now ≡ proof_standing [] → Runs s begun_only (rows_in rest))
-        → (now.begun ≡ true → Runs s now (rows_in rest)) → Runs s begun_only (cond (not b) (words ∷ rows_in rest) (rows_in rest))
+        → (now.begun ≡ true → Runs s now (rows_in rest)) → Runs s begun_only (cond b [] (words ∷ []) ++ rows_in rest)
     by true tests is next run = next is
     by false tests is next run = first_runs s words (rows_in rest) tests (subst (λ (st : ProofStanding). Runs s st (rows_in rest)) is (run (ap (λ (st : ProofStanding). st.begun) is)))
-
-last_fine : (s : Setting) (fault : Option LineFault) → EndsFine s (last_by fault End)
-last_fine s None lines e = e
-last_fine s (Some fault) lines e = absurd cc
 
 no_rows : proof_standing (rows_in []) ≡ proof_standing []
 unfolding rows_in
 no_rows = refl
 
--- at the end of a text without faults all has come
-pub text_ends : (s : Setting) (text : List ℕ) → IsClean (proof_rules s) (lines_of text) (last_of text) → first_reason (proof_end_tests (proof_standing (rows_in (lines_of text)))) ≡ None
-unfolding last_of
-text_ends s text clean =
-    last_fine s (scan text).fault (lines_of text)
-    (end_clean s (last_of text) (lines_of text) (subst (λ ls. IsClean (proof_rules s) ls (last_of text)) (sym (append-nil (lines_of text))) clean))
-
 pub text_runs : (s : Setting) (text : List ℕ) → IsClean (proof_rules s) (lines_of text) (last_of text) → Runs s begun_only (rows_in (lines_of text))
 unfolding last_of
-text_runs s text clean = begins_from s (last_of text) (last_fine s (scan text).fault) (lines_of text) [] no_rows clean
+text_runs s text clean = begins_from s (last_of text) (text_fine (proof_rules s) text) (lines_of text) [] no_rows clean

@@ -13,12 +13,14 @@ use Rattle.certificates.specs.declared.proof.ProofNode.{ProofNode}
 use Rattle.certificates.specs.declared.proof.ProofNode.TheVariants.{Split, Duals, Weights}
 use Rattle.certificates.specs.Proofs.{IsAlone, Pair, ProofTree, ProofValue, split, duals, weights, claim_value, nodes_of, pairs_of}
 use Rattle.proof_text.specs.Reader.{IsProofText}
-use Rattle.proof_text.specs.Rows.{ProofRow, claim_in, proof_node_in, proof_pair_in, rows_in}
+use Rattle.proof_text.specs.Rows.{claim_in, proof_node_in, proof_pair_in}
+use Rattle.tree_text.specs.Rows.{TextRow, rows_in}
 use Rattle.certificates.specs.Setting.{IsProofFor, IsTreeFor, Setting}
 use Rattle.proof_text.specs.Standing.{IsSaid, ProofStanding, is_leaf, is_split, node_count, pairs_left, proof_standing, subtrees_left}
 use Rattle.proof_text.specs.InsideReader.{AreAwaited}
 use Rattle.proof_text.proofs.Counted.{node_awaited, none_awaited, pair_awaited}
 use Rattle.proof_text.proofs.Runs.{FitsNode, IsRun, MayStand, Piece, Runs, as_claim, as_node, as_pair, begun_only, claim_row, node_row, pair_row, text_runs}
+use Rattle.std.proofs.lemmas.List.{nil_from_length}
 
 -- ---- what the pieces that are left give
 
@@ -109,10 +111,6 @@ weights_alone : (c : Claim) (ps : List Pair) → IsAlone c (weights ps)
 weights_alone (Value k d) ps = tt
 weights_alone Infeasible ps = tt
 
-no_pairs : (own : List Pair) → length own ≡ 0 → own ≡ []
-no_pairs [] e = refl
-no_pairs (p ∷ own) e = absurd (omega (arith, e))
-
 longer : (nodes : List ProofNode) (node : ProofNode) → length nodes < 2 ^ 16 → length (nodes ++ node ∷ []) ≤ 2 ^ 16
 longer nodes node lt = omega (arith, length-append nodes (node ∷ []), lt)
 
@@ -144,7 +142,7 @@ split_grows s c nodes subtrees j t ps some fit may g [] e = absurd (let n = g.tr
 split_grows s c nodes subtrees j t ps some fit may g (low ∷ []) e = absurd (let n = g.tree_count in let m = ap (λ (l : List ProofTree). length l) e in omega (arith, n, m, some))
 split_grows s c nodes subtrees j t ps some fit may g (low ∷ high ∷ rest) e =
     let fine : AreTrees s c (low ∷ high ∷ rest) = subst (AreTrees s c) e g.fine in
-    let none : g.own ≡ [] = no_pairs g.own g.own_count in
+    let none : g.own ≡ [] = nil_from_length g.own g.own_count in
     record {
       own = [];
       trees = split j t low high ∷ rest;
@@ -187,7 +185,7 @@ grows s c (pair_row p ∷ ps) = pair_grows s c p ps (grows s c ps)
 
 -- ---- the claim
 
-tree_ends : (s : Setting) (c : Claim) (rows : List ProofRow) (ps : List Piece) (p : ProofValue) → fits (claim_value c) ≡ true → filter_map claim_in rows ≡ c ∷ filter_map as_claim ps → filter_map proof_node_in rows ≡ filter_map as_node ps
+tree_ends : (s : Setting) (c : Claim) (rows : List TextRow) (ps : List Piece) (p : ProofValue) → fits (claim_value c) ≡ true → filter_map claim_in rows ≡ c ∷ filter_map as_claim ps → filter_map proof_node_in rows ≡ filter_map as_node ps
     → filter_map proof_pair_in rows ≡ filter_map as_pair ps → (g : Grows s c [] 1 0 ps) → (trees : List ProofTree) → g.trees ≡ trees → IsSaid (proof_standing rows) p → IsProofFor s p
 unfolding AreTrees
 tree_ends s c rows ps p fit claims nodes pairs g [] e said = absurd (let n = g.tree_count in let m = ap (λ (l : List ProofTree). length l) e in omega (arith, n, m))
@@ -195,7 +193,7 @@ tree_ends s c rows ps p fit claims nodes pairs g (tree ∷ other ∷ rest) e sai
 tree_ends s c rows ps p fit claims nodes pairs g (tree ∷ []) e said =
     let fine : AreTrees s c (tree ∷ []) = subst (AreTrees s c) e g.fine in
     let same : c ≡ p.claim = (let a = ap (λ cs. slice_get cs 0) claims in let b = said.claim in cc) in
-    let none : g.own ≡ [] = no_pairs g.own g.own_count in
+    let none : g.own ≡ [] = nil_from_length g.own g.own_count in
     record {
       tree = tree;
       nodes = sym (said.nodes ∙ nodes ∙ g.nodes_are ∙ ap (flat_map nodes_of) e ∙ append-nil (nodes_of tree));
@@ -206,7 +204,7 @@ tree_ends s c rows ps p fit claims nodes pairs g (tree ∷ []) e said =
       few = (let few = g.few_nodes in let are = ap length (said.nodes ∙ nodes) in omega (arith, few, are));
     }
 
-runs_end : (s : Setting) (rows : List ProofRow) (p : ProofValue) (r : Runs s begun_only rows) (ps : List Piece) → r.pieces ≡ ps → IsSaid (proof_standing rows) p → IsProofFor s p
+runs_end : (s : Setting) (rows : List TextRow) (p : ProofValue) (r : Runs s begun_only rows) (ps : List Piece) → r.pieces ≡ ps → IsSaid (proof_standing rows) p → IsProofFor s p
 unfolding IsRun
 runs_end s rows p r [] e said = absurd (let run = subst (IsRun s begun_only) e r.run in cc)
 runs_end s rows p r (claim_row c ∷ ps) e said =

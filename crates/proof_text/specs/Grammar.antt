@@ -8,7 +8,7 @@ use Rattle.certificates.specs.Proofs.{ProofValue}
 use Rattle.proof_text.specs.declared.fault.ProofReason.{ProofReason}
 use Rattle.proof_text.specs.declared.fault.ProofReason.TheVariants.{LineTooLong, InputTooLong}
 use Rattle.certificates.specs.Setting.{Setting}
-use Rattle.proof_text.specs.Rows.{rows_in}
+use Rattle.tree_text.specs.Rows.{rows_in}
 use Rattle.proof_text.specs.Standing.{IsSaid, proof_standing}
 use Rattle.proof_text.specs.Tests.{proof_end_tests, proof_line_tests}
 

@@ -1,5 +1,5 @@
 -- What reading a proof answers, and what a reader of one stands for.
-use Rattle.std.specs.Prelude.{◌≡◌, ◌⊎◌, ℕ, List, Option, Result}
+use Rattle.std.specs.Prelude.{◌≡◌, ℕ, List, Option, Result}
 use Rattle.texts.specs.declared.stop.Stop.{Stop}
 use Rattle.texts.specs.declared.fault.TextFault.{TextFault}
 use Rattle.texts.specs.Lines.{LinesState}
@@ -7,7 +7,7 @@ use Rattle.texts.specs.Reading.{Stands, Reads, IsRead, HasFault}
 use Rattle.certificates.specs.Proofs.{ProofValue}
 use Rattle.proof_text.specs.declared.fault.ProofReason.{ProofReason}
 use Rattle.certificates.specs.Setting.{Setting}
-use Rattle.proof_text.specs.Rows.{rows_in}
+use Rattle.tree_text.specs.Rows.{rows_in}
 use Rattle.proof_text.specs.Standing.{proof_standing}
 use Rattle.proof_text.specs.Steps.{ReadSoFar}
 use Rattle.proof_text.specs.Grammar.{SaysProof, proof_rules}
@@ -25,16 +25,6 @@ HasProofFault s text fault = HasFault (proof_rules s) text fault
 -- the text is a proof, which says this, or has this first fault
 abbrev pub ReadsProof : Setting → List ℕ → Result ProofValue (Stop (TextFault ProofReason)) → Type 0
 ReadsProof s text result = Reads (proof_rules s) SaysProof text result
-
--- Each text says one proof, or has one first fault, and never both.
-pub record HasOneReading (s : Setting) (text : List ℕ) : Type 0 where
-  pub some : ((p : ProofValue) × IsProofText s text p)
-      ⊎ ((fault : TextFault ProofReason) × HasProofFault s text fault)
-  pub not_both : (p : ProofValue) (fault : TextFault ProofReason)
-      → IsProofText s text p → HasProofFault s text fault → ⊥
-  pub one_value : (p q : ProofValue) → IsProofText s text p → IsProofText s text q → p ≡ q
-  pub one_fault : (a b : TextFault ProofReason)
-      → HasProofFault s text a → HasProofFault s text b → a ≡ b
 
 -- ---- readers
 

@@ -2,9 +2,9 @@
 -- `value K V` or `infeasible`, and one tree in prefix order: `split J T`, followed by the part
 -- "variable J at most T" and the part "at least T + 1"; or a leaf `duals N` or `weights N`,
 -- followed by N rows `I VALUE`, the number of constraint I.
-use Rattle.std.specs.Prelude.{ℕ, ℤ, Bool, true, false, not, ◌&&◌, ◌||◌, ◌==◌, List, length, map, filter, Option, Some, None, codes, if◌then◌else◌}
+use Rattle.std.specs.Prelude.{ℕ, ℤ, Bool, true, false, not, ◌&&◌, ◌||◌, Option, Some, None, codes, if◌then◌else◌}
 use Rattle.fractions.specs.Fits.{fits}
-use Rattle.texts.specs.Words.{begins, row_of, word_at}
+use Rattle.texts.specs.Words.{word_at}
 use Rattle.exact_numbers.specs.Numbers.{dec_of, signed_of, whole_of}
 use Rattle.exact_numbers.specs.Values.{dec_value}
 use Rattle.exact_numbers.specs.declared.dec.Dec.{Dec}
@@ -13,21 +13,11 @@ use Rattle.certificates.specs.declared.proof.Claim.TheVariants.{Value, Infeasibl
 use Rattle.certificates.specs.declared.proof.ProofNode.{ProofNode}
 use Rattle.certificates.specs.declared.proof.ProofNode.TheVariants.{Split, Duals, Weights}
 use Rattle.certificates.specs.Proofs.{Pair}
+use Rattle.tree_text.specs.Rows.{TextRow, is_row}
 
--- the words of a line
-abbrev pub ProofRow : Type 0
-ProofRow = List (List ℕ)
+-- ---- the first word
 
--- a line without words is left out
-unfoldable pub rows_in : List (List ℕ) → List ProofRow
-rows_in lines = filter (λ words. not (length words == 0)) (map row_of lines)
-
--- ---- first words, and how many words there are
-
-abbrev pub is_row : List ℕ → ℕ → ProofRow → Bool
-is_row first count words = begins words first && (length words == count)
-
-abbrev pub is_claim_row : ProofRow → Bool
+abbrev pub is_claim_row : TextRow → Bool
 is_claim_row words = is_row (codes "infeasible") 1 words || is_row (codes "value") 3 words
 
 -- the claim is that there is no relaxed point
@@ -36,7 +26,7 @@ is_alone (Some Infeasible) = true
 is_alone claim = false
 
 -- a row of a node under this claim: under `infeasible` it is `weights`
-abbrev pub is_node_row : Option Claim → ProofRow → Bool
+abbrev pub is_node_row : Option Claim → TextRow → Bool
 is_node_row claim words =
     is_row (codes "weights") 2 words
     || (not (is_alone claim) && (is_row (codes "duals") 2 words || is_row (codes "split") 3 words))
@@ -48,7 +38,7 @@ value_claim (Some k) (Some v) = if fits (dec_value v) then Some (Value k v) else
 value_claim k v = None
 
 -- `value K V`, where V is a fraction too, or `infeasible`
-unfoldable pub claim_in : ProofRow → Option Claim
+unfoldable pub claim_in : TextRow → Option Claim
 claim_in words =
     if is_row (codes "infeasible") 1 words then Some Infeasible
     else if is_row (codes "value") 3 words
@@ -64,7 +54,7 @@ leaf_in node None = None
 leaf_in node (Some n) = Some (node n)
 
 -- `split J T`, `duals N` or `weights N`
-unfoldable pub proof_node_in : ProofRow → Option ProofNode
+unfoldable pub proof_node_in : TextRow → Option ProofNode
 proof_node_in words =
     if is_row (codes "split") 3 words
     then split_node (whole_of (word_at words 1)) (signed_of (word_at words 2))
@@ -77,5 +67,5 @@ pair_of (Some i) (Some v) = Some (i, v)
 pair_of i v = None
 
 -- `I VALUE`
-unfoldable pub proof_pair_in : ProofRow → Option Pair
+unfoldable pub proof_pair_in : TextRow → Option Pair
 proof_pair_in words = pair_of (whole_of (word_at words 0)) (dec_of (word_at words 1))

@@ -5,7 +5,8 @@ use Rattle.certificates.specs.declared.proof.Claim.{Claim}
 use Rattle.certificates.specs.declared.proof.ProofNode.{ProofNode}
 use Rattle.certificates.specs.declared.proof.ProofNode.TheVariants.{Split, Duals, Weights}
 use Rattle.certificates.specs.Proofs.{Pair, ProofValue}
-use Rattle.proof_text.specs.Rows.{ProofRow, claim_in, proof_node_in, proof_pair_in}
+use Rattle.proof_text.specs.Rows.{claim_in, proof_node_in, proof_pair_in}
+use Rattle.tree_text.specs.Rows.{TextRow}
 
 -- whether a row has come; the claim, the nodes and the pairs
 pub record ProofStanding : Type 0 where
@@ -15,7 +16,7 @@ pub record ProofStanding : Type 0 where
   pub pairs : List Pair
 
 -- what the rows say, each by itself
-abbrev pub proof_standing : List ProofRow → ProofStanding
+abbrev pub proof_standing : List TextRow → ProofStanding
 proof_standing rows = record {
   begun = nat_lt 0 (length rows);
   claim = slice_get (filter_map claim_in rows) 0;

@@ -6,7 +6,8 @@ use Rattle.texts.specs.Words.{row_of}
 use Rattle.certificates.specs.declared.proof.Claim.{Claim}
 use Rattle.certificates.specs.declared.proof.ProofNode.{ProofNode}
 use Rattle.certificates.specs.Proofs.{Pair}
-use Rattle.proof_text.specs.Rows.{ProofRow, claim_in, proof_node_in, proof_pair_in}
+use Rattle.proof_text.specs.Rows.{claim_in, proof_node_in, proof_pair_in}
+use Rattle.tree_text.specs.Rows.{TextRow}
 use Rattle.certificates.specs.Setting.{Setting}
 use Rattle.proof_text.specs.Standing.{ProofStanding}
 
@@ -27,7 +28,7 @@ with_node st n = record st { nodes = st.nodes ++ option_to_list n }
 abbrev pub with_pair : ProofStanding → Option Pair → ProofStanding
 with_pair st p = record st { pairs = st.pairs ++ option_to_list p }
 
-abbrev pub with_row : ProofStanding → ProofRow → ProofStanding
+abbrev pub with_row : ProofStanding → TextRow → ProofStanding
 with_row st words = record {
   begun = true;
   claim = option_or st.claim (claim_in words);

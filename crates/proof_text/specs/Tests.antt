@@ -1,8 +1,7 @@
 -- The tests of a line, in their order: the first that holds gives the reason.
-use Rattle.std.specs.Prelude.{ℕ, ◌^◌, ◌==◌, Bool, true, false, not, ◌&&◌, nat_le, nat_lt, List, [], ◌∷◌, length, get_or, Option, Some, is_none, codes, if◌then◌else◌}
+use Rattle.std.specs.Prelude.{ℕ, ◌^◌, ◌==◌, Bool, true, false, not, nat_le, nat_lt, List, [], ◌∷◌, length, get_or, Option, Some, is_none, codes, if◌then◌else◌}
 use Rattle.std.specs.Option.{option_map_or}
-use Rattle.std.specs.Str.{bytes_eq}
-use Rattle.texts.specs.Words.{row_of, word_at}
+use Rattle.texts.specs.Words.{row_of}
 use Rattle.linear_program.specs.declared.kind.Kind.{Kind}
 use Rattle.linear_program.specs.declared.kind.Kind.TheVariants.{Continuous}
 use Rattle.linear_program.specs.Intervals.{is_whole_kind}
@@ -12,7 +11,8 @@ use Rattle.certificates.specs.Proofs.{Pair}
 use Rattle.proof_text.specs.declared.fault.ProofReason.{ProofReason}
 use Rattle.proof_text.specs.declared.fault.ProofReason.TheVariants.{BadFirst, BadLine, BadNumber, IndexOut, NotWhole, RepeatedIndex, Short, Extra, TooLarge}
 use Rattle.certificates.specs.Setting.{Setting}
-use Rattle.proof_text.specs.Rows.{ProofRow, claim_in, is_claim_row, is_node_row, proof_node_in, proof_pair_in}
+use Rattle.proof_text.specs.Rows.{claim_in, is_claim_row, is_node_row, proof_node_in, proof_pair_in}
+use Rattle.tree_text.specs.Rows.{TextRow, is_first_row}
 use Rattle.proof_text.specs.Standing.{ProofStanding, has_pair, is_whole_proof, last_pairs, pairs_left, subtrees_left}
 
 abbrev pub ProofTests : Type 0
@@ -20,15 +20,10 @@ ProofTests = List (Bool × ProofReason)
 
 -- ---- the first row, and the claim
 
-abbrev pub is_first : ProofRow → Bool
-is_first words =
-    (length words == 2)
-    && bytes_eq (word_at words 0) (codes "proof") && bytes_eq (word_at words 1) (codes "1")
+unfoldable pub first_tests : TextRow → ProofTests
+first_tests words = (not (is_first_row (codes "proof") words), BadFirst) ∷ []
 
-unfoldable pub first_tests : ProofRow → ProofTests
-first_tests words = (not (is_first words), BadFirst) ∷ []
-
-unfoldable pub claim_tests : ProofRow → ProofTests
+unfoldable pub claim_tests : TextRow → ProofTests
 claim_tests words =
     (not (is_claim_row words), BadLine) ∷ (is_none (claim_in words), BadNumber) ∷ []
 
@@ -42,7 +37,7 @@ abbrev pub is_split_continuous : List Kind → Option ProofNode → Bool
 is_split_continuous kinds (Some (Split j t)) = not (is_whole_kind (get_or kinds j Continuous))
 is_split_continuous kinds other = false
 
-unfoldable pub proof_node_tests : Setting → ProofStanding → ProofRow → ProofTests
+unfoldable pub proof_node_tests : Setting → ProofStanding → TextRow → ProofTests
 proof_node_tests s st words =
     (not (is_node_row st.claim words), BadLine)
     ∷ (is_none (proof_node_in words), BadNumber)
@@ -58,7 +53,7 @@ is_pair_out rows pair = option_map_or (λ p. nat_le rows p.0) pair false
 abbrev pub is_repeated_pair : List Pair → Option Pair → Bool
 is_repeated_pair own pair = option_map_or (λ p. has_pair own p.0) pair false
 
-unfoldable pub proof_pair_tests : Setting → ProofStanding → ProofRow → ProofTests
+unfoldable pub proof_pair_tests : Setting → ProofStanding → TextRow → ProofTests
 proof_pair_tests s st words =
     (not (length words == 2), BadLine)
     ∷ (is_none (proof_pair_in words), BadNumber)
@@ -68,7 +63,7 @@ proof_pair_tests s st words =
 
 -- ---- all rows: by what is awaited
 
-unfoldable pub proof_row_tests : Setting → ProofStanding → ProofRow → ProofTests
+unfoldable pub proof_row_tests : Setting → ProofStanding → TextRow → ProofTests
 proof_row_tests s st words =
     if not st.begun then first_tests words
     else if is_none st.claim then claim_tests words

@@ -3,7 +3,8 @@ ghost use Rattle.std.specs.Prelude.{◌≡◌, ◌<◌, ◌^◌, ◌+◌, ◌∷
 ghost use Rattle.texts.specs.Judged.{DecidesOrStops, Takes};
 ghost use Rattle.texts.specs.Words.{texts};
 ghost use Rattle.proof_text.specs.Grammar.{SaysProof, proof_rules};
-ghost use Rattle.proof_text.specs.Rows.{claim_in, proof_node_in, proof_pair_in, rows_in};
+ghost use Rattle.proof_text.specs.Rows.{claim_in, proof_node_in, proof_pair_in};
+ghost use Rattle.tree_text.specs.Rows.{rows_in};
 ghost use Rattle.certificates.specs.Setting.{Setting};
 ghost use Rattle.proof_text.specs.Standing.{IsSaid, has_pair, is_leaf, is_split, is_whole_proof, last_pairs, node_count, pairs_left, proof_standing, subtrees_left};
 ghost use Rattle.proof_text.specs.Steps.{moved, with_claim, with_line, with_node, with_pair, with_row};
@@ -142,7 +143,7 @@ fn subtrees_after(subtrees: u64, node: ProofNode) -> u64
 
 impl ProofGrammar {
     /// No lines of a proof over so many rows and these variables.
-    #[tactic(auto, unfolding(crate::specs::Rows::rows_in))]
+    #[tactic(auto, unfolding(tree_text::specs::Rows::rows_in))]
     pub(crate) fn new(
         alloc: Global,
         rows: u32,

@@ -8,7 +8,7 @@ ghost use Rattle.proof_text.specs.Grammar.{proof_rules};
 ghost use Rattle.certificates.specs.Setting.{IsProofFor, Setting};
 ghost use Rattle.file_certificates.specs.Setting.{setting_of};
 ghost use Rattle.proof_text.specs.Reader.{IsFed, ReadsProof};
-ghost use Rattle.proof_text.specs.Rows.{rows_in};
+ghost use Rattle.tree_text.specs.Rows.{rows_in};
 ghost use Rattle.proof_text.specs.Standing.{proof_standing};
 
 use crate::fault::ProofFault;

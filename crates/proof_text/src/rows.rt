@@ -8,13 +8,14 @@ ghost use Rattle.proof_text.specs.Tests.{claim_tests, first_tests};
 use crate::fault::ProofReason;
 use crate::words::{claim_in, is_claim_row};
 use certificates::proof::Claim;
+use tree_text::is_first_row;
 
 /// Whether the row is the first one.
 #[tactic(auto, unfolding(crate::specs::Tests::first_tests))]
 pub(crate) fn judge_first(words: &[&[u8]]) -> Result<(), ProofReason>
     ensures { Decides (first_tests (texts words.now)) (λ _. Unit {0}) result }
 {
-    if words.len() != 2 || words[0] != b"proof".as_slice() || words[1] != b"1".as_slice() {
+    if !is_first_row(b"proof".as_slice(), words) {
         return Err(ProofReason::BadFirst);
     }
     Ok(())

@@ -1,18 +1,13 @@
 // The words of rows, and what they say.
 ghost use Rattle.std.specs.Prelude.{◌≡◌};
 ghost use Rattle.texts.specs.Words.{texts};
-ghost use Rattle.proof_text.specs.Rows.{claim_in, is_alone, is_claim_row, is_node_row, is_row, proof_node_in, proof_pair_in, split_node, value_claim};
+ghost use Rattle.proof_text.specs.Rows.{claim_in, is_alone, is_claim_row, is_node_row, proof_node_in, proof_pair_in, split_node, value_claim};
+ghost use Rattle.tree_text.specs.Rows.{is_row};
 
 use certificates::proof::{Claim, ProofNode};
 use exact_numbers::{Dec, Frac, dec_of, signed_of, whole_of};
-use texts::{begins, word_at};
-
-// Whether a row has this first word and so many words.
-fn is_row(first: &[u8], count: usize, words: &[&[u8]]) -> bool
-    ensures { result ≡ is_row first.now count (texts words.now) }
-{
-    begins(words, first) && words.len() == count
-}
+use texts::word_at;
+use tree_text::is_row;
 
 /// Whether a row has the first word and the number of words of a claim.
 pub(crate) fn is_claim_row(words: &[&[u8]]) -> bool

@@ -15,17 +15,18 @@ use Rattle.std.proofs.lemmas.Fmt.{decimal_injective}
 use Rattle.fractions.specs.Rational.{ℚ, zero_ℚ, ◌-ℚ◌, neg_ℚ}
 use Rattle.texts.specs.Names.{IsName}
 use Rattle.mps_model.specs.declared.kinds.RowKind.{RowKind}
-use Rattle.exported_program.specs.Program.{ScaledRow, kind_of_row, mps_row, with_entry, entries_of, zdef_name, bounds_of, bound_record, column_bounds, fixed_or_both, nonzero, z_name, columns_of, column_entries, or_obj_zero, two_sided, obj_name, nl_name, program_of}
+use Rattle.scaled_program.specs.Program.{ScaledRow, zdef_name, nonzero, z_name}
+use Rattle.exported_program.specs.Program.{kind_of_row, mps_row, with_entry, entries_of, bounds_of, bound_record, column_bounds, fixed_or_both, columns_of, column_entries, or_obj_zero, two_sided, obj_name, nl_name, mps_of}
 use Rattle.exact_numbers.specs.Values.{dec_value}
-use Rattle.linear_programs.specs.Names.{row_name, variable_name}
+use Rattle.program_meaning.specs.Names.{row_name, variable_name}
 use Rattle.scaling.specs.Scaled.{ScaledValue, IsScaled, term_count, IsRowOver}
 use Rattle.scaling.specs.Parts.{name_in, row_named, rows_in, column_count, tied_bounds, tied_count, tied_kinds, AreProgramRows}
 use Rattle.scaling.specs.declared.row.FactoredRow.{FactoredRow}
 use Rattle.scaling.specs.Rows.{side_value}
-use Rattle.scaling.specs.Exported.{program_rows, tied_variables, program_variables, program_objective, exported_as}
+use Rattle.scaling.specs.Exported.{program_rows, tied_variables, program_variables, program_objective, scaled_as}
 use Rattle.row_scaling.specs.InsideSides.{IsEntryAdded, right_side_of, range_in}
 use Rattle.row_scaling.proofs.ColumnLemmas.{Rows, left, left_none, left_some, left_end, entries_more, entries_none, entry_front}
-use Rattle.linear_programs.specs.Linear.{Variable, unbounded, Form}
+use Rattle.program_meaning.specs.Linear.{Variable, unbounded, Form}
 use Rattle.mps_model.specs.declared.kinds.BoundKind.TheVariants.{Lo, Up, Fx}
 use Rattle.linear_program.specs.declared.interval.Interval.{Interval}
 use Rattle.linear_program.specs.declared.kind.Kind.{Kind}
@@ -36,7 +37,7 @@ use Rattle.scaling.specs.declared.row.Tie.{Tie}
 use Rattle.row_scaling.specs.InsideColumns.{column_in, entry_value, entries_in_column, total_of}
 use Rattle.scaling.proofs.SharedLemmas.{rest_of}
 use Rattle.scaling.proofs.TieLemmas.{no_difference}
-use Rattle.exported_program.proofs.Sides.{nonzero_cases, difference_zero}
+use Rattle.scaled_program.proofs.Sides.{nonzero_cases, difference_zero}
 use Rattle.std.proofs.lemmas.List.Kept.{AllPairs-cons}
 use Rattle.std.proofs.lemmas.List.Sums.{sum_by-cons, sum_by-append}
 use Rattle.row_scaling.specs.InsideFilled.{AreFilled}
@@ -555,8 +556,8 @@ complete s m columns e same a =
 -- ---- the parts together
 pub whole_program : (s : ScaledValue) (m : Mps Dec) → m.name ≡ nl_name → m.maximise ≡ s.maximise → m.rows ≡ record { name = obj_name; kind = N } ∷ map mps_row (program_rows s) → AreFilled s m.columns →
     map (entry_with dec_value) m.rhs ≡ with_entry 0 (nonzero (neg_ℚ (program_objective s).constant)) (entries_of right_side_of 1 (program_rows s)) →
-    map (entry_with dec_value) m.ranges ≡ entries_of range_in 1 (program_rows s) → map (bound_with dec_value) m.bounds ≡ bounds_of 0 (program_variables s) → with_values dec_value m ≡ exported_as s
-unfolding with_values program_of exported_as
+    map (entry_with dec_value) m.ranges ≡ entries_of range_in 1 (program_rows s) → map (bound_with dec_value) m.bounds ≡ bounds_of 0 (program_variables s) → with_values dec_value m ≡ mps_of (scaled_as s)
+unfolding with_values mps_of scaled_as
 whole_program s m name sense rows a rhs ranges bounds = λ i. record {
   name = name i;
   maximise = sense i;

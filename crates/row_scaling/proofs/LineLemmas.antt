@@ -11,7 +11,8 @@ use Rattle.mps_model.specs.Mps.{MpsRow, Entry, no_mps_row, Bound, Column, no_col
 use Rattle.mps_model.specs.declared.kinds.RowKind.TheVariants.{N}
 use Rattle.mps_model.specs.Text.{entry_line, entry_lines, row_line, section, name_of_row as name_at, bound_line, bound_text, change_lines, column_lines, markers_after, value_words}
 use Rattle.mps_writer.proofs.Writing.{unless_map, column_written, last_change}
-use Rattle.exported_program.specs.Program.{ScaledRow, entries_of, mps_row, nonzero, obj_name, with_entry, bound_record, bounds_of, column_bounds, column_entries, columns_of, fixed_or_both, or_obj_zero, z_variable}
+use Rattle.scaled_program.specs.Program.{ScaledRow, nonzero, z_variable}
+use Rattle.exported_program.specs.Program.{entries_of, mps_row, obj_name, with_entry, bound_record, bounds_of, column_bounds, column_entries, columns_of, fixed_or_both, or_obj_zero}
 use Rattle.scaling.specs.Scaled.{ScaledValue, IsScaled}
 use Rattle.scaling.specs.Exported.{program_objective, program_rows, exported_from, program_variables, tied_rows}
 use Rattle.row_scaling.specs.InsideSections.{all_ranges, all_rows, all_sides, range_lines, row_lines, side_lines, value_lines, all_bounds, all_columns, lines_from, named_bound, bound_by}
@@ -19,8 +20,8 @@ use Rattle.row_scaling.specs.InsideSides.{range_in, right_side_of}
 use Rattle.row_scaling.proofs.AddLemmas.{others_left, column_rising, columns_more, column_sides, all_variables, bounds_left, bounds_more, bounds_none, variables_end, left_variables, variable_at}
 use Rattle.row_scaling.proofs.ColumnLemmas.{entries_more, entries_none, Rows, left, left_some}
 use Rattle.std.proofs.Math.ListN.{get_or-append}
-use Rattle.linear_programs.specs.Names.{row_name}
-use Rattle.linear_programs.specs.Linear.{Form, Variable}
+use Rattle.program_meaning.specs.Names.{row_name}
+use Rattle.program_meaning.specs.Linear.{Form, Variable}
 use Rattle.linear_program.specs.declared.interval.Interval.{Interval}
 use Rattle.linear_program.specs.Decimals.{DecimalTerm as TermOf}
 use Rattle.mps_model.specs.declared.kinds.BoundKind.{BoundKind}

@@ -4,8 +4,8 @@ use Rattle.fractions.specs.Rational.{zero_ℚ, decimal_value, above_zero, below_
 use Rattle.fractions.proofs.Signed.{times_cancel, times_twice}
 use Rattle.fractions.proofs.Values.{HasValue, equal_tops, whole_value}
 use Rattle.fractions.proofs.Arithmetic.{decimal_value_lem}
-use Rattle.exported_program.specs.Program.{nonzero}
-use Rattle.exported_program.proofs.Sides.{nonzero_cases}
+use Rattle.scaled_program.specs.Program.{nonzero}
+use Rattle.scaled_program.proofs.Sides.{nonzero_cases}
 use Rattle.exact_numbers.specs.declared.dec.Dec.{Dec}
 use Rattle.exact_numbers.specs.Values.{dec_value}
 use Rattle.exact_numbers.proofs.Tens.{ten-pos}

@@ -8,7 +8,8 @@ use Rattle.mps_model.specs.Mps.{MpsRow, Entry, Column, Bound}
 use Rattle.mps_model.specs.declared.kinds.BoundKind.{BoundKind}
 use Rattle.mps_model.specs.declared.kinds.RowKind.TheVariants.{N}
 use Rattle.mps_model.specs.Text.{bound_text, column_lines, row_line, value_words}
-use Rattle.exported_program.specs.Program.{ScaledRow, bounds_of, columns_of, entries_of, mps_row, nonzero, obj_name, with_entry}
+use Rattle.scaled_program.specs.Program.{ScaledRow, nonzero}
+use Rattle.exported_program.specs.Program.{bounds_of, columns_of, entries_of, mps_row, obj_name, with_entry}
 use Rattle.scaling.specs.Scaled.{ScaledValue}
 use Rattle.scaling.specs.Exported.{program_objective, program_rows, program_variables}
 use Rattle.row_scaling.specs.InsideSides.{range_in, right_side_of}

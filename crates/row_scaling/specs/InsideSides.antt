@@ -2,7 +2,8 @@
 use Rattle.std.specs.Prelude.{◌≡◌, ℕ, ◌+◌, ◌<◌, List, [], ◌++◌, map, Option, All}
 use Rattle.fractions.specs.Rational.{ℚ}
 use Rattle.mps_model.specs.Mps.{Entry, entry_with}
-use Rattle.exported_program.specs.Program.{ScaledRow, nonzero, range_of, rhs_of, with_entry}
+use Rattle.scaled_program.specs.Program.{ScaledRow, nonzero, range_of}
+use Rattle.exported_program.specs.Program.{rhs_of, with_entry}
 use Rattle.exact_numbers.specs.declared.dec.Dec.{Dec}
 use Rattle.exact_numbers.specs.Values.{dec_value}
 

@@ -1,8 +1,8 @@
 // The lines of the columns.
 ghost use Rattle.std.specs.Prelude.{◌≡◌, ℕ, ◌+◌, ◌<◌, ◌≤◌, ◌^◌, ◌++◌, ◌∷◌, List, length, map, codes, IfOk, OnOk, get_or, false};
 ghost use Rattle.exact_numbers.specs.Values.{value_text};
-ghost use Rattle.exported_program.specs.Program.{z_variable};
-ghost use Rattle.linear_programs.specs.Names.{row_name as numbered_row};
+ghost use Rattle.scaled_program.specs.Program.{z_variable};
+ghost use Rattle.program_meaning.specs.Names.{row_name as numbered_row};
 ghost use Rattle.mps_model.specs.Text.{column_lines, section};
 ghost use Rattle.scaling.specs.Exported.{exported_from, program_variables};
 ghost use Rattle.scaling.specs.Parts.{column_count, rows_in};

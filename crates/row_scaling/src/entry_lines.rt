@@ -2,7 +2,7 @@
 ghost use Rattle.std.specs.Prelude.{◌≡◌, ℕ, ◌+◌, ◌<◌, ◌≤◌, ◌++◌, ◌∷◌, [], length, map, All, OnOk};
 ghost use Rattle.exact_numbers.specs.Values.{text_of, value_text};
 ghost use Rattle.exported_program.specs.Program.{or_obj_zero};
-ghost use Rattle.linear_programs.specs.Names.{row_name as numbered_row};
+ghost use Rattle.program_meaning.specs.Names.{row_name as numbered_row};
 ghost use Rattle.mps_model.specs.Text.{entry_lines, name_of_row};
 ghost use Rattle.scaling.specs.Exported.{exported_from};
 ghost use Rattle.written_texts.specs.Lines.{indented, line_text, lines_text};

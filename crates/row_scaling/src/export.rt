@@ -1,8 +1,9 @@
-// The program that a scaled linear program is exported as.
+// The MPS program of a scaled program.
 ghost use Rattle.std.specs.Prelude.{◌≡◌, IfOk};
 ghost use Rattle.exact_numbers.specs.Values.{dec_value};
 ghost use Rattle.mps_model.specs.Mps.{with_values};
-ghost use Rattle.scaling.specs.Exported.{exported_as};
+ghost use Rattle.exported_program.specs.Program.{mps_of};
+ghost use Rattle.scaling.specs.Exported.{scaled_as};
 
 use crate::bounds::add_bounds;
 use crate::columns::by_column;
@@ -23,10 +24,10 @@ fn make_room(builder: &mut MpsBuilder, scaled: &Scaled) -> Result<(), AllocError
     builder.make_room(rows, columns, columns.saturating_mul(2))
 }
 
-/// The exported program: its rows are the scaled ones, its objective is as it is or tied to a
+/// The MPS program: its rows are the scaled ones, its objective is as it is or tied to a
 /// column of its own.
 pub fn program(alloc: Global, scaled: &Scaled) -> Result<Mps, AllocError>
-    ensures { IfOk result (λ m. with_values dec_value m ≡ exported_as scaled.now) }
+    ensures { IfOk result (λ m. with_values dec_value m ≡ mps_of (scaled_as scaled.now)) }
 {
     let name = name_of(alloc, b"nl")?;
     let columns = by_column(alloc, scaled)?;

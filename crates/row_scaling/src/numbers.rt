@@ -3,7 +3,7 @@ ghost use Rattle.std.specs.Prelude.{◌≡◌, ◌↔◌, IsTrue};
 ghost use Rattle.std.specs.Option.{option_map};
 ghost use Rattle.fractions.specs.Rational.{zero_ℚ, neg_ℚ};
 ghost use Rattle.exact_numbers.specs.Values.{dec_value};
-ghost use Rattle.exported_program.specs.Program.{nonzero};
+ghost use Rattle.scaled_program.specs.Program.{nonzero};
 
 use exact_numbers::Dec;
 use std::cmp::Ordering;

@@ -1,8 +1,9 @@
-// The written text of the program that a scaled linear program is exported as.
+// The written text of the MPS program of a scaled program.
 ghost use Rattle.std.specs.Prelude.{◌≡◌, IfOk};
 ghost use Rattle.exact_numbers.specs.Values.{value_text};
 ghost use Rattle.mps_model.specs.Text.{mps_text_by};
-ghost use Rattle.scaling.specs.Exported.{exported_as};
+ghost use Rattle.exported_program.specs.Program.{mps_of};
+ghost use Rattle.scaling.specs.Exported.{scaled_as};
 
 use crate::bound_lines::put_bounds;
 use crate::column_lines::put_columns;
@@ -30,9 +31,9 @@ fn text_room(scaled: &Scaled) -> usize {
     lines.saturating_mul(24)
 }
 
-/// The written text of the exported program, made without it.
+/// The written text of the MPS program, made without it.
 pub fn write_exported(alloc: Global, scaled: &Scaled) -> Result<Vec<u8>, AllocError>
-    ensures { IfOk result (λ v. v.items ≡ mps_text_by value_text (exported_as scaled.now)) }
+    ensures { IfOk result (λ v. v.items ≡ mps_text_by value_text (mps_of (scaled_as scaled.now))) }
 {
     let mut out = Vec::with_capacity(alloc, text_room(scaled))?;
     put(&mut out, b"NAME nl\n")?;

@@ -6,8 +6,8 @@ use Rattle.std.proofs.lemmas.List.Elements.{All-nil, All-cons, All-head, All-tai
 use Rattle.std.proofs.lemmas.Nat.Gcd.{dvd_antisymm, dvd_refl}
 use Rattle.fractions.specs.Rational.{ℚ, zero_ℚ, whole, ◌*ℚ◌, ◌+ℚ◌, ◌-ℚ◌}
 use Rattle.fractions.proofs.Arithmetic.{*ℚ_zero, +ℚ_zero, zero-*ℚ, *ℚ_comm, *ℚ_cancel, same_whole}
-use Rattle.exported_program.specs.Factor.{IsFinite, least_factor, coefficients_below, side_less}
-use Rattle.exported_program.proofs.Factor.{factor_multiples, factor_above}
+use Rattle.scaled_program.specs.Factor.{IsFinite, least_factor, coefficients_below, side_less}
+use Rattle.scaled_program.proofs.Factor.{factor_multiples, factor_above}
 use Rattle.exact_numbers.specs.Values.{frac_value, dec_value, FitsDec}
 use Rattle.linear_program.specs.Coefs.{Term, coef_in, value_or_zero, AreAscending, AreBelow}
 use Rattle.linear_program.proofs.CoefLemmas.{found_same, found_apart}
@@ -16,9 +16,9 @@ use Rattle.scaling.proofs.SharedLemmas.{zero_decimal, nothing_in, first_in, late
 use Rattle.linear_program.specs.Decimals.{coefficient_of}
 use Rattle.exact_numbers.specs.declared.dec.Dec.{Dec}
 use Rattle.scaling.specs.Rows.{TermOf, IsSparse, IsBelow, side_value, RowValue, IsScaledRow}
-use Rattle.linear_programs.specs.Linear.{Row}
-use Rattle.exported_program.specs.Export.{RowFits, ScaledFits, SideFits, IfSide, IfBoth, RangeFits}
-use Rattle.exported_program.specs.Program.{scaled_side, range_of, scaled_row}
+use Rattle.program_meaning.specs.Linear.{Row}
+use Rattle.scaled_program.specs.Fits.{RowFits, ScaledFits, SideFits, IfSide, IfBoth, RangeFits}
+use Rattle.scaled_program.specs.Program.{scaled_side, range_of, scaled_row}
 use Rattle.linear_program.specs.declared.interval.Interval.{Interval}
 use Rattle.exact_numbers.proofs.Zeros.{fits_zero}
 use Rattle.fractions.specs.Fits.{fits}
@@ -27,7 +27,7 @@ use Rattle.linear_program.specs.Forms.{form_line, form_terms}
 use Rattle.scaling.specs.Factored.{row_for, factor_for, IsFactored}
 use Rattle.std.proofs.lemmas.Int.{ints}
 use Rattle.exact_numbers.specs.declared.frac.Frac.{Frac}
-use Rattle.linear_programs.specs.Names.{row_name}
+use Rattle.program_meaning.specs.Names.{row_name}
 use Rattle.linear_program.specs.declared.too_wide.Wide.{Wide}
 use Rattle.texts.specs.Stopped.{IfFault}
 use Rattle.texts.specs.declared.stop.Stop.{Stop}

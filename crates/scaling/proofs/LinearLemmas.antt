@@ -8,10 +8,9 @@ use Rattle.linear_program.specs.Intervals.{is_sided}
 use Rattle.texts.specs.Stopped.{IfFault}
 use Rattle.texts.specs.declared.stop.Stop.{Stop}
 use Rattle.texts.specs.declared.stop.Stop.TheVariants.{Fault, Memory}
-use Rattle.linear_programs.specs.Linear.{Row, Linear, variable_count, no_row, row_at, Form as LinearForm, row_at as row_of_program, has_side}
-use Rattle.exported_program.specs.Export.{ExportFits, RowFits, IsDecimal, ObjectiveFits, ScaledFits, factor_of_objective, IsObjectiveTooWide, factor_of_row}
-use Rattle.exported_program.specs.Program.{program_of, scaled_row, tie, then_at, zdef_name, exported_rows, program, tie as tie_row, tied_program, z_form, z_variable}
-use Rattle.exported_program.specs.Return.{is_exported}
+use Rattle.program_meaning.specs.Linear.{Row, Linear, variable_count, no_row, row_at, Form as LinearForm, row_at as row_of_program, has_side}
+use Rattle.scaled_program.specs.Fits.{IsScaledProgramOf, ExportFits, RowFits, IsDecimal, ObjectiveFits, ScaledFits, factor_of_objective, IsObjectiveTooWide, factor_of_row}
+use Rattle.scaled_program.specs.Program.{ScaledProgram, scaled_by, scaled_and_tied, scaled_row, tie, then_at, zdef_name, exported_rows, tie as tie_row, z_form, z_variable, is_exported}
 use Rattle.linear_program.specs.declared.interval.Interval.{Interval}
 use Rattle.linear_program.specs.declared.kind.Kind.{Kind}
 use Rattle.linear_program.specs.Coefs.{AreBelow, Term, AreAscending}
@@ -23,13 +22,13 @@ use Rattle.scaling.specs.declared.scale_fault.ScaleFault.{ScaleFault}
 use Rattle.scaling.specs.declared.scale_fault.ScaleFault.TheVariants.{RowTooWide}
 use Rattle.scaling.specs.Factored.{AreScaledRows, IsFactored, IsScaledAt, body_term_count, factor_for, row_for, term_count_of, AreTiedFit, IsObjectiveTimes, IsTooWide, numbers_of, IsTiedOrPlain, IsTiedTo}
 use Rattle.scaling.specs.Scaled.{row_term_count, ScaledValue, IsRowOver, IsScaled, IsTie}
-use Rattle.scaling.specs.Scaling.{HasScaleFault, HasLeastFactors, HasNoScaleFault, IsExportOf, IsScaledOf}
+use Rattle.scaling.specs.Scaling.{HasScaleFault, HasLeastFactors, HasNoScaleFault, IsScaledOf}
 use Rattle.scaling.proofs.SharedLemmas.{rest_of, zero_decimal, zero_fits, one_not_zero}
 use Rattle.std.proofs.lemmas.List.Elements.{All-nil, All-cons, All-head, All-tail}
 use Rattle.fractions.specs.Fits.{fits}
 use Rattle.fractions.specs.Rational.{ℚ, zero_ℚ, one_ℚ, whole, neg_ℚ, ◌*ℚ◌, ◌-ℚ◌}
 use Rattle.fractions.proofs.Arithmetic.{one-*ℚ, *ℚ_one, *ℚ-neg}
-use Rattle.exported_program.specs.Factor.{least_factor, objective_numbers, coefficients_below}
+use Rattle.scaled_program.specs.Factor.{least_factor, objective_numbers, coefficients_below}
 use Rattle.exact_numbers.specs.declared.frac.Frac.{Frac}
 use Rattle.exact_numbers.specs.Values.{FitsDec, frac_value}
 use Rattle.linear_program.specs.declared.too_wide.Wide.{Wide}
@@ -39,7 +38,7 @@ use Rattle.scaling.specs.declared.row.ScaledObjective.{ScaledObjective}
 use Rattle.scaling.specs.Fitting.{coefficients_in, NumberFits}
 use Rattle.scaling.proofs.FitLemmas.{Finite, to_terms, from_terms, zero_finite, same_factor, all_map, number_of, scaled_of, zero_number, times_fit, multiplier_some, times_below, times_coefficient, times_length, times_sparse}
 use Rattle.fractions.proofs.Ring.{ring, v, num, ◌⊖◌, ◌⊗◌, opp}
-use Rattle.scaling.specs.Exported.{exported_as, exported_from, form_of, tied_row, tied_rows, tied_variables, written_form, scaled_row_of}
+use Rattle.scaling.specs.Exported.{scaled_as, exported_from, form_of, tied_row, tied_rows, tied_variables, written_form, scaled_row_of}
 use Rattle.std.specs.Option.{option_map}
 use Rattle.linear_program.specs.Decimals.{coefficient_of}
 use Rattle.scaling.specs.declared.row.Tie.{Tie}
@@ -223,11 +222,11 @@ module _ (l : LinearValue) (is : IsLinear l) (up : AreAscending 0 (form_terms l.
 pub times_all : (q : ℚ) (b : Form) (o : ScaledObjective) → IsObjectiveTimes q b o → All (NumberFits q) (numbers_of b)
 times_all q b o h = All-cons (NumberFits q) (form_line b).constant (coefficients_in (form_terms b)) h.constant (times_fit q (form_terms b) o.terms h.terms)
 
-pub plain_as : (s : ScaledValue) → s.tie ≡ None → exported_as s ≡ program_of (exported_from 0 s.rows) (form_of s.objective) (variables_from 0 s.bounds s.kinds) s.maximise
-unfolding exported_as
+pub plain_as : (s : ScaledValue) → s.tie ≡ None → scaled_as s ≡ record { rows = exported_from 0 s.rows; objective = form_of s.objective; variables = variables_from 0 s.bounds s.kinds; maximise = s.maximise }
+unfolding scaled_as
 plain_as s e =
-    ap (λ o. program_of (exported_from 0 s.rows ++ tied_rows o s) (written_form o s) (variables_from 0 s.bounds s.kinds ++ tied_variables o) s.maximise) e
-    ∙ ap₂ (λ rows vs. program_of rows (form_of s.objective) vs s.maximise) (append-nil (exported_from 0 s.rows)) (append-nil (variables_from 0 s.bounds s.kinds))
+    ap (λ o. let p : ScaledProgram = record { rows = exported_from 0 s.rows ++ tied_rows o s; objective = written_form o s; variables = variables_from 0 s.bounds s.kinds ++ tied_variables o; maximise = s.maximise } in p) e
+    ∙ ap₂ (λ rows vs. let p : ScaledProgram = record { rows = rows; objective = form_of s.objective; variables = vs; maximise = s.maximise } in p) (append-nil (exported_from 0 s.rows)) (append-nil (variables_from 0 s.bounds s.kinds))
 
 one_coefficient : (n k j : ℕ) (objective form : LinearForm) → form.coefficient j ≡ whole (pos k) *ℚ objective.coefficient j →
     then_at n (neg_ℚ (whole (pos k))) form.coefficient j ≡ whole (pos k) *ℚ then_at n (neg_ℚ one_ℚ) objective.coefficient j
@@ -354,12 +353,12 @@ module _ (l : LinearValue) (is : IsLinear l) (up : AreAscending 0 (form_terms l.
           few_terms = omega (arith, few, terms, bound);
         }
 
-    plain_export : (o : ScaledObjective) → IsObjectiveTimes one_ℚ l.objective o → exported_as (value_of l rows o None) ≡ program (linear_value l) (factor_of_row (linear_value l))
+    plain_export : (o : ScaledObjective) → IsObjectiveTimes one_ℚ l.objective o → scaled_as (value_of l rows o None) ≡ scaled_by (linear_value l) (factor_of_row (linear_value l))
     unfolding linear_value
     plain_export o h =
         let rows_same = same_rows (linear_value l) rows r in
         let form = plain_form o h in
-        plain_as (value_of l rows o None) refl ∙ (λ t. program_of (rows_same t) (form t) (variables_from 0 l.bounds l.kinds) l.maximise)
+        plain_as (value_of l rows o None) refl ∙ (λ t. record { rows = rows_same t; objective = form t; variables = variables_from 0 l.bounds l.kinds; maximise = l.maximise })
 
     tied_same : (o : ScaledObjective) (t : Tie) → IsTiedTo l.objective o t →
         tied_row (length l.bounds) t.factor (form_of o) ≡ scaled_row (factor_of_objective (linear_value l)) (tie_row (variable_count (linear_value l)) (linear_value l).objective)
@@ -374,17 +373,17 @@ module _ (l : LinearValue) (is : IsLinear l) (up : AreAscending 0 (form_terms l.
         (h.times.value ∙ ap (λ k. whole (pos k) *ℚ (form_line l.objective).constant) (sym e))
         (λ j. times_coefficients _ o h.times j ∙ ap (λ k. whole (pos k) *ℚ (form_line l.objective).coef j) (sym e))
 
-    tied_export : (o : ScaledObjective) (t : Tie) → IsTiedTo l.objective o t → exported_as (value_of l rows o (Some t)) ≡ tied_program (linear_value l) (factor_of_row (linear_value l)) (factor_of_objective (linear_value l))
-    unfolding exported_as linear_value
+    tied_export : (o : ScaledObjective) (t : Tie) → IsTiedTo l.objective o t → scaled_as (value_of l rows o (Some t)) ≡ scaled_and_tied (linear_value l) (factor_of_row (linear_value l)) (factor_of_objective (linear_value l))
+    unfolding scaled_as linear_value
     tied_export o t h =
         let rows_same = same_rows (linear_value l) rows r in
         let row = tied_same o t h in
         let count = sym (count_is l is) in
-        λ i. program_of (rows_same i ++ row i ∷ []) (z_form (count i)) (variables_from 0 l.bounds l.kinds ++ z_variable ∷ []) l.maximise
+        λ i. record { rows = rows_same i ++ row i ∷ []; objective = z_form (count i); variables = variables_from 0 l.bounds l.kinds ++ z_variable ∷ []; maximise = l.maximise }
 
-    export_of : (o : ScaledObjective) (t : Option Tie) → IsTiedOrPlain l.objective o t → IsExportOf (linear_value l) (exported_as (value_of l rows o t))
-    export_of o None h = record { plain = λ d. plain_export o h; tied = λ d. absurd (d (decimal_back l is up (times_all one_ℚ l.objective o h))) }
-    export_of o (Some t) h = record { plain = λ d. absurd (h.0 (decimal_there l is up d)); tied = λ d. tied_export o t h.1 }
+    program_of : (o : ScaledObjective) (t : Option Tie) → IsTiedOrPlain l.objective o t → IsScaledProgramOf (linear_value l) (scaled_as (value_of l rows o t))
+    program_of o None h = record { plain = λ d. plain_export o h; tied = λ d. absurd (d (decimal_back l is up (times_all one_ℚ l.objective o h))) }
+    program_of o (Some t) h = record { plain = λ d. absurd (h.0 (decimal_there l is up d)); tied = λ d. tied_export o t h.1 }
 
     factors_of : (o : ScaledObjective) (t : Option Tie) → IsTiedOrPlain l.objective o t → HasLeastFactors (linear_value l) (value_of l rows o t)
     factors_of o None h =
@@ -403,7 +402,7 @@ module _ (l : LinearValue) (is : IsLinear l) (up : AreAscending 0 (form_terms l.
         }
 
     pub is_scaled_of : (o : ScaledObjective) (t : Option Tie) → IsTiedOrPlain l.objective o t → IsScaledOf (linear_value l) (value_of l rows o t)
-    is_scaled_of o t h = record { export = export_of o t h; factors = factors_of o t h }
+    is_scaled_of o t h = record { program = program_of o t h; factors = factors_of o t h }
 
     fits_of : (o : ScaledObjective) (t : Option Tie) → IsTiedOrPlain l.objective o t → IsDecimal (linear_value l) ⊎ ObjectiveFits (linear_value l)
     fits_of o None h = inl (decimal_back l is up (times_all one_ℚ l.objective o h))

@@ -10,9 +10,9 @@ use Rattle.std.proofs.Math.Seq.{get_or-append_seam}
 use Rattle.std.proofs.lemmas.List.Elements.{All-push}
 use Rattle.std.proofs.lemmas.Nat.Gcd.{dvd_antisymm, dvd_refl, le_of_dvd, dvd_trans}
 use Rattle.fractions.specs.LowestLemmas.{reduced_lem}
-use Rattle.exported_program.specs.Factor.{least_factor, cofactor_of, IsFinite}
-use Rattle.exported_program.specs.FactorLemmas.{factor_by_steps}
-use Rattle.exported_program.proofs.Factor.{cofactor_above, factor_multiples, factor_above, finite_multiple, only_cofactor, is_lcm}
+use Rattle.scaled_program.specs.Factor.{least_factor, cofactor_of, IsFinite}
+use Rattle.scaled_program.specs.FactorLemmas.{factor_by_steps}
+use Rattle.scaled_program.proofs.Factor.{cofactor_above, factor_multiples, factor_above, finite_multiple, only_cofactor, is_lcm}
 use Rattle.exact_numbers.specs.Fraction.{IsCofactor, IsLcm}
 use Rattle.exact_numbers.specs.declared.frac.Frac.{Frac}
 use Rattle.exact_numbers.specs.Values.{frac_value, dec_value, FitsDec, IsDecOf}

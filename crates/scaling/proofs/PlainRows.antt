@@ -7,9 +7,9 @@ use Rattle.exact_numbers.proofs.Zeros.{sum_fits_zero}
 use Rattle.exact_numbers.specs.declared.dec.Dec.{Dec}
 use Rattle.exact_numbers.specs.declared.frac.Frac.{Frac}
 use Rattle.exact_numbers.specs.Values.{dec_value, frac_value}
-use Rattle.exported_program.specs.Export.{IfSide, IfBoth, RangeFits}
-use Rattle.exported_program.specs.Factor.{least_factor}
-use Rattle.exported_program.specs.Program.{range_of}
+use Rattle.scaled_program.specs.Fits.{IfSide, IfBoth, RangeFits}
+use Rattle.scaled_program.specs.Factor.{least_factor}
+use Rattle.scaled_program.specs.Program.{range_of}
 use Rattle.linear_program.specs.Coefs.{AreAscending, AreBelow, AreDecimalsOf}
 use Rattle.linear_program.specs.declared.form.Form.{Form}
 use Rattle.linear_program.specs.declared.interval.Interval.{Interval}

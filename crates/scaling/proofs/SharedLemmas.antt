@@ -6,15 +6,15 @@ use Rattle.fractions.specs.Rational.{ℚ, zero_ℚ, one_ℚ, whole, decimal_valu
 use Rattle.fractions.proofs.Values.{same_crosswise, same_value, whole_value}
 use Rattle.fractions.proofs.Arithmetic.{decimal_value_lem, zero-+ℚ, same_whole, +ℚ-neg, -ℚ_lem}
 use Rattle.std.proofs.lemmas.Bool.{eq-eqb, ne_eqb}
-use Rattle.exported_program.specs.Program.{nonzero, range_of}
-use Rattle.exported_program.proofs.Sides.{nonzero_cases, difference_zero}
+use Rattle.scaled_program.specs.Program.{nonzero, range_of}
+use Rattle.scaled_program.proofs.Sides.{nonzero_cases, difference_zero}
 use Rattle.exact_numbers.specs.Values.{dec_value, FitsDec, order_of}
 use Rattle.exact_numbers.proofs.Orders.{less_z, greater_z, equal_z}
 use Rattle.fractions.specs.Sums.{sum_over}
 use Rattle.linear_program.specs.Decimals.{coefficient_of}
 use Rattle.scaling.specs.Rows.{TermOf}
 use Rattle.fractions.specs.Fits.{sum_fits}
-use Rattle.exported_program.specs.Export.{IfSide, IfBoth, RangeFits}
+use Rattle.scaled_program.specs.Fits.{IfSide, IfBoth, RangeFits}
 use Rattle.exact_numbers.specs.declared.dec.Dec.{Dec}
 
 -- What the export of a scaled program needs, too: lists, coefficients, 0 and 1, comparison.

@@ -13,8 +13,8 @@ use Rattle.fractions.proofs.Arithmetic.{+ℚ_zero, zero-+ℚ, whole-neg, same_wh
 use Rattle.fractions.proofs.Adding.{sum_over-append}
 use Rattle.exact_numbers.specs.declared.dec.Dec.{Dec}
 use Rattle.exact_numbers.specs.Values.{dec_value}
-use Rattle.exported_program.specs.Program.{nonzero, then_at, zdef_name}
-use Rattle.linear_programs.specs.Names.{row_name}
+use Rattle.scaled_program.specs.Program.{nonzero, then_at, zdef_name}
+use Rattle.program_meaning.specs.Names.{row_name}
 use Rattle.linear_program.specs.declared.interval.Interval.{Interval}
 use Rattle.linear_program.specs.declared.kind.Kind.{Kind}
 use Rattle.linear_program.specs.declared.kind.Kind.TheVariants.{Continuous}

@@ -1,12 +1,11 @@
--- The MPS program that a scaled linear program is exported as.
+-- The scaled program that is held as data.
 use Rattle.std.specs.Prelude.{ℕ, suc, ℤ, List, [], ◌∷◌, ◌++◌, length, Option, Some, None}
-use Rattle.fractions.specs.Rational.{ℚ, whole, neg_ℚ}
-use Rattle.linear_programs.specs.Linear.{Form, Variable}
-use Rattle.mps_model.specs.Mps.{Mps}
-use Rattle.exported_program.specs.Program.{ScaledRow, program_of, then_at, z_form, z_variable, zdef_name}
+use Rattle.fractions.specs.Rational.{whole, neg_ℚ}
+use Rattle.program_meaning.specs.Linear.{Form, Variable}
+use Rattle.scaled_program.specs.Program.{ScaledProgram, ScaledRow, then_at, z_form, z_variable, zdef_name}
 use Rattle.exact_numbers.specs.Values.{dec_value}
 use Rattle.linear_program.specs.Decimals.{coefficient_of}
-use Rattle.linear_programs.specs.Names.{row_name}
+use Rattle.program_meaning.specs.Names.{row_name}
 use Rattle.linear_program.specs.Intervals.{interval_of}
 use Rattle.linear_program.specs.Programs.{variables_from}
 use Rattle.scaling.specs.declared.row.FactoredRow.{FactoredRow}
@@ -64,5 +63,11 @@ abbrev pub program_objective : ScaledValue → Form
 program_objective s = written_form s.tie s
 
 -- the rows times their factors, and the objective as it is or tied to the column z
-unfoldable pub exported_as : ScaledValue → Mps ℚ
-exported_as s = program_of (program_rows s) (program_objective s) (program_variables s) s.maximise
+unfoldable pub scaled_as : ScaledValue → ScaledProgram
+scaled_as s =
+    record {
+      rows = program_rows s;
+      objective = program_objective s;
+      variables = program_variables s;
+      maximise = s.maximise;
+    }

@@ -3,14 +3,13 @@ use Rattle.std.specs.Prelude.{◌≡◌, ℕ, ◌<◌, ◌^◌, pos, IsTrue, Lis
 use Rattle.std.specs.List.{sum_by}
 use Rattle.std.specs.Option.{option_map_or}
 use Rattle.fractions.specs.Rational.{ℚ, one_ℚ, whole, ◌*ℚ◌}
-use Rattle.linear_programs.specs.Linear.{Row, Linear, variable_count, row_at}
+use Rattle.program_meaning.specs.Linear.{Row, Linear, variable_count, row_at}
 use Rattle.exact_numbers.specs.Values.{dec_value}
-use Rattle.exported_program.specs.Export.{RowFits}
-use Rattle.exported_program.specs.Factor.{least_factor, row_numbers}
-use Rattle.exported_program.specs.Program.{scaled_row}
-use Rattle.exported_program.specs.Return.{is_exported}
+use Rattle.scaled_program.specs.Fits.{RowFits}
+use Rattle.scaled_program.specs.Factor.{least_factor, row_numbers}
+use Rattle.scaled_program.specs.Program.{scaled_row, is_exported}
 use Rattle.linear_program.specs.declared.interval.Interval.{Interval}
-use Rattle.linear_programs.specs.Names.{row_name}
+use Rattle.program_meaning.specs.Names.{row_name}
 use Rattle.linear_program.specs.Intervals.{interval_of}
 use Rattle.linear_program.specs.declared.form.Form.{Form}
 use Rattle.linear_program.specs.Forms.{form_line, form_terms}

@@ -5,10 +5,10 @@ use Rattle.fractions.specs.Fits.{fits, sum_fits}
 use Rattle.fractions.specs.Rational.{ℚ, neg_ℚ, ◌-ℚ◌, ◌*ℚ◌}
 use Rattle.exact_numbers.specs.declared.frac.Frac.{Frac}
 use Rattle.exact_numbers.specs.Values.{dec_value, frac_value, FitsDec}
-use Rattle.exported_program.specs.Export.{IfSide, IfBoth, RangeFits}
+use Rattle.scaled_program.specs.Fits.{IfSide, IfBoth, RangeFits}
 use Rattle.linear_program.specs.Coefs.{Term}
 use Rattle.exact_numbers.specs.declared.dec.Dec.{Dec}
-use Rattle.exported_program.specs.Program.{range_of}
+use Rattle.scaled_program.specs.Program.{range_of}
 use Rattle.scaling.specs.Rows.{TermOf, side_value}
 
 -- the coefficients of terms, in order

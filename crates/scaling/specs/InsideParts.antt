@@ -1,6 +1,6 @@
 -- What a scaled program keeps: the parts of the program that is exported.
 use Rattle.std.specs.Prelude.{◌≡◌, ℕ, ◌+◌, ◌++◌, length, take, Option, Some, None}
-use Rattle.exported_program.specs.Program.{z_form, zdef_name}
+use Rattle.scaled_program.specs.Program.{z_form, zdef_name}
 use Rattle.scaling.specs.declared.row.FactoredRow.{FactoredRow}
 use Rattle.scaling.specs.declared.row.ScaledObjective.{ScaledObjective}
 use Rattle.scaling.specs.declared.row.Tie.{Tie}

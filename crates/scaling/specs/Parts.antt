@@ -1,7 +1,7 @@
 -- The parts of the exported program as lists, in which the row and the column of a tie come last.
 use Rattle.std.specs.Prelude.{◌≡◌, ℕ, suc, ◌+◌, ◌≤◌, nat_eq, cond, List, [], ◌∷◌, length, Option, Some, None, All, IfSome}
-use Rattle.linear_programs.specs.Names.{row_name}
-use Rattle.exported_program.specs.Program.{ScaledRow, zdef_name}
+use Rattle.program_meaning.specs.Names.{row_name}
+use Rattle.scaled_program.specs.Program.{ScaledRow, zdef_name}
 use Rattle.linear_program.specs.declared.interval.Interval.{Interval}
 use Rattle.linear_program.specs.declared.kind.Kind.{Kind}
 use Rattle.linear_program.specs.declared.kind.Kind.TheVariants.{Continuous}

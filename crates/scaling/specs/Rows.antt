@@ -4,7 +4,7 @@ use Rattle.std.specs.Global.{Global}
 use Rattle.std.specs.Option.{option_map}
 use Rattle.linear_program.specs.Intervals.{is_sided}
 use Rattle.fractions.specs.Rational.{ℚ, zero_ℚ}
-use Rattle.exported_program.specs.Program.{range_of}
+use Rattle.scaled_program.specs.Program.{range_of}
 use Rattle.exact_numbers.specs.declared.dec.Dec.{Dec}
 use Rattle.exact_numbers.specs.Values.{dec_value}
 pub use Rattle.linear_program.specs.Decimals.{DecimalTerm as TermOf}

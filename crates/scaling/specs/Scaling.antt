@@ -1,16 +1,13 @@
 -- What scaling the rows of a folded file answers.
 use Rattle.std.specs.Prelude.{◌≡◌, ◌⊎◌, ℕ, ℤ, pos, IsTrue, Option, Some, None}
 use Rattle.std.specs.Option.{option_map}
-use Rattle.linear_programs.specs.Linear.{Linear, row_at as row_of_program}
-use Rattle.exported_program.specs.Export.{ExportFits, IsDecimal, ObjectiveFits, IsRowTooWide, IsObjectiveTooWide, factor_of_row, factor_of_objective}
-use Rattle.exported_program.specs.Program.{program, tied_program}
-use Rattle.exported_program.specs.Return.{is_exported}
-use Rattle.mps_model.specs.Mps.{Mps}
-use Rattle.fractions.specs.Rational.{ℚ}
+use Rattle.program_meaning.specs.Linear.{Linear, row_at as row_of_program}
+use Rattle.scaled_program.specs.Fits.{ExportFits, IsDecimal, IsScaledProgramOf, ObjectiveFits, IsRowTooWide, IsObjectiveTooWide, factor_of_row, factor_of_objective}
+use Rattle.scaled_program.specs.Program.{is_exported}
 use Rattle.scaling.specs.declared.scale_fault.ScaleFault.{ScaleFault}
 use Rattle.scaling.specs.declared.scale_fault.ScaleFault.TheVariants.{RowTooWide, ObjectiveTooWide}
 use Rattle.scaling.specs.Scaled.{ScaledValue, row_at, objective_factor}
-use Rattle.scaling.specs.Exported.{exported_as}
+use Rattle.scaling.specs.Exported.{scaled_as}
 
 -- all numbers of the program fit: no row and no tied objective is too wide
 pub record HasNoScaleFault (f : Linear) : Type 0 where
@@ -21,12 +18,6 @@ pub record HasNoScaleFault (f : Linear) : Type 0 where
 abbrev pub HasScaleFault : Linear → ScaleFault → Type 0
 HasScaleFault f (RowTooWide i) = IsRowTooWide f i
 HasScaleFault f ObjectiveTooWide = IsObjectiveTooWide f
-
--- the program that a linear program is exported as: with the least factors, and tied exactly where
--- the objective is not decimal
-pub record IsExportOf (f : Linear) (m : Mps ℚ) : Type 0 where
-  pub plain : IsDecimal f → m ≡ program f (factor_of_row f)
-  pub tied : (IsDecimal f → ⊥) → m ≡ tied_program f (factor_of_row f) (factor_of_objective f)
 
 -- the factor of a row, where it is exported
 abbrev pub factor_at : ScaledValue → ℕ → Option ℤ
@@ -43,5 +34,5 @@ pub record HasLeastFactors (f : Linear) (s : ScaledValue) : Type 0 where
 
 -- the scaled program of a linear program
 pub record IsScaledOf (f : Linear) (s : ScaledValue) : Type 0 where
-  pub export : IsExportOf f (exported_as s)
+  pub program : IsScaledProgramOf f (scaled_as s)
   pub factors : HasLeastFactors f s

@@ -2,7 +2,7 @@
 ghost use Rattle.std.specs.Prelude.{◌≡◌, ◌*◌, ◌^◌, ◌*ℤ◌, ◌≤◌, IfSome, Some, true};
 ghost use Rattle.fractions.specs.Rational.{above_zero, below_zero, one_ℚ};
 ghost use Rattle.exact_numbers.specs.Values.{dec_value, frac_value, IsDecOf};
-ghost use Rattle.exported_program.specs.Factor.{cofactor_of};
+ghost use Rattle.scaled_program.specs.Factor.{cofactor_of};
 
 use exact_numbers::{Dec, Frac};
 

@@ -2,7 +2,7 @@
 ghost use Rattle.std.specs.Prelude.{◌≡◌, ◌≤◌, ◌^◌, ◌++◌, ◌∷◌, List, MatchOption, pos, unsigned_abs, ◌<ℤ◌};
 ghost use Rattle.fractions.specs.Rational.{ℚ};
 ghost use Rattle.exact_numbers.specs.Values.{frac_value};
-ghost use Rattle.exported_program.specs.Factor.{cofactor_of, least_factor};
+ghost use Rattle.scaled_program.specs.Factor.{cofactor_of, least_factor};
 ghost use Rattle.fractions.specs.Fits.{least_multiple};
 ghost use Rattle.linear_program.specs.Coefs.{AreAscending};
 ghost use Rattle.linear_program.specs.Forms.{form_line, form_terms};

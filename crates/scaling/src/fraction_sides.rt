@@ -2,8 +2,8 @@
 ghost use Rattle.std.specs.Prelude.{◌≡◌, ◌↔◌, IsTrue, MatchOption, MatchResult};
 ghost use Rattle.fractions.specs.Rational.{◌*ℚ◌};
 ghost use Rattle.exact_numbers.specs.Values.{dec_value, frac_value, FitsDec};
-ghost use Rattle.exported_program.specs.Export.{IfSide, IfBoth, RangeFits};
-ghost use Rattle.exported_program.specs.Program.{range_of};
+ghost use Rattle.scaled_program.specs.Fits.{IfSide, IfBoth, RangeFits};
+ghost use Rattle.scaled_program.specs.Program.{range_of};
 ghost use Rattle.scaling.specs.Fitting.{frac_side, less_side, times_side, LessFits, ProductFits, NumberFits, AreSidesFit};
 ghost use Rattle.scaling.specs.Rows.{side_value};
 

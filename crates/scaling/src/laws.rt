@@ -1,20 +1,23 @@
-// How the exported program reads in the terms of linear programs. Each law is proved by a function
-// with an empty body.
+// How a scaled program as data reads in the terms of linear programs. Each law is proved by a
+// function with an empty body.
 ghost use Rattle.std.specs.Prelude.{◌≡◌, ℕ, pos, None};
 ghost use Rattle.fractions.specs.Rational.{whole, ◌*ℚ◌};
-ghost use Rattle.linear_programs.specs.Linear.{Form};
-ghost use Rattle.exported_program.specs.Program.{program_of, scaled_row, tie};
+ghost use Rattle.program_meaning.specs.Linear.{Form};
+ghost use Rattle.scaled_program.specs.Program.{scaled_row, tie};
 ghost use Rattle.linear_program.specs.Programs.{variables_from};
-ghost use Rattle.scaling.specs.Exported.{exported_as, exported_from, form_of, tied_row};
+ghost use Rattle.scaling.specs.Exported.{scaled_as, exported_from, form_of, tied_row};
 ghost use Rattle.scaling.specs.Scaled.{ScaledValue};
 
 /// An objective that is not tied is written as it is.
 #[tactic(auto, using(crate::proofs::LinearLemmas::plain_as))]
 pub fn plain_program()
     ensures { (s : ScaledValue) → s.tie ≡ None
-        → exported_as s
-        ≡ program_of (exported_from 0 s.rows) (form_of s.objective)
-        (variables_from 0 s.bounds s.kinds) s.maximise }
+        → scaled_as s ≡ record {
+          rows = exported_from 0 s.rows;
+          objective = form_of s.objective;
+          variables = variables_from 0 s.bounds s.kinds;
+          maximise = s.maximise;
+        } }
 {}
 
 /// The last row of a tied objective is the objective less z, times the factor.

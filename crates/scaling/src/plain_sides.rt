@@ -2,7 +2,7 @@
 ghost use Rattle.std.specs.Prelude.{◌≡◌, IfSome, Some, true};
 ghost use Rattle.fractions.specs.Rational.{zero_ℚ};
 ghost use Rattle.exact_numbers.specs.Values.{dec_value, frac_value};
-ghost use Rattle.exported_program.specs.Export.{IfSide};
+ghost use Rattle.scaled_program.specs.Fits.{IfSide};
 ghost use Rattle.scaling.specs.Fitting.{ArePlain, HasFraction, IsRangeOf};
 ghost use Rattle.scaling.specs.Rows.{side_value};
 

@@ -4,7 +4,7 @@ ghost use Rattle.linear_program.specs.Intervals.{is_sided};
 ghost use Rattle.texts.specs.Stopped.{IfFault};
 ghost use Rattle.fractions.specs.Rational.{whole};
 ghost use Rattle.exact_numbers.specs.Values.{frac_value};
-ghost use Rattle.exported_program.specs.Export.{ExportFits, RowFits};
+ghost use Rattle.scaled_program.specs.Fits.{ExportFits, RowFits};
 ghost use Rattle.linear_program.specs.Coefs.{AreBelow};
 ghost use Rattle.linear_program.specs.declared.form.Form.{Form};
 ghost use Rattle.linear_program.specs.Forms.{form_terms};

@@ -1,5 +1,5 @@
 use Rattle.std.proofs.Common.{◌≡◌, ◌+◌, drop, length}
-use Rattle.linear_programs.specs.Linear.{Linear, row_count}
+use Rattle.program_meaning.specs.Linear.{Linear, row_count}
 use Rattle.branch_check.specs.InsideNumbers.{AreReady}
 use Rattle.certificates.specs.Proofs.{IsProofOf}
 use Rattle.branch_check.proofs.Conversion.{OnWrite}

@@ -1,5 +1,5 @@
 use Rattle.std.proofs.Common.{subst}
-use Rattle.linear_programs.specs.Linear.{Linear}
+use Rattle.program_meaning.specs.Linear.{Linear}
 use Rattle.branch_check.specs.Leaves.{IsVerdictOn}
 use Rattle.bridge_tool.proofs.prove.verdict_of.Goals as goal
 

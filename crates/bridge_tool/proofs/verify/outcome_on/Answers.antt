@@ -1,5 +1,5 @@
 use Rattle.std.proofs.Common.{◌≡◌, subst}
-use Rattle.linear_programs.specs.Linear.{Linear}
+use Rattle.program_meaning.specs.Linear.{Linear}
 use Rattle.certificates.specs.Certificates.{IsCertificateOf, claim_outcome}
 use Rattle.certificate_walk.specs.Outcomes.{outcome_of}
 use Rattle.bridge_tool.proofs.verify.outcome_on.Goals as goal

@@ -1,5 +1,5 @@
 use Rattle.std.proofs.Common.{◌∙◌, ap}
-use Rattle.linear_programs.specs.Linear.{row_count}
+use Rattle.program_meaning.specs.Linear.{row_count}
 use Rattle.duality.specs.Branch.{proof_fault}
 use Rattle.duality.specs.Certificate.{judged, with_leaves}
 use Rattle.exact_numbers.specs.Values.{frac_value}

@@ -4,7 +4,7 @@ use Rattle.dual_bounds.proofs.Points.{point_of}
 use Rattle.dual_bounds.specs.Programs.{asked, linear_of}
 use Rattle.dual_bounds.proofs.Firsts.{first_goes_on, first_stops}
 use Rattle.dual_bounds.proofs.Rows.{item_at, side_fault_is, rows_counted}
-use Rattle.linear_programs.specs.Linear.{row_count}
+use Rattle.program_meaning.specs.Linear.{row_count}
 use Rattle.dual_bounds.proofs.duals.first_side_fault.Goals as goal
 
 pub returns-then-not-has_row_side : goal.returns-then-not-has_row_side

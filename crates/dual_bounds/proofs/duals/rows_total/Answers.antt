@@ -5,7 +5,7 @@ use Rattle.dual_bounds.proofs.Points.{point_of}
 use Rattle.dual_bounds.specs.Programs.{asked, linear_of}
 use Rattle.dual_bounds.proofs.Runs.{run_goes_on, run_stops}
 use Rattle.dual_bounds.proofs.Rows.{item_at, row_part_is, rows_counted}
-use Rattle.linear_programs.specs.Linear.{row_count}
+use Rattle.program_meaning.specs.Linear.{row_count}
 use Rattle.dual_bounds.proofs.duals.rows_total.Goals as goal
 
 pub returns-in-None : goal.returns-in-None

@@ -1,5 +1,5 @@
 use Rattle.std.proofs.Common.{◌≡◌, subst, sym}
-use Rattle.linear_programs.specs.Linear.{row_count}
+use Rattle.program_meaning.specs.Linear.{row_count}
 use Rattle.duality.specs.Verdict.{dual_bound}
 use Rattle.exact_numbers.specs.Values.{frac_value}
 use Rattle.linear_program.specs.Numbers.{spread}

@@ -4,7 +4,7 @@ use Rattle.dual_bounds.proofs.Points.{point_of}
 use Rattle.dual_bounds.specs.Programs.{linear_of, bounds_in}
 use Rattle.dual_bounds.proofs.Firsts.{first_goes_on, first_stops}
 use Rattle.dual_bounds.proofs.Rows.{bound_fault_is, variables_counted}
-use Rattle.linear_programs.specs.Linear.{variable_count}
+use Rattle.program_meaning.specs.Linear.{variable_count}
 use Rattle.dual_bounds.proofs.point.first_bound_fault.Goals as goal
 
 pub returns-then-not-is_within_bounds : goal.returns-then-not-is_within_bounds

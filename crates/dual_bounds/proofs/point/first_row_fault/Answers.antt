@@ -4,7 +4,7 @@ use Rattle.dual_bounds.proofs.Points.{point_of}
 use Rattle.dual_bounds.specs.Programs.{linear_of}
 use Rattle.dual_bounds.proofs.Firsts.{first_stops}
 use Rattle.dual_bounds.proofs.Rows.{item_at, row_fault_is, rows_counted}
-use Rattle.linear_programs.specs.Linear.{row_count}
+use Rattle.program_meaning.specs.Linear.{row_count}
 use Rattle.dual_bounds.proofs.point.first_row_fault.Goals as goal
 
 pub returns-in-Some : goal.returns-in-Some

@@ -1,6 +1,6 @@
 use Rattle.std.proofs.Common.{◌≡◌, [], ◌∷◌, IfSome, ap, length, option_copied, subst}
 use Rattle.fractions.specs.Rational.{zero_ℚ}
-use Rattle.linear_programs.specs.Lines.{Point}
+use Rattle.program_meaning.specs.Lines.{Point}
 use Rattle.nl_meaning.specs.Trees.{Known, Tree, tree_size}
 use Rattle.nl_model.specs.Nodes.{IsTreeFormed, trees_of}
 use Rattle.linear_fold.specs.declared.entries.Entry.TheVariants.{Linear}

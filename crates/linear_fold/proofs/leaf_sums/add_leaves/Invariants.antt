@@ -1,5 +1,5 @@
 use Rattle.std.proofs.Common.{◌≤◌, ◌+◌, ◌-◌, drop, length}
-use Rattle.linear_programs.specs.Lines.{Line, Point}
+use Rattle.program_meaning.specs.Lines.{Line, Point}
 use Rattle.nl_meaning.specs.Trees.{Known, first_trees}
 use Rattle.nl_model.specs.Nodes.{trees_of}
 use Rattle.linear_fold.specs.InsideLeafSums.{AreLeaves, SumsUpTo, leaves_line, seen}

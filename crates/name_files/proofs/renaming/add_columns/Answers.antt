@@ -1,5 +1,5 @@
 use Rattle.std.proofs.Common.{◌∙◌, ap, sym, subst, arith, length, List, ℕ}
-use Rattle.linear_programs.specs.Names.{variable_name}
+use Rattle.program_meaning.specs.Names.{variable_name}
 use Rattle.texts.specs.Names.{IsName}
 use Rattle.mps_model.specs.Mps.{Mps, Column}
 use Rattle.exact_numbers.specs.declared.dec.Dec.{Dec}

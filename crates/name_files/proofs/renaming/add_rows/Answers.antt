@@ -1,6 +1,6 @@
 use Rattle.std.proofs.Common.{◌∙◌, ap, sym, subst, arith, List, ℕ}
 use Rattle.std.proofs.lemmas.List.{take-map}
-use Rattle.linear_programs.specs.Names.{row_name}
+use Rattle.program_meaning.specs.Names.{row_name}
 use Rattle.texts.specs.Names.{IsName}
 use Rattle.mps_model.specs.Mps.{Mps, MpsRow}
 use Rattle.mps_model.specs.Built.{CanAddRow}

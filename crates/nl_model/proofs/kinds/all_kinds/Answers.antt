@@ -1,6 +1,6 @@
 use Rattle.std.proofs.Common.{◌≡◌, ◌∙◌, ◌<◌, ◌++◌, ◌∷◌, [], ap, arith}
 use Rattle.nl_model.specs.Kinds.{variable_kind}
-use Rattle.linear_programs.proofs.Elements.{last_elements, more_elements}
+use Rattle.program_meaning.proofs.Elements.{last_elements, more_elements}
 use Rattle.nl_model.proofs.kinds.all_kinds.Goals as goal
 
 pub loop-var-preserved : goal.loop-var-preserved

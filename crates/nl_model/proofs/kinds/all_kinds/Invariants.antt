@@ -1,6 +1,6 @@
 use Rattle.std.proofs.Common.{◌≡◌, ◌-◌, ◌++◌}
 use Rattle.nl_model.specs.Kinds.{variable_kind}
-use Rattle.linear_programs.specs.Elements.{elements_from}
+use Rattle.program_meaning.specs.Elements.{elements_from}
 use Rattle.nl_model.proofs.kinds.all_kinds.Given as goal
 
 abbrev pub invariant-loop-var : goal.invariant-loop-var

@@ -1,6 +1,6 @@
 use Rattle.std.proofs.Common.{◌≡◌, ◌+◌, ◌<◌, ◌∙◌, ◌++◌, ◌∷◌, [], ℕ, List, Option, Some, ap, append_assoc, append-nil, arith, get_or, length, map, sym}
 use Rattle.std.proofs.lemmas.List.{map-append}
-use Rattle.exported_program.specs.Program.{ScaledRow}
+use Rattle.scaled_program.specs.Program.{ScaledRow}
 use Rattle.scaling.specs.declared.row.FactoredRow.{FactoredRow}
 use Rattle.row_scaling.proofs.ColumnLemmas.{Rows, left, left_end, left_none, left_some}
 use Rattle.row_scaling.proofs.column_lines.exported_numbers.Goals as goal

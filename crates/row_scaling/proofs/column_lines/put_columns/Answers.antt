@@ -1,5 +1,5 @@
 use Rattle.std.proofs.Common.{◌≡◌, ◌∙◌, ap, arith, map}
-use Rattle.linear_programs.specs.Names.{row_name}
+use Rattle.program_meaning.specs.Names.{row_name}
 use Rattle.scaling.specs.Parts.{column_count}
 use Rattle.row_scaling.proofs.LineLemmas.{columns_written, numbers_named}
 use Rattle.row_scaling.proofs.column_lines.put_columns.Goals as goal

@@ -2,7 +2,8 @@ use Rattle.std.proofs.Common.{◌≡◌, ◌+◌, ◌<◌, ◌∙◌, ◌++◌, 
 use Rattle.std.specs.List.{flat_map}
 use Rattle.mps_model.specs.Text.{row_line}
 use Rattle.mps_model.specs.declared.kinds.RowKind.{RowKind}
-use Rattle.exported_program.specs.Program.{ScaledRow, kind_of_row}
+use Rattle.scaled_program.specs.Program.{ScaledRow}
+use Rattle.exported_program.specs.Program.{kind_of_row}
 use Rattle.scaling.specs.Parts.{name_in}
 use Rattle.scaling.specs.Rows.{side_value}
 use Rattle.scaling.specs.declared.row.FactoredRow.{FactoredRow}

@@ -1,15 +1,15 @@
 use Rattle.std.proofs.Common.{◌≡◌, ◌++◌, ◌∷◌, [], ◌∙◌, ap, codes, false, map}
 use Rattle.exact_numbers.specs.Values.{value_text}
-use Rattle.exported_program.specs.Program.{nl_name, program_of}
+use Rattle.exported_program.specs.Program.{nl_name, mps_of}
 use Rattle.mps_model.specs.Text.{bound_line, column_lines, entry_lines, mps_lines, name_lines, row_line, section, sense_lines}
-use Rattle.scaling.specs.Exported.{exported_as}
+use Rattle.scaling.specs.Exported.{scaled_as}
 use Rattle.written_texts.specs.Lines.{lines_text, unless_empty}
 use Rattle.written_texts.proofs.Writing.{line_after, lines_after}
 use Rattle.row_scaling.specs.InsideSections.{all_bounds, all_columns, all_ranges, all_rows, all_sides}
 use Rattle.row_scaling.proofs.written.write_exported.Goals as goal
 
 pub returns : goal.returns
-unfolding mps_lines program_of exported_as
+unfolding mps_lines mps_of scaled_as
 returns c =
     let s = c.args.scaled.now in
     let row_part = section (codes "ROWS") ∷ map row_line (all_rows s) in

@@ -1,7 +1,7 @@
 use Rattle.std.proofs.Common.{rules, ◌≡◌, ◌≤◌, ◌^◌, ◌++◌, ◌∙◌, sym, ap, subst, pos, unsigned_abs, to_z, of_z, MatchOption}
 use Rattle.std.specs.Int.{w128}
 use Rattle.exact_numbers.specs.Values.{frac_value}
-use Rattle.exported_program.specs.Factor.{cofactor_of, least_factor}
+use Rattle.scaled_program.specs.Factor.{cofactor_of, least_factor}
 use Rattle.fractions.specs.Fits.{least_multiple}
 use Rattle.scaling.specs.Fitting.{frac_side, listed}
 use Rattle.scaling.proofs.NumberLemmas.{one_more}

@@ -1,7 +1,7 @@
 use Rattle.std.proofs.Common.{◌∙◌, ℕ, pos, sym, ap, refl, subst, length, IfErr}
 use Rattle.texts.specs.Stopped.{IfFault}
 use Rattle.fractions.specs.Rational.{one_ℚ}
-use Rattle.exported_program.specs.Export.{RowFits}
+use Rattle.scaled_program.specs.Fits.{RowFits}
 use Rattle.linear_program.specs.Coefs.{AreBelow}
 use Rattle.linear_program.specs.Forms.{form_terms}
 use Rattle.scaling.specs.Factored.{IsFactored, factor_for, row_for}

@@ -5,7 +5,7 @@ use Rattle.exact_numbers.specs.Values.{frac_value}
 use Rattle.linear_program.specs.Forms.{form_terms}
 use Rattle.scaling.specs.Factored.{IsFactored, row_for}
 use Rattle.scaling.specs.Fitting.{coefficients_in, frac_side, listed, less_side, LessFits}
-use Rattle.exported_program.specs.Export.{IfSide}
+use Rattle.scaled_program.specs.Fits.{IfSide}
 use Rattle.scaling.specs.Rows.{RowValue, IsScaledRow, side_value}
 use Rattle.scaling.proofs.NumberLemmas.{factor_positive}
 use Rattle.scaling.proofs.FitLemmas.{multiplier_some, is_scaled, factored, fault_map, no_factor_fits, no_scaled_fit, no_terms_fit, times_length}

@@ -1,5 +1,5 @@
 use Rattle.std.proofs.Common.{◌∙◌, sym, ap, refl, subst, get_or}
-use Rattle.exported_program.specs.Export.{RowFits}
+use Rattle.scaled_program.specs.Fits.{RowFits}
 use Rattle.texts.specs.Stopped.{IfFault}
 use Rattle.scaling.specs.Factored.{factor_for, row_for}
 use Rattle.scaling.proofs.LinearLemmas.{not_exported, exported_row, too_wide}

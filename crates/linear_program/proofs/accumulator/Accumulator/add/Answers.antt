@@ -2,7 +2,7 @@ use Rattle.std.proofs.Common.{◌≡◌, ◌∙◌, ◌<◌, ◌==◌, ap, refl,
 use Rattle.exact_numbers.specs.Values.{frac_value}
 use Rattle.fractions.specs.Fits.{sum_fits}
 use Rattle.fractions.specs.Rational.{◌+ℚ◌, ◌*ℚ◌}
-use Rattle.linear_programs.specs.Lines.{one_if}
+use Rattle.program_meaning.specs.Lines.{one_if}
 use Rattle.linear_program.specs.Places.{AreListed, place_in, put_all}
 use Rattle.linear_program.proofs.CoefLemmas.{nothing_added}
 use Rattle.linear_program.proofs.PutLemmas.{put_length, one_more_listed, listed_fits, listed_adds, zero_fits}

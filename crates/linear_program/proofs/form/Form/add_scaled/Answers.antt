@@ -1,6 +1,6 @@
 use Rattle.std.proofs.Common.{◌∙◌, ap, subst, subst₂, sym}
 use Rattle.exact_numbers.specs.Values.{frac_value}
-use Rattle.linear_programs.specs.Lines.{Line}
+use Rattle.program_meaning.specs.Lines.{Line}
 use Rattle.linear_program.specs.Coefs.{AreBelow, value_or_zero}
 use Rattle.linear_program.specs.Forms.{AddsScaled, form_line, form_terms, is_kept_open, kept_constant, kept_places, kept_terms, parts_line}
 use Rattle.linear_program.proofs.CoefLemmas.{found_beyond}

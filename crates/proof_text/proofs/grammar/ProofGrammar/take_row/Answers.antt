@@ -1,5 +1,6 @@
 use Rattle.std.proofs.Common.{not, sym, ap}
-use Rattle.proof_text.proofs.RowLemmas.{at_claim, at_first, at_node, at_pair, none_left, some_left}
+use Rattle.proof_text.proofs.RowLemmas.{at_claim, at_first, at_node, at_pair}
+use Rattle.tree_text.proofs.TestLemmas.{none_left, some_left}
 use Rattle.proof_text.proofs.grammar.ProofGrammar.take_row.Goals as goal
 
 pub returns-then-not-has_begun-clause-row : goal.returns-then-not-has_begun-clause-row

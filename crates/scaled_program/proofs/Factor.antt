@@ -1,0 +1,24 @@
+-- The least factor is the least common multiple of the cofactors.
+use Prim.Native.Nat.{◌∣◌}
+use Rattle.std.proofs.Common.{◌≡◌, ℕ, ◌<◌, ◌↔◌, refl, pos, List, All}
+use Rattle.fractions.specs.Rational.{ℚ, whole, ◌*ℚ◌}
+use Rattle.scaled_program.specs.Factor.{IsFinite, IsLeastFactor, least_factor}
+use Rattle.scaled_program.specs.FactorLemmas.{factor_by_steps, steps_above, steps_multiples, steps_are_least}
+pub use Rattle.scaled_program.specs.FactorLemmas.{is_lcm, cofactor_above, finite_multiple, only_cofactor}
+
+pub factor_is : (xs : List ℚ) → least_factor xs ≡ factor_by_steps xs
+unfolding least_factor
+factor_is xs = refl
+
+pub factor_above : (xs : List ℚ) → 0 < least_factor xs
+unfolding least_factor
+factor_above xs = steps_above xs
+
+-- the factors are the multiples of the least one
+pub factor_multiples : (xs : List ℚ) (k : ℕ) → All (λ x. IsFinite (whole (pos k) *ℚ x)) xs ↔ (least_factor xs ∣ k)
+unfolding least_factor
+factor_multiples xs k = steps_multiples xs k
+
+pub least_factor_is_least : (xs : List ℚ) → IsLeastFactor xs (least_factor xs)
+unfolding least_factor
+least_factor_is_least xs = steps_are_least xs

@@ -1,0 +1,5 @@
+pub mod Factor
+pub mod Meaning
+pub mod Return
+pub mod Scaling
+pub mod Sides

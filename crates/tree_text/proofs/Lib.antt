@@ -1,0 +1,4 @@
+pub mod RowLemmas
+pub mod TestLemmas
+pub mod CleanLines
+pub mod ReadingLemmas
