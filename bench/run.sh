@@ -1,8 +1,9 @@
 #!/usr/bin/env bash
 # Times the built program: `export` beside a plain converter on AMPL's own library (asl2mps.c, which is built here where
 # Debian's libamplsolver-dev is there), `mps`, which reads and writes, beside clp, which reads alone (coinor-clp),
-# `verify` of large certificates, and `prove` beside `verify` on one tree of an integer program (coinor-libcoinutils-dev has
-# it, coinor-libclp1 serves the search for the tree, which takes about half a minute).
+# `verify_mps` beside `verify` of the same program as .nl, `verify` of large certificates, and `prove` beside `verify` on
+# one tree of an integer program (coinor-libcoinutils-dev has it, coinor-libclp1 serves the search for the tree, which
+# takes about half a minute).
 #
 #     [TERMS="1000000 2000000 4000000"] [RUNS=5] bench/run.sh PROGRAM [BASELINE]
 #
@@ -111,6 +112,19 @@ for size in "${sizes[@]}"; do
     part=-
     [ -z "$clp" ] || part=$(ratio "$seconds" "$beside")
     printf '%9s %8s %8s %6s %14s %8s\n' "$size" "$seconds" "${beside:--}" "$part" "$(bytes_each "$peak" "$size")" "$nl"
+done
+
+echo
+echo "verify_mps beside verify of the same program as .nl: that the point 0 is feasible"
+printf '%9s %10s %8s %6s %14s\n' terms verify_mps verify ratio "bytes an entry"
+printf 'certificate 1\nfeasible 0\npoint 0\n' >"$work/feasible.certificate"
+for size in "${sizes[@]}"; do
+    text=$(nl_text "$size" linear)
+    "$program" export "$text" >"$work/$size.mps"
+    words=(0 "$program" verify_mps "$work/$size.mps" "$work/feasible.certificate")
+    words+=(::: 0 "$program" verify "$text" "$work/feasible.certificate")
+    read -r seconds peak beside _ <<<"$(measure "${words[@]}")"
+    printf '%9s %10s %8s %6s %14s\n' "$size" "$seconds" "$beside" "$(ratio "$seconds" "$beside")" "$(bytes_each "$peak" "$size")"
 done
 
 echo

@@ -87,7 +87,8 @@ class Answer:
                 abs(float(y) - float(old[row])) <= NEAR_DUAL * max(1.0, abs(float(y)))
                 for row, y in duals.items()):
             outcome.duals = {**old, **duals}
-        other = Answer(self.program, outcome, self.options)
+        other = Answer(self.program, replace(outcome, costs=None), self.options)
+        other.outcome, other.costs = outcome, self.costs
         return other if self.duals is not None else other.without_duals()
 
     def with_code(self, code: Code) -> Answer:

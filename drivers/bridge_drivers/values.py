@@ -70,7 +70,9 @@ def text_of(value: Number) -> tuple[str, bool]:
             return "0", True
         text = repr(value)
         return (text[:-2] if text.endswith(".0") else text), True
-    exact = Fraction(value)
+    exact = value if isinstance(value, Fraction) else Fraction(value)
+    if exact.denominator == 1 and abs(exact.numerator) <= MOST_DIGITS:
+        return str(exact.numerator), True
     decimal_text = exact_decimal(exact)
     return (near_decimal(exact), False) if decimal_text is None else (decimal_text, True)
 

@@ -8,7 +8,7 @@ use Rattle.texts.specs.declared.stop.Stop.TheVariants.{Fault, Memory}
 use Rattle.exact_numbers.specs.declared.dec.Dec.{Dec}
 use Rattle.exact_numbers.specs.Numbers.{dec_of}
 use Rattle.nl_model.specs.declared.suffix.Suffix.{Suffix}
-use Rattle.nl_model.specs.SuffixKinds.{objects_of}
+use Rattle.shared_parts.specs.SuffixKinds.{objects_of}
 use Rattle.std.proofs.lemmas.Bool.{eq-eqb}
 use Rattle.answer_file.specs.declared.fault.AnswerReason.{AnswerReason}
 use Rattle.answer_file.specs.declared.keyword.Keyword.{Keyword}

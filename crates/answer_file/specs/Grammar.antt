@@ -12,7 +12,7 @@ use Rattle.texts.specs.declared.lines.LineFault.TheVariants.{LineTooLong as Long
 use Rattle.exact_numbers.specs.declared.dec.Dec.{Dec}
 use Rattle.exact_numbers.specs.Numbers.{dec_of, is_whole}
 use Rattle.nl_model.specs.declared.suffix.Suffix.{Suffix as SuffixOf}
-use Rattle.nl_model.specs.SuffixKinds.{objects_of, wants_whole}
+use Rattle.shared_parts.specs.SuffixKinds.{objects_of, wants_whole}
 use Rattle.answer_file.specs.declared.keyword.Keyword.{Keyword}
 use Rattle.answer_file.specs.declared.keyword.Keyword.TheVariants.{Status, Message, Sign, Objno, Col, Row, Suffix}
 use Rattle.answer_file.specs.declared.fault.AnswerReason.{AnswerReason}

@@ -15,9 +15,9 @@ use Rattle.dual_bounds.specs.Leaves.{AreIndices}
 use Rattle.certificate_walk.specs.Walks.{IsWalkable}
 use Rattle.certificates.specs.declared.proof.ProofNode.{ProofNode}
 use Rattle.certificates.specs.declared.proof.ProofNode.TheVariants.{Split, Duals, Weights}
-use Rattle.branch_check.specs.InsideConverted.{HasCutNumber, IsTreeFor, node_with, pair_count}
+use Rattle.branch_check.specs.InsideConverted.{HasCutNumber, IsTreeFor, node_with}
+use Rattle.certificates.specs.Proofs.{announced_pairs, IsProofOf, IsTreeOf, Pair, ProofTree, ProofValue, split, duals, weights, nodes_of, number_of, pairs_of, spread, tree_over}
 use Rattle.branch_check.specs.InsideNumbers.{AreAdded}
-use Rattle.certificates.specs.Proofs.{IsProofOf, IsTreeOf, Pair, ProofTree, ProofValue, split, duals, weights, nodes_of, number_of, pairs_of, spread, tree_over}
 
 none_taken : {A : Type 0} (xs : List A) → length xs ≤ 0 → xs ≡ []
 none_taken [] h = refl
@@ -108,12 +108,12 @@ module _ (f : Linear) where
     -- ---- one node more
     -- what there is to know of the node at which the writing stands, before it and after it
     pub record AtNode (node : ProofNode) (nodes : List ProofNode) : Type 0 where
-      pub enough : pair_count node ≤ length pairs
-      pub within : All (λ (p : Pair). p.0 < row_count f) (take (pair_count node) pairs)
+      pub enough : announced_pairs node ≤ length pairs
+      pub within : All (λ (p : Pair). p.0 < row_count f) (take (announced_pairs node) pairs)
       pub goes_on : (own : List WrittenPair) → AreIndices 0 (row_count f) own
-          → ((i : ℕ) → written_number own i zero_ℚ ≡ number_of (take (pair_count node) pairs) i zero_ℚ)
-          → length own ≤ pair_count node → HasCutNumber (node_with node (length own))
-          → OnWrite all nodes (drop (pair_count node) pairs) (done ++ node_with node (length own) ∷ []) (given ++ own)
+          → ((i : ℕ) → written_number own i zero_ℚ ≡ number_of (take (announced_pairs node) pairs) i zero_ℚ)
+          → length own ≤ announced_pairs node → HasCutNumber (node_with node (length own))
+          → OnWrite all nodes (drop (announced_pairs node) pairs) (done ++ node_with node (length own) ∷ []) (given ++ own)
 
     module _ (more : List ProofTree) (trees : AreTrees more) where
       at_split : (j : ℕ) (t : ℤ) (a b : ProofTree) (nodes : List ProofNode) → nodes ≡ (nodes_of a ++ nodes_of b) ++ flat_map nodes_of more → pairs ≡ (pairs_of a ++ pairs_of b) ++ flat_map pairs_of more → IsTreeOf f (split j t a b)
@@ -162,7 +162,7 @@ module _ (f : Linear) where
         enough_pairs = let sum = ap length are ∙ length-append ps (flat_map pairs_of more) in omega (arith, sum)
 
         -- a leaf with these pairs of its own comes next
-        at_leaf : (tree : ProofTree) (node : ProofNode) (leaf : List WrittenPair → CertificateTree) → pair_count node ≡ length ps
+        at_leaf : (tree : ProofTree) (node : ProofNode) (leaf : List WrittenPair → CertificateTree) → announced_pairs node ≡ length ps
             → ((own : List WrittenPair) → written_nodes_of (leaf own) ≡ node_with node (length own) ∷ []) → ((own : List WrittenPair) → written_pairs_of (leaf own) ≡ own)
             → ((own : List WrittenPair) → AreIndices 0 (row_count f) own → written_spread (row_count f) own ≡ spread (row_count f) ps → IsSame tree (leaf own))
             → ((ws : List CertificateTree) → AreSame (tree ∷ more) ws → IsWhole all (done ++ flat_map written_nodes_of ws) (given ++ flat_map written_pairs_of ws)) → AtNode node nodes
@@ -219,8 +219,8 @@ module _ (f : Linear) (all : ProofTree) (nodes : List ProofNode) (k : ℕ) (pair
   pub here : AtNode f all pairs done given node (drop (k + 1) nodes)
   here = at_node f all pairs done given node (drop (k + 1) nodes) (subst (λ ns. OnWrite f all ns pairs done given) next on)
 
-  module _ (n : ℕ) (many : n ≡ pair_count node) (own later : List Pair) (front : own ≡ take n pairs) (back : later ≡ drop n pairs) where
-    front_here : own ≡ take (pair_count node) pairs
+  module _ (n : ℕ) (many : n ≡ announced_pairs node) (own later : List Pair) (front : own ≡ take n pairs) (back : later ≡ drop n pairs) where
+    front_here : own ≡ take (announced_pairs node) pairs
     front_here = front ∙ ap (λ m. take m pairs) many
 
     pub own_rows : (m : ℕ) → row_count f ≡ m → All (λ (p : Pair). p.0 < m) own
@@ -230,9 +230,9 @@ module _ (f : Linear) (all : ProofTree) (nodes : List ProofNode) (k : ℕ) (pair
       counted : length a.own ≡ count
       counted = let sum = ap length a.more ∙ length-append given a.own in omega (arith, sum, total)
 
-      short : length a.own ≤ pair_count node
+      short : length a.own ≤ announced_pairs node
       short =
-          let taken = ap length front_here ∙ length-take-le (pair_count node) pairs here.enough in
+          let taken = ap length front_here ∙ length-take-le (announced_pairs node) pairs here.enough in
           omega (arith, counted, few, taken)
 
       pub node_added : (x : CertificateNode) → x ≡ node_with node count → HasCutNumber x → (now : List CertificateNode) → now ≡ done ++ x ∷ [] → OnWrite f all (drop (k + 1) nodes) later now added

@@ -10,12 +10,6 @@ use Rattle.certificates.specs.declared.certificate.CertificateNode.TheVariants.{
 use Rattle.certificate_walk.specs.Walks.{IsWritten}
 use Rattle.certificates.specs.Proofs.{ProofTree, tree_over}
 
--- how many pairs a node has
-abbrev pub pair_count : ProofNode → ℕ
-pair_count (Split j t) = 0
-pair_count (Duals n) = n
-pair_count (Weights n) = n
-
 -- the node of a certificate, with so many pairs where it is a leaf
 abbrev pub node_with : ProofNode → ℕ → CertificateNode
 node_with (Split j t) n = SplitAt j t

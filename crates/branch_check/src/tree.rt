@@ -2,9 +2,9 @@
 ghost use Rattle.std.specs.Prelude.{◌≡◌, [], IfOk, length};
 ghost use Rattle.program_meaning.specs.Linear.{Linear, row_count};
 ghost use Rattle.dual_bounds.specs.Programs.{linear_of};
-ghost use Rattle.branch_check.specs.InsideConverted.{HasCutNumber, IsTreeFor, node_with, pair_count};
+ghost use Rattle.branch_check.specs.InsideConverted.{HasCutNumber, IsTreeFor, node_with};
+ghost use Rattle.certificates.specs.Proofs.{announced_pairs, IsProofOf};
 ghost use Rattle.branch_check.specs.InsideNumbers.{AreReady};
-ghost use Rattle.certificates.specs.Proofs.{IsProofOf};
 
 use crate::numbers::Numbers;
 use certificates::CertificateNode;
@@ -21,8 +21,8 @@ pub(crate) struct Tree {
 }
 
 // How many pairs a node has.
-fn pair_count(node: ProofNode) -> u32
-    ensures { result ≡ pair_count node }
+fn announced_pairs(node: ProofNode) -> u32
+    ensures { result ≡ announced_pairs node }
 {
     match node {
         ProofNode::Split(_, _) => 0,
@@ -67,7 +67,7 @@ fn write(proof: &Proof, numbers: &mut Numbers, tree: &mut Tree) -> Result<(), Al
 {
     let mut rest = proof.pairs().items();
     for node in proof.nodes() {
-        let (own, later) = rest.split_at(pair_count(*node) as usize);
+        let (own, later) = rest.split_at(announced_pairs(*node) as usize);
         let count = numbers.put(own, &mut tree.pairs)?;
         tree.nodes.push(node_with(*node, count as u32))?;
         rest = later;
@@ -79,7 +79,7 @@ fn write(proof: &Proof, numbers: &mut Numbers, tree: &mut Tree) -> Result<(), Al
 fn most_pairs(nodes: &[ProofNode]) -> u32 {
     let mut most = 0;
     for node in nodes {
-        most = most.max(pair_count(*node));
+        most = most.max(announced_pairs(*node));
     }
     most
 }

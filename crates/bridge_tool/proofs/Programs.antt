@@ -7,7 +7,7 @@ use Rattle.std.proofs.lemmas.Bool.Decides.{nat_tests}
 use Rattle.std.proofs.lemmas.Option.{same_Some}
 use Rattle.desk.specs.Desk.{Meaning}
 use Rattle.program_meaning.specs.Linear.{Linear}
-use Rattle.duality.specs.Certificate.{Outcome as ClaimOutcome, holds, fails}
+use Rattle.duality.specs.Certificate.{ClaimOutcome, holds, fails}
 use Rattle.duality.specs.ProblemSays.{Denies}
 use Rattle.duality.specs.Told.{IsToldTrue}
 use Rattle.exact_numbers.specs.declared.dec.Dec.{Dec}
@@ -19,7 +19,7 @@ use Rattle.mps_model.specs.Mps.{Mps}
 use Rattle.mps_program.specs.Faults.{mps_fault}
 use Rattle.mps_program.specs.Program.{linear_of, values_of}
 use Rattle.mps_program.specs.declared.mps_fault.MpsFault.{MpsFault}
-use Rattle.certificates.specs.Certificates.{CertificateValue, Given, IsAskedFor, IsCertificateOf, certificate_over, claim_outcome, objective_of}
+use Rattle.certificates.specs.Certificates.{CertificateValue, Given, IsAskedFor, IsCertificateOf, certificate_over, claim_outcome, claim_objective}
 use Rattle.certificates.specs.Reading.{given_in}
 use Rattle.certificates.specs.Setting.{IsCertificateFor, Setting, program_setting}
 use Rattle.certificates.specs.Told.{told_claim}
@@ -144,7 +144,7 @@ plain_by f c false = tt
 pub program_last : (m : Mps Dec) → IsLast true (IsCertificateText (mps_setting m)) (IsCertificateRefused (mps_setting m) 2) (λ c outcome. outcome ≡ verify_mps_outcome m c) (λ c old new. new ≡ old)
 program_last m = record {
   read = certificate_read (mps_setting m) 2;
-  one = λ c. same_one (verify_mps_outcome m c) (plain_by (linear_of (values_of m)) c (nat_lt 0 (objective_of c.claim)));
+  one = λ c. same_one (verify_mps_outcome m c) (plain_by (linear_of (values_of m)) c (nat_lt 0 (claim_objective c.claim)));
   idle = λ c n. refl;
   verdict = λ c held bytes e. inr refl;
 }
@@ -168,19 +168,19 @@ fits_for (Within k b) g h = h.2
 fits_for other g h = tt
 
 -- no objective has the number of the claim
-pub no_objective : (f : Linear) (c : CertificateValue) (k : ℕ) → k ≡ objective_of c.claim → 0 < k → IsRefusal (refusal 1 (codes "objective") k (codes "no such objective")) ≡ program_outcome f c
+pub no_objective : (f : Linear) (c : CertificateValue) (k : ℕ) → k ≡ claim_objective c.claim → 0 < k → IsRefusal (refusal 1 (codes "objective") k (codes "no such objective")) ≡ program_outcome f c
 no_objective f c k e some =
-    let above : nat_lt 0 (objective_of c.claim) ≡ true = ap (λ n. nat_lt 0 n) (sym e) ∙ lt-ltb 0 k some in
+    let above : nat_lt 0 (claim_objective c.claim) ≡ true = ap (λ n. nat_lt 0 n) (sym e) ∙ lt-ltb 0 k some in
     ap (λ n. IsRefusal (refusal 1 (codes "objective") n (codes "no such objective"))) e ∙ sym (ap (by_objective f c) above)
 
 none_above : (k : ℕ) → k ≤ 0 → nat_lt 0 k ≡ false
 none_above k h = grind (arith, nat_tests)
 
 -- the verdict is told
-pub verdict_done : (f : Linear) (c : CertificateValue) (k : ℕ) → k ≡ objective_of c.claim → k ≤ 0 → (h : IsCertificateOf f c) (o : ClaimOutcome) (held : Bool) (bytes : List ℕ) → ((h : IsCertificateOf f c) → o ≡ claim_outcome f c.claim h.given)
+pub verdict_done : (f : Linear) (c : CertificateValue) (k : ℕ) → k ≡ claim_objective c.claim → k ≤ 0 → (h : IsCertificateOf f c) (o : ClaimOutcome) (held : Bool) (bytes : List ℕ) → ((h : IsCertificateOf f c) → o ≡ claim_outcome f c.claim h.given)
     → held ≡ is_held o → bytes ≡ outcome_line c.claim o → Done held bytes ≡ program_outcome f c
 verdict_done f c k e none h o held bytes exact is b =
-    let zero : nat_lt 0 (objective_of c.claim) ≡ false = ap (λ n. nat_lt 0 n) (sym e) ∙ none_above k none in
+    let zero : nat_lt 0 (claim_objective c.claim) ≡ false = ap (λ n. nat_lt 0 n) (sym e) ∙ none_above k none in
     let shown : o ≡ program_shown f c = exact h ∙ ap (λ (g : Given). claim_outcome f c.claim g) (sym (given_back c h.given h.point h.ray h.nodes h.pairs)) in
     ap₂ Done is b ∙ ap (by_claim c.claim) shown ∙ sym (ap (by_objective f c) zero)
 
@@ -198,7 +198,7 @@ module _ (m : Mps Dec) (c : CertificateValue) (given : IsCertificateFor (mps_set
       subst (λ (g : Given). Denies (mps_problem (values_of m)) f (certificate_over (mps_problem (values_of m)).variables (mps_problem (values_of m)).constraints c.claim g) cause) (sym given_so)
       (claim_denied m c given cause e)
 
-  says_by : (b : Bool) (held : Bool) (bytes : List ℕ) → nat_lt 0 (objective_of c.claim) ≡ b → Done held bytes ≡ by_objective f c b → ByVerdict held (IsVerifiedMps m c) (IsDeniedMps m c)
+  says_by : (b : Bool) (held : Bool) (bytes : List ℕ) → nat_lt 0 (claim_objective c.claim) ≡ b → Done held bytes ≡ by_objective f c b → ByVerdict held (IsVerifiedMps m c) (IsDeniedMps m c)
   says_by true held bytes e done = absurd cc
   says_by false held bytes e done =
       let is : held ≡ is_held (program_shown f c) = cc in
@@ -209,7 +209,7 @@ module _ (m : Mps Dec) (c : CertificateValue) (given : IsCertificateFor (mps_set
 
   -- so does what was judged
   pub program_says : (judged : Result (Bool × Vec ℕ) (Stop Refusal)) → Comes (λ outcome. outcome ≡ verify_mps_outcome m c) judged → IfOk judged (λ t. ByVerdict t.0 (IsVerifiedMps m c) (IsDeniedMps m c))
-  program_says (Ok t) comes = says_by (nat_lt 0 (objective_of c.claim)) t.0 t.1.items refl comes
+  program_says (Ok t) comes = says_by (nat_lt 0 (claim_objective c.claim)) t.0 t.1.items refl comes
   program_says (Err stop) comes = tt
 
 -- what a linear program comes to is what its program does

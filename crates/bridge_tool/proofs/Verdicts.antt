@@ -58,8 +58,8 @@ use Rattle.file_certificates.specs.Setting.{setting_of as certificate_setting}
 use Rattle.proof_text.proofs.ReadingLemmas.{one_reading as one_proof}
 use Rattle.bridge_tool.specs.ProofTold.{leaf_line, proof_line}
 use Rattle.bridge_tool.specs.Prove.{IsLeftOpen, IsProofRefused, IsProvedOf, by_fold as by_proof_fold, by_leaf, claimed_objective, open_leaf, prove_outcome}
-use Rattle.duality.specs.Certificate.{Outcome as ClaimOutcome, holds, fails}
-use Rattle.certificates.specs.Certificates.{CertificateValue, Given, IsAskedFor, IsCertificateOf, certificate_over, claim_outcome, objective_of}
+use Rattle.duality.specs.Certificate.{ClaimOutcome, holds, fails}
+use Rattle.certificates.specs.Certificates.{CertificateValue, Given, IsAskedFor, IsCertificateOf, certificate_over, claim_outcome, claim_objective}
 use Rattle.certificates.specs.Told.{told_claim}
 use Rattle.linear_program.specs.Numbers.{spread}
 use Rattle.certificates.specs.Reading.{given_in}
@@ -285,9 +285,9 @@ module _ (nl : NlValue) (c : CertificateValue) where
   plain_claim None = tt
   plain_claim (Some fault) = tt
 
-pub verify_last : (nl : NlValue) → IsLast true (IsCertificateText (certificate_setting nl.file)) (IsCertificateRefused (certificate_setting nl.file) 2) (λ c outcome. outcome ≡ verify_outcome nl c) (λ c old new. new ≤ old + fold_steps nl (objective_of c.claim))
+pub verify_last : (nl : NlValue) → IsLast true (IsCertificateText (certificate_setting nl.file)) (IsCertificateRefused (certificate_setting nl.file) 2) (λ c outcome. outcome ≡ verify_outcome nl c) (λ c old new. new ≤ old + fold_steps nl (claim_objective c.claim))
 verify_last nl =
-    verdict_last (certificate_read (certificate_setting nl.file) 2) (verify_outcome nl) (λ c. fold_steps nl (objective_of c.claim)) (λ c. plain_claim nl c (first_fold_fault nl.file (objective_of c.claim)))
+    verdict_last (certificate_read (certificate_setting nl.file) 2) (verify_outcome nl) (λ c. fold_steps nl (claim_objective c.claim)) (λ c. plain_claim nl c (first_fold_fault nl.file (claim_objective c.claim)))
 
 -- ---- what the code answers
 
@@ -301,7 +301,7 @@ pub claim_means : (p : Problem) (f : Linear) (c : CertificateValue) (outcome : O
 claim_means p f c outcome (holds value) line says =
     record {
       told = says.told;
-      line = line ∙ ap (λ (o : Option Told). Done true (option_map_or told_text o [] ++ objective_text (objective_of c.claim) ++ codes "\n")) says.is_told;
+      line = line ∙ ap (λ (o : Option Told). Done true (option_map_or told_text o [] ++ objective_text (claim_objective c.claim) ++ codes "\n")) says.is_told;
       true_of = says.true_of;
     }
 claim_means p f c outcome (fails cause) line says = record { cause = cause; line = line; denies = says }
@@ -316,7 +316,7 @@ bound_fits f c given = asked_fits c.claim given.given given.asked
 
 module _ (nl : NlValue) (c : CertificateValue) (given : IsCertificateIn nl.file c) where
   abbrev k : ℕ
-  k = objective_of c.claim
+  k = claim_objective c.claim
 
   abbrev f : Linear
   f = linear_of nl.file k

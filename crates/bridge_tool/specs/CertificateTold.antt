@@ -3,12 +3,12 @@ use Rattle.std.specs.Prelude.{◌≡◌, ℕ, Bool, true, false, nat_lt, if◌th
 use Rattle.std.specs.Option.{option_map_or}
 use Rattle.std.specs.Fmt.{decimal}
 use Rattle.fractions.specs.Fits.{fits}
-use Rattle.duality.specs.Certificate.{Cause, at_point, not_whole, objective_wide, at_ray, at_leaf, Outcome, holds, fails}
+use Rattle.duality.specs.Certificate.{Cause, at_point, not_whole, objective_wide, at_ray, at_leaf, ClaimOutcome, holds, fails}
 use Rattle.duality.specs.Ray.{RayFault, ray_row_wide, ray_row_broken, ray_bound_broken, ray_objective_wide, ray_no_better}
 use Rattle.duality.specs.Told.{Told, optimal, within, bound, feasible, infeasible, unbounded}
 use Rattle.texts.specs.declared.fault.TextFault.{TextFault}
 use Rattle.linear_program.specs.Numbers.{number_value}
-use Rattle.certificates.specs.Certificates.{objective_of}
+use Rattle.certificates.specs.Certificates.{claim_objective}
 use Rattle.certificates.specs.Told.{told_claim}
 use Rattle.certificates.specs.declared.certificate.Claim.{Claim}
 use Rattle.certificates.specs.declared.certificate.Claim.TheVariants.{Optimal, Within, Bound, Feasible, Infeasible, Unbounded}
@@ -54,7 +54,7 @@ objective_text k = if nat_lt 0 k then codes " of objective " ++ decimal k else [
 
 -- the line where the claim holds
 abbrev pub told_line : Claim → Told → List ℕ
-told_line claim told = told_text told ++ objective_text (objective_of claim) ++ codes "\n"
+told_line claim told = told_text told ++ objective_text (claim_objective claim) ++ codes "\n"
 
 -- why a ray shows nothing
 abbrev pub ray_text : RayFault → List ℕ
@@ -72,16 +72,16 @@ failed_text objective_wide = codes "too wide at objective"
 failed_text (at_ray g) = ray_text g
 failed_text (at_leaf g) = leaf_fault_text g
 
-abbrev pub outcome_text : Claim → Outcome → List ℕ
+abbrev pub outcome_text : Claim → ClaimOutcome → List ℕ
 outcome_text claim (holds value) = option_map_or told_text (told_claim claim value) []
-    ++ objective_text (objective_of claim)
+    ++ objective_text (claim_objective claim)
 outcome_text claim (fails cause) = failed_text cause
 
 -- the line of a verdict on a certificate for this claim
-abbrev pub outcome_line : Claim → Outcome → List ℕ
+abbrev pub outcome_line : Claim → ClaimOutcome → List ℕ
 outcome_line claim outcome = outcome_text claim outcome ++ codes "\n"
 
-abbrev pub is_held : Outcome → Bool
+abbrev pub is_held : ClaimOutcome → Bool
 is_held (holds value) = true
 is_held (fails cause) = false
 

@@ -8,7 +8,7 @@ use Rattle.scaled_program.specs.Program.{ScaledProgram}
 use Rattle.exported_program.specs.Program.{mps_of}
 use Rattle.file_meaning.specs.Expressions.{maximises}
 use Rattle.file_meaning.specs.LinearFile.{linear_of}
-use Rattle.file_meaning.specs.Meaning.{IsFeasible, objective_value}
+use Rattle.file_meaning.specs.Meaning.{IsFeasible, file_objective}
 use Rattle.mps_model.specs.Mps.{Mps, IsMpsFeasible, mps_objective}
 use Rattle.mps_model.specs.Text.{mps_text_by}
 use Rattle.nl_model.specs.File.{File}
@@ -37,7 +37,7 @@ ExportsAs nl k = DoneOrRefused (IsExported nl k) (CannotBeExported nl k)
 -- value and sense; a list that is too short has 0 for the rest
 pub record IsSameProgram (f : File) (k : ℕ) (m : Mps ℚ) : Type 0 where
   pub points : (xs : List ℚ) → IsMpsFeasible m xs ↔ IsFeasible f xs
-  pub objective : (xs : List ℚ) → objective_value f k xs ≡ Some (mps_objective m xs)
+  pub objective : (xs : List ℚ) → file_objective f k xs ≡ Some (mps_objective m xs)
   pub sense : m.maximise ≡ maximises f k
 
 -- The program has one column more. An assignment with one number more satisfies the program exactly
@@ -45,7 +45,7 @@ pub record IsSameProgram (f : File) (k : ℕ) (m : Mps ℚ) : Type 0 where
 -- objective is that number.
 pub record IsTiedProgram (f : File) (k : ℕ) (m : Mps ℚ) : Type 0 where
   pub points : (xs : List ℚ) (z : ℚ) → length xs ≡ f.counts.n_var → IsMpsFeasible m (xs ++ z ∷ [])
-      ↔ (IsFeasible f xs × (objective_value f k xs ≡ Some z))
+      ↔ (IsFeasible f xs × (file_objective f k xs ≡ Some z))
   pub objective : (xs : List ℚ) (z : ℚ) → length xs ≡ f.counts.n_var
       → mps_objective m (xs ++ z ∷ []) ≡ z
   pub sense : m.maximise ≡ maximises f k

@@ -6,7 +6,7 @@ use Rattle.fractions.specs.Rational.{ℚ}
 use Rattle.desk.specs.Desk.{Texts}
 use Rattle.exact_numbers.specs.declared.dec.Dec.{Dec}
 use Rattle.file_meaning.specs.Expressions.{maximises}
-use Rattle.file_meaning.specs.Meaning.{IsFeasible, objective_value}
+use Rattle.file_meaning.specs.Meaning.{IsFeasible, file_objective}
 use Rattle.mps_model.specs.Mps.{IsMpsFeasible, Mps, mps_objective}
 use Rattle.mps_reader.specs.Reader.{IsMpsText}
 use Rattle.mps_import.specs.declared.import_fault.ImportFault.{ImportFault}
@@ -44,7 +44,7 @@ CannotBeImported m line =
 pub record MeansTheProgram (m : Mps Dec) : Type 0 where
   pub feasible : (xs : List ℚ) → IsMpsFeasible (values_of m) xs
       ↔ IsFeasible (import_of m) (in_order m xs)
-  pub objective : (xs : List ℚ) → objective_value (import_of m) 0 (in_order m xs)
+  pub objective : (xs : List ℚ) → file_objective (import_of m) 0 (in_order m xs)
       ≡ Some (mps_objective (values_of m) xs)
   pub sense : maximises (import_of m) 0 ≡ m.maximise
 

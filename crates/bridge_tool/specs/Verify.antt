@@ -2,14 +2,14 @@
 use Rattle.std.specs.Prelude.{◌≡◌, ℕ, ◌+◌, ◌≤◌, true, List}
 use Rattle.std.specs.declared.option.Option.{Option}
 use Rattle.std.specs.declared.option.Option.TheVariants.{None, Some}
-use Rattle.duality.specs.Certificate.{Outcome as ClaimOutcome}
+use Rattle.duality.specs.Certificate.{ClaimOutcome}
 use Rattle.desk.specs.Desk.{Texts}
 use Rattle.file_meaning.specs.LinearFile.{linear_of}
 use Rattle.linear_fold.specs.FoldedFaults.{first_fold_fault}
 use Rattle.linear_fold.specs.declared.fold_fault.FoldFault.{FoldFault}
 use Rattle.nl_segments.specs.Grammar.{NlValue}
 use Rattle.nl_segments.specs.Reader.{IsNl}
-use Rattle.certificates.specs.Certificates.{CertificateValue, claim_outcome, objective_of}
+use Rattle.certificates.specs.Certificates.{CertificateValue, claim_outcome, claim_objective}
 use Rattle.certificates.specs.Reading.{given_in}
 use Rattle.file_certificates.specs.FileProblem.{problem_of}
 use Rattle.certificates.specs.declared.certificate.Claim.{Claim}
@@ -35,7 +35,7 @@ IsCertificateRefused s file text = TellsFault (HasCertificateFault s text) (cert
 -- the verdict on what is given for the claim, in the linear program of the file
 abbrev pub claim_shown : NlValue → CertificateValue → ClaimOutcome
 claim_shown nl c =
-    claim_outcome (linear_of nl.file (objective_of c.claim)) c.claim (given_in c)
+    claim_outcome (linear_of nl.file (claim_objective c.claim)) c.claim (given_in c)
 
 abbrev pub by_claim : Claim → ClaimOutcome → Outcome
 by_claim claim shown = Done (is_held shown) (outcome_line claim shown)
@@ -47,16 +47,16 @@ by_fold nl c None = by_claim c.claim (claim_shown nl c)
 -- A file that does not fold with the objective of the claim is refused; a claim that there is no
 -- feasible point is judged with objective 0. Else the verdict on the certificate is written.
 abbrev pub verify_outcome : NlValue → CertificateValue → Outcome
-verify_outcome nl c = by_fold nl c (first_fold_fault nl.file (objective_of c.claim))
+verify_outcome nl c = by_fold nl c (first_fold_fault nl.file (claim_objective c.claim))
 
 -- what a yes means: the line is true of the file with the objective of the claim
 abbrev pub IsVerified : NlValue → CertificateValue → Type 0
 IsVerified nl c =
-    IsClaimTrue (problem_of nl.file (objective_of c.claim)) c (verify_outcome nl c)
+    IsClaimTrue (problem_of nl.file (claim_objective c.claim)) c (verify_outcome nl c)
 
 -- what a no means
 abbrev pub IsDenied : NlValue → CertificateValue → Type 0
-IsDenied nl c = let k = objective_of c.claim in
+IsDenied nl c = let k = claim_objective c.claim in
     IsClaimDenied (problem_of nl.file k) (linear_of nl.file k) c (verify_outcome nl c)
 
 -- ---- the promise
@@ -67,7 +67,7 @@ verify_told nl certificate texts =
     after_file (IsCertificateText (setting_of file.file))
     (IsCertificateRefused (setting_of file.file) 2) texts certificate (λ c.
     judges_last texts certificate (λ outcome. outcome ≡ verify_outcome file c)
-    (λ old new. new ≤ old + fold_steps file (objective_of c.claim)) (IsVerified file c)
+    (λ old new. new ≤ old + fold_steps file (claim_objective c.claim)) (IsVerified file c)
     (IsDenied file c)))
 
 abbrev pub verify_promise : Option Texts → List ℕ → List ℕ → Promise

@@ -2,7 +2,7 @@
 use Rattle.std.specs.Prelude.{◌≡◌, ◌⊎◌, ℕ, nat_lt, Bool, true, false, List, codes}
 use Rattle.std.specs.declared.option.Option.{Option}
 use Rattle.std.specs.declared.option.Option.TheVariants.{None, Some}
-use Rattle.duality.specs.Certificate.{Outcome as ClaimOutcome}
+use Rattle.duality.specs.Certificate.{ClaimOutcome}
 use Rattle.desk.specs.Desk.{Texts}
 use Rattle.program_meaning.specs.Linear.{Linear}
 use Rattle.exact_numbers.specs.declared.dec.Dec.{Dec}
@@ -15,7 +15,7 @@ use Rattle.mps_program.specs.declared.mps_fault.MpsFault.{MpsFault}
 use Rattle.mps_program.specs.declared.mps_fault.MpsFault.TheVariants.{TooLarge as ProgramTooLarge, TooWide as ProgramTooWide, EmptyInterval as ProgramEmptyInterval}
 use Rattle.mps_import.specs.declared.import_fault.ImportFault.{ImportFault}
 use Rattle.mps_import.specs.declared.import_fault.ImportFault.TheVariants.{EmptyInterval, TooWide, TooLarge}
-use Rattle.certificates.specs.Certificates.{CertificateValue, claim_outcome, objective_of}
+use Rattle.certificates.specs.Certificates.{CertificateValue, claim_outcome, claim_objective}
 use Rattle.certificates.specs.Reading.{given_in}
 use Rattle.certificate_text.specs.Reader.{IsCertificateText}
 use Rattle.mps_certificates.specs.Problem.{mps_problem}
@@ -78,12 +78,12 @@ program_shown f c = claim_outcome f c.claim (given_in c)
 
 abbrev pub by_objective : Linear → CertificateValue → Bool → Outcome
 by_objective f c true =
-    Refused (refusal 1 (codes "objective") (objective_of c.claim) (codes "no such objective"))
+    Refused (refusal 1 (codes "objective") (claim_objective c.claim) (codes "no such objective"))
 by_objective f c false = by_claim c.claim (program_shown f c)
 
 -- an MPS program has objective 0 alone
 abbrev pub program_outcome : Linear → CertificateValue → Outcome
-program_outcome f c = by_objective f c (nat_lt 0 (objective_of c.claim))
+program_outcome f c = by_objective f c (nat_lt 0 (claim_objective c.claim))
 
 abbrev pub verify_mps_outcome : Mps Dec → CertificateValue → Outcome
 verify_mps_outcome m c = program_outcome (linear_of (values_of m)) c

@@ -7,7 +7,7 @@ ghost use Rattle.duality.specs.Told.{within};
 ghost use Rattle.exact_numbers.specs.Values.{frac_value};
 ghost use Rattle.linear_program.specs.Numbers.{number_value};
 ghost use Rattle.dual_bounds.specs.Terms.{value_found};
-ghost use Rattle.certificates.specs.Certificates.{objective_of};
+ghost use Rattle.certificates.specs.Certificates.{claim_objective};
 ghost use Rattle.certificates.specs.Told.{told_claim};
 ghost use Rattle.certificate_walk.specs.Outcomes.{cause_of, leaf_fault_of, outcome_of, point_fault_of, ray_fault_of};
 ghost use Rattle.bridge_tool.specs.CertificateTold.{certificate_reason_text, failed_text, HasFittingBound, is_held, objective_text, outcome_line, outcome_text, ray_text, told_text};
@@ -117,8 +117,8 @@ fn put_told(line: &mut Vec<u8>, claim: Claim, value: Option<Frac>) -> Result<(),
 }
 
 /// The number of the objective of a claim; 0 where it is of none.
-pub(crate) fn objective_of(claim: Claim) -> u32
-    ensures { result ≡ objective_of claim }
+pub(crate) fn claim_objective(claim: Claim) -> u32
+    ensures { result ≡ claim_objective claim }
 {
     match claim {
         Claim::Optimal(objective) => objective,
@@ -143,9 +143,9 @@ fn put_objective(line: &mut Vec<u8>, objective: u32) -> Result<(), AllocError>
 // The objective of a claim, where it is not that of number 0.
 fn put_objective_of(line: &mut Vec<u8>, claim: Claim) -> Result<(), AllocError>
     ensures { OnOk result (line.new.items
-        ≡ line.old.items ++ objective_text (objective_of claim)) }
+        ≡ line.old.items ++ objective_text (claim_objective claim)) }
 {
-    put_objective(line, objective_of(claim))
+    put_objective(line, claim_objective(claim))
 }
 
 // Where a number of the point does not fit.

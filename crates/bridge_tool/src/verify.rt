@@ -3,7 +3,7 @@
 ghost use Rattle.std.specs.Prelude.{◌≡◌, ◌+◌, ◌≤◌, IfOk};
 ghost use Rattle.linear_program.specs.Programs.{linear_value};
 ghost use Rattle.nl_segments.specs.Reader.{HasLines, value_of};
-ghost use Rattle.certificates.specs.Certificates.{IsCertificateOf, claim_outcome, objective_of};
+ghost use Rattle.certificates.specs.Certificates.{IsCertificateOf, claim_outcome, claim_objective};
 ghost use Rattle.file_certificates.specs.Files.{IsCertificateIn};
 ghost use Rattle.certificate_walk.specs.Outcomes.{outcome_of};
 ghost use Rattle.bridge_tool.specs.InsideAnswer.{IsCounted};
@@ -14,7 +14,7 @@ ghost use Rattle.bridge_tool.specs.Verify.{IsDenied, IsVerified, verify_outcome,
 
 use crate::answer::Answer;
 use crate::certificate_input::open_certificate;
-use crate::certificate_told::{is_held, objective_of, outcome_line};
+use crate::certificate_told::{claim_objective, is_held, outcome_line};
 use crate::nl_input::open_nl;
 use crate::one_file::end;
 use crate::refusal::Refusal;
@@ -74,9 +74,9 @@ fn to_verdict<L: Ledger>(
         (IsDenied (value_of read) certificate.now)) }
     ensures above { steps.old ≤ steps.new }
     ensures counts { steps.new ≤ steps.old + fold_steps (value_of read)
-        (objective_of certificate.now.claim) }
+        (claim_objective certificate.now.claim) }
 {
-    let objective = objective_of(certificate.claim());
+    let objective = claim_objective(certificate.claim());
     let linear = fold_read(alloc, read, objective, steps)?;
     let outcome = outcome_on(alloc, linear, certificate)?;
     let told = told_outcome(alloc, certificate, outcome)?;

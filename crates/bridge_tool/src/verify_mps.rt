@@ -14,7 +14,7 @@ ghost use Rattle.bridge_tool.specs.VerifyMps.{IsTextIn, IsTextRefused, as_import
 
 use crate::answer::Answer;
 use crate::certificate_input::open_certificate_over;
-use crate::certificate_told::objective_of;
+use crate::certificate_told::claim_objective;
 use crate::mps_input::{open_fixed, open_mps};
 use crate::one_file::{answered, end};
 use crate::refusal::Refusal;
@@ -102,7 +102,7 @@ fn to_verdict(
     ensures { Comes (λ outcome. outcome
         ≡ program_outcome (linear_value linear) certificate.now) result }
 {
-    let objective = objective_of(certificate.claim());
+    let objective = claim_objective(certificate.claim());
     if objective > 0 {
         drop(linear);
         let fault = FoldFault::NoSuchObjective(objective);

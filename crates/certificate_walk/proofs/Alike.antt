@@ -12,9 +12,9 @@ use Rattle.fractions.specs.Rational.{ℚ, zero_ℚ, neg_ℚ, ◌+ℚ◌, ◌-ℚ
 use Rattle.fractions.proofs.Arithmetic.{+ℚ_zero, -ℚ_lem, neg-neg, neg_zero, zero-+ℚ}
 use Rattle.program_meaning.specs.Linear.{Form, Interval, Linear, Row as LinearRow, no_row, row_at, row_count, value_at, variable_count}
 use Rattle.duality.specs.Checked.{fitting, fitting_difference, less_product, plus_product, run}
-use Rattle.duality.specs.Parts.{NumberForm, added_row, at_most, sum_of, with_row}
+use Rattle.duality.specs.Parts.{NumberForm, added_row, at_most, sum_of, with_added_row}
 use Rattle.duality.specs.Points.{Box, Numbers}
-use Rattle.duality.specs.Verdict.{bound_or_fault, bound_total, cost_check, cost_fault, cost_part, cost_part_of, cost_step, dual_bound, dual_fault, first_fault, has_needed, needed, reduced_cost, row_part, row_part_of, row_side_missing, side_fault}
+use Rattle.duality.specs.Verdict.{bound_or_fault, bound_total, cost_check, cost_fault, cost_part, cost_part_of, cost_step, dual_bound, dual_fault, first_fault, has_needed, needed_side, reduced_cost, row_part, row_part_of, row_side_missing, side_fault}
 use Rattle.exact_numbers.proofs.Bridge.{frac_fits_lem}
 use Rattle.exact_numbers.proofs.Zeros.{fits_zero, sum_fits_zero, zero_sum_fits}
 use Rattle.linear_program.specs.Intervals.{interval_of}
@@ -41,33 +41,33 @@ pub alike_self : (f : Linear) → AreAlike f f
 alike_self f = record { rows = refl; variables = refl; row = λ i. row_alike (row_at f i) }
 
 -- with one row more
-pub one_alike : (g f : Linear) (a b : Form) (s t : Interval) → AreAlike g f → IsAlike (added_row a s) (added_row b t) → AreAlike (with_row g a s) (with_row f b t)
+pub one_alike : (g f : Linear) (a b : Form) (s t : Interval) → AreAlike g f → IsAlike (added_row a s) (added_row b t) → AreAlike (with_added_row g a s) (with_added_row f b t)
 one_alike g f a b s t h e =
     record {
       rows = more g a s ∙ ap (λ n. n + 1) h.rows ∙ sym (more f b t);
       variables = h.variables;
       row = λ i. ⊎_elim
           (λ (l : i < length g.rows).
-          subst (λ x. IsAlike x (row_at (with_row f b t) i)) (sym (get_inside g.rows (added_row a s) no_row i l))
+          subst (λ x. IsAlike x (row_at (with_added_row f b t) i)) (sym (get_inside g.rows (added_row a s) no_row i l))
           (subst (λ x. IsAlike (row_at g i) x) (sym (get_inside f.rows (added_row b t) no_row i (subst (λ n. i < n) h.rows l))) (h.row i)))
           (λ (l : length g.rows ≤ i). later i l)
           (cases_lt i (length g.rows));
     }
   where
-    more : (k : Linear) (d : Form) (u : Interval) → row_count (with_row k d u) ≡ row_count k + 1
+    more : (k : Linear) (d : Form) (u : Interval) → row_count (with_added_row k d u) ≡ row_count k + 1
     more k d u = length-append k.rows (added_row d u ∷ [])
 
-    later : (i : ℕ) → length g.rows ≤ i → IsAlike (row_at (with_row g a s) i) (row_at (with_row f b t) i)
+    later : (i : ℕ) → length g.rows ≤ i → IsAlike (row_at (with_added_row g a s) i) (row_at (with_added_row f b t) i)
     later i l =
         ⊎_elim
         (λ (same : i ≡ length g.rows).
-        subst (λ x. IsAlike x (row_at (with_row f b t) i)) (sym (ap (λ n. get_or (with_row g a s).rows n no_row) same ∙ get_last g.rows (added_row a s) no_row))
-        (subst (λ x. IsAlike (added_row a s) x) (sym (ap (λ n. get_or (with_row f b t).rows n no_row) (same ∙ h.rows) ∙ get_last f.rows (added_row b t) no_row)) e))
+        subst (λ x. IsAlike x (row_at (with_added_row f b t) i)) (sym (ap (λ n. get_or (with_added_row g a s).rows n no_row) same ∙ get_last g.rows (added_row a s) no_row))
+        (subst (λ x. IsAlike (added_row a s) x) (sym (ap (λ n. get_or (with_added_row f b t).rows n no_row) (same ∙ h.rows) ∙ get_last f.rows (added_row b t) no_row)) e))
         (λ (other : i ≡ length g.rows → ⊥).
-        let beyond : row_count (with_row g a s) ≤ i = omega (arith, more g a s, l, other) in
-        let also : row_count (with_row f b t) ≤ i = omega (arith, more f b t, h.rows, l, other) in
-        subst (λ x. IsAlike x (row_at (with_row f b t) i)) (sym (get_or_past (with_row g a s).rows i no_row beyond))
-        (subst (λ x. IsAlike no_row x) (sym (get_or_past (with_row f b t).rows i no_row also)) (row_alike no_row)))
+        let beyond : row_count (with_added_row g a s) ≤ i = omega (arith, more g a s, l, other) in
+        let also : row_count (with_added_row f b t) ≤ i = omega (arith, more f b t, h.rows, l, other) in
+        subst (λ x. IsAlike x (row_at (with_added_row f b t) i)) (sym (get_or_past (with_added_row g a s).rows i no_row beyond))
+        (subst (λ x. IsAlike no_row x) (sym (get_or_past (with_added_row f b t).rows i no_row also)) (row_alike no_row)))
         (cases_eq i (length g.rows))
 
 -- ---- the row of a lemma
@@ -77,7 +77,7 @@ fitting_known x e = ap (λ b. if b then Some x else None) e
 difference_known : (x y d : ℚ) → sum_fits x (neg_ℚ y) ≡ true → x -ℚ y ≡ d → fitting_difference x y ≡ Some d
 difference_known x y d e is = ap (λ b. if b then Some (x -ℚ y) else None) e ∙ ap Some is
 
-needed_some : (max : Bool) (z : ℤ) (x y : ℚ) → is_some (needed max z (at_most x)) ≡ is_some (needed max z (at_most y))
+needed_some : (max : Bool) (z : ℤ) (x y : ℚ) → is_some (needed_side max z (at_most x)) ≡ is_some (needed_side max z (at_most y))
 needed_some false (pos n) x y = refl
 needed_some false (negsuc n) x y = refl
 needed_some true (pos n) x y = refl
@@ -100,7 +100,7 @@ module _ (t : ℚ) (fit : fits t ≡ true) (s d : ℚ) where
       ∙ ap (λ o. option_and_then (λ v. option_and_then (λ w. plus_product s v w) o) (fitting d)) (from_zero ∙ sym from_most)
       ∙ sym (ap (option_and_then (with_side zero_ℚ)) (fitting_known t fit))
 
-  by_sign : (max : Bool) (z : ℤ) → option_and_then (with_side (neg_ℚ t)) (option_and_then fitting (needed max z (at_most zero_ℚ))) ≡ option_and_then (with_side zero_ℚ) (option_and_then fitting (needed max z (at_most t)))
+  by_sign : (max : Bool) (z : ℤ) → option_and_then (with_side (neg_ℚ t)) (option_and_then fitting (needed_side max z (at_most zero_ℚ))) ≡ option_and_then (with_side zero_ℚ) (option_and_then fitting (needed_side max z (at_most t)))
   by_sign false (negsuc n) = upper
   by_sign true (pos n) = upper
   by_sign max z = refl

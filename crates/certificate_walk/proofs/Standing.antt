@@ -9,13 +9,13 @@ use Rattle.duality.specs.Parts.{Part, bound, lemma, plane, whole_part}
 use Rattle.certificates.specs.declared.certificate.CertificateNode.{CertificateNode}
 use Rattle.certificates.specs.declared.certificate.CertificateNode.TheVariants.{Split, Plane, Lemma}
 use Rattle.linear_program.specs.declared.number.Number.{Number}
-use Rattle.certificates.specs.Certificates.{AreNumbers, CertificateTree, IsCutNumber, number_form, tree_over, whole_form}
+use Rattle.certificates.specs.Certificates.{AreNumbers, CertificateTree, IsCutNumber, number_form, tree_over, whole_form, announced_pairs}
 use Rattle.linear_program.specs.Numbers.{Pair, number_value}
 use Rattle.dual_bounds.specs.Leaves.{AreIndices}
 use Rattle.dual_bounds.specs.declared.verdict.Goal.{Goal}
 use Rattle.certificate_walk.specs.Outcomes.{leaf_fault_of}
 use Rattle.certificate_walk.specs.InsidePaths.{IsAt, Turn, next_turns, part_under, to_first}
-use Rattle.certificate_walk.specs.Walks.{IsWritten, bound_in, leaf_check, leaf_node, pair_count}
+use Rattle.certificate_walk.specs.Walks.{IsWritten, bound_in, leaf_check, leaf_node}
 use Rattle.certificate_walk.specs.declared.outcome.LeafFault.{LeafFault as Fault}
 use Rattle.certificate_walk.specs.declared.path.Path.{Path}
 use Rattle.certificate_walk.proofs.Walking.{AtLeaf, AtLemma, AtPlane, OnWalk}
@@ -45,7 +45,7 @@ module _ (f : Linear) (v : ℚ) (tree : CertificateTree) (nodes : List Certifica
     stands_last l = sym (walk_ends (variable_count f) base answer nodes i k rest s.turns s.on l)
 
     module _ (d : CertificateNode) (within : i < length nodes) (item : d ≡ get_or nodes i d) where
-      pub pairs_there : ((j : ℕ) (t : ℤ) → d ≡ Split j t → ⊥) → pair_count d ≤ length rest
+      pub pairs_there : ((j : ℕ) (t : ℤ) → d ≡ Split j t → ⊥) → announced_pairs d ≤ length rest
       pairs_there no_split = walk_count (variable_count f) base answer nodes i k rest s.turns s.on d within item no_split
 
       -- ---- a split
@@ -65,17 +65,17 @@ module _ (f : Linear) (v : ℚ) (tree : CertificateTree) (nodes : List Certifica
             }
 
       -- ---- a node with pairs of its own
-      module _ (own later : List Pair) (front : own ≡ take (pair_count d) rest) (back : later ≡ drop (pair_count d) rest) where
+      module _ (own later : List Pair) (front : own ≡ take (announced_pairs d) rest) (back : later ≡ drop (announced_pairs d) rest) where
         -- a plane
         module _ (m : ℕ) (t : ℤ) (is : d ≡ Plane m t) where
           plane_here : AtPlane (variable_count f) base answer rest s.turns k m t (drop (i + 1) nodes)
           plane_here = walk_plane (variable_count f) base answer nodes i k rest s.turns s.on d within item m t is
 
           plane_own : own ≡ plane_here.own
-          plane_own = front ∙ ap (λ x. take (pair_count x) rest) is ∙ front_is plane_here.own plane_here.later rest m plane_here.split_pairs plane_here.count_is
+          plane_own = front ∙ ap (λ x. take (announced_pairs x) rest) is ∙ front_is plane_here.own plane_here.later rest m plane_here.split_pairs plane_here.count_is
 
           plane_later : later ≡ plane_here.later
-          plane_later = back ∙ ap (λ x. drop (pair_count x) rest) is ∙ back_is plane_here.own plane_here.later rest m plane_here.split_pairs plane_here.count_is
+          plane_later = back ∙ ap (λ x. drop (announced_pairs x) rest) is ∙ back_is plane_here.own plane_here.later rest m plane_here.split_pairs plane_here.count_is
 
           pub plane_wholes : All (λ (p : Pair). IsWhole (number_value p.1)) own
           plane_wholes = subst (All (λ (p : Pair). IsWhole (number_value p.1))) (sym plane_own) plane_here.wholes
@@ -101,10 +101,10 @@ module _ (f : Linear) (v : ℚ) (tree : CertificateTree) (nodes : List Certifica
           lemma_here = walk_lemma (variable_count f) base answer nodes i k rest s.turns s.on d within item m t is
 
           lemma_own : own ≡ lemma_here.own
-          lemma_own = front ∙ ap (λ x. take (pair_count x) rest) is ∙ front_is lemma_here.own lemma_here.later rest m lemma_here.split_pairs lemma_here.count_is
+          lemma_own = front ∙ ap (λ x. take (announced_pairs x) rest) is ∙ front_is lemma_here.own lemma_here.later rest m lemma_here.split_pairs lemma_here.count_is
 
           lemma_later : later ≡ lemma_here.later
-          lemma_later = back ∙ ap (λ x. drop (pair_count x) rest) is ∙ back_is lemma_here.own lemma_here.later rest m lemma_here.split_pairs lemma_here.count_is
+          lemma_later = back ∙ ap (λ x. drop (announced_pairs x) rest) is ∙ back_is lemma_here.own lemma_here.later rest m lemma_here.split_pairs lemma_here.count_is
 
           pub lemma_numbers : AreNumbers 0 (variable_count f) own
           lemma_numbers = subst (AreNumbers 0 (variable_count f)) (sym lemma_own) lemma_here.numbers
@@ -121,15 +121,15 @@ module _ (f : Linear) (v : ℚ) (tree : CertificateTree) (nodes : List Certifica
               }
 
         -- a leaf
-        module _ (goal : Goal) (is : d ≡ leaf_node goal (pair_count d)) where
-          leaf_here : AtLeaf (variable_count f) base answer rest s.turns k goal (pair_count d) (drop (i + 1) nodes)
-          leaf_here = walk_leaf (variable_count f) base answer nodes i k rest s.turns s.on d within item goal (pair_count d) is
+        module _ (goal : Goal) (is : d ≡ leaf_node goal (announced_pairs d)) where
+          leaf_here : AtLeaf (variable_count f) base answer rest s.turns k goal (announced_pairs d) (drop (i + 1) nodes)
+          leaf_here = walk_leaf (variable_count f) base answer nodes i k rest s.turns s.on d within item goal (announced_pairs d) is
 
           leaf_own : own ≡ leaf_here.own
-          leaf_own = front ∙ front_is leaf_here.own leaf_here.later rest (pair_count d) leaf_here.split_pairs leaf_here.count_is
+          leaf_own = front ∙ front_is leaf_here.own leaf_here.later rest (announced_pairs d) leaf_here.split_pairs leaf_here.count_is
 
           leaf_later : later ≡ leaf_here.later
-          leaf_later = back ∙ back_is leaf_here.own leaf_here.later rest (pair_count d) leaf_here.split_pairs leaf_here.count_is
+          leaf_later = back ∙ back_is leaf_here.own leaf_here.later rest (announced_pairs d) leaf_here.split_pairs leaf_here.count_is
 
           pub leaf_indices : AreIndices 0 (row_count (part_under base s.turns).program) own
           leaf_indices = subst (AreIndices 0 (row_count (part_under base s.turns).program)) (sym leaf_own) leaf_here.numbers

@@ -4,7 +4,7 @@ use Rattle.std.proofs.lemmas.Option.{same_Some}
 use Rattle.fractions.specs.Rational.{ℚ}
 use Rattle.program_meaning.specs.Linear.{Linear, variable_count, row_count}
 use Rattle.duality.specs.Branch.{AreSplitsWhole, proof_fault}
-use Rattle.duality.specs.Certificate.{Cause, Outcome, fails, holds}
+use Rattle.duality.specs.Certificate.{Cause, ClaimOutcome, fails, holds}
 use Rattle.duality.specs.Means.{Means}
 use Rattle.duality.specs.Parts.{IsWholeVariable}
 use Rattle.duality.specs.Problem.{Problem}
@@ -42,7 +42,7 @@ module _ (f : Linear) (p : Problem) (means : Means f p) where
   abbrev IsOver : Given → Type 0
   IsOver g = IsGivenOver (IsWholeVariable f) (variable_count f) (row_count f) g
 
-  says : (claim : Claim) (g : Given) → IsAskedFor claim g → IsOver g → (o : Outcome) → claim_outcome f claim g ≡ o → OutcomeSays p f (certificate_over (variable_count f) (row_count f) claim g) o
+  says : (claim : Claim) (g : Given) → IsAskedFor claim g → IsOver g → (o : ClaimOutcome) → claim_outcome f claim g ≡ o → OutcomeSays p f (certificate_over (variable_count f) (row_count f) claim g) o
   says claim g asked fine o e =
       subst (OutcomeSays p f (certificate_over (variable_count f) (row_count f) claim g)) e (outcomes f p means (certificate_over (variable_count f) (row_count f) claim g) (is_certificate f claim g asked fine))
 

@@ -6,7 +6,7 @@ use Rattle.fractions.specs.Fits.{fits}
 use Rattle.fractions.specs.Rational.{ℚ, zero_ℚ}
 use Rattle.program_meaning.specs.Elements.{elements_from}
 use Rattle.program_meaning.specs.Linear.{Linear, variable_at, variable_count, row_count}
-use Rattle.duality.specs.Branch.{Tree, split as split_tree, duals as duals_leaf, weights as weights_leaf}
+use Rattle.duality.specs.Branch.{BranchTree, split as split_tree, duals as duals_leaf, weights as weights_leaf}
 use Rattle.duality.specs.Parts.{bound}
 use Rattle.exact_numbers.specs.declared.dec.Dec.{Dec}
 use Rattle.exact_numbers.specs.Values.{dec_value}
@@ -42,6 +42,12 @@ pairs_of (split j t low high) = pairs_of low ++ pairs_of high
 pairs_of (duals ps) = ps
 pairs_of (weights ps) = ps
 
+-- how many pairs a node announces
+abbrev pub announced_pairs : ProofNode → ℕ
+announced_pairs (Split j t) = 0
+announced_pairs (Duals n) = n
+announced_pairs (Weights n) = n
+
 -- the stated value; an infeasibility proof has none, and none of its leaves asks for it
 abbrev pub claim_value : Claim → ℚ
 claim_value (Value k d) = dec_value d
@@ -66,7 +72,7 @@ unfoldable pub spread : ℕ → List Pair → List ℚ
 spread m ps = elements_from (λ i. number_of ps i zero_ℚ) 0 m
 
 -- the tree over m rows
-unfoldable pub tree_over : ℕ → ProofTree → Tree
+unfoldable pub tree_over : ℕ → ProofTree → BranchTree
 tree_over m (split j t low high) = split_tree (bound j t) (tree_over m low) (tree_over m high)
 tree_over m (duals ps) = duals_leaf (spread m ps)
 tree_over m (weights ps) = weights_leaf (spread m ps)

@@ -10,7 +10,7 @@ use Rattle.fractions.specs.Rational.{ℚ, whole, zero_ℚ, ◌+ℚ◌, ◌-ℚ�
 use Rattle.fractions.proofs.Arithmetic.{+ℚ_zero, *ℚ_zero, over_lowest, -ℚ_lem, neg-neg, neg-*ℚ, top_zero}
 use Rattle.program_meaning.specs.Linear.{Interval}
 use Rattle.duality.specs.Checked.{fitting, fitting_difference, fitting_sum, less_product, plus_product}
-use Rattle.duality.specs.Verdict.{bound_side_missing, cost_check, cost_part_of, needed}
+use Rattle.duality.specs.Verdict.{bound_side_missing, cost_check, cost_part_of, needed_side}
 use Rattle.exact_numbers.proofs.Bridge.{frac_fits_lem}
 use Rattle.exact_numbers.proofs.Zeros.{fits_zero, sum_fits_zero}
 use Rattle.exact_numbers.specs.declared.dec.Dec.{Dec}
@@ -30,13 +30,13 @@ zero_not_negative d e = ap (λ z. int_lt z (pos 0)) (sym (top_zero d (sym e)))
 not_below : (k : ℕ) → true ≡ int_lt (pos k) (pos 0) → ⊥
 not_below k e = (let both = e ∙ not_negative k in cc)
 
-pub needs_lower : (max negative : Bool) (t : ℤ) (i : Interval) → beq max negative ≡ true → negative ≡ int_lt t (pos 0) → i.lower ≡ needed max t i
+pub needs_lower : (max negative : Bool) (t : ℤ) (i : Interval) → beq max negative ≡ true → negative ≡ int_lt t (pos 0) → i.lower ≡ needed_side max t i
 needs_lower false false (pos k) i e h = refl
 needs_lower true true (negsuc k) i e h = refl
 needs_lower true true (pos k) i e h = absurd (not_below k h)
 needs_lower max negative t i e h = absurd (cc)
 
-pub needs_upper : (max negative : Bool) (t : ℤ) (i : Interval) → beq max negative ≡ false → negative ≡ int_lt t (pos 0) → i.upper ≡ needed max t i
+pub needs_upper : (max negative : Bool) (t : ℤ) (i : Interval) → beq max negative ≡ false → negative ≡ int_lt t (pos 0) → i.upper ≡ needed_side max t i
 needs_upper false true (negsuc k) i e h = refl
 needs_upper false true (pos k) i e h = absurd (not_below k h)
 needs_upper true false (pos k) i e h = refl
@@ -84,9 +84,9 @@ not_equal : (d : ℚ) → Some d ≢ Some zero_ℚ → d ≢ zero_ℚ
 not_equal d n e = n (ap Some e)
 
 -- the part of a cost that is not 0
-part_of : (max : Bool) (i : Interval) (s d : ℚ) (o : Option ℚ) → Some d ≢ Some zero_ℚ → o ≡ option_and_then fitting (needed max d.top i) → cost_part_of max i s d ≡ option_and_then (λ x. plus_product s d x) o
+part_of : (max : Bool) (i : Interval) (s d : ℚ) (o : Option ℚ) → Some d ≢ Some zero_ℚ → o ≡ option_and_then fitting (needed_side max d.top i) → cost_part_of max i s d ≡ option_and_then (λ x. plus_product s d x) o
 part_of max i s d o n e =
-    ap (λ b. if b then Some s else option_and_then (λ x. plus_product s d x) (option_and_then fitting (needed max d.top i))) (not_zero d (not_equal d n))
+    ap (λ b. if b then Some s else option_and_then (λ x. plus_product s d x) (option_and_then fitting (needed_side max d.top i))) (not_zero d (not_equal d n))
     ∙ sym (ap (option_and_then (λ x. plus_product s d x)) e)
 
 pub part_added : (max : Bool) (i : Interval) (cost old : Option ℚ) (side : Option Dec) (v : ℚ) → cost ≢ Some zero_ℚ → IsNeeded max i cost side → Some v ≡ option_and_then fitting (side_value side)
@@ -108,7 +108,7 @@ plus_zero s d f =
     ∙ ap (λ b. option_and_then (λ x. fitting_sum s x) (if b then Some zero_ℚ else None)) fits_zero
     ∙ ap₂ (λ b x. if b then Some x else None) (sum_fits_zero s f) (+ℚ_zero s)
 
-pub no_part_of_side : (max : Bool) (i : Interval) (s d v : ℚ) → fits s ≡ true → v ≡ zero_ℚ → Some v ≡ needed max d.top i → cost_part_of max i s d ≡ Some s
+pub no_part_of_side : (max : Bool) (i : Interval) (s d v : ℚ) → fits s ≡ true → v ≡ zero_ℚ → Some v ≡ needed_side max d.top i → cost_part_of max i s d ≡ Some s
 no_part_of_side max i s d v f z e =
     ap (λ o. if is_zero d then Some s else option_and_then (λ x. plus_product s d x) (option_and_then fitting o)) (sym e ∙ ap Some z)
     ∙ ap (λ b. if is_zero d then Some s else option_and_then (λ x. plus_product s d x) (if b then Some zero_ℚ else None)) fits_zero
@@ -134,14 +134,14 @@ or_true : (b : Bool) → b || true ≡ true
 or_true true = refl
 or_true false = refl
 
-pub no_fault_of_side : (max : Bool) (i : Interval) (j : ℕ) (o : Option ℚ) (d v : ℚ) → o ≡ Some d → Some v ≡ needed max d.top i → None ≡ cost_check max i j o
+pub no_fault_of_side : (max : Bool) (i : Interval) (j : ℕ) (o : Option ℚ) (d v : ℚ) → o ≡ Some d → Some v ≡ needed_side max d.top i → None ≡ cost_check max i j o
 no_fault_of_side max i j o d v e h =
     sym
     (ap (cost_check max i j) e
     ∙ ap (λ n. if is_zero d || is_some n then None else Some (bound_side_missing j)) (sym h)
     ∙ ap (λ b. if b then None else Some (bound_side_missing j)) (or_true (is_zero d)))
 
-pub fault_of_side : (max : Bool) (i : Interval) (j : ℕ) (o : Option ℚ) (d : ℚ) → o ≡ Some d → o ≢ Some zero_ℚ → None ≡ needed max d.top i → Some (bound_side_missing j) ≡ cost_check max i j o
+pub fault_of_side : (max : Bool) (i : Interval) (j : ℕ) (o : Option ℚ) (d : ℚ) → o ≡ Some d → o ≢ Some zero_ℚ → None ≡ needed_side max d.top i → Some (bound_side_missing j) ≡ cost_check max i j o
 fault_of_side max i j o d e n h =
     sym
     (ap (cost_check max i j) e

@@ -6,7 +6,7 @@ use Rattle.fractions.specs.Rational.{ℚ, over, zero_ℚ}
 use Rattle.program_meaning.specs.Linear.{Interval, Linear, row_count}
 use Rattle.duality.specs.Checked.{less_product, run}
 use Rattle.duality.specs.Points.{Box, Numbers}
-use Rattle.duality.specs.Verdict.{BoundVerdict, Fault, bound_or_fault, cost_check, cost_part_of, first_fault, needed, row_part}
+use Rattle.duality.specs.Verdict.{BoundVerdict, Fault, bound_or_fault, cost_check, cost_part_of, first_fault, needed_side, row_part}
 use Rattle.exact_numbers.specs.declared.dec.Dec.{Dec}
 use Rattle.exact_numbers.specs.Values.{frac_value}
 use Rattle.dual_bounds.specs.Terms.{side_value}
@@ -31,7 +31,7 @@ less_part w a o = option_and_then (λ s. option_and_then (λ v. less_product s v
 
 -- the side of the interval that the cost needs, where it has a value
 abbrev pub IsNeeded : Bool → Interval → Option ℚ → Option Dec → Type 0
-IsNeeded max i cost side = (d : ℚ) → cost ≡ Some d → side_value side ≡ needed max d.top i
+IsNeeded max i cost side = (d : ℚ) → cost ≡ Some d → side_value side ≡ needed_side max d.top i
 
 -- the sum of variable j; past the last nothing is touched
 abbrev pub sum_at : List Sum → ℕ → Sum

@@ -3,7 +3,7 @@ ghost use Rattle.std.specs.Prelude.{◌≡◌, ◌<◌, ℤ, pos, int_lt, length
 ghost use Rattle.program_meaning.specs.Linear.{value_at, variable_count};
 ghost use Rattle.program_meaning.specs.Linear.{row_count};
 ghost use Rattle.duality.specs.Checked.{fitting, run};
-ghost use Rattle.duality.specs.Verdict.{needed, has_needed, side_fault, cost_check, cost_fault, row_part, cost_part_of, cost_part, bound_total, first_fault, reduced_cost};
+ghost use Rattle.duality.specs.Verdict.{needed_side, has_needed, side_fault, cost_check, cost_fault, row_part, cost_part_of, cost_part, bound_total, first_fault, reduced_cost};
 ghost use Rattle.exact_numbers.specs.Values.{frac_value};
 ghost use Rattle.linear_program.specs.Intervals.{interval_of};
 ghost use Rattle.dual_bounds.specs.Answers.{cause_found};
@@ -21,9 +21,9 @@ use exact_numbers::{Dec, Frac};
 use linear_program::{Interval, Number};
 
 // The side that a number of this sign needs.
-pub(crate) fn needed(maximise: bool, negative: bool, sides: Interval) -> Option<Dec>
+pub(crate) fn needed_side(maximise: bool, negative: bool, sides: Interval) -> Option<Dec>
     ensures { (t : ℤ) → negative ≡ int_lt t (pos 0)
-        → side_value result ≡ needed maximise t (interval_of sides) }
+        → side_value result ≡ needed_side maximise t (interval_of sides) }
 {
     if maximise == negative {
         sides.lo
@@ -36,7 +36,7 @@ pub(crate) fn needed(maximise: bool, negative: bool, sides: Interval) -> Option<
 fn has_cost_side(maximise: bool, cost: Frac, bounds: Interval) -> bool
     ensures { result ≡ has_needed maximise (frac_value cost) (interval_of bounds) }
 {
-    is_zero(cost) || needed(maximise, is_negative(cost), bounds).is_some()
+    is_zero(cost) || needed_side(maximise, is_negative(cost), bounds).is_some()
 }
 
 // The sense of a goal.
@@ -187,7 +187,7 @@ pub(crate) fn plus_bound(sum: Frac, maximise: bool, bounds: Interval, cost: Frac
     if is_zero(cost) {
         return Some(sum);
     }
-    match side_fraction(needed(maximise, is_negative(cost), bounds)) {
+    match side_fraction(needed_side(maximise, is_negative(cost), bounds)) {
         Some(side) => plus_product(sum, cost, side),
         None => None,
     }

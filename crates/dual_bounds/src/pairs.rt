@@ -14,7 +14,7 @@ ghost use Rattle.dual_bounds.specs.Sums.{AreKept, cost_count, cost_in};
 ghost use Rattle.dual_bounds.specs.Terms.{value_found};
 
 use crate::costs::Costs;
-use crate::duals::{needed, side_fraction};
+use crate::duals::{needed_side, side_fraction};
 use crate::form::Row;
 use crate::number::{
     difference, is_negative_number, is_zero_number, plus_product, written_fraction,
@@ -41,7 +41,7 @@ fn row_at<'a>(rows: &'a [Row], planes: &'a [Row], i: usize) -> &'a Row
 pub(crate) fn has_row_side(maximise: bool, number: &Number, sides: Interval) -> bool
     ensures { result ≡ has_needed maximise (number_value number.now) (interval_of sides) }
 {
-    is_zero_number(number) || needed(maximise, is_negative_number(number), sides).is_some()
+    is_zero_number(number) || needed_side(maximise, is_negative_number(number), sides).is_some()
 }
 
 // The first row whose number lacks its side.
@@ -117,7 +117,7 @@ pub(crate) fn plus_row(sum: Frac, maximise: bool, row: &Row, number: &Number) ->
     if is_zero_number(number) {
         return Some(sum);
     }
-    match side_fraction(needed(maximise, is_negative_number(number), row.side)) {
+    match side_fraction(needed_side(maximise, is_negative_number(number), row.side)) {
         Some(side) => plus_side(sum, side, row.body.constant, number),
         None => None,
     }

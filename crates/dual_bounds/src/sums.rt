@@ -18,7 +18,8 @@ use crate::number::{is_negative, less_product};
 use crate::verdict::{Fault, Spot};
 use exact_numbers::{Dec, Frac};
 
-/// A sum: 0 where nothing was added yet; a short fraction; another one; none, since it is too wide.
+/// A sum, be it the reduced cost of a variable, the weight of a row or the bound so far: 0 where
+/// nothing was added yet; a short fraction; another one; none, since it is too wide.
 #[derive(Clone, Copy)]
 pub(crate) enum Sum {
     Untouched,

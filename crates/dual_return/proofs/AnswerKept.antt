@@ -29,14 +29,14 @@ use Rattle.std.specs.Str.Parse.{digits_value}
 use Rattle.std.proofs.lemmas.Bool.{cond_both, ltb-true, eqb-true, leb-false, not-false, and_parts, or_parts, lt-ltb}
 use Rattle.texts.specs.Names.{is_name}
 use Rattle.nl_model.specs.declared.suffix.Suffix.{Suffix as FileSuffix}
-use Rattle.nl_model.specs.declared.suffix_kinds.Objects.{Objects}
-use Rattle.nl_model.specs.declared.suffix_kinds.Objects.TheVariants.{Variables, Constraints, Objectives, Problem}
+use Rattle.shared_parts.specs.declared.suffix_kinds.Objects.{Objects}
+use Rattle.shared_parts.specs.declared.suffix_kinds.Objects.TheVariants.{Variables, Constraints, Objectives, Problem}
 use Rattle.nl_model.specs.Rules.{is_suffix_of}
-use Rattle.nl_model.specs.SuffixKinds.{has_same_objects, object_limit, objects_of, wants_whole, count_among}
+use Rattle.shared_parts.specs.SuffixKinds.{has_same_objects, object_limit, objects_of, wants_whole, count_among}
 use Rattle.name_lists.specs.Names.{index_named}
 use Rattle.name_lists.proofs.NumeralLemmas.{position-cons, named_so}
 use Rattle.answer_file.specs.Suffixes.{has_place, place_named, suffix_at, suffix_named, value_count}
-use Rattle.nl_model.proofs.ObjectLemmas.{same_objects}
+use Rattle.shared_parts.proofs.ObjectLemmas.{same_objects}
 use Rattle.answer_file.proofs.TableLemmas.{one_value_more}
 use Rattle.sol_files.specs.Tests.{has_index}
 use Rattle.sol_files.specs.Written.{IsSaidLine, are_values}

@@ -3,8 +3,8 @@ use Rattle.std.proofs.Common.{◌≡◌, ℕ, refl, Bool, true, false, List, Opt
 use Rattle.std.specs.Prelude.{IfSome, if◌then◌else◌, ◌&&◌}
 use Rattle.fractions.specs.Rational.{ℚ, zero_ℚ}
 use Rattle.program_meaning.specs.Linear.{Interval, Linear, value_at, variable_count, row_at, row_count}
-use Rattle.duality.specs.Branch.{Tree, LeafFault, proof_fault}
-use Rattle.duality.specs.Certificate.{Certificate, optimal, near, bounded, feasible, infeasible, unbounded, Cause, at_point, not_whole, objective_wide, at_ray, at_leaf, Judged, valued as judged_valued, refused as judged_refused, judged, judged_by, given_fault, whole_fault, fitting_bound_fault, can_compare, unless_leaf, unless_ray, with_tree, with_leaves, with_ray, alone, Outcome, holds, fails, outcome}
+use Rattle.duality.specs.Branch.{BranchTree, LeafFault, proof_fault}
+use Rattle.duality.specs.Certificate.{Certificate, optimal, near, bounded, feasible, infeasible, unbounded, Cause, at_point, not_whole, objective_wide, at_ray, at_leaf, Judged, valued as judged_valued, refused as judged_refused, judged, judged_by, given_fault, whole_fault, fitting_bound_fault, can_compare, unless_leaf, unless_ray, with_proof, with_leaves, with_ray, alone, ClaimOutcome, holds, fails, outcome}
 use Rattle.duality.specs.Parts.{whole_part}
 use Rattle.duality.specs.Points.{Numbers, bounds_of}
 use Rattle.duality.specs.Ray.{RayFault, ray_fault}
@@ -89,7 +89,7 @@ CauseHas p c objective_wide = HasPoint c
 CauseHas p c (at_ray g) = HasPoint c
 CauseHas p c (at_leaf g) = LeafCause p c g
 
-abbrev pub OutcomeHas : Linear → Certificate → Outcome → Type 0
+abbrev pub OutcomeHas : Linear → Certificate → ClaimOutcome → Type 0
 OutcomeHas p c (holds o) = Unit {0}
 OutcomeHas p c (fails g) = CauseHas p c g
 
@@ -100,11 +100,11 @@ refused_has p c at objective_wide h = at
 refused_has p c at (at_ray g) h = absurd h
 refused_has p c at (at_leaf g) h = absurd h
 
-pub denied : (p : Linear) (tree : Tree) (v : ℚ) (g : LeafFault) → proof_fault p v tree ≡ Some g → IsLeafDenied p tree g
+pub denied : (p : Linear) (tree : BranchTree) (v : ℚ) (g : LeafFault) → proof_fault p v tree ≡ Some g → IsLeafDenied p tree g
 unfolding proof_fault
 denied p tree v g e = record { met = v; denies = leaf_denies (whole_part p v) tree g e }
 
-leaf_has : (p : Linear) (c : Certificate) (tree : Tree) (v : ℚ) (o : Option ℚ) → ((g : LeafFault) → IsLeafDenied p tree g → LeafCause p c g) → OutcomeHas p c (unless_leaf (proof_fault p v tree) o)
+leaf_has : (p : Linear) (c : Certificate) (tree : BranchTree) (v : ℚ) (o : Option ℚ) → ((g : LeafFault) → IsLeafDenied p tree g → LeafCause p c g) → OutcomeHas p c (unless_leaf (proof_fault p v tree) o)
 leaf_has p c tree v o to = by (proof_fault p v tree) refl
   where
     by : (r : Option LeafFault) → proof_fault p v tree ≡ r → OutcomeHas p c (unless_leaf r o)
@@ -115,7 +115,7 @@ ray_has : (p : Linear) (c : Certificate) → HasPoint c → (r : Option RayFault
 ray_has p c at None = tt
 ray_has p c at (Some g) = at
 
-judged_has : (p : Linear) (c : Certificate) (xs : List ℚ) (after : Judged → Outcome) → ((g : Cause) → after (judged_refused g) ≡ fails g) → HasPoint c → ((v : ℚ) → OutcomeHas p c (after (judged_valued v))) → OutcomeHas p c (after (judged p xs))
+judged_has : (p : Linear) (c : Certificate) (xs : List ℚ) (after : Judged → ClaimOutcome) → ((g : Cause) → after (judged_refused g) ≡ fails g) → HasPoint c → ((v : ℚ) → OutcomeHas p c (after (judged_valued v))) → OutcomeHas p c (after (judged p xs))
 judged_has p c xs after none at some = by (judged p xs) (judged_kind p xs)
   where
     by : (j : Judged) → JudgedKind j → OutcomeHas p c (after j)
@@ -124,7 +124,7 @@ judged_has p c xs after none at some = by (judged p xs) (judged_kind p xs)
 
 pub outcome_has : (p : Linear) (c : Certificate) → OutcomeHas p c (outcome p c)
 unfolding outcome
-outcome_has p (optimal xs tree) = judged_has p (optimal xs tree) xs (with_tree p tree) (λ g. refl) tt (λ v. leaf_has p (optimal xs tree) tree v (Some v) (λ g h. h))
+outcome_has p (optimal xs tree) = judged_has p (optimal xs tree) xs (with_proof p tree) (λ g. refl) tt (λ v. leaf_has p (optimal xs tree) tree v (Some v) (λ g h. h))
 outcome_has p (near xs b tree) = judged_has p (near xs b tree) xs (with_leaves (proof_fault p b tree)) (λ g. refl) tt (λ v. leaf_has p (near xs b tree) tree b (Some v) (λ g h. h))
 outcome_has p (bounded v tree) = leaf_has p (bounded v tree) tree v (Some v) (λ g h. h)
 outcome_has p (feasible xs) = judged_has p (feasible xs) xs alone (λ g. refl) tt (λ v. tt)

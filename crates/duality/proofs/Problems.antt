@@ -2,8 +2,8 @@
 use Rattle.std.proofs.Common.{◌≡◌, ◌∙◌, ℕ, sym, ap, subst, refl, List, Option, Some, None, option_map}
 use Rattle.fractions.specs.Rational.{ℚ, zero_ℚ}
 use Rattle.program_meaning.specs.Linear.{Linear, IsFeasible as IsFeasibleProgram, IsRelaxed as IsRelaxedProgram, objective_value, value_at}
-use Rattle.duality.specs.Branch.{LeafFault, Tree, duals, open_gap, weights, AreSplitsWhole, proof_fault}
-use Rattle.duality.specs.Certificate.{Certificate, optimal, near, bounded, feasible, infeasible, unbounded, IsCertificate, Cause, at_point, not_whole, objective_wide, at_ray, at_leaf, Judged, valued as judged_valued, refused as judged_refused, judged, unless_leaf, with_ray, Outcome, holds, fails, outcome, IsShown as IsShownProgram, PointSays as PointSaysProgram, CauseSays as CauseSaysProgram, OutcomeSays as OutcomeSaysProgram}
+use Rattle.duality.specs.Branch.{LeafFault, BranchTree, duals, open_gap, weights, AreSplitsWhole, proof_fault}
+use Rattle.duality.specs.Certificate.{Certificate, optimal, near, bounded, feasible, infeasible, unbounded, IsCertificate, Cause, at_point, not_whole, objective_wide, at_ray, at_leaf, Judged, valued as judged_valued, refused as judged_refused, judged, unless_leaf, with_ray, ClaimOutcome, holds, fails, outcome, IsShown as IsShownProgram, PointSays as PointSaysProgram, CauseSays as CauseSaysProgram, OutcomeSays as OutcomeSaysProgram}
 use Rattle.duality.specs.LeafSays.{IsLeafDenied, part_of_leaf}
 use Rattle.duality.specs.Means.{Means}
 use Rattle.duality.specs.Points.{IsAsGood, IsBetter}
@@ -22,12 +22,12 @@ use Rattle.duality.proofs.Says.{says as verdict_says}
 use Rattle.duality.proofs.Shown.{says as outcome_says}
 
 -- ---- where there is no feasible point or no end, no value is told
-abbrev HasNoValue : Outcome → Type 0
+abbrev HasNoValue : ClaimOutcome → Type 0
 HasNoValue (holds None) = Unit {0}
 HasNoValue (holds (Some v)) = ⊥
 HasNoValue (fails g) = Unit {0}
 
-abbrev IsValued : Certificate → Outcome → Type 0
+abbrev IsValued : Certificate → ClaimOutcome → Type 0
 IsValued (optimal xs tree) r = Unit {0}
 IsValued (near xs b tree) r = Unit {0}
 IsValued (bounded v tree) r = Unit {0}
@@ -153,7 +153,7 @@ module _ (f : Linear) (p : Problem) (means : Means f p) where
   cause_of_problem (unbounded xs ds) (at_ray g) h w = feasible_at xs h
   cause_of_problem (unbounded xs ds) (at_leaf g) h w = absurd w
 
-  outcome_of_problem : (c : Certificate) (r : Outcome) → OutcomeSaysProgram (f) c r → IsValued c r → OutcomeHas (f) c r → OutcomeSays p f c r
+  outcome_of_problem : (c : Certificate) (r : ClaimOutcome) → OutcomeSaysProgram (f) c r → IsValued c r → OutcomeHas (f) c r → OutcomeSays p f c r
   outcome_of_problem c (holds v) h w has = shown_of_problem c v h w
   outcome_of_problem c (fails g) h w has = cause_of_problem c g h has
 
@@ -167,7 +167,7 @@ module _ (f : Linear) (p : Problem) (means : Means f p) where
   pub outcomes : (c : Certificate) → IsCertificate f c → OutcomeSays p f c (outcome f c)
   outcomes c fine = outcome_of_problem c (outcome f c) (outcome_says f c fine) (valued f c) (outcome_has f c)
 
-  pub bounds : (v : ℚ) (tree : Tree) → AreSplitsWhole f tree → proof_fault f v tree ≡ None → IsBound p v
+  pub bounds : (v : ℚ) (tree : BranchTree) → AreSplitsWhole f tree → proof_fault f v tree ≡ None → IsBound p v
   bounds v tree splits closed = bound_of v (branches f v tree splits closed)
 
   pub broken_at : ((xs : List ℚ) → ¬ IsRelaxedProgram f xs) → (xs : List ℚ) → IsBroken p xs

@@ -3,7 +3,7 @@ use Rattle.std.specs.Prelude.{List, [], Option}
 use Rattle.fractions.specs.Rational.{ℚ}
 use Rattle.program_meaning.specs.Linear.{Linear}
 use Rattle.duality.specs.Branch.{LeafFault}
-use Rattle.duality.specs.Certificate.{Certificate, optimal, near, bounded, feasible, infeasible, unbounded, Cause, at_point, not_whole, objective_wide, at_ray, at_leaf, Outcome, holds, fails}
+use Rattle.duality.specs.Certificate.{Certificate, optimal, near, bounded, feasible, infeasible, unbounded, Cause, at_point, not_whole, objective_wide, at_ray, at_leaf, ClaimOutcome, holds, fails}
 use Rattle.duality.specs.LeafSays.{IsLeafDenied}
 use Rattle.duality.specs.Problem.{Problem, IsBoundBroken, IsConstraintBroken, IsFeasible, IsNotWhole, IsRelaxed, IsWithinGap}
 use Rattle.duality.specs.Told.{IsToldTrue, told_certificate}
@@ -83,6 +83,6 @@ Denies p f c objective_wide = AtPoint c (IsFeasible p)
 Denies p f c (at_ray g) = AtPoint c (IsFeasible p)
 Denies p f c (at_leaf g) = LeafSays p f c g
 
-abbrev pub OutcomeSays : Problem → Linear → Certificate → Outcome → Type 0
+abbrev pub OutcomeSays : Problem → Linear → Certificate → ClaimOutcome → Type 0
 OutcomeSays p f c (holds o) = IsShown p c o
 OutcomeSays p f c (fails g) = Denies p f c g

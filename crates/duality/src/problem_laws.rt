@@ -3,7 +3,7 @@
 ghost use Rattle.std.specs.Prelude.{◌≡◌, ◌↔◌, ℕ, IsTrue, List, None, Some};
 ghost use Rattle.fractions.specs.Rational.{ℚ};
 ghost use Rattle.program_meaning.specs.Linear.{Linear};
-ghost use Rattle.duality.specs.Branch.{LeafFault, Tree, duals, open_gap, weights, AreSplitsWhole, proof_fault, tree_fault};
+ghost use Rattle.duality.specs.Branch.{LeafFault, BranchTree, duals, open_gap, weights, AreSplitsWhole, proof_fault, branch_fault};
 ghost use Rattle.duality.specs.Certificate.{Certificate, IsCertificate, outcome};
 ghost use Rattle.duality.specs.Contrary.{IsConstraintUnmet, IsEachBeaten, IsNoneBetter, IsNoneFeasible, IsNoneRelaxed};
 ghost use Rattle.duality.specs.LeafSays.{IsLeafDenied, LeafDenies};
@@ -69,7 +69,7 @@ pub fn outcomes_of_problems()
 /// Where every leaf of a proof closes, and its splits are on whole variables, the stated value is a
 /// bound.
 pub fn proofs_of_problems()
-    ensures { (f : Linear) (p : Problem) → Means f p → (v : ℚ) (tree : Tree)
+    ensures { (f : Linear) (p : Problem) → Means f p → (v : ℚ) (tree : BranchTree)
         → AreSplitsWhole f tree → proof_fault f v tree ≡ None → IsBound p v }
 {}
 
@@ -81,9 +81,9 @@ pub fn infeasible_problems()
 
 /// The gap that is told of the first leaf that does not close is a bound of that leaf's part.
 pub fn gaps_are_bounds()
-    ensures parts { (p : Part) (tree : Tree) (fault : LeafFault) → tree_fault p 0 tree ≡ Some fault
+    ensures parts { (p : Part) (tree : BranchTree) (fault : LeafFault) → branch_fault p 0 tree ≡ Some fault
         → LeafDenies p tree fault }
-    ensures proofs { (f : Linear) (v : ℚ) (tree : Tree) (fault : LeafFault)
+    ensures proofs { (f : Linear) (v : ℚ) (tree : BranchTree) (fault : LeafFault)
         → proof_fault f v tree ≡ Some fault → IsLeafDenied f tree fault }
 {}
 

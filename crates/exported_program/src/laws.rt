@@ -28,7 +28,7 @@ pub fn mps_keeps_meaning()
         → row_value (mps_of s) xs (suc k) ≡ scaled_row_value s xs k }
 {}
 
-/// The exported program has the file's points, objective and sense, whatever the factors above 0.
+/// The exported program has the linear program's points, objective and sense, whatever the factors above 0.
 pub fn export_keeps_meaning()
     ensures points { (f : Linear) (factor : ℕ → ℕ) (xs : List ℚ) → IsLinear f
         → ((i : ℕ) → 0 < factor i) → IsMpsFeasible (program f factor) xs ↔ IsFeasible f xs }
@@ -72,7 +72,7 @@ pub fn example()
     ensures { mps_text_by spelled knapsack ≡ knapsack_text }
 {}
 
-/// The law of export, for the decimal program of a file.
+/// The law of export, for a decimal program.
 pub fn decimal_program_keeps_meaning()
     ensures points { (f : Linear) (m : Mps Dec) (xs : List ℚ) → IsLinear f → IsProgramOf f m
         → IsDecimal f → IsMpsFeasible (with_values dec_value m) xs ↔ IsFeasible f xs }

@@ -10,7 +10,7 @@ use Rattle.nl_model.specs.Rules.{IsFile}
 use Rattle.file_meaning.specs.Expressions.{maximises}
 use Rattle.file_meaning.specs.FoldFaults.{fold_fault}
 use Rattle.file_meaning.specs.LinearFile.{linear_of}
-use Rattle.file_meaning.specs.Meaning.{HasValueInside, IsBetterValue, IsFeasible as IsFeasibleFile, IsRelaxed as IsRelaxedFile, body_value, objective_value, side_of}
+use Rattle.file_meaning.specs.Meaning.{HasValueInside, IsBetterValue, IsFeasible as IsFeasibleFile, IsRelaxed as IsRelaxedFile, body_value, file_objective, side_of}
 use Rattle.file_certificates.specs.FileProblem.{problem_of}
 use Rattle.file_certificates.proofs.Files.{feasible_points, inside_at, meant, relaxed_points}
 
@@ -32,10 +32,10 @@ better_value false w v h = h
 
 module _ (f : File) (k : ℕ) where
   abbrev IsBetterThan : List ℚ → ℚ → Type 0
-  IsBetterThan xs v = IsBetterValue (maximises f k) (objective_value f k xs) (Some v)
+  IsBetterThan xs v = IsBetterValue (maximises f k) (file_objective f k xs) (Some v)
 
   better_at : (xs : List ℚ) (v : ℚ) → IsBetterThan xs v → IsBetterAt (problem_of f k) xs v
-  better_at xs v h = let n = better_number (maximises f k) (objective_value f k xs) v h in record { value = n.number; has = n.has; better = n.better }
+  better_at xs v h = let n = better_number (maximises f k) (file_objective f k xs) v h in record { value = n.number; has = n.has; better = n.better }
 
   better_than : (xs : List ℚ) (v : ℚ) → IsBetterAt (problem_of f k) xs v → IsBetterThan xs v
   better_than xs v h = subst (λ o. IsBetterValue (maximises f k) o (Some v)) (sym h.has) (better_value (maximises f k) h.value v h.better)

@@ -9,7 +9,7 @@ use Rattle.nl_model.specs.Rules.{IsFile}
 use Rattle.file_meaning.specs.FoldFaults.{fold_fault}
 use Rattle.file_meaning.specs.LinearFile.{linear_of}
 use Rattle.file_meaning.proofs.Files.{count_lem}
-use Rattle.certificates.specs.Certificates.{CertificateValue, Given, IsGivenOver, IsCertificateOf, certificate_over, claim_outcome, objective_of}
+use Rattle.certificates.specs.Certificates.{CertificateValue, Given, IsGivenOver, IsCertificateOf, certificate_over, claim_outcome, claim_objective}
 use Rattle.certificates.specs.Setting.{IsWholeFor}
 use Rattle.certificates.proofs.Settings.{certificate_for, given_for}
 use Rattle.file_certificates.specs.Files.{IsCertificateIn}
@@ -31,17 +31,17 @@ pub certificate_of : (f : File) (k : ℕ) (c : CertificateValue) → IsCertifica
 certificate_of f k = certificate_for (linear_of f k) (setting_of f) (file_setting f k)
 
 -- ---- what a claim says of the file
-pub claim_true : (f : File) (c : CertificateValue) → IsFile f → fold_fault f (objective_of c.claim) ≡ None → (h : IsCertificateIn f c) → (o : Option ℚ) → claim_outcome (linear_of f (objective_of c.claim)) c.claim h.given ≡ holds o
-    → IsToldTrue (problem_of f (objective_of c.claim)) (spread f.counts.n_var h.given.point) (told_claim c.claim o)
+pub claim_true : (f : File) (c : CertificateValue) → IsFile f → fold_fault f (claim_objective c.claim) ≡ None → (h : IsCertificateIn f c) → (o : Option ℚ) → claim_outcome (linear_of f (claim_objective c.claim)) c.claim h.given ≡ holds o
+    → IsToldTrue (problem_of f (claim_objective c.claim)) (spread f.counts.n_var h.given.point) (told_claim c.claim o)
 claim_true f c file clean h o e =
-    let k : ℕ = objective_of c.claim in
+    let k : ℕ = claim_objective c.claim in
     subst (λ n. IsToldTrue (problem_of f k) (spread n h.given.point) (told_claim c.claim o)) (count_lem f k)
     (given_true (linear_of f k) (problem_of f k) (meant f k file clean) c.claim h.given h.asked (given_of f k h.given h.fine) o e)
 
-pub claim_denied : (f : File) (c : CertificateValue) → IsFile f → fold_fault f (objective_of c.claim) ≡ None → (h : IsCertificateIn f c) → (cause : Cause) → claim_outcome (linear_of f (objective_of c.claim)) c.claim h.given ≡ fails cause
-    → Denies (problem_of f (objective_of c.claim)) (linear_of f (objective_of c.claim)) (certificate_over f.counts.n_var f.counts.n_con c.claim h.given) cause
+pub claim_denied : (f : File) (c : CertificateValue) → IsFile f → fold_fault f (claim_objective c.claim) ≡ None → (h : IsCertificateIn f c) → (cause : Cause) → claim_outcome (linear_of f (claim_objective c.claim)) c.claim h.given ≡ fails cause
+    → Denies (problem_of f (claim_objective c.claim)) (linear_of f (claim_objective c.claim)) (certificate_over f.counts.n_var f.counts.n_con c.claim h.given) cause
 claim_denied f c file clean h cause e =
-    let k : ℕ = objective_of c.claim in
+    let k : ℕ = claim_objective c.claim in
     subst (λ n. Denies (problem_of f k) (linear_of f k) (certificate_over n f.counts.n_con c.claim h.given) cause) (count_lem f k)
     (subst (λ m. Denies (problem_of f k) (linear_of f k) (certificate_over (variable_count (linear_of f k)) m c.claim h.given) cause) (rows_counted f k)
     (given_denied (linear_of f k) (problem_of f k) (meant f k file clean) c.claim h.given h.asked (given_of f k h.given h.fine) cause e))

@@ -2,7 +2,7 @@
 use Rattle.std.proofs.Common.{◌≡◌, ℕ, List, None}
 use Rattle.fractions.specs.Rational.{ℚ}
 use Rattle.program_meaning.specs.Linear.{IsRelaxed as IsRelaxedProgram}
-use Rattle.duality.specs.Branch.{Tree, duals, open_gap, weights, AreSplitsWhole, proof_fault}
+use Rattle.duality.specs.Branch.{BranchTree, duals, open_gap, weights, AreSplitsWhole, proof_fault}
 use Rattle.duality.specs.Certificate.{Certificate, IsCertificate, outcome}
 use Rattle.duality.specs.LeafSays.{IsLeafDenied}
 use Rattle.duality.specs.Problem.{IsBestRelaxed, IsBound, IsBroken, IsReached, IsRelaxed}
@@ -35,7 +35,7 @@ module _ (f : File) (k : ℕ) (file : IsFile f) (clean : fold_fault f k ≡ None
   pub file_outcomes : (c : Certificate) → IsCertificate (linear_of f k) c → OutcomeSays (problem_of f k) (linear_of f k) c (outcome (linear_of f k) c)
   file_outcomes = outcomes (linear_of f k) (problem_of f k) (meant f k file clean)
 
-  pub file_proofs : (v : ℚ) (tree : Tree) → AreSplitsWhole (linear_of f k) tree → proof_fault (linear_of f k) v tree ≡ None → IsBound (problem_of f k) v
+  pub file_proofs : (v : ℚ) (tree : BranchTree) → AreSplitsWhole (linear_of f k) tree → proof_fault (linear_of f k) v tree ≡ None → IsBound (problem_of f k) v
   file_proofs = bounds (linear_of f k) (problem_of f k) (meant f k file clean)
 
   pub file_broken : (v : ℚ) (ys : List ℚ) → proof_fault (linear_of f k) v (weights ys) ≡ None → (xs : List ℚ) → IsBroken (problem_of f k) xs

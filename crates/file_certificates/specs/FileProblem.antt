@@ -4,7 +4,7 @@ use Rattle.duality.specs.Problem.{Problem}
 use Rattle.nl_model.specs.File.{File}
 use Rattle.file_meaning.specs.Expressions.{maximises}
 use Rattle.file_meaning.specs.FoldFaults.{has_objective}
-use Rattle.file_meaning.specs.Meaning.{body_value, bound_of, is_whole_variable, objective_value, side_of}
+use Rattle.file_meaning.specs.Meaning.{body_value, bound_of, is_whole_variable, file_objective, side_of}
 
 -- with objective k; a file without objectives minimises 0, as objective 0
 abbrev pub problem_of : File → ℕ → Problem
@@ -16,6 +16,6 @@ problem_of f k = record {
   bound = bound_of f;
   is_whole = is_whole_variable f;
   has_objective = has_objective f k;
-  objective = objective_value f k;
+  objective = file_objective f k;
   maximises = maximises f k;
 }

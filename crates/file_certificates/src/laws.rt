@@ -1,7 +1,7 @@
 // Each law is proved by a function with an empty body.
 ghost use Rattle.std.specs.Prelude.{◌≡◌, ◌↔◌, ℕ, ◌<◌, List, None, Option, Some};
 ghost use Rattle.fractions.specs.Rational.{ℚ};
-ghost use Rattle.duality.specs.Branch.{Tree, duals, open_gap, weights, AreSplitsWhole, proof_fault};
+ghost use Rattle.duality.specs.Branch.{BranchTree, duals, open_gap, weights, AreSplitsWhole, proof_fault};
 ghost use Rattle.duality.specs.Certificate.{Cause, Certificate as ProgramCertificate, IsCertificate, fails, holds, outcome};
 ghost use Rattle.duality.specs.LeafSays.{IsLeafDenied};
 ghost use Rattle.duality.specs.Means.{Means};
@@ -15,8 +15,8 @@ ghost use Rattle.nl_model.specs.Rules.{IsFile};
 ghost use Rattle.file_meaning.specs.Expressions.{maximises};
 ghost use Rattle.file_meaning.specs.FoldFaults.{fold_fault};
 ghost use Rattle.file_meaning.specs.LinearFile.{linear_of};
-ghost use Rattle.file_meaning.specs.Meaning.{HasValueInside, IsBetterValue, IsFeasible as IsFeasibleFile, IsRelaxed as IsRelaxedFile, body_value, objective_value, side_of};
-ghost use Rattle.certificates.specs.Certificates.{CertificateValue, IsCertificateOf, certificate_over, claim_outcome, objective_of};
+ghost use Rattle.file_meaning.specs.Meaning.{HasValueInside, IsBetterValue, IsFeasible as IsFeasibleFile, IsRelaxed as IsRelaxedFile, body_value, file_objective, side_of};
+ghost use Rattle.certificates.specs.Certificates.{CertificateValue, IsCertificateOf, certificate_over, claim_outcome, claim_objective};
 ghost use Rattle.certificates.specs.Proofs.{IsProofOf, ProofValue};
 ghost use Rattle.certificates.specs.Told.{told_claim};
 ghost use Rattle.file_certificates.specs.Files.{IsCertificateIn, IsProofIn};
@@ -45,7 +45,7 @@ pub fn claims_are_contrary()
     ensures bounds { (f : File) (k : ℕ) → IsFile f → fold_fault f k ≡ None → (v : ℚ)
         → IsBound (problem_of f k) v
         ↔ ((xs : List ℚ) → IsFeasibleFile f xs
-        → ¬ IsBetterValue (maximises f k) (objective_value f k xs) (Some v)) }
+        → ¬ IsBetterValue (maximises f k) (file_objective f k xs) (Some v)) }
     ensures infeasible { (f : File) (k : ℕ) → IsFile f → fold_fault f k ≡ None
         → IsInfeasible (problem_of f k) ↔ ((xs : List ℚ) → ¬ IsFeasibleFile f xs) }
     ensures relaxed { (f : File) (k : ℕ) → IsFile f → fold_fault f k ≡ None
@@ -54,7 +54,7 @@ pub fn claims_are_contrary()
     ensures unbounded { (f : File) (k : ℕ) → IsFile f → fold_fault f k ≡ None
         → IsUnbounded (problem_of f k)
         ↔ ((v : ℚ) → (xs : List ℚ) × IsFeasibleFile f xs
-        × IsBetterValue (maximises f k) (objective_value f k xs) (Some v)) }
+        × IsBetterValue (maximises f k) (file_objective f k xs) (Some v)) }
     ensures constraints { (f : File) (k : ℕ) → IsFile f → fold_fault f k ≡ None
         → (xs : List ℚ) (i : ℕ) → IsConstraintBroken (problem_of f k) xs i
         ↔ ((i < f.counts.n_con) × (¬ HasValueInside (side_of f i) (body_value f i xs))) }
@@ -64,14 +64,14 @@ pub fn claims_are_contrary()
 pub fn claims_are_stronger()
     ensures bounds { (f : File) (k : ℕ) (v : ℚ) → IsBound (problem_of f k) v → (xs : List ℚ)
         → IsFeasibleFile f xs
-        → ¬ IsBetterValue (maximises f k) (objective_value f k xs) (Some v) }
+        → ¬ IsBetterValue (maximises f k) (file_objective f k xs) (Some v) }
     ensures infeasible { (f : File) (k : ℕ) → IsInfeasible (problem_of f k) → (xs : List ℚ)
         → ¬ IsFeasibleFile f xs }
     ensures relaxed { (f : File) (k : ℕ) → ((xs : List ℚ) → IsBroken (problem_of f k) xs)
         → (xs : List ℚ) → ¬ IsRelaxedFile f xs }
     ensures unbounded { (f : File) (k : ℕ) → IsUnbounded (problem_of f k) → (v : ℚ)
         → (xs : List ℚ) × IsFeasibleFile f xs
-        × IsBetterValue (maximises f k) (objective_value f k xs) (Some v) }
+        × IsBetterValue (maximises f k) (file_objective f k xs) (Some v) }
     ensures constraints { (f : File) (k : ℕ) (xs : List ℚ) (i : ℕ)
         → IsConstraintBroken (problem_of f k) xs i
         → (i < f.counts.n_con) × (¬ HasValueInside (side_of f i) (body_value f i xs)) }
@@ -114,10 +114,10 @@ pub fn certificates_are_of_programs()
 /// faults is true of the file.
 pub fn claims_are_true()
     ensures { (f : File) (c : CertificateValue) → IsFile f
-        → fold_fault f (objective_of c.claim) ≡ None → (h : IsCertificateIn f c)
+        → fold_fault f (claim_objective c.claim) ≡ None → (h : IsCertificateIn f c)
         → (value : Option ℚ)
-        → claim_outcome (linear_of f (objective_of c.claim)) c.claim h.given ≡ holds value
-        → IsToldTrue (problem_of f (objective_of c.claim)) (spread f.counts.n_var h.given.point)
+        → claim_outcome (linear_of f (claim_objective c.claim)) c.claim h.given ≡ holds value
+        → IsToldTrue (problem_of f (claim_objective c.claim)) (spread f.counts.n_var h.given.point)
         (told_claim c.claim value) }
 {}
 
@@ -126,16 +126,16 @@ pub fn claims_are_true()
 /// not whole, that the point is feasible, the bound of a leaf.
 pub fn claims_are_denied()
     ensures { (f : File) (c : CertificateValue) → IsFile f
-        → fold_fault f (objective_of c.claim) ≡ None → (h : IsCertificateIn f c) → (cause : Cause)
-        → claim_outcome (linear_of f (objective_of c.claim)) c.claim h.given ≡ fails cause
-        → Denies (problem_of f (objective_of c.claim)) (linear_of f (objective_of c.claim))
+        → fold_fault f (claim_objective c.claim) ≡ None → (h : IsCertificateIn f c) → (cause : Cause)
+        → claim_outcome (linear_of f (claim_objective c.claim)) c.claim h.given ≡ fails cause
+        → Denies (problem_of f (claim_objective c.claim)) (linear_of f (claim_objective c.claim))
         (certificate_over f.counts.n_var f.counts.n_con c.claim h.given) cause }
 {}
 
 /// Where every leaf of a proof closes in the linear program of a file, and its splits are on whole
 /// variables, the stated value is a bound on objective k of the file.
 pub fn proofs_of_files()
-    ensures { (f : File) (k : ℕ) → IsFile f → fold_fault f k ≡ None → (v : ℚ) (tree : Tree)
+    ensures { (f : File) (k : ℕ) → IsFile f → fold_fault f k ≡ None → (v : ℚ) (tree : BranchTree)
         → AreSplitsWhole (linear_of f k) tree → proof_fault (linear_of f k) v tree ≡ None
         → IsBound (problem_of f k) v }
 {}

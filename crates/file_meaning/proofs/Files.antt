@@ -5,7 +5,7 @@ use Rattle.program_meaning.specs.Linear.{Row, IsInside, AreOrdered, value_at, fo
 use Rattle.nl_model.specs.File.{File}
 use Rattle.nl_meaning.proofs.Local.{no_coefficient_beyond}
 use Rattle.file_meaning.specs.Expressions.{definitions_of, body_of, maximises}
-use Rattle.file_meaning.specs.Meaning.{objective_value, side_of, HasValueInside, IsRelaxed, IsFeasible}
+use Rattle.file_meaning.specs.Meaning.{file_objective, side_of, HasValueInside, IsRelaxed, IsFeasible}
 use Rattle.file_meaning.specs.LinearFile.{body_form, objective_form, linear_row, linear_variable, linear_of, HasLines, IsFormedFile}
 use Rattle.program_meaning.proofs.Elements.{elements_length, elements_at, all_elements, elements_all}
 
@@ -41,7 +41,7 @@ module _ (f : File) (k : ℕ) where
   uncounted P h = subst P count_lem h
 
   module _ (lines : HasLines f k) (xs : List ℚ) where
-    pub same_objective : objective_value f k xs ≡ Some (program_objective (linear_of f k) xs)
+    pub same_objective : file_objective f k xs ≡ Some (program_objective (linear_of f k) xs)
     same_objective =
         lines.objective xs
         ∙ sym (ap (λ g. Some (form_value g (variable_count (linear_of f k)) xs)) same_objective_form ∙ ap (λ n. Some (form_value (objective_form f k) n xs)) count_lem)

@@ -8,7 +8,7 @@ use Rattle.program_meaning.specs.Lines.{form_of_line}
 use Rattle.nl_meaning.specs.Trees.{Tree, number, Expression, indices_of, IsExpressionFormed, AreDefined}
 use Rattle.nl_model.specs.File.{File}
 use Rattle.file_meaning.specs.Expressions.{definitions_of, body_of, objective_of, maximises}
-use Rattle.file_meaning.specs.Meaning.{body_value, objective_value, side_of, bound_of, is_whole_variable}
+use Rattle.file_meaning.specs.Meaning.{body_value, file_objective, side_of, bound_of, is_whole_variable}
 use Rattle.program_meaning.specs.Elements.{elements_from}
 
 -- the constant is the value at 0; the coefficient of variable j is the value with 1 at j and 0
@@ -41,7 +41,7 @@ pub record HasLines (f : File) (k : ℕ) : Type 0 where
   pub bodies : (i : ℕ) → i < f.counts.n_con → (xs : List ℚ)
       → body_value f i xs ≡ Some (form_value (body_form f i) f.counts.n_var xs)
   pub objective : (xs : List ℚ)
-      → objective_value f k xs ≡ Some (form_value (objective_form f k) f.counts.n_var xs)
+      → file_objective f k xs ≡ Some (form_value (objective_form f k) f.counts.n_var xs)
 
 -- an expression of the file uses only its variables and its defined variables
 abbrev pub IsWithin : File → Expression → Type 0

@@ -15,8 +15,8 @@ abbrev pub body_value : File → ℕ → List ℚ → Option ℚ
 body_value f i xs = expression_value (definitions_of f) (body_of f i) (value_at xs)
 
 -- the value of objective k
-abbrev pub objective_value : File → ℕ → List ℚ → Option ℚ
-objective_value f k xs = expression_value (definitions_of f) (objective_of f k) (value_at xs)
+abbrev pub file_objective : File → ℕ → List ℚ → Option ℚ
+file_objective f k xs = expression_value (definitions_of f) (objective_of f k) (value_at xs)
 
 -- ---- sides and kinds
 -- the sides of constraint i, and of variable j
@@ -56,4 +56,4 @@ IsBetterValue maximise v w = ⊥
 
 -- xs is better than ys for objective k
 abbrev pub IsBetter : File → ℕ → List ℚ → List ℚ → Type 0
-IsBetter f k xs ys = IsBetterValue (maximises f k) (objective_value f k xs) (objective_value f k ys)
+IsBetter f k xs ys = IsBetterValue (maximises f k) (file_objective f k xs) (file_objective f k ys)

@@ -11,7 +11,7 @@ ghost use Rattle.file_meaning.specs.Expressions.{body_of, definitions_of, maximi
 ghost use Rattle.file_meaning.specs.FoldFaults.{defined_line, fold_fault};
 ghost use Rattle.file_meaning.specs.LinearFile.{HasLines, IsFormedFile, IsPlain, body_form, linear_of, number_value, objective_form};
 ghost use Rattle.linear_program.specs.Decimals.{coefficient_of};
-ghost use Rattle.file_meaning.specs.Meaning.{IsFeasible, IsRelaxed, objective_value};
+ghost use Rattle.file_meaning.specs.Meaning.{IsFeasible, IsRelaxed, file_objective};
 
 // Where each body and the objective have the values of their forms, the linear program means what
 // the file means.
@@ -21,7 +21,7 @@ pub fn files_are_linear()
     ensures relaxed { (f : File) (k : ℕ) → HasLines f k → (xs : List ℚ)
         → IsRelaxed f xs ↔ IsRelaxedProgram (linear_of f k) xs }
     ensures objective { (f : File) (k : ℕ) → HasLines f k → (xs : List ℚ)
-        → objective_value f k xs ≡ Some (program_objective (linear_of f k) xs) }
+        → file_objective f k xs ≡ Some (program_objective (linear_of f k) xs) }
     ensures sense { (f : File) (k : ℕ) → (linear_of f k).maximise ≡ maximises f k }
     ensures linear { (f : File) (k : ℕ) → IsFormedFile f k → IsLinear (linear_of f k) }
 {}

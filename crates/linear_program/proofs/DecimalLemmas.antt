@@ -55,7 +55,7 @@ module _ (ds : List DecimalTerm) (p : ℕ) (d : DecimalTerm) (within : p < lengt
       (slice_get-map fraction_term ds p ∙ ap (option_map fraction_term) (slice_get_read ds (length ds) p d refl within is)
       ∙ ap (λ g. Some (d.0, g)) (sym (is_frac_of d.1 f (fits_at a) e))))
 
--- ---- decimals of a file that ascend, and of which each has a fraction
+-- ---- decimals that ascend, and of which each has a fraction
 abbrev pub AllFit : List DecimalTerm → Type 0
 AllFit [] = Unit {0}
 AllFit (d ∷ ds) = (fits (dec_value d.1) ≡ true) × AllFit ds

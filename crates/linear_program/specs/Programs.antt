@@ -58,7 +58,7 @@ IsFormOver n f = AreBelow n (form_terms f)
 abbrev pub coefficient_total : LinearValue → ℕ
 coefficient_total l = sum_by (λ f. length (form_terms f)) l.bodies + length (form_terms l.objective)
 
--- what holds of each; the limits are those of an .nl file and of its fold: own profile
+-- what holds of each; the limits are this project's own
 pub record IsLinear (l : LinearValue) : Type 0 where
   pub bodies : All (IsFormOver (length l.bounds)) l.bodies
   pub objective : IsFormOver (length l.bounds) l.objective

@@ -1,4 +1,4 @@
-// The coefficients of a form: fractions, or the decimals of a file.
+// The coefficients of a form: fractions, or decimals.
 ghost use Rattle.std.specs.Prelude.{◌≡◌, ◌≢◌, ◌∷◌, ◌<◌, ◌^◌, IfOk, IfSome, MatchResult, [], get_or, length};
 ghost use Rattle.exact_numbers.specs.Values.{frac_value};
 ghost use Rattle.fractions.specs.Rational.{zero_ℚ};

@@ -1,4 +1,6 @@
-// Lists that keep one element in place.
+// Lists that keep one element in place. A `smallvec` of the kit wants a blank element for each
+// place that is not used, which neither a term nor a node has, and its length beside the tag takes 8
+// bytes more a list.
 ghost use Rattle.std.specs.Prelude.{◌≡◌, ◌++◌, ◌∷◌, [], IfOk, OnErr, OnOk, true};
 ghost use Rattle.std.specs.Mem.{FitsInMemory};
 ghost use Rattle.linear_program.specs.Fews.{few_items};

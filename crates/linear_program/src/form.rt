@@ -20,7 +20,7 @@ use std::alloc::{AllocError, Global};
 use std::mem::size_of;
 use texts::{Ledger, Steps, Stop};
 
-// A form takes at most so many bytes: a folded file has a list of them.
+// A form takes at most so many bytes: a linear program has a list of them.
 const MOST_BYTES: usize = 80;
 
 const _: () = prove!(size_of::<Form>() <= MOST_BYTES);

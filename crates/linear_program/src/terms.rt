@@ -6,7 +6,7 @@ use exact_numbers::Dec;
 use std::alloc::{AllocError, Global};
 use std::marker::Model;
 
-/// Indices with their values, in file order.
+/// Indices with their values, in their order.
 #[derive(Drop)]
 pub struct Terms {
     items: Few<(u32, Dec)>,

@@ -19,7 +19,7 @@ use Rattle.texts.proofs.JudgedLemmas.{clean_more}
 use Rattle.texts.proofs.NamePlaces.{bytes_self, place_some}
 use Rattle.exact_numbers.specs.Numbers.{dec_of}
 use Rattle.exact_numbers.specs.declared.dec.Dec.{Dec}
-use Rattle.written_texts.specs.Lines.{indented, spaced}
+use Rattle.texts.specs.WordLines.{indented, spaced}
 use Rattle.written_texts.proofs.LineLemmas.{text-line}
 use Rattle.mps_model.specs.Built.{last_entries}
 use Rattle.mps_model.specs.Mps.{Entry, Mps, MpsRow}

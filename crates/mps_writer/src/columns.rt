@@ -4,7 +4,7 @@ ghost use Rattle.mps_model.specs.Text.{section, marker_line, change_lines, marke
 ghost use Rattle.mps_model.specs.Built.{entry_of};
 ghost use Rattle.mps_model.specs.Valid.{AreColumns};
 ghost use Rattle.exact_numbers.specs.Values.{text_of};
-ghost use Rattle.written_texts.specs.Lines.{line_text, lines_text};
+ghost use Rattle.texts.specs.WordLines.{line_text, lines_text};
 
 use crate::lines::put_entry;
 use exact_numbers::Dec;

@@ -13,7 +13,8 @@ use Rattle.code_tables.specs.declared.field.Field.{Field}
 use Rattle.code_tables.specs.declared.field.FieldRow.{FieldRow}
 use Rattle.code_tables.specs.Header.{header_rows, field_at}
 use Rattle.nl_model.specs.declared.header_counts.Counts.{Counts}
-use Rattle.nl_model.specs.HeaderRules.{are_options, has_second_three, are_numbers, has_no_refused, are_sizes_within, are_shared_within, are_whole_within, are_definitions_within, is_header}
+use Rattle.nl_model.specs.HeaderRules.{are_options, are_numbers, has_no_refused, are_sizes_within, are_shared_within, are_whole_within, are_definitions_within, is_header}
+use Rattle.shared_parts.specs.Options.{has_second_three}
 use Rattle.nl_header.specs.declared.fault.HeadFault.{HeadFault}
 use Rattle.nl_header.specs.declared.fault.HeadFault.TheVariants.{BadHeaderNumber, BinaryFile, BadFirstLine, Options, RefusedCount, TooLarge, CountsDisagree}
 use Rattle.exact_numbers.specs.Numbers.{whole_of, are_digits}

@@ -13,7 +13,7 @@ use Rattle.texts.specs.Judged.{first_reason}
 use Rattle.code_tables.specs.declared.field.FieldRow.{FieldRow}
 use Rattle.code_tables.specs.Header.{header_rows}
 use Rattle.nl_model.specs.declared.header_counts.Counts.{Counts}
-use Rattle.nl_model.specs.HeaderRules.{has_second_three}
+use Rattle.shared_parts.specs.Options.{has_second_three}
 use Rattle.nl_header.specs.declared.fault.HeadFault.{HeadFault}
 use Rattle.nl_header.specs.declared.fault.HeadFault.TheVariants.{BadHeaderNumber, BinaryFile, BadFirstLine, Options}
 use Rattle.exact_numbers.specs.Numbers.{whole_of}

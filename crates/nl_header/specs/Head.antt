@@ -11,7 +11,8 @@ use Rattle.code_tables.specs.declared.field.Field.{Field}
 use Rattle.code_tables.specs.declared.field.FieldRow.{FieldRow}
 use Rattle.code_tables.specs.Header.{header_rows, field_at}
 use Rattle.nl_model.specs.declared.header_counts.Counts.{Counts}
-use Rattle.nl_model.specs.HeaderRules.{has_second_three, are_shared_within, are_whole_within, are_definitions_within}
+use Rattle.nl_model.specs.HeaderRules.{are_shared_within, are_whole_within, are_definitions_within}
+use Rattle.shared_parts.specs.Options.{has_second_three}
 use Rattle.exact_numbers.specs.Numbers.{whole_of, signed_of}
 use Rattle.nl_header.specs.declared.fault.HeadFault.{HeadFault}
 use Rattle.nl_header.specs.declared.fault.HeadFault.TheVariants.{BinaryFile, BadFirstLine, Options, BadHeaderNumber, CountsDisagree, RefusedCount, TooLarge}

@@ -1,7 +1,6 @@
 pub mod Definitions
 pub mod Drafts
 pub mod Guesses
-pub mod ObjectLemmas
 pub mod Headers
 pub mod KindRuns
 pub mod OneList

@@ -1,14 +1,9 @@
 -- When the options and the counts are those of a header (Gay 2005, "Writing .nl Files"; the limits
 -- are this project's own).
-use Rattle.std.specs.Prelude.{ℕ, ◌+◌, ◌-◌, ◌^◌, ◌≤◌, max, nat_le, nat_lt, ◌==◌, ℤ, pos, Bool, not, ◌&&◌, List, [], ◌∷◌, length}
+use Rattle.std.specs.Prelude.{ℕ, ◌+◌, ◌-◌, ◌^◌, ◌≤◌, max, nat_le, nat_lt, ◌==◌, ℤ, Bool, not, ◌&&◌, List, [], ◌∷◌, length}
 use Rattle.std.specs.List.{list_all}
-use Rattle.std.specs.Ordering.{int_eq}
+use Rattle.shared_parts.specs.Options.{has_second_three}
 use Rattle.nl_model.specs.declared.header_counts.Counts.{Counts}
-
--- the second of the options is 3: it announces a line that is refused
-abbrev pub has_second_three : List ℤ → Bool
-has_second_three (first ∷ second ∷ rest) = int_eq second (pos 3)
-has_second_three _ = Bool.false
 
 -- at most four options, the second of which is not 3
 abbrev pub are_options : List ℤ → Bool

@@ -9,6 +9,5 @@ pub mod HeaderWords
 pub mod Kinds
 pub mod Nodes
 pub mod Rules
-pub mod SuffixKinds
 pub mod InsideTreeCode
 pub mod UseCounts

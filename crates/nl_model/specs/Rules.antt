@@ -11,7 +11,7 @@ use Rattle.nl_model.specs.declared.definition.Def.{Def as Definition}
 use Rattle.nl_model.specs.declared.suffix.Suffix.{Suffix}
 use Rattle.nl_model.specs.HeaderRules.{is_header, defined_count}
 use Rattle.nl_model.specs.Nodes.{IsTreeFormed}
-use Rattle.nl_model.specs.SuffixKinds.{has_same_objects, object_limit}
+use Rattle.shared_parts.specs.SuffixKinds.{has_same_objects, object_limit}
 use Rattle.linear_program.specs.Intervals.{IsOrdered}
 
 -- limits: terms of all constraints together, and terms of one other owner

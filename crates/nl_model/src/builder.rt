@@ -13,9 +13,9 @@ use crate::header_rules::defined_count;
 use crate::objective::Objective;
 use crate::places::{lists, marks, places};
 use crate::suffix::Suffix;
-use crate::suffix_kinds::has_same_objects;
 use exact_numbers::Dec;
 use linear_program::{Interval, Terms};
+use shared_parts::has_same_objects;
 use std::alloc::{AllocError, Global};
 use std::marker::Model;
 

@@ -3,7 +3,7 @@ ghost use Rattle.std.specs.Prelude.{IsTrue};
 ghost use Rattle.nl_model.specs.HeaderRules.{is_header};
 
 use crate::header_counts::Counts;
-use crate::options::Options;
+use shared_parts::Options;
 
 /// The first ten lines of a file that hold words: options and counts that keep the rules.
 #[derive(Drop)]

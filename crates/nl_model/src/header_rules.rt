@@ -1,11 +1,11 @@
 // When options and counts make a header.
 ghost use Rattle.std.specs.Prelude.{◌≡◌, ◌≤◌, ◌^◌, false, IsTrue, MatchOption};
-ghost use Rattle.nl_model.specs.HeaderRules.{AreCounts, are_counts, are_definitions_within, are_numbers, are_options, are_shared_within, are_sizes_within, are_whole_within, defined_count, has_no_refused, has_second_three, is_header, numbers_of};
+ghost use Rattle.nl_model.specs.HeaderRules.{AreCounts, are_counts, are_definitions_within, are_numbers, are_options, are_shared_within, are_sizes_within, are_whole_within, defined_count, has_no_refused, is_header, numbers_of};
 ghost use Rattle.nl_model.specs.HeaderWords.{header_counts, header_options};
 
 use crate::header::Header;
 use crate::header_counts::Counts;
-use crate::options::Options;
+use shared_parts::{Options, has_second_three};
 
 // The most options of a header.
 const MOST_OPTIONS: usize = 4;
@@ -23,16 +23,6 @@ const MOST_OBJECTIVES: u32 = 256;
 const MOST_TERMS: u32 = 0x40_0000;
 
 const MOST_DEFINED: u64 = 0x10_0000;
-
-/// Whether the second option is 3.
-pub fn has_second_three(options: &[i32]) -> bool
-    ensures { result ≡ has_second_three options.now }
-{
-    match options {
-        [_, second, ..] => *second == 3,
-        _ => false,
-    }
-}
 
 fn are_options(options: &Options) -> bool
     ensures { result ≡ are_options options.now }

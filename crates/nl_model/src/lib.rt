@@ -4,7 +4,6 @@
 
 mod at;
 mod builder;
-mod decs;
 mod definition;
 mod expr;
 mod expr_builder;
@@ -16,24 +15,23 @@ mod kinds;
 pub mod laws;
 mod node;
 mod objective;
-mod options;
 mod places;
 mod suffix;
-mod suffix_kinds;
 
 pub use at::{At, Owner};
 pub use builder::NlBuilder;
-pub use decs::Decs;
 pub use definition::Def;
 pub use expr::Expr;
 pub use expr_builder::ExprBuilder;
 pub use file::NlFile;
 pub use header::Header;
 pub use header_counts::Counts;
-pub use header_rules::{are_shared_within, are_whole_within, defined_count, has_second_three};
+pub use header_rules::{are_shared_within, are_whole_within, defined_count};
 pub use kinds::{all_kinds, kinds_of};
 pub use linear_program::{Interval, Kind, Terms};
 pub use node::Node;
-pub use options::Options;
+pub use shared_parts::{
+    Decs, Objects, Options, has_second_three, is_for_objectives, object_limit, objects_of,
+    wants_whole,
+};
 pub use suffix::Suffix;
-pub use suffix_kinds::{Objects, is_for_objectives, object_limit, objects_of, wants_whole};

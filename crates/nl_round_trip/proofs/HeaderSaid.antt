@@ -16,9 +16,10 @@ use Rattle.nl_header.specs.Head.{header_line_fault, number_line_fault, words_fau
 use Rattle.exact_numbers.specs.Numbers.{has_31_bits, signed_of, whole_of}
 use Rattle.exact_numbers.proofs.NumberLemmas.{signed_of-signed_decimal}
 use Rattle.nl_model.specs.declared.header_counts.Counts.{Counts}
-use Rattle.nl_model.specs.HeaderRules.{has_second_three, are_options, numbers_of, are_numbers, has_no_refused, are_sizes_within, are_shared_within, are_whole_within, are_definitions_within, are_counts, is_header, AreCounts}
+use Rattle.nl_model.specs.HeaderRules.{are_options, numbers_of, are_numbers, has_no_refused, are_sizes_within, are_shared_within, are_whole_within, are_definitions_within, are_counts, is_header, AreCounts}
+use Rattle.shared_parts.specs.Options.{has_second_three}
 use Rattle.nl_model.proofs.Headers.{counts_of_header}
-use Rattle.written_texts.specs.Lines.{WordLine, spaced}
+use Rattle.texts.specs.WordLines.{WordLine, spaced}
 use Rattle.written_texts.specs.Words.{IsKeptWord, IsWritten}
 use Rattle.nl_writer.specs.Written.{numbers, options_line, header_lines}
 use Rattle.written_texts.proofs.WrittenWords.{word-decimal, word-lettered, word-signed_31}

@@ -28,7 +28,7 @@ use Rattle.texts.specs.Words.{word_at}
 use Rattle.nl_lines.specs.Tests.{has_sides, is_empty, is_binary, is_within_unit, is_sides, is_linear, is_suffix, column_counts, wants_unit, interval_form_tests, interval_tests, column_tests, all_column_counts, are_column_counts}
 use Rattle.exact_numbers.proofs.NumberLemmas.{dec_from-some}
 use Rattle.exact_numbers.specs.Values.{text_of}
-use Rattle.written_texts.specs.Lines.{WordLine}
+use Rattle.texts.specs.WordLines.{WordLine}
 use Rattle.written_texts.specs.Words.{IsKeptWord, IsWritten}
 use Rattle.nl_writer.specs.Written.{is_same, sides_line, interval_line, interval_piece, lettered, column_lines, column_piece}
 use Rattle.written_texts.proofs.WrittenWords.{word-text, plain-word, written-one, written-two, written-three, word-decimal}

@@ -41,7 +41,7 @@ use Rattle.nl_lines.proofs.NodeLemmas.{not_large}
 use Rattle.nl_segments.proofs.NodeSteps.{tree_says}
 use Rattle.nl_lines.proofs.PieceLemmas.{longer}
 use Rattle.exact_numbers.specs.Values.{text_of}
-use Rattle.written_texts.specs.Lines.{WordLine}
+use Rattle.texts.specs.WordLines.{WordLine}
 use Rattle.nl_writer.specs.Trees.{operator_lines, node_lines}
 use Rattle.written_texts.specs.Words.{IsWritten}
 use Rattle.written_texts.proofs.WordLemmas.{row-written}

@@ -16,7 +16,7 @@ use Rattle.nl_lines.specs.Rows.{row_words}
 use Rattle.nl_lines.specs.Tests.{index_limit, wants_whole_values, holds_once, has_index, is_full, pair_form_tests, pair_tests, is_linear, is_suffix, pair_total, column_counts}
 use Rattle.exact_numbers.specs.Numbers.{is_whole}
 use Rattle.exact_numbers.specs.Values.{text_of}
-use Rattle.written_texts.specs.Lines.{WordLine}
+use Rattle.texts.specs.WordLines.{WordLine}
 use Rattle.written_texts.proofs.WordLemmas.{row-written}
 use Rattle.nl_round_trip.specs.InsideTaking.{row_at, IsTaken, rows_at}
 use Rattle.written_texts.proofs.NumbersRead.{whole_of-decimal, are_digits-decimal, dec_of-text}

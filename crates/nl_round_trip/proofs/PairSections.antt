@@ -8,8 +8,8 @@ use Rattle.nl_model.specs.declared.header_counts.Counts.{Counts}
 use Rattle.nl_model.specs.Draft.{Draft}
 use Rattle.nl_model.specs.File.{Term}
 use Rattle.nl_model.specs.declared.suffix.Suffix.{Suffix}
-use Rattle.nl_model.specs.declared.suffix_kinds.Objects.{Objects}
-use Rattle.nl_model.specs.declared.suffix_kinds.Objects.TheVariants.{Variables, Constraints, Objectives, Problem}
+use Rattle.shared_parts.specs.declared.suffix_kinds.Objects.{Objects}
+use Rattle.shared_parts.specs.declared.suffix_kinds.Objects.TheVariants.{Variables, Constraints, Objectives, Problem}
 use Rattle.nl_model.specs.Rules.{AreIndicesApart, most_terms, term_count, has_suffix, is_suffix_of, IsSuffix, object_count}
 use Rattle.nl_lines.specs.declared.awaited.Awaited.TheVariants.{Nothing}
 use Rattle.nl_lines.specs.declared.head.Head.{Head}
@@ -19,8 +19,8 @@ use Rattle.nl_lines.specs.Pieces.{Piece, awaited_in, awaited_of, piece_pairs, pa
 use Rattle.nl_lines.specs.Rows.{row_words}
 use Rattle.nl_lines.specs.Saying.{with_piece}
 use Rattle.nl_lines.specs.Tests.{index_limit, wants_whole_values, holds_once, has_index, is_linear, is_suffix, is_repeated, is_same_piece, suffix_count}
-use Rattle.nl_model.proofs.ObjectLemmas.{same_objects-comm}
-use Rattle.written_texts.specs.Lines.{WordLine}
+use Rattle.shared_parts.proofs.ObjectLemmas.{same_objects-comm}
+use Rattle.texts.specs.WordLines.{WordLine}
 use Rattle.nl_writer.specs.Written.{lettered, term_lines, guess_piece, by_number, term_piece, term_line, suffix_piece}
 use Rattle.written_texts.proofs.WrittenWords.{word-lettered, word-decimal, written-three}
 use Rattle.nl_round_trip.specs.InsideStandings.{rank, IsStanding, Reaches}
@@ -42,7 +42,7 @@ use Rattle.nl_round_trip.specs.Writable.{IsWritableSuffix}
 use Rattle.std.proofs.lemmas.List.Elements.{recursion_from_All}
 use Rattle.nl_model.specs.HeaderRules.{AreCounts}
 use Rattle.exact_numbers.specs.Numbers.{is_whole}
-use Rattle.nl_model.specs.SuffixKinds.{objects_of, wants_whole as kind_wants_whole, count_among as count_of}
+use Rattle.shared_parts.specs.SuffixKinds.{objects_of, wants_whole as kind_wants_whole, count_among as count_of}
 
 -- ---- any piece of pairs
 

@@ -10,7 +10,7 @@ use Rattle.nl_lines.specs.Tests.{row_tests}
 use Rattle.nl_segments.specs.Grammar.{Standing, standing, line_refusal, end_refusal, is_in_header, nl_rules}
 use Rattle.nl_segments.specs.Steps.{after as after_line}
 use Rattle.nl_segments.proofs.StandingLemmas.{standing-more}
-use Rattle.written_texts.specs.Lines.{WordLine, spaced}
+use Rattle.texts.specs.WordLines.{WordLine, spaced}
 use Rattle.written_texts.specs.Words.{IsWritten}
 use Rattle.written_texts.proofs.WordLemmas.{kept-spaced, some-written, row-written, are_words, words-spaced}
 use Rattle.nl_round_trip.specs.InsideTaking.{row_at, IsTaken, taken_line, taken_none}

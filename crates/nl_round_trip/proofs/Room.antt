@@ -31,7 +31,8 @@ use Rattle.nl_model.specs.HeaderRules.{is_header, defined_count, AreCounts}
 use Rattle.nl_model.specs.Rules.{AreTermsBelow, IsDefinition, AreDefinitions, AreGuesses, AreIndicesApart, IsTreeKnown, IsFile, IsSuffix, object_count, term_count, most_terms}
 use Rattle.nl_model.proofs.Headers.{counts_of_header}
 use Rattle.nl_model.specs.UseCounts.{terms_up_to}
-use Rattle.written_texts.specs.Lines.{WordLine, line_text, lines_text, spaced, text_of}
+use Rattle.texts.specs.WordLines.{WordLine, line_text, lines_text, spaced}
+use Rattle.exact_numbers.specs.Values.{text_of}
 use Rattle.written_texts.proofs.Lengths.{decimal-length, signed_31-length, text-length}
 use Rattle.written_texts.proofs.LineLemmas.{spaced-length}
 use Rattle.nl_writer.specs.Trees.{is_counted, tree_lines, node_lines}

@@ -16,7 +16,7 @@ use Rattle.nl_lines.proofs.PieceLemmas.{draft-append}
 use Rattle.nl_lines.proofs.TotalLemmas.{nodes-append}
 use Rattle.nl_segments.proofs.PairHeld.{columns-append as columns_more}
 use Rattle.nl_segments.proofs.PairLines.{suffixes_with}
-use Rattle.written_texts.specs.Lines.{WordLine}
+use Rattle.texts.specs.WordLines.{WordLine}
 use Rattle.nl_round_trip.specs.InsideStandings.{rank, IsStanding, Reaches}
 use Rattle.nl_round_trip.specs.InsideTaking.{IsTaken, taken_none}
 use Rattle.nl_round_trip.proofs.TakenLemmas.{all_append, awaited-append, taken_then}

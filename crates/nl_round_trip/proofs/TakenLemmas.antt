@@ -11,7 +11,7 @@ use Rattle.nl_lines.specs.Pieces.{Piece, with_row, awaited_of, awaited_in, last_
 use Rattle.nl_lines.specs.Saying.{draft_of}
 use Rattle.nl_lines.specs.Tests.{row_tests, head_tests, head_form_tests, formed_head_tests, line_tests, awaited_tests}
 use Rattle.nl_lines.proofs.PieceLemmas.{longer, last-append, extended-append}
-use Rattle.written_texts.specs.Lines.{WordLine}
+use Rattle.texts.specs.WordLines.{WordLine}
 use Rattle.written_texts.specs.Words.{IsWritten}
 use Rattle.written_texts.proofs.WrittenWords.{word-decimal, word-lettered, written-one, written-two}
 use Rattle.nl_writer.specs.Written.{lettered}

@@ -25,7 +25,7 @@ use Rattle.nl_lines.proofs.RowLemmas.{tree_count}
 use Rattle.nl_lines.specs.Pieces.{Piece, awaited_of, has_tree, line_kind, pair_count, piece_nodes, is_complete, piece_pairs, pair_in}
 use Rattle.nl_lines.specs.Saying.{draft_of, with_piece, piece_tree}
 use Rattle.nl_lines.specs.Tests.{is_linear, is_suffix, is_repeated, node_total, column_counts, is_same_piece}
-use Rattle.written_texts.specs.Lines.{WordLine}
+use Rattle.texts.specs.WordLines.{WordLine}
 use Rattle.nl_writer.specs.Trees.{tree_lines}
 use Rattle.nl_writer.specs.Written.{lettered, sense_word, body_piece, objective_piece, by_number, term_lines, definition_piece, term_line}
 use Rattle.nl_writer.proofs.Writing.{node_lines-prefix}

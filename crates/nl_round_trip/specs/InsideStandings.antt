@@ -9,7 +9,7 @@ use Rattle.nl_lines.specs.Pieces.{Piece, awaited_of}
 use Rattle.nl_lines.specs.Saying.{draft_of}
 use Rattle.nl_lines.specs.Segment.{index_of, segment_of}
 use Rattle.nl_lines.specs.Tests.{is_linear, is_suffix, pair_total, node_total, suffix_count, all_column_counts}
-use Rattle.written_texts.specs.Lines.{WordLine}
+use Rattle.texts.specs.WordLines.{WordLine}
 use Rattle.nl_round_trip.specs.InsideTaking.{IsTaken}
 
 -- sections one after the other, and within some the pieces by their numbers

@@ -6,7 +6,7 @@ use Rattle.nl_lines.specs.Rows.{NumberedRow}
 use Rattle.nl_lines.specs.Pieces.{Piece, with_row}
 use Rattle.nl_lines.specs.Saying.{draft_of}
 use Rattle.nl_lines.specs.Tests.{row_tests}
-use Rattle.written_texts.specs.Lines.{WordLine, spaced}
+use Rattle.texts.specs.WordLines.{WordLine, spaced}
 use Rattle.written_texts.specs.Words.{IsWritten}
 
 -- the row of a written line, at the line of this number

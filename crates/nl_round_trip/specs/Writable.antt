@@ -14,11 +14,11 @@ use Rattle.nl_model.specs.declared.suffix.Suffix.{Suffix}
 use Rattle.nl_model.specs.Kinds.{variable_kind}
 use Rattle.nl_model.specs.Nodes.{IsPrefix}
 use Rattle.nl_model.specs.Rules.{IsFile, term_count}
-use Rattle.nl_model.specs.SuffixKinds.{wants_whole}
+use Rattle.shared_parts.specs.SuffixKinds.{wants_whole}
 use Rattle.nl_segments.specs.Reader.{IsNl}
 use Rattle.nl_lines.specs.Saying.{PlaceLines}
 use Rattle.nl_lines.specs.Tests.{is_binary, is_within_unit}
-use Rattle.written_texts.specs.Lines.{spaced}
+use Rattle.texts.specs.WordLines.{spaced}
 use Rattle.nl_writer.specs.Written.{nl_lines, nl_text}
 
 -- the tree is that of nodes, so each of its numbers is one that can be written

@@ -9,7 +9,7 @@ use Rattle.exact_numbers.specs.declared.dec.Dec.{Dec}
 use Rattle.nl_meaning.specs.Trees.{number, variable, defined, operator, none, more}
 use Rattle.linear_program.specs.declared.interval.Interval.{Interval}
 use Rattle.nl_model.specs.File.{File}
-use Rattle.written_texts.specs.Lines.{lines_text}
+use Rattle.texts.specs.WordLines.{lines_text}
 use Rattle.nl_writer.specs.Trees.{tree_lines}
 use Rattle.nl_writer.specs.Written.{nl_text}
 

@@ -13,7 +13,7 @@ use Rattle.nl_meaning.specs.Trees.{Tree, Trees, count_of, Takes, rule_of}
 use Rattle.nl_model.specs.declared.node.Node.{Node}
 use Rattle.nl_model.specs.Nodes.{IsPrefix, a_number, a_variable, a_defined, an_operation, ArePrefixes, no_tree, one_more}
 use Rattle.nl_model.proofs.Opcodes.{opcode_of-known}
-use Rattle.written_texts.specs.Lines.{WordLine, line_text, lines_text}
+use Rattle.texts.specs.WordLines.{WordLine, line_text, lines_text}
 use Rattle.written_texts.proofs.Writing.{lines_after, rest_written}
 use Rattle.nl_writer.specs.Trees.{operator_lines, tree_lines, trees_lines, node_lines}
 use Rattle.nl_writer.specs.Written.{by_number, options_line, size_lines, part_lines, header_lines}

@@ -10,7 +10,7 @@ use Rattle.nl_model.specs.Nodes.{opcode_of}
 use Rattle.nl_model.specs.declared.node.Node.{Node}
 use Rattle.nl_model.specs.declared.node.Node.TheVariants.{Num, Var, Defined, Op}
 use Rattle.exact_numbers.specs.Values.{text_of}
-use Rattle.written_texts.specs.Lines.{WordLine}
+use Rattle.texts.specs.WordLines.{WordLine}
 
 -- the number of operands stands on the next line
 abbrev pub is_counted : Option Operands → Bool

@@ -15,7 +15,7 @@ use Rattle.nl_model.specs.declared.definition.Def.{Def as Definition}
 use Rattle.nl_model.specs.declared.suffix.Suffix.{Suffix}
 use Rattle.nl_model.specs.UseCounts.{terms_up_to}
 use Rattle.exact_numbers.specs.Values.{text_of}
-use Rattle.written_texts.specs.Lines.{WordLine, unless_empty, lines_text}
+use Rattle.texts.specs.WordLines.{WordLine, unless_empty, lines_text}
 use Rattle.nl_writer.specs.Trees.{tree_lines}
 
 -- ---- The header.

@@ -3,14 +3,14 @@ use Rattle.std.proofs.Common.{◌≡◌, ℕ, ◌+◌, ◌-◌, ◌<◌, ◌≤�
 use Rattle.std.proofs.lemmas.Bool.{cases_eq, eq-eqb, ne_eqb}
 use Rattle.std.proofs.lemmas.List.Folds.{list_any-append}
 use Rattle.certificates.specs.declared.proof.ProofNode.{ProofNode}
-use Rattle.certificates.specs.Proofs.{Pair}
+use Rattle.certificates.specs.Proofs.{Pair, announced_pairs}
 use Rattle.std.specs.Prelude.{take, cond, count_by, sum_by}
 use Rattle.std.proofs.Math.Seq.{take-append_seam}
 use Rattle.std.proofs.Math.Bool.{or-false, or-true}
 use Rattle.std.proofs.lemmas.List.{drop_all, drop-append-le, get_or-replicate, get_or-set_other, get_or-set_same, length-replicate, length-set}
 use Rattle.std.proofs.lemmas.List.Sums.{sum_by-append, sum_by_push}
 use Rattle.proof_text.specs.InsideReader.{AreAwaited, AreCounted, AreMarked}
-use Rattle.proof_text.specs.Standing.{earlier_count, has_pair, is_leaf, is_split, last_pairs, node_count}
+use Rattle.proof_text.specs.Standing.{earlier_count, has_pair, is_leaf, is_split, last_pairs}
 
 has_more : (own : List Pair) (p : Pair) (i : ℕ) → has_pair (own ++ p ∷ []) i ≡ (has_pair own i || ((p.0 == i) || false))
 has_more own p i = list_any-append (λ (q : Pair). q.0 == i) own (p ∷ [])
@@ -40,14 +40,14 @@ none_awaited = record { subtrees_are = refl; left_are = refl }
 
 -- a node more
 pub node_awaited : (nodes : List ProofNode) (pairs : List Pair) (subtrees left new : ℕ) (n : ProofNode) → AreAwaited nodes pairs subtrees left → left ≡ 0
-    → new + count_by is_leaf (n ∷ []) ≡ subtrees + count_by is_split (n ∷ []) → AreAwaited (nodes ++ n ∷ []) pairs new (node_count n)
+    → new + count_by is_leaf (n ∷ []) ≡ subtrees + count_by is_split (n ∷ []) → AreAwaited (nodes ++ n ∷ []) pairs new (announced_pairs n)
 node_awaited nodes pairs subtrees left new n h none e = record {
   subtrees_are =
       let leaves = sum_by-append (λ (x : ProofNode). cond (is_leaf x) 1 0) nodes (n ∷ []) in
       let splits = sum_by-append (λ (x : ProofNode). cond (is_split x) 1 0) nodes (n ∷ []) in
       let old = h.subtrees_are in
       omega (arith, leaves, splits, old, e);
-  left_are = (let sum = sum_by_push node_count nodes n in let all = h.left_are in omega (arith, sum, all, none));
+  left_are = (let sum = sum_by_push announced_pairs nodes n in let all = h.left_are in omega (arith, sum, all, none));
 }
 
 -- a pair more
@@ -63,13 +63,13 @@ pair_awaited nodes pairs subtrees left new p h some = record {
 pub none_counted : (rows n : ℕ) → n ≡ rows → AreCounted [] [] 1 0 rows (replicate n false)
 none_counted rows n e = record { awaited = none_awaited; earlier = omega arith; marked = none_marked rows n e }
 
-earlier_push : (nodes : List ProofNode) (n : ProofNode) → earlier_count (nodes ++ n ∷ []) ≡ sum_by node_count nodes
+earlier_push : (nodes : List ProofNode) (n : ProofNode) → earlier_count (nodes ++ n ∷ []) ≡ sum_by announced_pairs nodes
 earlier_push nodes n =
     let count : length (nodes ++ n ∷ []) - 1 ≡ length nodes = omega (arith, length-append nodes (n ∷ [])) in
-    ap (λ k. sum_by node_count (take k (nodes ++ n ∷ []))) count ∙ ap (sum_by node_count) (take-append_seam nodes (n ∷ []))
+    ap (λ k. sum_by announced_pairs (take k (nodes ++ n ∷ []))) count ∙ ap (sum_by announced_pairs) (take-append_seam nodes (n ∷ []))
 
 pub node_counted : (nodes : List ProofNode) (pairs : List Pair) (subtrees left rows new : ℕ) (marks : List Bool) (n : ProofNode) → AreCounted nodes pairs subtrees left rows marks → left ≡ 0
-    → new + count_by is_leaf (n ∷ []) ≡ subtrees + count_by is_split (n ∷ []) → AreCounted (nodes ++ n ∷ []) pairs new (node_count n) rows (replicate (length marks) false)
+    → new + count_by is_leaf (n ∷ []) ≡ subtrees + count_by is_split (n ∷ []) → AreCounted (nodes ++ n ∷ []) pairs new (announced_pairs n) rows (replicate (length marks) false)
 node_counted nodes pairs subtrees left rows new marks n h none e =
     let before = earlier_push nodes n in
     let all = h.awaited.left_are in

@@ -11,12 +11,12 @@ use Rattle.certificates.specs.declared.proof.Claim.{Claim}
 use Rattle.certificates.specs.declared.proof.Claim.TheVariants.{Value, Infeasible}
 use Rattle.certificates.specs.declared.proof.ProofNode.{ProofNode}
 use Rattle.certificates.specs.declared.proof.ProofNode.TheVariants.{Split, Duals, Weights}
-use Rattle.certificates.specs.Proofs.{IsAlone, Pair, ProofTree, ProofValue, split, duals, weights, claim_value, nodes_of, pairs_of}
+use Rattle.certificates.specs.Proofs.{IsAlone, Pair, ProofTree, ProofValue, split, duals, weights, claim_value, nodes_of, pairs_of, announced_pairs}
 use Rattle.proof_text.specs.Reader.{IsProofText}
 use Rattle.proof_text.specs.Rows.{claim_in, proof_node_in, proof_pair_in}
 use Rattle.tree_text.specs.Rows.{TextRow, rows_in}
 use Rattle.certificates.specs.Setting.{IsProofFor, IsTreeFor, Setting}
-use Rattle.proof_text.specs.Standing.{IsSaid, ProofStanding, is_leaf, is_split, node_count, pairs_left, proof_standing, subtrees_left}
+use Rattle.proof_text.specs.Standing.{IsSaid, ProofStanding, is_leaf, is_split, pairs_left, proof_standing, subtrees_left}
 use Rattle.proof_text.specs.InsideReader.{AreAwaited}
 use Rattle.proof_text.proofs.Counted.{node_awaited, none_awaited, pair_awaited}
 use Rattle.proof_text.proofs.Runs.{FitsNode, IsRun, MayStand, Piece, Runs, as_claim, as_node, as_pair, begun_only, claim_row, node_row, pair_row, text_runs}
@@ -64,7 +64,7 @@ end_grows s c nodes pairs subtrees left h few run =
     record {
       own = [];
       trees = [];
-      own_count = sym (none_left left (length pairs) (sum_by node_count nodes) h.left_are (eqb-true (pairs_left st) 0 whole.0));
+      own_count = sym (none_left left (length pairs) (sum_by announced_pairs nodes) h.left_are (eqb-true (pairs_left st) 0 whole.0));
       tree_count = sym (none_left subtrees (count_by is_leaf nodes) (1 + count_by is_split nodes) h.subtrees_are (eqb-true (subtrees_left st) 0 whole.1));
       within = λ k d lt. absurd (omega (arith, lt));
       fine = tt;
@@ -94,7 +94,7 @@ pair_first s c p ps nodes subtrees left some below g =
 pair_grows : (s : Setting) (c : Claim) (p : Pair) (ps : List Piece) → GoOn s c ps → GoOn s c (pair_row p ∷ ps)
 unfolding IsRun
 pair_grows s c p ps next nodes pairs subtrees left h few run =
-    let some = some_left left (length pairs) (sum_by node_count nodes) h.left_are run.0.1 in
+    let some = some_left left (length pairs) (sum_by announced_pairs nodes) h.left_are run.0.1 in
     pair_first s c p ps nodes subtrees left some run.0.2 (next nodes (pairs ++ p ∷ []) subtrees (left - 1) (pair_awaited nodes pairs subtrees left (left - 1) p h (omega (arith, some))) few run.1)
 
 -- ---- a node
@@ -172,7 +172,7 @@ node_by s c (Weights n) ps next nodes pairs subtrees left h none some few fit ma
 node_grows : (s : Setting) (c : Claim) (n : ProofNode) (ps : List Piece) → GoOn s c ps → GoOn s c (node_row n ∷ ps)
 unfolding IsRun
 node_grows s c n ps next nodes pairs subtrees left h few run =
-    let none = none_left left (length pairs) (sum_by node_count nodes) h.left_are run.0.1 in
+    let none = none_left left (length pairs) (sum_by announced_pairs nodes) h.left_are run.0.1 in
     let some = some_left subtrees (count_by is_leaf nodes) (1 + count_by is_split nodes) h.subtrees_are run.0.2 in
     subst (λ k. Grows s c nodes subtrees k (node_row n ∷ ps)) (sym none) (node_by s c n ps next nodes pairs subtrees left h none some run.0.3 run.0.4 run.0.5 run.1)
 

@@ -4,7 +4,7 @@ use Rattle.std.specs.List.{list_any}
 use Rattle.certificates.specs.declared.proof.Claim.{Claim}
 use Rattle.certificates.specs.declared.proof.ProofNode.{ProofNode}
 use Rattle.certificates.specs.declared.proof.ProofNode.TheVariants.{Split, Duals, Weights}
-use Rattle.certificates.specs.Proofs.{Pair, ProofValue}
+use Rattle.certificates.specs.Proofs.{Pair, ProofValue, announced_pairs}
 use Rattle.proof_text.specs.Rows.{claim_in, proof_node_in, proof_pair_in}
 use Rattle.tree_text.specs.Rows.{TextRow}
 
@@ -35,19 +35,13 @@ is_leaf (Weights n) = true
 abbrev pub is_split : ProofNode → Bool
 is_split n = not (is_leaf n)
 
--- how many pairs it announces
-abbrev pub node_count : ProofNode → ℕ
-node_count (Split j t) = 0
-node_count (Duals n) = n
-node_count (Weights n) = n
-
 -- how many subtrees: at first one, the whole tree
 abbrev pub subtrees_left : ProofStanding → ℕ
 subtrees_left st = (1 + count_by is_split st.nodes) - count_by is_leaf st.nodes
 
 -- how many pairs of the last leaf
 abbrev pub pairs_left : ProofStanding → ℕ
-pairs_left st = sum_by node_count st.nodes - length st.pairs
+pairs_left st = sum_by announced_pairs st.nodes - length st.pairs
 
 -- all has come
 abbrev pub is_whole_proof : ProofStanding → Bool
@@ -56,7 +50,7 @@ is_whole_proof st = is_some st.claim && (pairs_left st == 0) && (subtrees_left s
 -- ---- the pairs of the last leaf: those behind the pairs of the nodes before it
 
 abbrev pub earlier_count : List ProofNode → ℕ
-earlier_count nodes = sum_by node_count (take (length nodes - 1) nodes)
+earlier_count nodes = sum_by announced_pairs (take (length nodes - 1) nodes)
 
 abbrev pub last_pairs : List ProofNode → List Pair → List Pair
 last_pairs nodes pairs = drop (earlier_count nodes) pairs

@@ -6,7 +6,8 @@ ghost use Rattle.proof_text.specs.Grammar.{SaysProof, proof_rules};
 ghost use Rattle.proof_text.specs.Rows.{claim_in, proof_node_in, proof_pair_in};
 ghost use Rattle.tree_text.specs.Rows.{rows_in};
 ghost use Rattle.certificates.specs.Setting.{Setting};
-ghost use Rattle.proof_text.specs.Standing.{IsSaid, has_pair, is_leaf, is_split, is_whole_proof, last_pairs, node_count, pairs_left, proof_standing, subtrees_left};
+ghost use Rattle.proof_text.specs.Standing.{IsSaid, has_pair, is_leaf, is_split, is_whole_proof, last_pairs, pairs_left, proof_standing, subtrees_left};
+ghost use Rattle.certificates.specs.Proofs.{announced_pairs};
 ghost use Rattle.proof_text.specs.Steps.{moved, with_claim, with_line, with_node, with_pair, with_row};
 ghost use Rattle.proof_text.specs.Tests.{claim_tests, first_tests, is_split_continuous, is_split_out, proof_end_tests, proof_line_tests, proof_node_tests, proof_pair_tests, proof_row_tests};
 
@@ -118,8 +119,8 @@ fn is_split_continuous(kinds: &[Kind], node: ProofNode) -> bool
 }
 
 // How many pairs a node announces.
-fn node_count(node: ProofNode) -> u32
-    ensures { result ≡ node_count node }
+fn announced_pairs(node: ProofNode) -> u32
+    ensures { result ≡ announced_pairs node }
 {
     match node {
         ProofNode::Split(_, _) => 0,
@@ -242,7 +243,7 @@ impl ProofGrammar {
         let subtrees = subtrees_after(self.subtrees, node);
         self.nodes.push(node)?;
         self.subtrees = subtrees;
-        self.left = node_count(node);
+        self.left = announced_pairs(node);
         self.marks.clear();
         Ok(())
     }

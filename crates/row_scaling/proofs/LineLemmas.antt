@@ -5,7 +5,7 @@ use Rattle.fractions.specs.Rational.{ℚ, neg_ℚ, zero_ℚ, ◌-ℚ◌}
 use Rattle.exact_numbers.specs.declared.dec.Dec.{Dec}
 use Rattle.exact_numbers.specs.Values.{dec_value, text_of, value_text}
 use Rattle.exact_numbers.proofs.Spelling.{value_text-decimal}
-use Rattle.written_texts.specs.Lines.{WordLine, indented, line_text, lines_text, unless_empty}
+use Rattle.texts.specs.WordLines.{WordLine, indented, line_text, lines_text, unless_empty}
 use Rattle.written_texts.proofs.Writing.{lines_after, rest_written}
 use Rattle.mps_model.specs.Mps.{MpsRow, Entry, no_mps_row, Bound, Column, no_column}
 use Rattle.mps_model.specs.declared.kinds.RowKind.TheVariants.{N}

@@ -3,7 +3,7 @@ use Rattle.std.specs.Prelude.{ℕ, Bool, List, [], ◌∷◌, drop, map, codes, 
 use Rattle.fractions.specs.Rational.{ℚ, neg_ℚ}
 use Rattle.exact_numbers.specs.declared.dec.Dec.{Dec}
 use Rattle.exact_numbers.specs.Values.{text_of, value_text}
-use Rattle.written_texts.specs.Lines.{WordLine, indented}
+use Rattle.texts.specs.WordLines.{WordLine, indented}
 use Rattle.mps_model.specs.Mps.{MpsRow, Entry, Column, Bound}
 use Rattle.mps_model.specs.declared.kinds.BoundKind.{BoundKind}
 use Rattle.mps_model.specs.declared.kinds.RowKind.TheVariants.{N}

@@ -4,7 +4,7 @@ ghost use Rattle.exact_numbers.specs.Values.{text_of, value_text};
 ghost use Rattle.exported_program.specs.Program.{column_bounds};
 ghost use Rattle.mps_model.specs.Text.{bound_line, section, value_words};
 ghost use Rattle.scaling.specs.Rows.{side_value};
-ghost use Rattle.written_texts.specs.Lines.{line_text, lines_text, spaced, unless_empty};
+ghost use Rattle.texts.specs.WordLines.{line_text, lines_text, spaced, unless_empty};
 ghost use Rattle.row_scaling.specs.InsideColumns.{column_in};
 ghost use Rattle.row_scaling.specs.InsideSections.{all_bounds, all_columns, bound_by, named_bound};
 

@@ -7,7 +7,7 @@ ghost use Rattle.mps_model.specs.Text.{column_lines, section};
 ghost use Rattle.scaling.specs.Exported.{exported_from, program_variables};
 ghost use Rattle.scaling.specs.Parts.{column_count, rows_in};
 ghost use Rattle.scaling.specs.Scaled.{IsScaled};
-ghost use Rattle.written_texts.specs.Lines.{lines_text};
+ghost use Rattle.texts.specs.WordLines.{lines_text};
 ghost use Rattle.row_scaling.specs.InsideColumns.{AreColumns, entries_in_column};
 ghost use Rattle.row_scaling.specs.InsideSections.{all_columns, all_rows, lines_from};
 

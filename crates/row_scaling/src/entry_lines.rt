@@ -5,7 +5,7 @@ ghost use Rattle.exported_program.specs.Program.{or_obj_zero};
 ghost use Rattle.program_meaning.specs.Names.{row_name as numbered_row};
 ghost use Rattle.mps_model.specs.Text.{entry_lines, name_of_row};
 ghost use Rattle.scaling.specs.Exported.{exported_from};
-ghost use Rattle.written_texts.specs.Lines.{indented, line_text, lines_text};
+ghost use Rattle.texts.specs.WordLines.{indented, line_text, lines_text};
 ghost use Rattle.row_scaling.specs.InsideColumns.{entry_value};
 ghost use Rattle.row_scaling.specs.InsideSections.{all_rows};
 

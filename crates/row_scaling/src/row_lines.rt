@@ -3,7 +3,7 @@ ghost use Rattle.std.specs.Prelude.{◌≡◌, ◌+◌, ◌≤◌, ◌^◌, ◌+
 ghost use Rattle.std.specs.List.{flat_map};
 ghost use Rattle.mps_model.specs.Text.{row_line, section};
 ghost use Rattle.scaling.specs.Parts.{name_in, rows_in};
-ghost use Rattle.written_texts.specs.Lines.{line_text, lines_text};
+ghost use Rattle.texts.specs.WordLines.{line_text, lines_text};
 ghost use Rattle.row_scaling.specs.InsideSections.{all_rows, row_lines};
 
 use crate::names::put_row_name;

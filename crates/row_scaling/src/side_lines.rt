@@ -5,7 +5,7 @@ ghost use Rattle.exact_numbers.specs.Values.{text_of, value_text};
 ghost use Rattle.mps_model.specs.Text.{entry_lines, section};
 ghost use Rattle.scaling.specs.Parts.{name_in, rows_in};
 ghost use Rattle.scaling.specs.Rows.{side_value};
-ghost use Rattle.written_texts.specs.Lines.{WordLine, indented, line_text, lines_text, unless_empty};
+ghost use Rattle.texts.specs.WordLines.{WordLine, indented, line_text, lines_text, unless_empty};
 ghost use Rattle.row_scaling.specs.InsideSections.{all_ranges, all_rows, all_sides, range_lines, side_lines, value_lines};
 
 use crate::names::put_row_name;

@@ -21,7 +21,7 @@ pub record ScaledFits (k : ℕ) (x : ℚ) : Type 0 where
   pub frac : IsTrue (fits (whole (pos k) *ℚ x))
   pub dec : FitsDec (whole (pos k) *ℚ x)
 
--- a side of the file, and what is left of it without the constant, times k
+-- a side, and what is left of it without the constant, times k
 pub record SideFits (k : ℕ) (constant s : ℚ) : Type 0 where
   pub side : IsTrue (fits s)
   pub less : IsTrue (sum_fits s (neg_ℚ constant))

@@ -36,7 +36,7 @@ scaled_row k r = record {
 abbrev pub is_exported : Row → Bool
 is_exported r = has_side r.side
 
--- the rows with a finite side, in order, each times its factor; the first is row i of the file
+-- the rows with a finite side, in order, each times its factor; the first is row i of the linear program
 unfoldable pub exported_rows : (ℕ → ℕ) → ℕ → List Row → List ScaledRow
 exported_rows factor i [] = []
 exported_rows factor i (r ∷ rs) =

@@ -43,7 +43,7 @@ use Rattle.std.specs.Option.{option_map}
 use Rattle.linear_program.specs.Decimals.{coefficient_of}
 use Rattle.scaling.specs.declared.row.Tie.{Tie}
 
--- The linear program of a folded file, row by row.
+-- The linear program of a linear program, row by row.
 
 rows_there : (p i : ℕ) (bs : List Form) (ss : List Interval) (b : Form) (s : Interval) (r : Row) → i < length bs → length ss ≡ length bs → b ≡ get_or bs i b → s ≡ get_or ss i s → get_or (rows_from p bs ss) i r ≡ row_for (p + i) b s
 rows_there p zero (x ∷ bs) (y ∷ ss) b s r h n e f = ap (λ k. row_for k x y) (omega arith) ∙ ap₂ (row_for (p + 0)) (sym e) (sym f)
@@ -189,7 +189,7 @@ module _ (n : ℕ) (b : Form) (up : AreAscending 0 (form_terms b)) (below : AreB
   tied_from g e h =
       all_map (objective_numbers n (linear_form b)) (scaled_of g) (from (NumberFits (whole (pos g))) (zero_number (whole (pos g))) (subst (λ k. All (NumberFits (whole (pos k))) (numbers_of b)) e h.numbers))
 
--- ---- the objective of a folded file
+-- ---- the objective of a linear program
 module _ (l : LinearValue) (is : IsLinear l) (up : AreAscending 0 (form_terms l.objective)) where
   pub objective_below : AreBelow (variable_count (linear_value l)) (form_terms l.objective)
   objective_below = subst (λ n. AreBelow n (form_terms l.objective)) (sym (count_is l is)) is.objective
@@ -246,7 +246,7 @@ tied_as_scaled n k objective form c e =
       side = record { lower = Some (one_side k objective.constant form.constant c i); upper = Some (one_side k objective.constant form.constant c i) };
     }
 
--- The scaled program of a folded file.
+-- The scaled program of a linear program.
 
 -- ---- rows
 -- row k times its factor, where it is exported

@@ -1,4 +1,4 @@
--- Rows and an objective of a folded file, each times its least factor.
+-- Rows and an objective of a linear program, each times its least factor.
 use Rattle.std.specs.Prelude.{◌≡◌, ℕ, ◌<◌, ◌^◌, pos, IsTrue, List, ◌∷◌, length, get_or, Option, Some, None, All}
 use Rattle.std.specs.List.{sum_by}
 use Rattle.std.specs.Option.{option_map_or}

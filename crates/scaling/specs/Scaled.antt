@@ -47,7 +47,7 @@ pub record IsTie (t : Tie) : Type 0 where
   pub above : pos 0 <ℤ t.factor
   pub weight : dec_value t.weight ≡ neg_ℚ (whole t.factor)
 
--- what holds of every scaled program; the limits are those of an .nl file: own profile
+-- what holds of every scaled program; the limits are this project's own
 pub record IsScaled (s : ScaledValue) : Type 0 where
   pub rows : All (λ o. IfSome o (λ r. IsRowOver (length s.bounds) r.row)) s.rows
   pub sparse : IsSparse 0 s.objective.terms

@@ -1,4 +1,4 @@
--- What scaling the rows of a folded file answers.
+-- What scaling the rows of a linear program answers.
 use Rattle.std.specs.Prelude.{◌≡◌, ◌⊎◌, ℕ, ℤ, pos, IsTrue, Option, Some, None}
 use Rattle.std.specs.Option.{option_map}
 use Rattle.program_meaning.specs.Linear.{Linear, row_at as row_of_program}

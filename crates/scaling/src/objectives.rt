@@ -1,4 +1,4 @@
-// The objective of a folded file, times its least factor where it is not decimal.
+// The objective of a linear program, times its least factor where it is not decimal.
 ghost use Rattle.std.specs.Prelude.{◌≡◌, ◌≢◌, ◌<ℤ◌, pos, IfOk, IfErr, IfSome, All, None};
 ghost use Rattle.texts.specs.Stopped.{IfFault};
 ghost use Rattle.fractions.specs.Rational.{one_ℚ};

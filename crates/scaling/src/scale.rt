@@ -1,4 +1,4 @@
-// The scaled program of a folded file.
+// The scaled program of a linear program.
 ghost use Rattle.std.specs.Prelude.{◌≡◌, IfOk, IfErr, OnOk};
 ghost use Rattle.texts.specs.Stopped.{IfFault};
 ghost use Rattle.linear_program.specs.Programs.{linear_value};

@@ -1,4 +1,4 @@
-// The rows of a folded file, each times its least factor.
+// The rows of a linear program, each times its least factor.
 ghost use Rattle.std.specs.Prelude.{◌≡◌, ℕ, ◌<◌, ◌≤◌, ◌^◌, ◌<ℤ◌, pos, IsTrue, IfOk, IfErr, false, length, get_or, None};
 ghost use Rattle.linear_program.specs.Intervals.{is_sided};
 ghost use Rattle.texts.specs.Stopped.{IfFault};

@@ -13,7 +13,7 @@ use Rattle.sol_files.specs.Rows.{Row, number_in}
 use Rattle.texts.specs.Words.{word_at}
 use Rattle.sol_files.specs.Standing.{Standing}
 use Rattle.sol_files.specs.Tests.{Tests, is_below, has_index, index_limit, last_kind, last_values, value_tests}
-use Rattle.nl_model.specs.SuffixKinds.{wants_whole}
+use Rattle.shared_parts.specs.SuffixKinds.{wants_whole}
 use Rattle.sol_files.specs.InsideJudging.{marked_value_tests}
 use Rattle.sol_files.specs.InsideHeld.{AreMarked}
 

@@ -10,7 +10,7 @@ use Rattle.std.proofs.lemmas.List.{length_push, length-append, append-nil}
 use Rattle.std.proofs.lemmas.List.Sums.{sum_by-cons, sum_by_push}
 use Rattle.exact_numbers.specs.declared.dec.Dec.{Dec}
 use Rattle.exact_numbers.specs.Numbers.{are_digits, dec_of, is_whole, signed_of, whole_of}
-use Rattle.nl_model.specs.SuffixKinds.{object_limit, wants_whole}
+use Rattle.shared_parts.specs.SuffixKinds.{object_limit, wants_whole}
 use Rattle.texts.specs.Cut.{IsTextLine}
 use Rattle.texts.specs.Judged.{first_reason}
 use Rattle.texts.proofs.FirstReasons.{none_each}

@@ -9,14 +9,14 @@ use Rattle.std.proofs.lemmas.List.{append-nil, append_assoc}
 use Rattle.exact_numbers.specs.declared.dec.Dec.{Dec}
 use Rattle.exact_numbers.specs.Numbers.{has_31_bits, are_digits, whole_of}
 use Rattle.exact_numbers.proofs.NumberLemmas.{signed_of-signed_decimal}
-use Rattle.nl_model.specs.HeaderRules.{has_second_three}
+use Rattle.shared_parts.specs.Options.{has_second_three}
 use Rattle.sol_files.specs.declared.awaited.Awaited.TheVariants.{OptionCount, Options, Constraints, DualCount, Variables, PrimalCount, Duals, Primals, Tail}
 use Rattle.sol_files.specs.Sol.{Sol}
 use Rattle.sol_files.specs.Built.{IsEmptyOrFull}
 use Rattle.sol_files.specs.Tests.{row_tests, tail_tests, is_given_count}
 use Rattle.sol_files.specs.Steps.{after_row, options_await, values_await}
 use Rattle.sol_files.specs.Written.{objno_lines, IsSignedPair}
-use Rattle.written_texts.specs.Lines.{text_of}
+use Rattle.exact_numbers.specs.Values.{text_of}
 use Rattle.sol_files.proofs.ShortWords.{IsShortWord, word-decimal, word-signed, word-text}
 use Rattle.written_texts.proofs.NumbersRead.{whole_of-decimal, are_digits-decimal, dec_of-text}
 use Rattle.sol_files.proofs.Reached.{IsReached, AreWords, also, at, reached_row}

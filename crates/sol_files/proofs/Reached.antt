@@ -22,7 +22,7 @@ use Rattle.sol_files.specs.Saying.{sol_of}
 use Rattle.sol_files.specs.Built.{empty_sol}
 use Rattle.sol_files.specs.Written.{IsSaidLine}
 use Rattle.sol_files.specs.Steps.{after, after_at, after_row, after_row_line, held_lines, read}
-use Rattle.written_texts.specs.Lines.{spaced}
+use Rattle.texts.specs.WordLines.{spaced}
 use Rattle.sol_files.proofs.MessageLemmas.{held_back, without_blank_end-more}
 use Rattle.sol_files.proofs.StandingLemmas.{standing-read, read-more, read-none, is_plain, plain_after, spoken, spoken_more}
 use Rattle.sol_files.proofs.ShortWords.{IsShortWord, are_words, row-line}

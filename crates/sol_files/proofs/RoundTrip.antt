@@ -14,7 +14,7 @@ use Rattle.sol_files.specs.Progress.{Progress, seen}
 use Rattle.sol_files.specs.Tests.{end_tests}
 use Rattle.sol_files.specs.Reader.{IsSol, ReadsSol}
 use Rattle.sol_files.specs.Written.{objno_lines, sol_lines, sol_text, KeepsRules, IsWritable}
-use Rattle.written_texts.specs.Lines.{text_of}
+use Rattle.exact_numbers.specs.Values.{text_of}
 use Rattle.sol_files.proofs.ReadingLemmas.{one_reading}
 use Rattle.sol_files.proofs.StandingLemmas.{standing-read}
 use Rattle.sol_files.proofs.Reached.{reached_options, reached_end}

@@ -5,7 +5,8 @@ use Rattle.std.specs.Fmt.{decimal, signed_decimal}
 use Rattle.texts.specs.Cut.{IsTextLine}
 use Rattle.exact_numbers.specs.Numbers.{has_31_bits}
 use Rattle.exact_numbers.specs.declared.dec.Dec.{Dec}
-use Rattle.written_texts.specs.Lines.{WordLine, spaced, text_of}
+use Rattle.texts.specs.WordLines.{WordLine, spaced}
+use Rattle.exact_numbers.specs.Values.{text_of}
 use Rattle.written_texts.specs.Words.{IsWord}
 use Rattle.written_texts.proofs.Lengths.{decimal-length, signed_31-length, text-length}
 use Rattle.written_texts.proofs.LineLemmas.{one-spaced, spaced-length, text-line}

@@ -19,13 +19,13 @@ use Rattle.sol_files.specs.Built.{with_suffix}
 use Rattle.texts.specs.Cut.{IsTextLine}
 use Rattle.sol_files.specs.Rows.{pair_in}
 use Rattle.sol_files.specs.Tests.{row_tests, tail_tests, line_tests_at, has_index}
-use Rattle.nl_model.specs.declared.suffix_kinds.Objects.{Objects}
-use Rattle.nl_model.specs.declared.suffix_kinds.Objects.TheVariants.{Variables, Constraints, Objectives, Problem}
-use Rattle.nl_model.specs.SuffixKinds.{object_limit, objects_of, wants_whole, count_among}
+use Rattle.shared_parts.specs.declared.suffix_kinds.Objects.{Objects}
+use Rattle.shared_parts.specs.declared.suffix_kinds.Objects.TheVariants.{Variables, Constraints, Objectives, Problem}
+use Rattle.shared_parts.specs.SuffixKinds.{object_limit, objects_of, wants_whole, count_among}
 use Rattle.exact_numbers.specs.Numbers.{is_whole}
 use Rattle.sol_files.specs.Steps.{after_row, after_at, named_suffix, rest_awaits}
 use Rattle.sol_files.specs.Written.{head_line, value_line, suffix_lines, are_values, IsWritableSuffix}
-use Rattle.written_texts.specs.Lines.{text_of}
+use Rattle.exact_numbers.specs.Values.{text_of}
 use Rattle.sol_files.proofs.LastLemmas.{change_last-end, last_of-end}
 use Rattle.written_texts.specs.Words.{IsWord}
 use Rattle.written_texts.proofs.WordLemmas.{row-spaced}

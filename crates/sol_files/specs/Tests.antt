@@ -10,7 +10,7 @@ use Rattle.texts.specs.Words.{row_of, word_at, begins}
 use Rattle.texts.specs.declared.lines.LineFault.{LineFault}
 use Rattle.texts.specs.declared.lines.LineFault.TheVariants.{LineTooLong as LongLine, InputTooLong as LongInput}
 use Rattle.exact_numbers.specs.Numbers.{are_digits, dec_of, is_whole, signed_of, whole_of}
-use Rattle.nl_model.specs.SuffixKinds.{object_limit, wants_whole}
+use Rattle.shared_parts.specs.SuffixKinds.{object_limit, wants_whole}
 use Rattle.sol_files.specs.Plan.{LineKind, Message, OptionCount, OptionRow, ConstraintCount, DualCount, VariableCount, PrimalCount, DualRow, PrimalRow, NameLine, TableLine, ValueRow, Tail}
 use Rattle.sol_files.specs.declared.fault.Refusal.{Refusal}
 use Rattle.sol_files.specs.declared.fault.Refusal.TheVariants.{Here, Late}

@@ -9,7 +9,7 @@ ghost use Rattle.sol_files.specs.Steps.{held_lines, lines_with};
 use crate::sol::Sol;
 use crate::suffix::SolSuffix;
 use exact_numbers::Dec;
-use nl_model::{Decs, Options};
+use shared_parts::{Decs, Options};
 use std::alloc::{AllocError, Global};
 use std::marker::Model;
 use texts::TextLines;

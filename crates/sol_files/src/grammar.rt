@@ -15,7 +15,7 @@ use crate::awaited::Awaited;
 use crate::builder::SolBuilder;
 use crate::fault::{Refusal, SolReason};
 use crate::sol::Sol;
-use nl_model::Options;
+use shared_parts::Options;
 use std::alloc::{AllocError, Global};
 use std::marker::Model;
 use texts::{Grammar, LineFault, Marks, Row, Stop};

@@ -7,7 +7,7 @@ ghost use Rattle.sol_files.specs.declared.fault.Refusal.TheVariants.{Here};
 ghost use Rattle.sol_files.specs.Rows.{number_in, pair_in};
 ghost use Rattle.sol_files.specs.Steps.{head_in};
 ghost use Rattle.sol_files.specs.Tests.{are_all_digits, are_head_numbers, has_table_room, is_below, pair_tests, suffix_tests};
-ghost use Rattle.nl_model.specs.SuffixKinds.{object_limit, wants_whole};
+ghost use Rattle.shared_parts.specs.SuffixKinds.{object_limit, wants_whole};
 
 use crate::awaited::SuffixHead;
 use crate::fault::SolReason;

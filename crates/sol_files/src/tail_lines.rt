@@ -7,7 +7,7 @@ ghost use Rattle.sol_files.specs.declared.fault.Refusal.TheVariants.{Here};
 ghost use Rattle.sol_files.specs.Rows.{pair_in};
 ghost use Rattle.sol_files.specs.Progress.{seen};
 ghost use Rattle.sol_files.specs.Tests.{index_limit, last_kind, name_tests, objno_tests, suffix_tests, tail_tests, value_tests};
-ghost use Rattle.nl_model.specs.SuffixKinds.{wants_whole};
+ghost use Rattle.shared_parts.specs.SuffixKinds.{wants_whole};
 ghost use Rattle.sol_files.specs.InsideJudging.{marked_value_tests};
 ghost use Rattle.sol_files.specs.Steps.{after_name, after_objno, after_suffix_head, after_table, after_tail, after_value, rest_awaits};
 
@@ -18,7 +18,8 @@ use crate::rows::read_objno;
 use crate::suffix::SolSuffix;
 use crate::suffix_rows::{MOST_OBJECTIVES, read_head, read_pair};
 use exact_numbers::Dec;
-use nl_model::{Terms, object_limit, wants_whole};
+use linear_program::Terms;
+use shared_parts::{object_limit, wants_whole};
 use texts::{Marks, Name, Stop, TextLines, begins, is_name, word_at};
 
 // All suffixes have at most so many values.

@@ -4,12 +4,14 @@ ghost use Rattle.std.specs.List.{flat_map};
 ghost use Rattle.std.specs.Fmt.{decimal, signed_decimal};
 ghost use Rattle.sol_files.specs.Written.{head_line, objno_lines, size_lines, sol_text, suffix_lines, value_line};
 ghost use Rattle.texts.specs.Cut.{lines_text};
-ghost use Rattle.written_texts.specs.Lines.{spaced, text_of};
+ghost use Rattle.texts.specs.WordLines.{spaced};
+ghost use Rattle.exact_numbers.specs.Values.{text_of};
 
 use crate::sol::Sol;
 use crate::suffix::SolSuffix;
 use exact_numbers::Dec;
-use nl_model::{Options, Terms};
+use linear_program::Terms;
+use shared_parts::Options;
 use std::alloc::{AllocError, Global};
 use texts::TextLines;
 use written_texts::{

@@ -1,5 +1,6 @@
 pub mod Lines
 pub mod InsideLinesFields
+pub mod WordLines
 pub mod Words
 pub mod Judged
 pub mod Stopped

@@ -7,7 +7,7 @@ use Rattle.std.proofs.lemmas.List.{take-append-drop}
 use Rattle.exact_numbers.specs.Numbers.{has_31_bits}
 use Rattle.exact_numbers.specs.Written.{zeros, with_point, padded, scaled_text}
 use Rattle.exact_numbers.specs.declared.dec.Dec.{Dec}
-use Rattle.written_texts.specs.Lines.{text_of}
+use Rattle.exact_numbers.specs.Values.{text_of}
 
 -- ---- whole numbers
 

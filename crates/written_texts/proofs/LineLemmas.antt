@@ -13,7 +13,7 @@ use Rattle.texts.specs.Judged.{End}
 use Rattle.texts.specs.Lines.{trimmed}
 use Rattle.texts.specs.Names.{has_name_bytes}
 use Rattle.texts.specs.Reading.{lines_of, last_of}
-use Rattle.written_texts.specs.Lines.{WordLine, indented, spaced, lines_text}
+use Rattle.texts.specs.WordLines.{WordLine, indented, spaced, lines_text}
 use Rattle.written_texts.specs.Words.{IsWord, IsWordLine}
 
 -- spaces and bytes of words

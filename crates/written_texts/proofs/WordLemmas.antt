@@ -6,7 +6,7 @@ use Rattle.std.proofs.lemmas.List.{take_all, append-nil}
 use Rattle.std.specs.List.{AllByRecursion}
 use Rattle.texts.specs.Names.{has_name_bytes}
 use Rattle.texts.specs.Words.{is_blank, onto_word, ends_word, words_of, row_of, up_to_comment, without_comment}
-use Rattle.written_texts.specs.Lines.{WordLine, indented, spaced}
+use Rattle.texts.specs.WordLines.{WordLine, indented, spaced}
 use Rattle.written_texts.specs.Words.{IsWord, IsKeptWord, IsWritten}
 
 -- ---- bytes of words

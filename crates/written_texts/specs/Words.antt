@@ -2,7 +2,7 @@
 use Rattle.std.specs.Prelude.{◌≡◌, ℕ, ◌<◌, ◌≤◌, ◌==◌, false, true, List, length, slice_index}
 use Rattle.std.specs.List.{AllByRecursion}
 use Rattle.texts.specs.Names.{has_name_bytes}
-use Rattle.written_texts.specs.Lines.{WordLine, spaced}
+use Rattle.texts.specs.WordLines.{WordLine, spaced}
 
 -- some bytes, none of which is a blank or ends a line
 pub record IsWord (word : List ℕ) : Type 0 where

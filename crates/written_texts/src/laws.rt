@@ -8,7 +8,7 @@ ghost use Rattle.texts.specs.Words.{words_of, without_comment};
 ghost use Rattle.exact_numbers.specs.declared.dec.Dec.{Dec};
 ghost use Rattle.exact_numbers.specs.Numbers.{dec_of, has_31_bits, signed_of, whole_of};
 ghost use Rattle.exact_numbers.specs.Values.{text_of};
-ghost use Rattle.written_texts.specs.Lines.{WordLine, indented, lines_text, spaced};
+ghost use Rattle.texts.specs.WordLines.{WordLine, indented, lines_text, spaced};
 ghost use Rattle.written_texts.specs.Words.{IsWord, IsKeptWord, IsWordLine};
 
 /// Words with a space between them, or a space before each, are read as themselves, and as no

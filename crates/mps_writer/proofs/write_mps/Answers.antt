@@ -1,6 +1,6 @@
 use Rattle.std.proofs.Common.{◌≡◌, ◌<◌, ◌++◌, ◌∷◌, [], ◌∙◌, ap, ap₂, false, length, map, subst, sym, All, codes}
 use Rattle.exact_numbers.specs.Values.{text_of}
-use Rattle.written_texts.specs.Lines.{lines_text, unless_empty}
+use Rattle.texts.specs.WordLines.{lines_text, unless_empty}
 use Rattle.written_texts.proofs.Writing.{lines_after, line_after}
 use Rattle.mps_model.specs.Built.{entry_of, bound_of}
 use Rattle.mps_model.specs.Text.{mps_lines, name_lines, sense_lines, section, row_line, column_lines, entry_lines, bound_line}

@@ -1,5 +1,5 @@
 use Rattle.std.proofs.Common.{◌≡◌, ◌*◌, ◌^◌, ◌≤◌, ◌++◌, drop}
-use Rattle.written_texts.specs.Lines.{lines_text}
+use Rattle.texts.specs.WordLines.{lines_text}
 use Rattle.nl_writer.specs.InsideUses.{sum_lines}
 use Rattle.nl_writer.proofs.columns.put_sums.Given as goal
 

@@ -2,7 +2,7 @@ use Rattle.std.proofs.Common.{◌≡◌, ◌++◌, map}
 use Rattle.exact_numbers.specs.Values.{value_text}
 use Rattle.exported_program.specs.Program.{bounds_of}
 use Rattle.mps_model.specs.Text.{bound_line}
-use Rattle.written_texts.specs.Lines.{lines_text}
+use Rattle.texts.specs.WordLines.{lines_text}
 use Rattle.row_scaling.specs.InsideSections.{all_bounds, all_columns}
 use Rattle.row_scaling.proofs.AddLemmas.{left_variables}
 use Rattle.row_scaling.proofs.bound_lines.put_listed_bounds.Given as goal

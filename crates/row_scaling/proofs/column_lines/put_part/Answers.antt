@@ -1,5 +1,5 @@
 use Rattle.std.proofs.Common.{◌≡◌, ◌+◌, ◌<◌, ◌∙◌, ◌++◌, [], ap, arith, map, subst}
-use Rattle.written_texts.specs.Lines.{lines_text}
+use Rattle.texts.specs.WordLines.{lines_text}
 use Rattle.mps_writer.proofs.Writing.{markers_more}
 use Rattle.scaling.specs.Parts.{column_count}
 use Rattle.row_scaling.specs.InsideColumns.{entries_in_column, entry_value}

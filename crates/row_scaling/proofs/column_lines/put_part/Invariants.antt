@@ -1,5 +1,5 @@
 use Rattle.std.proofs.Common.{◌≡◌, ◌≤◌, ◌+◌, ◌++◌}
-use Rattle.written_texts.specs.Lines.{lines_text}
+use Rattle.texts.specs.WordLines.{lines_text}
 use Rattle.row_scaling.specs.InsideSections.{lines_from}
 use Rattle.row_scaling.proofs.column_lines.put_part.Given as goal
 

@@ -4,7 +4,7 @@ use Rattle.std.proofs.lemmas.Bool.{eqb-false, eqb-true}
 use Rattle.exact_numbers.specs.Values.{text_of, value_text}
 use Rattle.exported_program.specs.Program.{obj_name}
 use Rattle.mps_model.specs.Text.{entry_lines}
-use Rattle.written_texts.specs.Lines.{indented, line_text, lines_text}
+use Rattle.texts.specs.WordLines.{indented, line_text, lines_text}
 use Rattle.row_scaling.specs.InsideSections.{all_rows}
 use Rattle.row_scaling.proofs.LineLemmas.{no_entries_written, some_entries}
 use Rattle.row_scaling.proofs.entry_lines.put_column.Goals as goal

@@ -1,7 +1,7 @@
 use Rattle.std.proofs.Common.{◌≡◌, ◌≤◌, ◌-◌, ◌*◌, length, map, drop}
 use Rattle.exact_numbers.specs.Values.{value_text}
 use Rattle.mps_model.specs.Text.{entry_lines}
-use Rattle.written_texts.specs.Lines.{lines_text}
+use Rattle.texts.specs.WordLines.{lines_text}
 use Rattle.row_scaling.specs.InsideColumns.{entry_value}
 use Rattle.row_scaling.specs.InsideSections.{all_rows}
 use Rattle.row_scaling.proofs.entry_lines.put_few.Given as goal

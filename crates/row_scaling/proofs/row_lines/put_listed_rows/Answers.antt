@@ -7,7 +7,7 @@ use Rattle.exported_program.specs.Program.{kind_of_row}
 use Rattle.scaling.specs.Parts.{name_in}
 use Rattle.scaling.specs.Rows.{side_value}
 use Rattle.scaling.specs.declared.row.FactoredRow.{FactoredRow}
-use Rattle.written_texts.specs.Lines.{line_text, lines_text}
+use Rattle.texts.specs.WordLines.{line_text, lines_text}
 use Rattle.written_texts.proofs.Writing.{rest_written}
 use Rattle.row_scaling.specs.InsideSections.{row_lines}
 use Rattle.row_scaling.proofs.ColumnLemmas.{Rows, left, left_end, left_none, left_some}

@@ -1,7 +1,7 @@
 use Rattle.std.proofs.Common.{◌≡◌, ◌++◌}
 use Rattle.std.specs.List.{flat_map}
 use Rattle.scaling.specs.Parts.{name_in}
-use Rattle.written_texts.specs.Lines.{lines_text}
+use Rattle.texts.specs.WordLines.{lines_text}
 use Rattle.row_scaling.specs.InsideSections.{range_lines}
 use Rattle.row_scaling.proofs.ColumnLemmas.{left}
 use Rattle.row_scaling.proofs.side_lines.put_row_ranges.Given as goal

@@ -3,7 +3,7 @@ use Rattle.exact_numbers.specs.Values.{value_text}
 use Rattle.exported_program.specs.Program.{nl_name, mps_of}
 use Rattle.mps_model.specs.Text.{bound_line, column_lines, entry_lines, mps_lines, name_lines, row_line, section, sense_lines}
 use Rattle.scaling.specs.Exported.{scaled_as}
-use Rattle.written_texts.specs.Lines.{lines_text, unless_empty}
+use Rattle.texts.specs.WordLines.{lines_text, unless_empty}
 use Rattle.written_texts.proofs.Writing.{line_after, lines_after}
 use Rattle.row_scaling.specs.InsideSections.{all_bounds, all_columns, all_ranges, all_rows, all_sides}
 use Rattle.row_scaling.proofs.written.write_exported.Goals as goal

@@ -1,4 +1,4 @@
-use Rattle.written_texts.specs.Lines.{text_of}
+use Rattle.exact_numbers.specs.Values.{text_of}
 use Rattle.sol_files.proofs.WriteLemmas.{mapped_step}
 use Rattle.sol_files.proofs.write.put_decs.Goals as goal
 

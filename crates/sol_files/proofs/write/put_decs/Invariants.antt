@@ -1,6 +1,6 @@
 use Rattle.std.proofs.Common.{◌≡◌, ◌++◌, map, take}
 use Rattle.texts.specs.Cut.{lines_text}
-use Rattle.written_texts.specs.Lines.{text_of}
+use Rattle.exact_numbers.specs.Values.{text_of}
 use Rattle.sol_files.proofs.write.put_decs.Given as goal
 
 abbrev pub invariant-loop-value : goal.invariant-loop-value

@@ -1,5 +1,6 @@
 // The options of the first header line.
 ghost use Rattle.std.specs.Prelude.{◌≡◌, ◌<◌, ◌++◌, ◌∷◌, [], length, Some, slice_get};
+ghost use Rattle.shared_parts.specs.Options.{has_second_three};
 
 use std::marker::Model;
 
@@ -60,5 +61,15 @@ impl Options {
         ensures { result.now ≡ self.now }
     {
         &self.values[..self.count]
+    }
+}
+
+/// Whether the second option is 3.
+pub fn has_second_three(options: &[i32]) -> bool
+    ensures { result ≡ has_second_three options.now }
+{
+    match options {
+        [_, second, ..] => *second == 3,
+        _ => false,
     }
 }

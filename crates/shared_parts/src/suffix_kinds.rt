@@ -1,6 +1,6 @@
 // The kinds of suffixes.
 ghost use Rattle.std.specs.Prelude.{◌≡◌};
-ghost use Rattle.nl_model.specs.SuffixKinds.{has_same_objects, is_for_objectives, object_limit, objects_of, wants_whole};
+ghost use Rattle.shared_parts.specs.SuffixKinds.{has_same_objects, is_for_objectives, object_limit, objects_of, wants_whole};
 
 /// The objects of a file that a suffix is for.
 #[derive(Clone, Copy, PartialEq, Eq, Debug)]

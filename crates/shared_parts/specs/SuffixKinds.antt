@@ -1,8 +1,8 @@
 -- What the kind of a suffix says: the low two bits which objects have it, the bit of value 4 which
 -- values they have (Gay 2005, "Writing .nl Files", segment S).
 use Rattle.std.specs.Prelude.{ℕ, ◌%◌, ◌/◌, ◌==◌, Bool, if◌then◌else◌}
-use Rattle.nl_model.specs.declared.suffix_kinds.Objects.{Objects}
-use Rattle.nl_model.specs.declared.suffix_kinds.Objects.TheVariants.{Variables, Constraints, Objectives, Problem}
+use Rattle.shared_parts.specs.declared.suffix_kinds.Objects.{Objects}
+use Rattle.shared_parts.specs.declared.suffix_kinds.Objects.TheVariants.{Variables, Constraints, Objectives, Problem}
 
 -- whether a suffix of this kind is for the objectives
 abbrev pub is_for_objectives : ℕ → Bool

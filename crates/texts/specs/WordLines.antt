@@ -1,7 +1,6 @@
 -- Lines of words, and their written text.
 use Rattle.std.specs.Prelude.{ℕ, List, [], ◌∷◌, ◌++◌}
 use Rattle.std.specs.List.{flat_map, join_with_byte}
-pub use Rattle.exact_numbers.specs.Values.{text_of}
 
 -- a line, as its words
 abbrev pub WordLine : Type 0

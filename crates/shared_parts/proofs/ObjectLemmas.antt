@@ -2,9 +2,9 @@
 use Rattle.std.proofs.Common.{◌≡◌, ◌∙◌, ℕ, zero, suc, ◌%◌, ◌<◌, ◌==◌, true, false, cond, eqb, refl, sym, ap, arith}
 use Rattle.std.proofs.lemmas.Bool.{eqb-true, eqb-false, eq-eqb}
 use Rattle.std.proofs.lemmas.Bool.Decides.{nat_tests}
-use Rattle.nl_model.specs.declared.suffix_kinds.Objects.{Objects}
-use Rattle.nl_model.specs.declared.suffix_kinds.Objects.TheVariants.{Variables, Constraints, Objectives, Problem}
-use Rattle.nl_model.specs.SuffixKinds.{has_same_objects, is_for_objectives, objects_of}
+use Rattle.shared_parts.specs.declared.suffix_kinds.Objects.{Objects}
+use Rattle.shared_parts.specs.declared.suffix_kinds.Objects.TheVariants.{Variables, Constraints, Objectives, Problem}
+use Rattle.shared_parts.specs.SuffixKinds.{has_same_objects, is_for_objectives, objects_of}
 
 -- ---- kinds for the same objects
 
