@@ -1,13 +1,14 @@
 -- The sides that a program's rows and columns have.
-use Rattle.std.proofs.Common.{◌≡◌, ℕ, zero, suc, ◌+◌, ◌<◌, ◌∙◌, sym, ap, ap₂, refl, arith, Bool, true, false, cond, nat_eq, List, [], ◌∷◌, ◌++◌, length, get_or, Option, Some, None, pos, negsuc, ◌⊎◌, ⊎_elim, ◌||◌, ◌&&◌}
+use Rattle.std.proofs.Common.{◌≡◌, ℕ, zero, suc, ◌+◌, ◌<◌, ◌∙◌, sym, ap, ap₂, refl, arith, Bool, true, false, cond, nat_eq, List, [], ◌∷◌, ◌++◌, length, get_or, Option, Some, None, pos, int_lt, ◌≤ℤ◌, ◌⊎◌, ⊎_elim, ◌||◌, ◌&&◌}
 use Rattle.std.specs.Option.{option_or}
 use Rattle.std.proofs.lemmas.Bool.{eq-eqb, ne_eqb}
+use Rattle.fractions.specs.Rational.{ℚ, zero_ℚ, ◌+ℚ◌, ◌-ℚ◌, neg_ℚ, ◌≤ℚ◌}
+use Rattle.fractions.proofs.Arithmetic.{difference_above, zero_value}
+use Rattle.fractions.proofs.Values.{own_value, le_value}
 use Rattle.std.proofs.lemmas.Int.{ints}
-use Rattle.fractions.specs.Rational.{ℚ, zero_ℚ, whole, ◌+ℚ◌, ◌-ℚ◌, neg_ℚ, ◌≤ℚ◌}
-use Rattle.fractions.proofs.Arithmetic.{difference_above}
 use Rattle.program_meaning.specs.Linear.{Interval, AreOrdered, Variable}
 use Rattle.mps_model.specs.declared.kinds.BoundKind.{BoundKind}
-use Rattle.mps_model.specs.Mps.{row_sides, is_negative, size_of, Bound, side_set, lower_set, upper_set, usual_lower, or_usual, has_whole_record, is_below_zero}
+use Rattle.mps_model.specs.Mps.{row_sides, is_negative, size_of, Bound, side_set, lower_set, upper_set, usual_lower, or_usual, has_whole_record}
 use Rattle.mps_model.specs.declared.kinds.BoundKind.TheVariants.{Lo, Up, Fx, Fr, Mi, Pl}
 use Rattle.scaled_program.specs.Program.{nonzero, range_of}
 use Rattle.scaled_program.proofs.Sides.{difference_zero, nonzero_cases, there_and_back}
@@ -18,8 +19,11 @@ sides l u = record { lower = l; upper = u }
 
 -- a number at least 0 is its own size
 above_not_negative : (x : ℚ) → zero_ℚ ≤ℚ x → is_negative x ≡ false
-unfolding whole
-above_not_negative x h = elim x.top as (λ t. x.top ≡ t → is_below_zero t ≡ false) [ pos n ↦ λ e. refl | negsuc n ↦ λ e. absurd (omega (arith, ints, h.crosswise, e)) ] refl
+above_not_negative x h = by (is_negative x) refl (le_value (zero_value x.bottom x.above) (own_value x) h)
+  where
+    by : (b : Bool) → int_lt x.top (pos 0) ≡ b → pos 0 ≤ℤ x.top → int_lt x.top (pos 0) ≡ false
+    by true e l = absurd (omega (arith, ints))
+    by false e l = e
 
 pub size_above : (x : ℚ) → zero_ℚ ≤ℚ x → size_of x ≡ x
 size_above x h = ap (λ b. cond b (neg_ℚ x) x) (above_not_negative x h)

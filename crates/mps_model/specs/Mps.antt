@@ -1,6 +1,6 @@
 -- MPS programs, and what they mean (the usual MPS manuals; the signs of ranges and of upper bounds
 -- below 0 are an own profile).
-use Rattle.std.specs.Prelude.{ℕ, suc, ◌<◌, ℤ, pos, negsuc, nat_eq, Bool, true, false, cond, ◌||◌, ◌&&◌, IsTrue, List, [], ◌∷◌, length, map, get_or, Option, Some, None}
+use Rattle.std.specs.Prelude.{ℕ, suc, ◌<◌, pos, int_lt, nat_eq, Bool, true, false, cond, ◌||◌, ◌&&◌, IsTrue, List, [], ◌∷◌, length, map, get_or, Option, Some, None}
 use Rattle.std.specs.Option.{option_or}
 pub use Rattle.fractions.specs.Functions.{or_zero}
 use Rattle.fractions.specs.Rational.{ℚ, zero_ℚ, one_ℚ, ◌+ℚ◌, ◌-ℚ◌, ◌*ℚ◌, neg_ℚ, IsWhole}
@@ -71,13 +71,9 @@ with_values v m =
     }
 
 -- ---- meaning
-abbrev pub is_below_zero : ℤ → Bool
-is_below_zero (pos n) = false
-is_below_zero (negsuc n) = true
-
 -- x is below 0
 abbrev pub is_negative : ℚ → Bool
-is_negative x = is_below_zero x.top
+is_negative x = int_lt x.top (pos 0)
 
 -- the size of x, without its sign
 abbrev pub size_of : ℚ → ℚ

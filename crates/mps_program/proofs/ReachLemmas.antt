@@ -1,8 +1,10 @@
 -- The other side of a row with a range.
-use Rattle.std.proofs.Common.{◌≡◌, ◌↔◌, ◌∙◌, sym, ap, ap₂, refl, subst, arith, Bool, true, false, IsTrue, ◌&&◌, cond, pos, negsuc, Option, Some, None, MatchOption}
-use Rattle.std.proofs.lemmas.Int.{ints}
-use Rattle.fractions.specs.Rational.{ℚ, zero_ℚ, whole, ◌+ℚ◌, ◌<ℚ◌}
+use Rattle.std.proofs.Common.{◌≡◌, ◌↔◌, ◌∙◌, sym, ap, ap₂, refl, subst, arith, pos, int_lt, ◌<ℤ◌, Bool, true, false, IsTrue, ◌&&◌, cond, Option, Some, None, MatchOption}
+use Rattle.fractions.specs.Rational.{ℚ, zero_ℚ, ◌+ℚ◌, ◌<ℚ◌}
 use Rattle.fractions.specs.Fits.{fits, sum_fits}
+use Rattle.fractions.proofs.Arithmetic.{zero_value}
+use Rattle.fractions.proofs.Values.{own_value, lt_value, value_lt}
+use Rattle.std.proofs.lemmas.Int.{ints}
 use Rattle.mps_program.proofs.MinusLemmas.{minus_is}
 use Rattle.program_meaning.specs.Linear.{Interval}
 use Rattle.exact_numbers.specs.declared.dec.Dec.{Dec}
@@ -11,7 +13,7 @@ use Rattle.exact_numbers.proofs.Bridge.{not_true}
 use Rattle.exact_numbers.proofs.Spelling.{fits_dec_in, fits_dec_out}
 use Rattle.mps_model.specs.declared.kinds.RowKind.{RowKind}
 use Rattle.mps_model.specs.declared.kinds.RowKind.TheVariants.{L, E}
-use Rattle.mps_model.specs.Mps.{row_sides, is_negative, is_below_zero, size_of, usual_lower}
+use Rattle.mps_model.specs.Mps.{row_sides, is_negative, size_of, usual_lower}
 use Rattle.mps_program.specs.Faults.{range_step, is_in_reach}
 use Rattle.exact_numbers.proofs.Fitting.{dec_fits}
 
@@ -30,12 +32,14 @@ reached r kind b w side width step sum p q s t h =
 
 -- ---- the sign of a range
 pub negative_in : (x : ℚ) → x <ℚ zero_ℚ → is_negative x ≡ true
-unfolding whole
-negative_in x h = elim x.top as (λ t. x.top ≡ t → is_below_zero t ≡ true) [ pos n ↦ λ e. absurd (omega (arith, ints, h.crosswise, e)) | negsuc n ↦ λ e. refl ] refl
+negative_in x h = by (is_negative x) refl (lt_value (own_value x) (zero_value x.bottom x.above) h)
+  where
+    by : (b : Bool) → int_lt x.top (pos 0) ≡ b → x.top <ℤ pos 0 → int_lt x.top (pos 0) ≡ true
+    by true e l = e
+    by false e l = absurd (omega (arith, ints))
 
 pub negative_out : (x : ℚ) → (x <ℚ zero_ℚ → ⊥) → is_negative x ≡ false
-unfolding whole
-negative_out x h = elim x.top as (λ t. x.top ≡ t → is_below_zero t ≡ false) [ pos n ↦ λ e. refl | negsuc n ↦ λ e. absurd (h (record { crosswise = omega (arith, ints, e) })) ] refl
+negative_out x h = not_true (is_negative x) (λ e. h (value_lt (own_value x) (zero_value x.bottom x.above) (omega (arith, ints))))
 
 pub sign_of : (b : Bool) (x : ℚ) → IsTrue b ↔ (x <ℚ zero_ℚ) → is_negative x ≡ b
 sign_of true x h = negative_in x (h.0 refl)
