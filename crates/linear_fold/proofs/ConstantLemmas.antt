@@ -1,5 +1,5 @@
 -- The operators that want constants.
-use Rattle.std.proofs.Common.{◌≡◌, ℕ, zero, suc, ◌+◌, ◌*◌, ◌/◌, ◌-◌, ◌^◌, ◌<◌, ◌∙◌, sym, ap, refl, subst, subst₂, arith, mul-pos, Bool, true, false, cond, ◌&&◌, ℤ, pos, negsuc, ◌*ℤ◌, ◌<ℤ◌, ◌≤ℤ◌, unsigned_abs, Some, None, option_and_then, List, [], ◌∷◌, map, if◌then◌else◌, lit<}
+use Rattle.std.proofs.Common.{◌≡◌, ℕ, zero, suc, ◌+◌, ◌*◌, ◌/◌, ◌-◌, ◌^◌, ◌<◌, ◌∙◌, sym, ap, refl, subst, subst₂, arith, mul-pos, Bool, true, false, cond, ◌&&◌, ℤ, pos, negsuc, ◌*ℤ◌, ◌<ℤ◌, ◌≤ℤ◌, unsigned_abs, Some, None, option_map, List, [], ◌∷◌, map, if◌then◌else◌, lit<}
 use Rattle.std.specs.Int.{int_div_euclid}
 use Rattle.std.specs.declared.cmp.Ordering.TheVariants.{Less, Equal, Greater}
 use Rattle.std.proofs.Math.Nat.{pow-succ', pow-zero, zero-mul}
@@ -280,6 +280,6 @@ module _ (n : ℕ) (a b : Line) (ca : is_constant n a ≡ true) (cb : is_constan
   pub power_made : (x y v : ℚ) (k : ℕ) → x ≡ a.constant → y ≡ b.constant → exponent_of y ≡ Some k → fits (power_of x k) ≡ true → v ≡ power_of x k → (operator_fault n Power (a ∷ b ∷ []) ≡ None) × (constant_line v ≡ operator_line n Power (a ∷ b ∷ [])) × Unit {0}
   power_made x y v k d e g w is = (
     fault_first _ _ _ both ∙ ap (power_fault a.constant) (ap exponent_of (sym e) ∙ g) ∙ ap too_wide_unless (ap (λ z. fits (power_of z k)) (sym d) ∙ w),
-    ap constant_line (is ∙ ap (λ z. power_of z k) d) ∙ ap (λ o. constant_line (or_zero o)) (ap (option_and_then (λ m. Some (power_of a.constant m))) (sym g ∙ ap exponent_of e)),
+    ap constant_line (is ∙ ap (λ z. power_of z k) d) ∙ ap (λ o. constant_line (or_zero o)) (ap (option_map (power_of a.constant)) (sym g ∙ ap exponent_of e)),
     tt,
   )

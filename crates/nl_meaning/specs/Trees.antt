@@ -93,7 +93,7 @@ nothing_known i = None
 abbrev pub with_value : Known → ℕ → Option ℚ → Known
 with_value known i v k = (if k == i then v else known k)
 
--- the value of a tree at a point, given the values of the defined variables; of several trees, where
+-- the value of a tree at a point, given those of the defined variables; of several trees, where
 -- each has one
 abbrev mutual
   pub tree_given : Known → Tree → Point → Option ℚ

@@ -1,5 +1,5 @@
 -- Linear functions of a point.
-use Rattle.std.specs.Prelude.{ℕ, zero, suc, Bool, true, false, ◌&&◌, ◌==◌, Option, Some, List, [], ◌∷◌}
+use Rattle.std.specs.Prelude.{ℕ, zero, suc, Bool, true, false, ◌&&◌, ◌==◌, Option, List, [], ◌∷◌}
 pub use Rattle.fractions.specs.Functions.{is_zero}
 use Rattle.fractions.specs.Functions.{or_zero}
 use Rattle.fractions.specs.Rational.{ℚ, zero_ℚ, one_ℚ, ◌+ℚ◌, ◌-ℚ◌, ◌*ℚ◌, neg_ℚ}
@@ -34,11 +34,6 @@ line_value n l at = l.constant +ℚ sum_below (λ j. l.coef j *ℚ at j) n
 abbrev pub line_values : ℕ → Point → List Line → List ℚ
 line_values n at [] = []
 line_values n at (l ∷ ls) = line_value n l at ∷ line_values n at ls
-
--- their values, where none is missing
-abbrev pub some_values : ℕ → Point → List Line → List (Option ℚ)
-some_values n at [] = []
-some_values n at (l ∷ ls) = Some (line_value n l at) ∷ some_values n at ls
 
 -- the line of a function of points, by its values at 0 and the unit points; a missing value counts
 -- as 0
