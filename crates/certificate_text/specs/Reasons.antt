@@ -4,15 +4,15 @@ use Rattle.certificate_text.specs.declared.fault.CertificateReason.{CertificateR
 use Rattle.certificate_text.specs.declared.fault.CertificateReason.TheVariants.{LineTooLong, InputTooLong, BadFirst, Extra, BadLine, BadNumber, IndexOut, NotWhole, IndexOrder, TooLarge, Short}
 
 -- the words of each reason
-abbrev pub reason_text : CertificateReason → List ℕ
-reason_text LineTooLong = codes "line too long"
-reason_text InputTooLong = codes "input too long"
-reason_text BadFirst = codes "bad first line"
-reason_text Extra = codes "extra line"
-reason_text BadLine = codes "bad line"
-reason_text BadNumber = codes "bad number"
-reason_text IndexOut = codes "index out of range"
-reason_text NotWhole = codes "not whole"
-reason_text IndexOrder = codes "index out of order"
-reason_text TooLarge = codes "too large"
-reason_text Short = codes "short file"
+abbrev pub certificate_reason_text : CertificateReason → List ℕ
+certificate_reason_text LineTooLong = codes "line too long"
+certificate_reason_text InputTooLong = codes "input too long"
+certificate_reason_text BadFirst = codes "bad first line"
+certificate_reason_text Extra = codes "extra line"
+certificate_reason_text BadLine = codes "bad line"
+certificate_reason_text BadNumber = codes "bad number"
+certificate_reason_text IndexOut = codes "index out of range"
+certificate_reason_text NotWhole = codes "not whole"
+certificate_reason_text IndexOrder = codes "index out of order"
+certificate_reason_text TooLarge = codes "too large"
+certificate_reason_text Short = codes "short file"

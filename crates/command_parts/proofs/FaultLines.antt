@@ -46,16 +46,16 @@ use Rattle.nl_segments.specs.Grammar.{NlValue}
 use Rattle.nl_segments.specs.Reader.{IsNl}
 use Rattle.nl_lines.specs.Saying.{PlaceLines, place_line}
 use Rattle.nl_segments.proofs.CleanTexts.{has_lines_up_to}
-use Rattle.answer_file.specs.Reasons.{reason_text as answer_reason_text}
-use Rattle.certificate_text.specs.Reasons.{reason_text as certificate_reason_text}
-use Rattle.mps_reader.specs.Reasons.{reason_text as mps_reason_text}
+use Rattle.answer_file.specs.Reasons.{answer_reason_text}
+use Rattle.certificate_text.specs.Reasons.{certificate_reason_text}
+use Rattle.mps_reader.specs.Reasons.{mps_reason_text}
 use Rattle.command_parts.specs.NameLists.{IsListRefused}
-use Rattle.name_files.specs.Reasons.{reason_text as name_reason_text}
+use Rattle.name_files.specs.Reasons.{name_reason_text}
 use Rattle.command_parts.specs.NlTold.{HasFaultLine, HasLineUpTo, fold_line, placed_line, scale_line}
-use Rattle.nl_lines.specs.Reasons.{opcode_text, reason_text}
-use Rattle.proof_text.specs.Reasons.{reason_text as proof_reason_text}
+use Rattle.nl_lines.specs.Reasons.{opcode_text, nl_reason_text}
+use Rattle.proof_text.specs.Reasons.{proof_reason_text}
 use Rattle.command_parts.specs.Refusal.{HasTextRefusal, IsAnswerRefused, IsCertificateRefused, IsFixedRefused, IsMpsRefused, IsProofRefused, IsSolRefused}
-use Rattle.sol_files.specs.Reasons.{reason_text as sol_reason_text}
+use Rattle.sol_files.specs.Reasons.{sol_reason_text}
 use Rattle.command_parts.specs.Told.{refusal, refused_at, IsRefusalLine, file_text}
 use Rattle.command_parts.specs.ToldLines.{TellsLine, TellsPlace}
 use Rattle.sol_files.proofs.FaultLines.{sol_fault_line}
@@ -65,7 +65,7 @@ use Rattle.dual_return.specs.declared.fault.ReturnFault.TheVariants.{DualTooWide
 use Rattle.mps_import.specs.declared.import_fault.ImportFault.TheVariants.{EmptyInterval, TooWide as TooWideImport, TooLarge}
 use Rattle.command_parts.specs.InsideAnswer.{status_of, told_by}
 use Rattle.command_parts.specs.InsideRefusal.{fold_what, refusal_line}
-use Rattle.linear_fold.specs.Reasons.{fault_text as fold_text}
+use Rattle.linear_fold.specs.Reasons.{fold_fault_text as fold_text}
 use Rattle.command_parts.specs.VerdictTold.{negative_line}
 use Rattle.solution_fit.specs.Fits.{fit_text}
 use Rattle.command_parts.specs.declared.answer.Answer.{Answer as Ended}
@@ -194,9 +194,9 @@ told_so rules why file text told fault first e =
 pub text_told : (text told : List ℕ) → HasTextRefusal text told → TellsLine 1 text told
 text_told text told r = record {
   line = r.fault.line;
-  why = reason_text r.fault.reason ++ opcode_text r.fault.reason;
+  why = nl_reason_text r.fault.reason ++ opcode_text r.fault.reason;
   of_text = fault_line _ _ _ r.fault.line _ r.first.first;
-  same = r.told ∙ ap (λ ts. ts ++ codes "\n") (append_assoc (refused_at 1 (codes "line") r.fault.line) (reason_text r.fault.reason) (opcode_text r.fault.reason));
+  same = r.told ∙ ap (λ ts. ts ++ codes "\n") (append_assoc (refused_at 1 (codes "line") r.fault.line) (nl_reason_text r.fault.reason) (opcode_text r.fault.reason));
 }
 
 pub sol_told : (file : ℕ) (text told : List ℕ) → IsSolRefused file text told → TellsLine file text told
@@ -276,7 +276,7 @@ negative_so number =
     (front.0 ++ codes ": no such objective", ap (λ (x : List ℕ). x ++ codes ": no such objective\n") front.1 ∙ word_so front.0 (codes ": no such objective"))
 
 line_so : (r : Refusal) → IsRefusalLine (refusal_line r)
-line_so (Nl f) = ended _ (more _ (opcode_text f.reason) (more _ (reason_text f.reason) (at_begins 1 (codes "line") f.line)))
+line_so (Nl f) = ended _ (more _ (opcode_text f.reason) (more _ (nl_reason_text f.reason) (at_begins 1 (codes "line") f.line)))
 line_so (Fold number f) = refusal_so 1 (fold_what f) number (fold_text f)
 line_so (Scale k (RowTooWide i)) = refusal_so 1 (codes "row") i (codes "row too wide")
 line_so (Scale k ObjectiveTooWide) = refusal_so 1 (codes "objective") k (codes "objective too wide")

@@ -13,7 +13,7 @@ use Rattle.certificates.specs.Told.{told_claim}
 use Rattle.certificates.specs.declared.certificate.Claim.{Claim}
 use Rattle.certificates.specs.declared.certificate.Claim.TheVariants.{Optimal, Within, Bound, Feasible, Infeasible, Unbounded}
 use Rattle.certificate_text.specs.declared.fault.CertificateReason.{CertificateReason}
-use Rattle.certificate_text.specs.Reasons.{reason_text as certificate_reason_text}
+use Rattle.certificate_text.specs.Reasons.{certificate_reason_text}
 use Rattle.command_parts.specs.LeafTold.{leaf_fault_text}
 use Rattle.command_parts.specs.Told.{number_text, refusal}
 use Rattle.command_parts.specs.VerdictTold.{cause_text as point_text}

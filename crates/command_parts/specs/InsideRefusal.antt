@@ -2,7 +2,7 @@
 use Rattle.std.specs.Prelude.{ℕ, List, codes, Result, Ok, Err}
 use Rattle.linear_fold.specs.declared.fold_fault.FoldFault.{FoldFault}
 use Rattle.linear_fold.specs.declared.fold_fault.FoldFault.TheVariants.{NoSuchObjective}
-use Rattle.linear_fold.specs.Reasons.{fault_text}
+use Rattle.linear_fold.specs.Reasons.{fold_fault_text}
 use Rattle.texts.specs.declared.stop.Stop.{Stop}
 use Rattle.texts.specs.declared.stop.Stop.TheVariants.{Fault, Memory}
 use Rattle.command_parts.specs.AnswerTold.{answer_line, return_line}
@@ -26,7 +26,7 @@ fold_what fault = codes "line"
 -- the line that tells a refusal
 abbrev pub refusal_line : Refusal → List ℕ
 refusal_line (Nl fault) = nl_line fault
-refusal_line (Fold number fault) = refusal 1 (fold_what fault) number (fault_text fault)
+refusal_line (Fold number fault) = refusal 1 (fold_what fault) number (fold_fault_text fault)
 refusal_line (Scale k fault) = scale_line k fault
 refusal_line (Mps fault) = mps_line 1 fault
 refusal_line (Sol file fault) = sol_line file fault

@@ -8,15 +8,15 @@ use Rattle.linear_fold.specs.declared.fold_fault.FoldFault.{FoldFault}
 use Rattle.linear_fold.specs.declared.fold_fault.FoldFault.TheVariants.{Nonlinear, DivideByZero, TooWide, RefusedPower, FoldTooLarge, NoSuchObjective}
 use Rattle.scaling.specs.declared.scale_fault.ScaleFault.{ScaleFault}
 use Rattle.scaling.specs.declared.scale_fault.ScaleFault.TheVariants.{RowTooWide, ObjectiveTooWide}
-use Rattle.nl_lines.specs.Reasons.{opcode_text, reason_text}
-use Rattle.linear_fold.specs.Reasons.{fault_text}
-use Rattle.scaling.specs.Reasons.{fault_text as scale_text}
+use Rattle.nl_lines.specs.Reasons.{opcode_text, nl_reason_text}
+use Rattle.linear_fold.specs.Reasons.{fold_fault_text}
+use Rattle.scaling.specs.Reasons.{scale_fault_text as scale_text}
 use Rattle.command_parts.specs.Told.{refused_at, refusal}
 
 -- the line of a fault of an .nl text
 abbrev pub nl_line : NlFault → List ℕ
 nl_line f =
-    refused_at 1 (codes "line") f.line ++ reason_text f.reason ++ opcode_text f.reason ++ codes "\n"
+    refused_at 1 (codes "line") f.line ++ nl_reason_text f.reason ++ opcode_text f.reason ++ codes "\n"
 
 abbrev pub line_or_zero : Option ℕ → ℕ
 line_or_zero None = 0
@@ -28,13 +28,13 @@ placed_line places at text = refusal 1 (codes "line") (line_or_zero (place_line 
 
 -- the line of a fault of the fold
 abbrev pub fold_line : PlaceLines → FoldFault → List ℕ
-fold_line places (Nonlinear at) = placed_line places at (fault_text (Nonlinear at))
-fold_line places (DivideByZero at) = placed_line places at (fault_text (DivideByZero at))
-fold_line places (TooWide at) = placed_line places at (fault_text (TooWide at))
-fold_line places (RefusedPower at) = placed_line places at (fault_text (RefusedPower at))
-fold_line places (FoldTooLarge at) = placed_line places at (fault_text (FoldTooLarge at))
+fold_line places (Nonlinear at) = placed_line places at (fold_fault_text (Nonlinear at))
+fold_line places (DivideByZero at) = placed_line places at (fold_fault_text (DivideByZero at))
+fold_line places (TooWide at) = placed_line places at (fold_fault_text (TooWide at))
+fold_line places (RefusedPower at) = placed_line places at (fold_fault_text (RefusedPower at))
+fold_line places (FoldTooLarge at) = placed_line places at (fold_fault_text (FoldTooLarge at))
 fold_line places (NoSuchObjective k) =
-    refusal 1 (codes "objective") k (fault_text (NoSuchObjective k))
+    refusal 1 (codes "objective") k (fold_fault_text (NoSuchObjective k))
 
 -- the place of a fault of the fold, where it has one, has a line
 abbrev pub HasLine : PlaceLines → FoldFault → Type 0

@@ -4,7 +4,7 @@ use Rattle.duality.specs.Branch.{LeafFault}
 use Rattle.texts.specs.declared.fault.TextFault.{TextFault}
 use Rattle.proof_text.specs.declared.fault.ProofReason.{ProofReason}
 use Rattle.command_parts.specs.LeafTold.{leaf_fault_text}
-use Rattle.proof_text.specs.Reasons.{reason_text as proof_reason_text}
+use Rattle.proof_text.specs.Reasons.{proof_reason_text}
 use Rattle.command_parts.specs.Told.{refusal}
 
 -- the line of a fault of a proof text, which is this file of its command

@@ -5,10 +5,10 @@ use Rattle.dual_return.specs.declared.fault.ReturnFault.{ReturnFault}
 use Rattle.dual_return.specs.declared.fault.ReturnFault.TheVariants.{DualTooWide}
 
 -- the words of each fault
-abbrev pub fault_text : ReturnFault → List ℕ
-fault_text (DualTooWide i) = codes "dual too wide"
+abbrev pub return_fault_text : ReturnFault → List ℕ
+return_fault_text (DualTooWide i) = codes "dual too wide"
 
 -- the same, with the constraint
 abbrev pub shown_text : ReturnFault → List ℕ
 shown_text (DualTooWide i) =
-    codes "row " ++ decimal i ++ codes ": " ++ fault_text (DualTooWide i)
+    codes "row " ++ decimal i ++ codes ": " ++ return_fault_text (DualTooWide i)

@@ -1,6 +1,6 @@
 // Why a file has no linear program.
 ghost use Rattle.std.specs.Prelude.{◌≡◌, ◌≤◌, length};
-ghost use Rattle.linear_fold.specs.Reasons.{fault_text};
+ghost use Rattle.linear_fold.specs.Reasons.{fold_fault_text};
 
 use nl_model::At;
 use std::fmt;
@@ -23,7 +23,7 @@ pub enum FoldFault {
 impl FoldFault {
     /// What is said of it, without its number.
     pub fn text(self) -> &'static str
-        ensures text { result.now ≡ fault_text self }
+        ensures text { result.now ≡ fold_fault_text self }
         ensures brief { length result.now ≤ 24 }
     {
         match self {

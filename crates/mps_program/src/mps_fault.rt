@@ -1,6 +1,6 @@
 // Why a program has no linear program.
 ghost use Rattle.std.specs.Prelude.{◌≡◌, ◌≤◌, length};
-ghost use Rattle.mps_program.specs.Reasons.{fault_text};
+ghost use Rattle.mps_program.specs.Reasons.{mps_fault_text};
 
 use std::fmt;
 
@@ -19,7 +19,7 @@ pub enum MpsFault {
 impl MpsFault {
     /// What is said of it, without its number.
     pub fn text(self) -> &'static str
-        ensures text { result.now ≡ fault_text self }
+        ensures text { result.now ≡ mps_fault_text self }
         ensures brief { length result.now ≤ 24 }
     {
         match self {

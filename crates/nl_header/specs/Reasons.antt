@@ -4,11 +4,11 @@ use Rattle.nl_header.specs.declared.fault.HeadFault.{HeadFault}
 use Rattle.nl_header.specs.declared.fault.HeadFault.TheVariants.{BinaryFile, BadFirstLine, Options, BadHeaderNumber, CountsDisagree, RefusedCount, TooLarge}
 
 -- the words of each fault
-abbrev pub fault_text : HeadFault → List ℕ
-fault_text BinaryFile = codes "binary file"
-fault_text BadFirstLine = codes "bad first line"
-fault_text Options = codes "refused options"
-fault_text BadHeaderNumber = codes "bad header number"
-fault_text CountsDisagree = codes "counts disagree"
-fault_text RefusedCount = codes "refused count"
-fault_text TooLarge = codes "too large"
+abbrev pub head_fault_text : HeadFault → List ℕ
+head_fault_text BinaryFile = codes "binary file"
+head_fault_text BadFirstLine = codes "bad first line"
+head_fault_text Options = codes "refused options"
+head_fault_text BadHeaderNumber = codes "bad header number"
+head_fault_text CountsDisagree = codes "counts disagree"
+head_fault_text RefusedCount = codes "refused count"
+head_fault_text TooLarge = codes "too large"

@@ -1,6 +1,6 @@
 // What may be wrong with a header line.
 ghost use Rattle.std.specs.Prelude.{◌≡◌};
-ghost use Rattle.nl_header.specs.Reasons.{fault_text};
+ghost use Rattle.nl_header.specs.Reasons.{head_fault_text};
 
 use std::fmt;
 
@@ -27,7 +27,7 @@ pub enum HeadFault {
 impl HeadFault {
     /// What is said of it.
     pub fn text(self) -> &'static str
-        ensures { result.now ≡ fault_text self }
+        ensures { result.now ≡ head_fault_text self }
     {
         match self {
             HeadFault::BinaryFile => "binary file",
@@ -43,9 +43,9 @@ impl HeadFault {
 
 impl fmt::Display for HeadFault {
     ghost use Rattle.std.specs.Prelude.{Some};
-    ghost use Rattle.nl_header.specs.Reasons.{fault_text};
+    ghost use Rattle.nl_header.specs.Reasons.{head_fault_text};
 
-    ghost output = { λ fault. Some (fault_text fault) };
+    ghost output = { λ fault. Some (head_fault_text fault) };
 
     fn fmt<W: fmt::Write>(&self, f: &mut fmt::Formatter<W>) -> fmt::Result {
         let text = self.text();

@@ -1,6 +1,6 @@
 // What may be wrong with an .nl text.
 ghost use Rattle.std.specs.Prelude.{◌≡◌, ◌≤◌, length};
-ghost use Rattle.nl_lines.specs.Reasons.{reason_text};
+ghost use Rattle.nl_lines.specs.Reasons.{nl_reason_text};
 
 use std::fmt;
 
@@ -43,7 +43,7 @@ pub enum NlReason {
 impl NlReason {
     /// What is said of it, but for the number of an opcode.
     pub fn text(self) -> &'static str
-        ensures text { result.now ≡ reason_text self }
+        ensures text { result.now ≡ nl_reason_text self }
         ensures brief { length result.now ≤ 24 }
     {
         match self {
@@ -83,9 +83,9 @@ impl NlReason {
 
 impl fmt::Display for NlReason {
     ghost use Rattle.std.specs.Prelude.{◌++◌, Some};
-    ghost use Rattle.nl_lines.specs.Reasons.{opcode_text, reason_text};
+    ghost use Rattle.nl_lines.specs.Reasons.{opcode_text, nl_reason_text};
 
-    ghost output = { λ reason. Some (reason_text reason ++ opcode_text reason) };
+    ghost output = { λ reason. Some (nl_reason_text reason ++ opcode_text reason) };
 
     fn fmt<W: fmt::Write>(&self, f: &mut fmt::Formatter<W>) -> fmt::Result {
         let text = self.text();

@@ -1,6 +1,6 @@
 // What is wrong with a proof text.
 ghost use Rattle.std.specs.Prelude.{◌≡◌, ◌≤◌, length};
-ghost use Rattle.proof_text.specs.Reasons.{reason_text};
+ghost use Rattle.proof_text.specs.Reasons.{proof_reason_text};
 
 use std::fmt;
 use texts::TextFault;
@@ -25,7 +25,7 @@ pub enum ProofReason {
 impl ProofReason {
     /// What is said of it.
     pub fn text(self) -> &'static str
-        ensures text { result.now ≡ reason_text self }
+        ensures text { result.now ≡ proof_reason_text self }
         ensures brief { length result.now ≤ 24 }
     {
         match self {
@@ -46,9 +46,9 @@ impl ProofReason {
 
 impl fmt::Display for ProofReason {
     ghost use Rattle.std.specs.Prelude.{Some};
-    ghost use Rattle.proof_text.specs.Reasons.{reason_text};
+    ghost use Rattle.proof_text.specs.Reasons.{proof_reason_text};
 
-    ghost output = { λ reason. Some (reason_text reason) };
+    ghost output = { λ reason. Some (proof_reason_text reason) };
 
     fn fmt<W: fmt::Write>(&self, f: &mut fmt::Formatter<W>) -> fmt::Result {
         let text = self.text();

@@ -5,12 +5,12 @@ use Rattle.scaling.specs.declared.scale_fault.ScaleFault.{ScaleFault}
 use Rattle.scaling.specs.declared.scale_fault.ScaleFault.TheVariants.{RowTooWide, ObjectiveTooWide}
 
 -- the words of each fault
-abbrev pub fault_text : ScaleFault → List ℕ
-fault_text (RowTooWide i) = codes "row too wide"
-fault_text ObjectiveTooWide = codes "objective too wide"
+abbrev pub scale_fault_text : ScaleFault → List ℕ
+scale_fault_text (RowTooWide i) = codes "row too wide"
+scale_fault_text ObjectiveTooWide = codes "objective too wide"
 
 -- the same, with the row
 abbrev pub shown_text : ScaleFault → List ℕ
 shown_text (RowTooWide i) =
-    codes "row " ++ decimal i ++ codes ": " ++ fault_text (RowTooWide i)
-shown_text ObjectiveTooWide = fault_text ObjectiveTooWide
+    codes "row " ++ decimal i ++ codes ": " ++ scale_fault_text (RowTooWide i)
+shown_text ObjectiveTooWide = scale_fault_text ObjectiveTooWide

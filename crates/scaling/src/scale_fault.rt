@@ -1,6 +1,6 @@
 // Why a linear program has no decimal program.
 ghost use Rattle.std.specs.Prelude.{◌≡◌, ◌≤◌, length};
-ghost use Rattle.scaling.specs.Reasons.{fault_text};
+ghost use Rattle.scaling.specs.Reasons.{scale_fault_text};
 
 use std::fmt;
 
@@ -16,7 +16,7 @@ pub enum ScaleFault {
 impl ScaleFault {
     /// What is said of it, without its number.
     pub fn text(self) -> &'static str
-        ensures text { result.now ≡ fault_text self }
+        ensures text { result.now ≡ scale_fault_text self }
         ensures brief { length result.now ≤ 24 }
     {
         match self {
