@@ -81,8 +81,8 @@ pub fn infeasible_problems()
 
 /// The gap that is told of the first leaf that does not close is a bound of that leaf's part.
 pub fn gaps_are_bounds()
-    ensures parts { (p : Part) (tree : BranchTree) (fault : LeafFault) → branch_fault p 0 tree ≡ Some fault
-        → LeafDenies p tree fault }
+    ensures parts { (p : Part) (tree : BranchTree) (fault : LeafFault)
+        → branch_fault p 0 tree ≡ Some fault → LeafDenies p tree fault }
     ensures proofs { (f : Linear) (v : ℚ) (tree : BranchTree) (fault : LeafFault)
         → proof_fault f v tree ≡ Some fault → IsLeafDenied f tree fault }
 {}

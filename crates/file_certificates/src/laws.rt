@@ -126,7 +126,8 @@ pub fn claims_are_true()
 /// not whole, that the point is feasible, the bound of a leaf.
 pub fn claims_are_denied()
     ensures { (f : File) (c : CertificateValue) → IsFile f
-        → fold_fault f (claim_objective c.claim) ≡ None → (h : IsCertificateIn f c) → (cause : Cause)
+        → fold_fault f (claim_objective c.claim) ≡ None → (h : IsCertificateIn f c)
+        → (cause : Cause)
         → claim_outcome (linear_of f (claim_objective c.claim)) c.claim h.given ≡ fails cause
         → Denies (problem_of f (claim_objective c.claim)) (linear_of f (claim_objective c.claim))
         (certificate_over f.counts.n_var f.counts.n_con c.claim h.given) cause }

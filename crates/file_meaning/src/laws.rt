@@ -72,7 +72,8 @@ pub fn parts_are_linear()
 pub fn definitions_are_linear()
     ensures values { (f : File) → IsFile f → (i : ℕ) (d : Definition)
         → slice_get (definitions_of f) i ≡ Some d → (u : Tree) → IsPart u d.expression.tree
-        → (at : Point) → tree_value (take i (definitions_of f)) u at ≡ tree_value (definitions_of f) u at }
+        → (at : Point)
+        → tree_value (take i (definitions_of f)) u at ≡ tree_value (definitions_of f) u at }
     ensures linear { (f : File) (k : ℕ) → IsFile f → fold_fault f k ≡ None → (i : ℕ)
         (d : Definition) → slice_get (definitions_of f) i ≡ Some d → (u : Tree)
         → IsPart u d.expression.tree → IsLinearTree f.counts.n_var (definitions_of f) u }
