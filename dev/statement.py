@@ -260,7 +260,7 @@ class Theorem:
     two_senses: int = 0         # names that stand for two things in it: never more
 
 
-HEADLINE = "bridge_tool/Promise:Answers"
+HEADLINE = "command_parts/Promise:Answers"
 
 # What numbers are: it stands last, since few doubt it.
 ARITHMETIC = ("fractions", "exact_numbers/Fraction", "exact_numbers/Values")
@@ -272,7 +272,7 @@ THEOREMS = (
             "text, `nl_segments/Reader` (`IsNl`) says which texts are .nl texts and what they say, `file_meaning/Meaning` "
             "which assignments satisfy a file, `nl_meaning/Faults` and `file_meaning/FoldFaults` what does not fold, "
             "`scaled_program` what its linear program is scaled to, `exported_program` that as MPS, `mps_model/Mps` what "
-            "an MPS program means, `mps_model/Text` its text, `bridge_tool/Export` and `Promise` what is promised of all that."),
+            "an MPS program means, `mps_model/Text` its text, `bridge_tool/Export` and `command_parts/Promise` what is promised of all that."),
     Theorem("what an export means", ("bridge_tool/Export:MeansTheFile",),
             "The program that is written means what the file means: this much has to be read to believe only that."),
     Theorem("what an export is read as",

@@ -10,7 +10,7 @@ use Rattle.bridge_tool.specs.Export.{IsExportMeant}
 use Rattle.bridge_tool.specs.Import.{MeansTheProgram}
 use Rattle.bridge_tool.specs.Make.{make_promise}
 use Rattle.bridge_tool.specs.Mps.{IsMpsMeant}
-use Rattle.bridge_tool.specs.Outcome.{Outcome, BadWords, Untold, Status, Written, IsQuiet, Told, told_line, NoText, Refused, Done, verdict_status}
+use Rattle.command_parts.specs.Outcome.{Outcome, BadWords, Untold, Status, Written, IsQuiet, Told, told_line, NoText, Refused, Done, verdict_status}
 use Rattle.bridge_tool.specs.Prove.{IsLeftOpen, IsProvedOf}
 use Rattle.bridge_tool.specs.Return.{IsReturnMeant}
 use Rattle.bridge_tool.specs.Sol.{IsSolMeant}
@@ -18,22 +18,23 @@ use Rattle.bridge_tool.specs.Verify.{IsDenied, IsVerified}
 use Rattle.bridge_tool.specs.VerifyMps.{IsDeniedMps, IsVerifiedMps}
 use Rattle.bridge_tool.proofs.Programs.{program_last, program_read}
 use Rattle.bridge_tool.proofs.Verdicts.{check_last, prove_last, verify_last}
-use Rattle.bridge_tool.proofs.Exporting.{export_last, nl_read}
+use Rattle.command_parts.proofs.TextsRead.{nl_read}
+use Rattle.bridge_tool.proofs.Exporting.{export_last}
 use Rattle.bridge_tool.proofs.OneFile.{import_last, fixed_last, mps_last, nl_last, sol_last}
 use Rattle.bridge_tool.proofs.Making.{make_one}
-use Rattle.bridge_tool.proofs.NameLists.{listed_sound}
+use Rattle.command_parts.proofs.NameLists.{listed_sound}
 use Rattle.bridge_tool.proofs.NamedExporting.{after_names as named_next, names_sound as named_next_sound}
-use Rattle.bridge_tool.proofs.SeveralFiles.{HasOne, IsPlain, NoVerdict, both_sound, last_sound}
+use Rattle.command_parts.proofs.SeveralFiles.{HasOne, IsPlain, NoVerdict, both_sound, last_sound}
 use Rattle.bridge_tool.proofs.Returning.{after_names as return_next, names_sound as return_next_sound, return_last}
 use Rattle.std.proofs.lemmas.Bool.{cases_lt}
 use Rattle.std.proofs.lemmas.Option.{IfSome_then}
-use Rattle.bridge_tool.specs.InsideAnswer.{IsWorked, status_of, told_by}
-use Rattle.bridge_tool.specs.Promise.{Answers, IsInputRefused, LacksText, Promise}
-use Rattle.bridge_tool.specs.Told.{IsRefusalLine}
-use Rattle.bridge_tool.specs.Transfer.{TellsFront}
-use Rattle.bridge_tool.specs.declared.answer.Answer.{Answer}
-use Rattle.bridge_tool.proofs.Ending.{line_none, low}
-use Rattle.bridge_tool.proofs.FaultLines.{refusal_told}
+use Rattle.command_parts.specs.InsideAnswer.{IsWorked, status_of, told_by}
+use Rattle.command_parts.specs.Promise.{Answers, IsInputRefused, LacksText, Promise}
+use Rattle.command_parts.specs.Told.{IsRefusalLine}
+use Rattle.command_parts.specs.Transfer.{TellsFront}
+use Rattle.command_parts.specs.declared.answer.Answer.{Answer}
+use Rattle.command_parts.proofs.Ending.{line_none, low}
+use Rattle.command_parts.proofs.FaultLines.{refusal_told}
 use Rattle.std.specs.Io.KnownBytes.{Appends}
 
 -- ---- commands

@@ -1,5 +1,5 @@
 -- An instance is summed up in one line, or its written text is refused with one line.
-use Rattle.std.proofs.Common.{◌≡◌, ◌∙◌, ℕ, suc, ◌+◌, ◌<◌, ◌≤◌, ◌^◌, Bool, List, [], ◌∷◌, map, length, get_or, drop, Option, Some, None, cond, refl, sym, ap, ap₂, arith, inl, inr, true, false, if◌then◌else◌, Result, Ok, Err, subst}
+use Rattle.std.proofs.Common.{[], ◌≡◌, ◌∙◌, ℕ, suc, ◌+◌, ◌<◌, ◌≤◌, ◌^◌, Bool, List, ◌∷◌, map, length, get_or, drop, Option, Some, None, cond, refl, sym, ap, ap₂, arith, inl, inr, true, false, if◌then◌else◌, Result, Ok, Err, subst}
 use Rattle.std.specs.List.{count_by, sum_by}
 use Rattle.std.proofs.lemmas.List.Sums.{count_by-le-length, sum_by-cons, sum_by-drop_more, sum_by-le-sum_by}
 use Rattle.exact_numbers.specs.declared.dec.Dec.{Dec}
@@ -31,20 +31,22 @@ use Rattle.scaling.specs.Scaled.{ScaledValue}
 use Rattle.desk.specs.Desk.{Meaning, OnlyMessages}
 use Rattle.texts.specs.declared.stop.Stop.{Stop}
 use Rattle.texts.specs.declared.stop.Stop.TheVariants.{Fault as IsFault, Memory as IsMemory}
-use Rattle.bridge_tool.specs.InsideAnswer.{Ends, IsWorked, status_of}
+use Rattle.command_parts.specs.InsideAnswer.{Ends, IsWorked, status_of}
 use Rattle.bridge_tool.specs.Command.{Command, Make}
 use Rattle.bridge_tool.specs.Commands.{Leaves}
-use Rattle.bridge_tool.specs.declared.refusal.Refusal.{Refusal}
-use Rattle.bridge_tool.specs.InsideRefusal.{refusal_line}
-use Rattle.bridge_tool.specs.Outcome.{Outcome, Refused, Done}
-use Rattle.bridge_tool.specs.Refusal.{HasTextRefusal}
-use Rattle.bridge_tool.specs.SeveralFiles.{Comes}
-use Rattle.bridge_tool.specs.Stages.{HasFolded, HasScaled, CannotBeExported, fold_steps}
-use Rattle.bridge_tool.specs.declared.answer.Answer.{Answer}
-use Rattle.bridge_tool.proofs.Ending.{HasComeTo, ends_status, memory_worked, refused_worked, wrote_worked}
-use Rattle.bridge_tool.proofs.Exporting.{an_export, exports_so, nl_read, one_program, one_text, same_file, staged_either, staged_so}
-use Rattle.bridge_tool.proofs.Known.{OnlyInput-same}
-use Rattle.bridge_tool.proofs.SeveralFiles.{HasOne, IsPlain, done_so, of_yes, one_by_value, one_of_both, plain_known}
+use Rattle.command_parts.specs.declared.refusal.Refusal.{Refusal}
+use Rattle.command_parts.specs.InsideRefusal.{refusal_line}
+use Rattle.command_parts.specs.Outcome.{Outcome, Refused, Done}
+use Rattle.command_parts.specs.Refusal.{HasTextRefusal}
+use Rattle.command_parts.specs.SeveralFiles.{Comes}
+use Rattle.command_parts.specs.Stages.{HasFolded, HasScaled, CannotBeExported, fold_steps}
+use Rattle.command_parts.specs.declared.answer.Answer.{Answer}
+use Rattle.command_parts.proofs.Ending.{HasComeTo, ends_status, memory_worked, refused_worked, wrote_worked}
+use Rattle.command_parts.proofs.TextsRead.{nl_read, same_file}
+use Rattle.command_parts.proofs.ExportStages.{exports_so, one_program, staged_so}
+use Rattle.bridge_tool.proofs.Exporting.{an_export, one_text, staged_either}
+use Rattle.command_parts.proofs.Known.{OnlyInput-same}
+use Rattle.command_parts.proofs.SeveralFiles.{HasOne, IsPlain, done_so, of_yes, one_by_value, one_of_both, plain_known}
 
 -- ---- coefficients
 

@@ -1,5 +1,5 @@
 -- What a file with two lists of names comes to: one outcome, what its program means, and that its text is read back.
-use Rattle.std.proofs.Common.{◌≡◌, ◌∙◌, inl, inr, ◌⊎◌, ◌↔◌, ℕ, ◌+◌, ◌≤◌, List, false, refl, sym, ap, arith, ◌^◌, [], ◌∷◌, ◌++◌, length, map, Some, subst, All}
+use Rattle.std.proofs.Common.{[], ◌≡◌, ◌∙◌, inl, inr, ◌⊎◌, ◌↔◌, ℕ, ◌+◌, ◌≤◌, List, false, refl, sym, ap, arith, ◌^◌, ◌∷◌, ◌++◌, length, map, Some, subst, All}
 use Rattle.fractions.specs.Rational.{ℚ}
 use Rattle.exact_numbers.specs.Values.{value_text, dec_value}
 use Rattle.file_meaning.specs.LinearFile.{linear_of, linear_row, linear_variable}
@@ -12,14 +12,15 @@ use Rattle.scaling.specs.Exported.{scaled_as}
 use Rattle.scaling.specs.Scaled.{ScaledValue}
 use Rattle.desk.specs.Desk.{Texts}
 use Rattle.bridge_tool.specs.Export.{IsExported, IsSameProgram, IsTiedProgram, MeansTheFile}
-use Rattle.bridge_tool.specs.NameLists.{AreListed, IsListRefused, column_counts, row_counts}
+use Rattle.command_parts.specs.NameLists.{AreListed, IsListRefused, column_counts, row_counts}
 use Rattle.bridge_tool.specs.NamedExport.{AreNamedMeant, IsNamedExport, Named, NamedComesTo, named_end}
 use Rattle.bridge_tool.specs.InsideExport.{IsNamedTextOf}
-use Rattle.bridge_tool.specs.Promise.{Promise}
-use Rattle.bridge_tool.specs.Stages.{HasFolded, HasScaled, CannotBeExported, fold_steps}
-use Rattle.bridge_tool.proofs.NameLists.{list_read, listed_count}
-use Rattle.bridge_tool.proofs.SeveralFiles.{IsEither, IsLast, IsSound, either_last, one_of_both, sound_end}
-use Rattle.bridge_tool.proofs.Exporting.{a_program, exports_so, one_program, staged_either, staged_so, file_program, text_file, decimal_decided}
+use Rattle.command_parts.specs.Promise.{Promise}
+use Rattle.command_parts.specs.Stages.{HasFolded, HasScaled, CannotBeExported, fold_steps}
+use Rattle.command_parts.proofs.NameLists.{list_read, listed_count}
+use Rattle.command_parts.proofs.SeveralFiles.{IsEither, IsLast, IsSound, either_last, one_of_both, sound_end}
+use Rattle.command_parts.proofs.ExportStages.{a_program, exports_so, one_program, staged_so, decimal_decided}
+use Rattle.bridge_tool.proofs.Exporting.{staged_either, file_program, text_file}
 use Rattle.program_meaning.specs.Linear.{Linear, Row, Variable}
 use Rattle.program_meaning.specs.Names.{row_name, variable_name}
 use Rattle.texts.specs.Reading.{last_of, lines_of}

@@ -1,5 +1,5 @@
 -- The plain number that a word is.
-use Rattle.std.proofs.Common.{◌≡◌, ◌∙◌, ℕ, ◌^◌, Bool, true, false, ◌&&◌, not, nat_lt, nat_eq, List, [], ◌∷◌, length, get_or, Some, None, Ok, Err, refl, sym, ap, subst}
+use Rattle.std.proofs.Common.{[], ◌≡◌, ◌∙◌, ℕ, ◌^◌, Bool, true, false, ◌&&◌, not, nat_lt, nat_eq, List, ◌∷◌, length, get_or, Some, None, Ok, Err, refl, sym, ap, subst}
 use Rattle.std.proofs.lemmas.Bool.{and_from, and_left, and_parts, and_right, cond-false, cond-true, eqb-false, eqb-true, false_from_ne_true, lt-ltb, ltb-true, not_from_false, not_from_true}
 use Rattle.std.proofs.lemmas.Str.Parse.{IsNumeralModel, numerals_by_value, tells_all_ascii_digits, parse_plain}
 use Rattle.std.specs.Str.{all_ascii_digits}

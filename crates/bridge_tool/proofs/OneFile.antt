@@ -1,62 +1,50 @@
 -- Commands of one file that write what it says, or what it is imported as; and what each comes to, by its text.
-use Rattle.std.proofs.Common.{◌≡◌, inl, true, false, refl, ℕ, List, ap, Bool, Option, Some, None, Result, Ok, Err, inr, ◌⊎◌, ◌↔◌, ◌+◌, ◌≤◌, take, sym, subst}
-use Rattle.std.specs.Prelude.{map, IfOk}
+use Rattle.std.proofs.Common.{◌≡◌, inl, true, false, refl, ℕ, List, Bool, Option, Some, None, Result, Ok, Err, inr, ◌⊎◌, ◌↔◌, ◌+◌, ◌≤◌, take, sym, subst}
+use Rattle.std.specs.Prelude.{IfOk}
 use Rattle.exact_numbers.specs.Values.{dec_value}
 use Rattle.exact_numbers.specs.declared.dec.Dec.{Dec}
 use Rattle.mps_model.specs.Mps.{Mps}
 use Rattle.mps_model.specs.Valid.{IsMps}
-use Rattle.mps_reader.specs.Grammar.{SaysMps, mps_rules, standing}
 use Rattle.mps_reader.specs.Reader.{IsMpsText}
 use Rattle.mps_reader.specs.Written.{mps_text}
 use Rattle.mps_reader.proofs.RoundTrip.{written_again}
-use Rattle.fixed_mps.specs.Fields.{free}
-use Rattle.fixed_mps.specs.Grammar.{SaysFixed, fixed_rules}
 use Rattle.fixed_mps.specs.Reader.{IsFixedText}
-use Rattle.bridge_tool.specs.Mps.{IsMpsMeant, IsMpsRefused, mps_told}
-use Rattle.bridge_tool.specs.Fixed.{IsFixedRefused, fixed_told}
-use Rattle.bridge_tool.specs.MpsTold.{mps_line}
-use Rattle.bridge_tool.specs.Outcome.{Done, Outcome, Refused}
-use Rattle.bridge_tool.specs.Promise.{Promise}
-use Rattle.bridge_tool.proofs.SeveralFiles.{AreRead, read_by, same_one, IsLast, read_so, IsPlain, of_yes, one_refused, one_said, writes_last}
-use Rattle.sol_files.specs.Reader.{HasSolFault, IsSol}
+use Rattle.bridge_tool.specs.Mps.{IsMpsMeant, mps_told}
+use Rattle.bridge_tool.specs.Fixed.{fixed_told}
+use Rattle.command_parts.specs.Outcome.{Done, Outcome, Refused}
+use Rattle.command_parts.specs.Promise.{Promise}
+use Rattle.command_parts.proofs.SeveralFiles.{AreRead, same_one, IsLast, IsPlain, of_yes, one_refused, one_said, writes_last}
+use Rattle.sol_files.specs.Reader.{IsSol}
 use Rattle.sol_files.specs.Sol.{Sol}
 use Rattle.sol_files.specs.Written.{sol_text}
 use Rattle.sol_files.proofs.KeptTexts.{read_keeps}
-use Rattle.sol_files.proofs.ReadingLemmas.{one_reading}
 use Rattle.sol_files.proofs.RoundTrip.{is_read_back}
-use Rattle.bridge_tool.specs.Sol.{IsSolMeant, IsSolRefused, sol_told}
-use Rattle.bridge_tool.specs.SolTold.{sol_line}
+use Rattle.bridge_tool.specs.Sol.{IsSolMeant, sol_told}
 use Rattle.nl_round_trip.specs.Writable.{IsText}
 use Rattle.nl_round_trip.proofs.Rewriting.{written_again as nl_again}
 use Rattle.nl_segments.specs.Grammar.{NlValue}
 use Rattle.nl_segments.specs.Reader.{IsNl}
 use Rattle.nl_writer.specs.Written.{nl_text}
-use Rattle.bridge_tool.specs.Refusal.{HasTextRefusal}
-use Rattle.bridge_tool.proofs.Exporting.{nl_read}
+use Rattle.command_parts.specs.Refusal.{HasTextRefusal, IsFixedRefused, IsMpsRefused, IsSolRefused}
+use Rattle.command_parts.proofs.TextsRead.{fixed_read, mps_read, nl_read, sol_read}
 use Rattle.std.specs.Global.{Vec}
 use Rattle.mps_import.proofs.LawLemmas.{feasible_lem, objective_lem, sense_lem}
 use Rattle.mps_import.specs.declared.import_fault.ImportFault.{ImportFault}
 use Rattle.mps_import.specs.Faults.{import_fault}
 use Rattle.texts.specs.declared.stop.Stop.{Stop}
 use Rattle.bridge_tool.specs.Import.{MeansTheProgram, by_fault, import_outcome, CannotBeImported, IsImportedAs, import_told}
-use Rattle.bridge_tool.specs.SeveralFiles.{ByVerdict, Comes, after_file, ends, writes}
-use Rattle.bridge_tool.specs.declared.refusal.Refusal.{Refusal}
+use Rattle.command_parts.specs.SeveralFiles.{ByVerdict, Comes, after_file, ends, writes}
+use Rattle.command_parts.specs.declared.refusal.Refusal.{Refusal}
 use Rattle.desk.specs.Desk.{Texts}
 use Rattle.mps_import.specs.Import.{import_of}
 use Rattle.bridge_tool.specs.ByText.{IsByText, IsWritingByText}
 use Rattle.bridge_tool.specs.Export.{ExportsAs, IsExportMeant, IsExported, export_told}
-use Rattle.bridge_tool.specs.ImportTold.{import_line}
+use Rattle.command_parts.specs.ImportTold.{import_line}
 use Rattle.bridge_tool.specs.Nl.{nl_told}
-use Rattle.bridge_tool.specs.Stages.{CannotBeExported, fold_steps}
-use Rattle.bridge_tool.specs.declared.transfer.TheConstants.{LIMIT}
+use Rattle.command_parts.specs.Stages.{CannotBeExported, fold_steps}
+use Rattle.command_parts.specs.declared.transfer.TheConstants.{LIMIT}
 
 -- ---- reading
-
-pub mps_read : AreRead IsMpsText IsMpsRefused
-mps_read = read_by mps_rules SaysMps (mps_line 1) (λ lines. (standing lines).draft.mps) (λ lines m h. h) (λ lines. refl)
-
-pub fixed_read : AreRead IsFixedText IsFixedRefused
-fixed_read = read_by fixed_rules SaysFixed (mps_line 1) (λ lines. (standing (map free lines)).draft.mps) (λ lines m h. h) (λ lines. refl)
 
 -- ---- writing
 
@@ -69,12 +57,6 @@ fixed_last = writes_last fixed_read mps_text
 -- a whole program is written as a text that is read as itself
 pub mps_meant : (m : Mps Dec) → IsMps dec_value m → IsMpsMeant m
 mps_meant m valid = λ le. written_again m (record { valid = valid; room = le })
-
--- each text says one value, or is refused with one line
-pub sol_read : (file : ℕ) → AreRead IsSol (IsSolRefused file)
-sol_read file =
-    read_so IsSol HasSolFault (sol_line file)
-    (λ text. (one_reading text).one_value) (λ text a b h k. ap (sol_line file) ((one_reading text).one_fault a b h k)) (λ text. (one_reading text).some) (λ text. (one_reading text).not_both)
 
 pub sol_last : IsLast false IsSol (IsSolRefused 1) (λ sol outcome. outcome ≡ Done true (sol_text sol)) (λ sol old new. new ≡ old)
 sol_last = writes_last (sol_read 1) sol_text

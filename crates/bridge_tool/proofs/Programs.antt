@@ -30,23 +30,24 @@ use Rattle.certificate_text.specs.Reader.{IsCertificateText}
 use Rattle.mps_certificates.specs.Problem.{mps_problem}
 use Rattle.mps_certificates.specs.Setting.{mps_setting}
 use Rattle.mps_certificates.proofs.Claims.{claim_denied, claim_true}
-use Rattle.bridge_tool.specs.CertificateTold.{HasFittingBound, is_held, outcome_line}
-use Rattle.bridge_tool.specs.ImportTold.{import_line}
-use Rattle.bridge_tool.specs.InsideRefusal.{refusal_line}
+use Rattle.command_parts.specs.CertificateTold.{HasFittingBound, is_held, outcome_line}
+use Rattle.command_parts.specs.ImportTold.{import_line}
+use Rattle.command_parts.specs.InsideRefusal.{refusal_line}
 use Rattle.bridge_tool.specs.InsideVerifyMps.{GivesProgram, IsProgramOf}
-use Rattle.bridge_tool.specs.Outcome.{Refused as IsRefusal, Done}
-use Rattle.bridge_tool.specs.SeveralFiles.{Answered, ByVerdict, Comes, HasEnded, ReadsFile, itself}
-use Rattle.bridge_tool.specs.Told.{refusal}
-use Rattle.bridge_tool.specs.Verify.{IsCertificateRefused, by_claim}
+use Rattle.command_parts.specs.Outcome.{Refused as IsRefusal, Done}
+use Rattle.command_parts.specs.SeveralFiles.{Answered, ByVerdict, Comes, HasEnded, ReadsFile, itself}
+use Rattle.command_parts.specs.Told.{refusal}
+use Rattle.command_parts.specs.Refusal.{IsCertificateRefused}
+use Rattle.bridge_tool.specs.Verify.{by_claim}
 use Rattle.bridge_tool.specs.VerifyMps.{HasNoLinear, HasProgram, IsDeniedMps, IsProgramRefused, IsTextIn, IsTextRefused, IsVerifiedMps, as_import, by_objective, program_outcome, program_shown, verify_mps_outcome}
-use Rattle.bridge_tool.specs.declared.answer.Answer.{Answer}
-use Rattle.bridge_tool.specs.declared.answer.Answer.TheVariants.{Refused, InputFault, NoMemory}
-use Rattle.bridge_tool.specs.declared.refusal.Refusal.{Refusal}
+use Rattle.command_parts.specs.declared.answer.Answer.{Answer}
+use Rattle.command_parts.specs.declared.answer.Answer.TheVariants.{Refused, InputFault, NoMemory}
+use Rattle.command_parts.specs.declared.refusal.Refusal.{Refusal}
 use Rattle.bridge_tool.specs.declared.verify_mps.Form.{Form}
 use Rattle.bridge_tool.specs.declared.verify_mps.Form.TheVariants.{Free, Fixed}
-use Rattle.bridge_tool.proofs.OneFile.{fixed_read, mps_read}
-use Rattle.bridge_tool.proofs.SeveralFiles.{AreRead, IsLast, IsPlain, same_one}
-use Rattle.bridge_tool.proofs.Verdicts.{ClaimSays, certificate_read, claim_means}
+use Rattle.command_parts.proofs.TextsRead.{certificate_read, fixed_read, mps_read}
+use Rattle.command_parts.proofs.SeveralFiles.{AreRead, IsLast, IsPlain, same_one}
+use Rattle.bridge_tool.proofs.Verdicts.{ClaimSays, claim_means}
 
 -- ---- the first file
 

@@ -1,5 +1,5 @@
 -- What an answer for a file comes to: one outcome, and what the duals mean.
-use Rattle.std.proofs.Common.{◌≡◌, ◌∙◌, inl, inr, ◌⊎◌, ℕ, ◌+◌, ◌≤◌, List, Bool, true, false, [], None, is_some, refl, sym, ap, subst, Err}
+use Rattle.std.proofs.Common.{[], ◌≡◌, ◌∙◌, inl, inr, ◌⊎◌, ℕ, ◌+◌, ◌≤◌, List, Bool, true, false, None, is_some, refl, sym, ap, subst, Err}
 use Rattle.std.specs.List.{list_any}
 use Rattle.desk.specs.Desk.{Texts}
 use Rattle.texts.specs.Stopped.{IfFault}
@@ -13,39 +13,26 @@ use Rattle.nl_segments.specs.Grammar.{NlValue}
 use Rattle.scaling.specs.Scaled.{ScaledValue}
 use Rattle.sol_files.specs.Sol.{Sol}
 use Rattle.sol_files.specs.Written.{sol_text}
-use Rattle.answer_file.specs.Grammar.{AnswerValue, SaysAnswer, answer_of, answer_rules, standing}
+use Rattle.answer_file.specs.Grammar.{AnswerValue}
 use Rattle.answer_file.specs.Names.{Setting, named_setting, setting_of}
-use Rattle.answer_file.specs.Reading.{IsAnswer, IsFed, Reading, ReadsAnswer}
-use Rattle.answer_file.specs.declared.fault.AnswerReason.{AnswerReason}
-use Rattle.texts.specs.declared.fault.TextFault.{TextFault}
+use Rattle.answer_file.specs.Reading.{IsAnswer}
 use Rattle.dual_return.specs.Return.{AreDualsIf, HasReturnFault, IsReturn, MeanTheProgram}
 use Rattle.dual_return.specs.declared.fault.ReturnFault.{ReturnFault}
 use Rattle.dual_return.proofs.LawOfReturn.{duals_mean}
 use Rattle.dual_return.proofs.OneReturn.{one-return}
-use Rattle.bridge_tool.specs.AnswerTold.{answer_line, return_line}
-use Rattle.bridge_tool.specs.InsideRefusal.{refused_by}
-use Rattle.bridge_tool.specs.Promise.{Promise}
-use Rattle.bridge_tool.specs.declared.refusal.Refusal.{Refusal}
-use Rattle.bridge_tool.specs.declared.refusal.Refusal.TheVariants.{Answer, Return}
-use Rattle.bridge_tool.specs.Return.{IsAnswerRefused, IsReturnMeant, IsReturned, IsReturnRefused, Makes, ReturnsAs, after_answer}
-use Rattle.bridge_tool.specs.SeveralFiles.{Says, itself}
-use Rattle.bridge_tool.specs.Stages.{HasFolded, HasScaled, CanBeExported, CannotBeExported, fold_steps}
-use Rattle.bridge_tool.proofs.SeveralFiles.{AreRead, IsEither, IsLast, IsSound, NoVerdict, either_last, last_sound, read_by}
-use Rattle.bridge_tool.proofs.Exporting.{folded_at, one_reason, staged, staged_or_not, staged_so}
+use Rattle.command_parts.specs.AnswerTold.{return_line}
+use Rattle.command_parts.specs.InsideRefusal.{refused_by}
+use Rattle.command_parts.specs.Promise.{Promise}
+use Rattle.command_parts.specs.declared.refusal.Refusal.{Refusal}
+use Rattle.command_parts.specs.declared.refusal.Refusal.TheVariants.{Return}
+use Rattle.command_parts.specs.Refusal.{IsAnswerRefused}
+use Rattle.bridge_tool.specs.Return.{IsReturnMeant, IsReturned, IsReturnRefused, Makes, ReturnsAs, after_answer}
+use Rattle.command_parts.specs.Stages.{HasFolded, HasScaled, CanBeExported, CannotBeExported, fold_steps}
+use Rattle.command_parts.proofs.SeveralFiles.{IsEither, IsLast, IsSound, NoVerdict, either_last, last_sound}
+use Rattle.command_parts.proofs.ExportStages.{folded_at, one_reason, staged, staged_or_not, staged_so}
+use Rattle.command_parts.proofs.TextsRead.{answer_read}
 
 -- ---- the second file
-
-pub answer_read : (s : Setting) → AreRead (IsAnswer s) (IsAnswerRefused s)
-answer_read s = read_by (answer_rules s) (SaysAnswer s) (answer_line 2) (λ lines. answer_of (standing s lines)) (λ lines a h. h) (λ lines. refl)
-
--- a reader by an equal setting
-pub fed_by : (s : Setting) (r : Reading) (text : List ℕ) → r.progress.setting ≡ s → IsFed r.progress.setting r text → IsFed s r text
-fed_by s r text is h = record { same = is; stands = h.stands }
-
--- its fault is told with its line
-pub refused_so : (s : Setting) (text : List ℕ) (stop : Stop (TextFault AnswerReason)) (told : Stop Refusal) → ReadsAnswer s text (Err stop) → told ≡ refused_by Answer stop → Says itself (IsAnswer s) (IsAnswerRefused s) text (Err told)
-refused_so s text (Fault fault) told reads is = rw is (record { fault = fault; first = reads; told = refl })
-refused_so s text Memory told reads is = rw is tt
 
 -- ---- what both come to
 

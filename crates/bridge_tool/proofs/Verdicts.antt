@@ -1,6 +1,6 @@
 -- What a .sol text, a proof text and a certificate show of an .nl text: one outcome, and what each verdict means.
-use Rattle.std.proofs.Common.{◌≡◌, ◌∙◌, inl, inr, ℕ, ◌+◌, ◌≤◌, ◌==◌, ℤ, pos, negsuc, Bool, true, false, List, length, if◌then◌else◌, Option, Some, None, Result, Ok, Err, refl, sym, ap, ap₂, subst, arith, is_none}
-use Rattle.std.specs.Prelude.{◌&&◌, ◌<ℤ◌, [], ◌++◌, codes, nat_lt, option_map, IfOk}
+use Rattle.std.proofs.Common.{[], ◌≡◌, ◌∙◌, inl, inr, ℕ, ◌+◌, ◌≤◌, ◌==◌, ℤ, pos, negsuc, Bool, true, false, List, length, if◌then◌else◌, Option, Some, None, Result, Ok, Err, refl, sym, ap, ap₂, subst, arith, is_none}
+use Rattle.std.specs.Prelude.{◌&&◌, ◌<ℤ◌, ◌++◌, codes, nat_lt, option_map, IfOk}
 use Rattle.std.specs.Option.{option_map_or}
 use Rattle.std.specs.Global.{Vec}
 use Rattle.std.proofs.lemmas.Bool.{eqb-true, ltb-false, and_parts}
@@ -14,8 +14,8 @@ use Rattle.exact_numbers.specs.declared.dec.Dec.{Dec}
 use Rattle.texts.specs.declared.stop.Stop.{Stop}
 use Rattle.texts.specs.declared.stop.Stop.TheVariants.{Fault, Memory}
 use Rattle.dual_bounds.specs.Terms.{values_of}
-use Rattle.certificate_check.specs.declared.fitting.FitFault.{FitFault}
-use Rattle.certificate_check.specs.declared.fitting.FitFault.TheVariants.{OtherCounts, NoPrimal, NoDual}
+use Rattle.solution_fit.specs.declared.fitting.FitFault.{FitFault}
+use Rattle.solution_fit.specs.declared.fitting.FitFault.TheVariants.{OtherCounts, NoPrimal, NoDual}
 use Rattle.file_certificates.specs.FileProblem.{problem_of}
 use Rattle.file_certificates.proofs.Verdicts.{file_verdicts}
 use Rattle.file_meaning.specs.FoldFaults.{fold_fault, FoldFault as FileFault}
@@ -33,14 +33,14 @@ use Rattle.sol_files.specs.Reader.{IsSol}
 use Rattle.sol_files.specs.Sol.{Sol}
 use Rattle.bridge_tool.specs.Check.{IsCertified, IsNotCertified, by_fit, by_fold, by_number, by_verdict, check_outcome, most_steps, objective_number, shown, steps_by_fit, steps_by_number, unfit}
 use Rattle.bridge_tool.specs.Claims.{IsClaimDenied, IsClaimTrue}
-use Rattle.bridge_tool.specs.Outcome.{Outcome, Refused, Done}
-use Rattle.bridge_tool.specs.Sol.{IsSolRefused}
-use Rattle.bridge_tool.specs.SeveralFiles.{ByVerdict, Comes}
-use Rattle.bridge_tool.specs.Stages.{Folds, HasFolded, fold_steps}
-use Rattle.bridge_tool.specs.VerdictTold.{fit_line, is_yes, negative_line, verdict_line}
-use Rattle.bridge_tool.proofs.SeveralFiles.{IsPlain, IsLast, verdict_last, AreRead, read_so}
-use Rattle.bridge_tool.proofs.OneFile.{sol_read}
-use Rattle.bridge_tool.specs.declared.refusal.Refusal.{Refusal}
+use Rattle.command_parts.specs.Outcome.{Outcome, Refused, Done}
+use Rattle.command_parts.specs.Refusal.{IsSolRefused, IsProofRefused, IsCertificateRefused}
+use Rattle.command_parts.specs.SeveralFiles.{ByVerdict, Comes}
+use Rattle.command_parts.specs.Stages.{Folds, HasFolded, fold_steps}
+use Rattle.command_parts.specs.VerdictTold.{fit_line, is_yes, negative_line, verdict_line}
+use Rattle.command_parts.proofs.SeveralFiles.{IsPlain, IsLast, verdict_last}
+use Rattle.command_parts.proofs.TextsRead.{certificate_read, proof_read, sol_read}
+use Rattle.command_parts.specs.declared.refusal.Refusal.{Refusal}
 use Rattle.duality.specs.Branch.{LeafFault, proof_fault}
 use Rattle.duality.proofs.Causes.{denied}
 use Rattle.branch_check.specs.declared.leaf.ProofVerdict.{ProofVerdict}
@@ -52,12 +52,10 @@ use Rattle.certificates.specs.ProofReading.{tree_in}
 use Rattle.bridge_tool.proofs.ProofClaims.{claim_true as proof_true}
 use Rattle.file_certificates.proofs.ProofFiles.{proof_of}
 use Rattle.certificates.proofs.ProofReading.{tree_back}
-use Rattle.proof_text.specs.Reader.{HasProofFault, IsProofText}
-use Rattle.certificates.specs.Setting.{Setting as CertificateSetting}
+use Rattle.proof_text.specs.Reader.{IsProofText}
 use Rattle.file_certificates.specs.Setting.{setting_of as certificate_setting}
-use Rattle.proof_text.proofs.ReadingLemmas.{one_reading as one_proof}
-use Rattle.bridge_tool.specs.ProofTold.{leaf_line, proof_line}
-use Rattle.bridge_tool.specs.Prove.{IsLeftOpen, IsProofRefused, IsProvedOf, by_fold as by_proof_fold, by_leaf, claimed_objective, open_leaf, prove_outcome}
+use Rattle.command_parts.specs.ProofTold.{leaf_line}
+use Rattle.bridge_tool.specs.Prove.{IsLeftOpen, IsProvedOf, by_fold as by_proof_fold, by_leaf, claimed_objective, open_leaf, prove_outcome}
 use Rattle.duality.specs.Certificate.{ClaimOutcome, holds, fails}
 use Rattle.certificates.specs.Certificates.{CertificateValue, Given, IsAskedFor, IsCertificateOf, certificate_over, claim_outcome, claim_objective}
 use Rattle.certificates.specs.Told.{told_claim}
@@ -67,10 +65,9 @@ use Rattle.certificates.specs.declared.certificate.Claim.{Claim}
 use Rattle.certificates.specs.declared.certificate.Claim.TheVariants.{Within}
 use Rattle.file_certificates.proofs.Given.{certificate_of, claim_denied, claim_true}
 use Rattle.certificates.proofs.Reading.{given_back}
-use Rattle.certificate_text.specs.Reader.{HasCertificateFault, IsCertificateText}
-use Rattle.certificate_text.proofs.ReadingLemmas.{one_reading as one_certificate}
-use Rattle.bridge_tool.specs.CertificateTold.{HasFittingBound, certificate_line, is_held, objective_text, outcome_line, told_text}
-use Rattle.bridge_tool.specs.Verify.{IsCertificateRefused, IsDenied, IsVerified, by_claim, by_fold as by_claim_fold, claim_shown, verify_outcome}
+use Rattle.certificate_text.specs.Reader.{IsCertificateText}
+use Rattle.command_parts.specs.CertificateTold.{HasFittingBound, is_held, objective_text, outcome_line, told_text}
+use Rattle.bridge_tool.specs.Verify.{IsDenied, IsVerified, by_claim, by_fold as by_claim_fold, claim_shown, verify_outcome}
 
 -- ---- one outcome
 
@@ -208,12 +205,6 @@ check_last nl = verdict_last (sol_read 2) (check_outcome nl) (most_steps nl) (λ
 
 -- ---- one outcome
 
--- each text says one proof, or is refused with one line
-pub proof_read : (s : CertificateSetting) (file : ℕ) → AreRead (IsProofText s) (IsProofRefused s file)
-proof_read s file =
-    read_so (IsProofText s) (HasProofFault s) (proof_line file)
-    (λ text. (one_proof s text).one_value) (λ text a b h claimed. ap (proof_line file) ((one_proof s text).one_fault a b h claimed)) (λ text. (one_proof s text).some) (λ text. (one_proof s text).not_both)
-
 module _ (nl : NlValue) (p : ProofValue) where
   plain_proof : (o : Option FoldFault) → IsPlain (by_proof_fold nl p o)
   plain_proof None = tt
@@ -273,12 +264,6 @@ module _ (nl : NlValue) (p : ProofValue) (given : IsProofIn nl.file p) where
       subst (λ (t : Bool). ByVerdict t (IsProvedOf nl p) (IsLeftOpen nl p)) (sym h) (proved_by (fault_of v) v refl file folds.fine shown (sym (leaf_so l v folds exact)) line)
 
 -- ---- one outcome
-
--- each text says one certificate, or is refused with one line
-pub certificate_read : (s : CertificateSetting) (file : ℕ) → AreRead (IsCertificateText s) (IsCertificateRefused s file)
-certificate_read s file =
-    read_so (IsCertificateText s) (HasCertificateFault s) (certificate_line file)
-    (λ text. (one_certificate s text).one_value) (λ text a b h k. ap (certificate_line file) ((one_certificate s text).one_fault a b h k)) (λ text. (one_certificate s text).some) (λ text. (one_certificate s text).not_both)
 
 module _ (nl : NlValue) (c : CertificateValue) where
   plain_claim : (o : Option FoldFault) → IsPlain (by_claim_fold nl c o)

@@ -16,17 +16,16 @@ use Rattle.nl_segments.specs.Reader.{IsNl}
 use Rattle.sol_files.specs.Reader.{IsSol}
 use Rattle.sol_files.specs.Sol.{Sol}
 use Rattle.file_certificates.specs.FileProblem.{problem_of}
-use Rattle.certificate_check.specs.Fits.{fit_fault, given_by}
+use Rattle.solution_fit.specs.Fits.{fit_fault, given_by}
 use Rattle.dual_bounds.specs.Terms.{values_of}
-use Rattle.certificate_check.specs.declared.fitting.FitFault.{FitFault}
-use Rattle.bridge_tool.specs.NlTold.{fold_line}
-use Rattle.bridge_tool.specs.Outcome.{Outcome, Refused, Done}
-use Rattle.bridge_tool.specs.Promise.{Promise}
-use Rattle.bridge_tool.specs.Refusal.{HasTextRefusal}
-use Rattle.bridge_tool.specs.SeveralFiles.{after_file, desk_promise, judges_last}
-use Rattle.bridge_tool.specs.Sol.{IsSolRefused}
-use Rattle.bridge_tool.specs.Stages.{fold_steps}
-use Rattle.bridge_tool.specs.VerdictTold.{fit_line, is_yes, negative_line, verdict_line}
+use Rattle.solution_fit.specs.declared.fitting.FitFault.{FitFault}
+use Rattle.command_parts.specs.NlTold.{fold_line}
+use Rattle.command_parts.specs.Outcome.{Outcome, Refused, Done}
+use Rattle.command_parts.specs.Promise.{Promise}
+use Rattle.command_parts.specs.Refusal.{HasTextRefusal, IsSolRefused}
+use Rattle.command_parts.specs.SeveralFiles.{after_file, desk_promise, judges_last}
+use Rattle.command_parts.specs.Stages.{fold_steps}
+use Rattle.command_parts.specs.VerdictTold.{fit_line, is_yes, negative_line, verdict_line}
 
 -- ---- what the values of both files come to
 

@@ -8,8 +8,8 @@ use Rattle.duality.specs.Told.{Told, IsTrueOf}
 use Rattle.linear_program.specs.Numbers.{spread}
 use Rattle.certificates.specs.Certificates.{CertificateValue, certificate_over}
 use Rattle.certificates.specs.Reading.{given_in}
-use Rattle.bridge_tool.specs.CertificateTold.{outcome_line, told_line}
-use Rattle.bridge_tool.specs.Outcome.{Outcome, Done}
+use Rattle.command_parts.specs.CertificateTold.{outcome_line, told_line}
+use Rattle.command_parts.specs.Outcome.{Outcome, Done}
 
 -- What a yes means: what its line tells is true of the problem, for the point that the certificate
 -- gives.

@@ -12,8 +12,8 @@ use Rattle.bridge_tool.specs.Make.{LeavesInput, make_promise}
 use Rattle.bridge_tool.specs.Mps.{mps_promise}
 use Rattle.bridge_tool.specs.NamedExport.{named_promise}
 use Rattle.bridge_tool.specs.Nl.{nl_promise}
-use Rattle.bridge_tool.specs.Outcome.{Outcome, BadWords}
-use Rattle.bridge_tool.specs.Promise.{Promise}
+use Rattle.command_parts.specs.Outcome.{Outcome, BadWords}
+use Rattle.command_parts.specs.Promise.{Promise}
 use Rattle.bridge_tool.specs.Prove.{prove_promise}
 use Rattle.bridge_tool.specs.Return.{named_return_promise, return_promise}
 use Rattle.bridge_tool.specs.Sol.{sol_promise}

@@ -15,11 +15,11 @@ use Rattle.nl_model.specs.File.{File}
 use Rattle.nl_segments.specs.Grammar.{NlValue}
 use Rattle.nl_segments.specs.Reader.{IsNl}
 use Rattle.desk.specs.Desk.{Texts}
-use Rattle.bridge_tool.specs.Outcome.{DoneOrRefused, Outcome}
-use Rattle.bridge_tool.specs.Promise.{Promise}
-use Rattle.bridge_tool.specs.Refusal.{HasTextRefusal}
-use Rattle.bridge_tool.specs.SeveralFiles.{after_file, desk_promise, ends}
-use Rattle.bridge_tool.specs.Stages.{CanBeExported, CannotBeExported, fold_steps}
+use Rattle.command_parts.specs.Outcome.{DoneOrRefused, Outcome}
+use Rattle.command_parts.specs.Promise.{Promise}
+use Rattle.command_parts.specs.Refusal.{HasTextRefusal}
+use Rattle.command_parts.specs.SeveralFiles.{after_file, desk_promise, ends}
+use Rattle.command_parts.specs.Stages.{CanBeExported, CannotBeExported, fold_steps}
 
 -- the file folds and scales with objective k, and these bytes are the text of its scaled program as
 -- MPS

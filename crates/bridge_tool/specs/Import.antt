@@ -15,11 +15,11 @@ use Rattle.mps_import.specs.Import.{import_of}
 use Rattle.mps_import.specs.Variables.{in_order}
 use Rattle.mps_program.specs.Program.{values_of}
 use Rattle.nl_writer.specs.Written.{nl_text}
-use Rattle.bridge_tool.specs.ImportTold.{import_line}
-use Rattle.bridge_tool.specs.Mps.{IsMpsRefused}
-use Rattle.bridge_tool.specs.Outcome.{Done, Outcome, Refused}
-use Rattle.bridge_tool.specs.Promise.{Promise}
-use Rattle.bridge_tool.specs.SeveralFiles.{after_file, desk_promise, ends}
+use Rattle.command_parts.specs.ImportTold.{import_line}
+use Rattle.command_parts.specs.Refusal.{IsMpsRefused}
+use Rattle.command_parts.specs.Outcome.{Done, Outcome, Refused}
+use Rattle.command_parts.specs.Promise.{Promise}
+use Rattle.command_parts.specs.SeveralFiles.{after_file, desk_promise, ends}
 
 -- a program with a first fault is refused; else the text of its file is written
 abbrev pub by_fault : Mps Dec → Option ImportFault → Outcome

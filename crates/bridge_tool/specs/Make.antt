@@ -19,11 +19,11 @@ use Rattle.nl_segments.specs.Reader.{IsNl}
 use Rattle.nl_writer.specs.Written.{nl_text}
 use Rattle.desk.specs.Desk.{Meaning}
 use Rattle.bridge_tool.specs.Export.{IsExported}
-use Rattle.bridge_tool.specs.Outcome.{DoneOrRefused, Outcome, Refused}
-use Rattle.bridge_tool.specs.Promise.{Promise}
-use Rattle.bridge_tool.specs.Refusal.{HasTextRefusal}
-use Rattle.bridge_tool.specs.SeveralFiles.{ByValue}
-use Rattle.bridge_tool.specs.Stages.{CannotBeExported}
+use Rattle.command_parts.specs.Outcome.{DoneOrRefused, Outcome, Refused}
+use Rattle.command_parts.specs.Promise.{Promise}
+use Rattle.command_parts.specs.Refusal.{HasTextRefusal}
+use Rattle.command_parts.specs.SeveralFiles.{ByValue}
+use Rattle.command_parts.specs.Stages.{CannotBeExported}
 
 -- the written text of the instance
 abbrev pub made_text : ℕ → ℕ → List ℕ

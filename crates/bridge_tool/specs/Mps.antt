@@ -4,16 +4,11 @@ use Rattle.std.specs.declared.option.Option.{Option}
 use Rattle.desk.specs.Desk.{Texts}
 use Rattle.exact_numbers.specs.declared.dec.Dec.{Dec}
 use Rattle.mps_model.specs.Mps.{Mps}
-use Rattle.mps_reader.specs.Reader.{HasMpsFault, IsMpsText}
+use Rattle.mps_reader.specs.Reader.{IsMpsText}
 use Rattle.mps_reader.specs.Written.{mps_text}
-use Rattle.bridge_tool.specs.MpsTold.{mps_line}
-use Rattle.bridge_tool.specs.Promise.{Promise}
-use Rattle.bridge_tool.specs.SeveralFiles.{after_file, desk_promise, writes}
-use Rattle.bridge_tool.specs.Told.{TellsFault}
-
--- the text has a first fault, which this line tells
-abbrev pub IsMpsRefused : List ℕ → List ℕ → Type 0
-IsMpsRefused text = TellsFault (HasMpsFault text) (mps_line 1)
+use Rattle.command_parts.specs.Promise.{Promise}
+use Rattle.command_parts.specs.SeveralFiles.{after_file, desk_promise, writes}
+use Rattle.command_parts.specs.Refusal.{IsMpsRefused}
 
 -- what is written is an MPS text that says the same program
 abbrev pub IsMpsMeant : Mps Dec → Type 0

@@ -14,12 +14,12 @@ use Rattle.scaled_program.specs.Program.{ScaledProgram}
 use Rattle.exported_program.specs.Program.{mps_of}
 use Rattle.desk.specs.Desk.{Texts}
 use Rattle.bridge_tool.specs.Export.{MeansTheFile}
-use Rattle.bridge_tool.specs.NameLists.{after_lists}
-use Rattle.bridge_tool.specs.Outcome.{DoneOrRefused, Outcome}
-use Rattle.bridge_tool.specs.Promise.{Promise}
-use Rattle.bridge_tool.specs.Refusal.{HasTextRefusal}
-use Rattle.bridge_tool.specs.SeveralFiles.{after_file, desk_promise, ends}
-use Rattle.bridge_tool.specs.Stages.{CanBeExported, CannotBeExported, fold_steps}
+use Rattle.command_parts.specs.NameLists.{after_lists}
+use Rattle.command_parts.specs.Outcome.{DoneOrRefused, Outcome}
+use Rattle.command_parts.specs.Promise.{Promise}
+use Rattle.command_parts.specs.Refusal.{HasTextRefusal}
+use Rattle.command_parts.specs.SeveralFiles.{after_file, desk_promise, ends}
+use Rattle.command_parts.specs.Stages.{CanBeExported, CannotBeExported, fold_steps}
 
 -- a file, the number of its objective, and the names of its rows and columns
 pub record Named : Type 0 where

@@ -5,9 +5,9 @@ use Rattle.desk.specs.Desk.{Texts}
 use Rattle.nl_round_trip.specs.Writable.{IsText}
 use Rattle.nl_segments.specs.Reader.{IsNl}
 use Rattle.nl_writer.specs.Written.{nl_text}
-use Rattle.bridge_tool.specs.Promise.{Promise}
-use Rattle.bridge_tool.specs.Refusal.{HasTextRefusal}
-use Rattle.bridge_tool.specs.SeveralFiles.{after_file, desk_promise, writes}
+use Rattle.command_parts.specs.Promise.{Promise}
+use Rattle.command_parts.specs.Refusal.{HasTextRefusal}
+use Rattle.command_parts.specs.SeveralFiles.{after_file, desk_promise, writes}
 
 -- What is written says the same file, so that it is written again unchanged and exported as the
 -- same.

@@ -17,21 +17,15 @@ use Rattle.certificates.specs.ProofSays.{IsProvedTrueOf}
 use Rattle.file_certificates.specs.FileProblem.{problem_of}
 use Rattle.certificates.specs.Proofs.{ProofValue, claim_value, tree_over}
 use Rattle.certificates.specs.ProofReading.{tree_in}
-use Rattle.proof_text.specs.Reader.{HasProofFault, IsProofText}
-use Rattle.certificates.specs.Setting.{Setting}
+use Rattle.proof_text.specs.Reader.{IsProofText}
 use Rattle.file_certificates.specs.Setting.{setting_of}
-use Rattle.bridge_tool.specs.NlTold.{fold_line}
-use Rattle.bridge_tool.specs.Outcome.{Outcome, Refused, Done}
-use Rattle.bridge_tool.specs.Promise.{Promise}
-use Rattle.bridge_tool.specs.ProofTold.{leaf_line, proof_line}
-use Rattle.bridge_tool.specs.Refusal.{HasTextRefusal}
-use Rattle.bridge_tool.specs.SeveralFiles.{after_file, desk_promise, judges_last}
-use Rattle.bridge_tool.specs.Stages.{fold_steps}
-use Rattle.bridge_tool.specs.Told.{TellsFault}
-
--- the text has a first fault as a proof, which this line tells of this file of the command
-abbrev pub IsProofRefused : Setting → (file : ℕ) → List ℕ → List ℕ → Type 0
-IsProofRefused s file text = TellsFault (HasProofFault s text) (proof_line file)
+use Rattle.command_parts.specs.NlTold.{fold_line}
+use Rattle.command_parts.specs.Outcome.{Outcome, Refused, Done}
+use Rattle.command_parts.specs.Promise.{Promise}
+use Rattle.command_parts.specs.ProofTold.{leaf_line}
+use Rattle.command_parts.specs.Refusal.{HasTextRefusal, IsProofRefused}
+use Rattle.command_parts.specs.SeveralFiles.{after_file, desk_promise, judges_last}
+use Rattle.command_parts.specs.Stages.{fold_steps}
 
 -- ---- what the values of both files come to
 

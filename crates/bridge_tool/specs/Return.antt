@@ -4,31 +4,24 @@ use Rattle.std.specs.Prelude.{◌≡◌, ◌⊎◌, ℕ, ◌+◌, ◌≤◌, fal
 use Rattle.texts.specs.declared.stop.Stop.{Stop}
 use Rattle.std.specs.declared.option.Option.{Option}
 use Rattle.desk.specs.Desk.{Texts}
-use Rattle.texts.specs.Reading.{HasFault}
 use Rattle.nl_segments.specs.Grammar.{NlValue}
 use Rattle.nl_segments.specs.Reader.{IsNl}
 use Rattle.sol_files.specs.Sol.{Sol}
 use Rattle.sol_files.specs.Written.{sol_text}
-use Rattle.answer_file.specs.Grammar.{AnswerValue, answer_rules}
+use Rattle.answer_file.specs.Grammar.{AnswerValue}
 use Rattle.answer_file.specs.Names.{Setting, named_setting, setting_of}
 use Rattle.answer_file.specs.Reading.{IsAnswer}
 use Rattle.dual_return.specs.Return.{HasReturnFault, IsReturn, MeanTheProgram}
-use Rattle.bridge_tool.specs.AnswerTold.{answer_line, return_line}
-use Rattle.bridge_tool.specs.InsideRefusal.{Gives}
-use Rattle.bridge_tool.specs.declared.refusal.Refusal.{Refusal}
-use Rattle.bridge_tool.specs.NameLists.{after_lists}
-use Rattle.bridge_tool.specs.Outcome.{DoneOrRefused, Outcome}
-use Rattle.bridge_tool.specs.Promise.{Promise}
-use Rattle.bridge_tool.specs.Refusal.{HasTextRefusal}
-use Rattle.bridge_tool.specs.SeveralFiles.{after_file, desk_promise, ends}
-use Rattle.bridge_tool.specs.Stages.{CanBeExported, CannotBeExported, fold_steps}
-use Rattle.bridge_tool.specs.Told.{TellsFault}
-
--- ---- the second file
-
--- the text has a first fault as an answer, which this line tells
-abbrev pub IsAnswerRefused : Setting → List ℕ → List ℕ → Type 0
-IsAnswerRefused s text = TellsFault (HasFault (answer_rules s) text) (answer_line 2)
+use Rattle.command_parts.specs.AnswerTold.{return_line}
+use Rattle.command_parts.specs.InsideRefusal.{Gives}
+use Rattle.command_parts.specs.declared.refusal.Refusal.{Refusal}
+use Rattle.command_parts.specs.NameLists.{after_lists}
+use Rattle.command_parts.specs.Outcome.{DoneOrRefused, Outcome}
+use Rattle.command_parts.specs.Promise.{Promise}
+use Rattle.command_parts.specs.Refusal.{HasTextRefusal, IsAnswerRefused}
+use Rattle.command_parts.specs.SeveralFiles.{after_file, desk_promise, ends}
+use Rattle.command_parts.specs.Stages.{CanBeExported, CannotBeExported, fold_steps}
+use Rattle.command_parts.specs.Told.{TellsFault}
 
 -- ---- what both values come to
 

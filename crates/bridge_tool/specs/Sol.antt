@@ -2,17 +2,12 @@
 use Rattle.std.specs.Prelude.{ℕ, ◌≤◌, ◌^◌, false, List, length}
 use Rattle.std.specs.declared.option.Option.{Option}
 use Rattle.desk.specs.Desk.{Texts}
-use Rattle.sol_files.specs.Reader.{IsSol, HasSolFault}
+use Rattle.sol_files.specs.Reader.{IsSol}
 use Rattle.sol_files.specs.Sol.{Sol}
 use Rattle.sol_files.specs.Written.{sol_text}
-use Rattle.bridge_tool.specs.Promise.{Promise}
-use Rattle.bridge_tool.specs.SeveralFiles.{after_file, desk_promise, writes}
-use Rattle.bridge_tool.specs.SolTold.{sol_line}
-use Rattle.bridge_tool.specs.Told.{TellsFault}
-
--- the text, which is this file of its command, has a first fault, which this line tells
-abbrev pub IsSolRefused : (file : ℕ) → List ℕ → List ℕ → Type 0
-IsSolRefused file text = TellsFault (HasSolFault text) (sol_line file)
+use Rattle.command_parts.specs.Promise.{Promise}
+use Rattle.command_parts.specs.SeveralFiles.{after_file, desk_promise, writes}
+use Rattle.command_parts.specs.Refusal.{IsSolRefused}
 
 -- what is written says the same value, so that it is written again unchanged
 abbrev pub IsSolMeant : Sol → Type 0

@@ -13,22 +13,16 @@ use Rattle.certificates.specs.Certificates.{CertificateValue, claim_outcome, cla
 use Rattle.certificates.specs.Reading.{given_in}
 use Rattle.file_certificates.specs.FileProblem.{problem_of}
 use Rattle.certificates.specs.declared.certificate.Claim.{Claim}
-use Rattle.certificate_text.specs.Reader.{HasCertificateFault, IsCertificateText}
-use Rattle.certificates.specs.Setting.{Setting}
+use Rattle.certificate_text.specs.Reader.{IsCertificateText}
 use Rattle.file_certificates.specs.Setting.{setting_of}
-use Rattle.bridge_tool.specs.CertificateTold.{certificate_line, is_held, outcome_line}
+use Rattle.command_parts.specs.CertificateTold.{is_held, outcome_line}
 use Rattle.bridge_tool.specs.Claims.{IsClaimDenied, IsClaimTrue}
-use Rattle.bridge_tool.specs.NlTold.{fold_line}
-use Rattle.bridge_tool.specs.Outcome.{Outcome, Refused, Done}
-use Rattle.bridge_tool.specs.Promise.{Promise}
-use Rattle.bridge_tool.specs.Refusal.{HasTextRefusal}
-use Rattle.bridge_tool.specs.SeveralFiles.{after_file, desk_promise, judges_last}
-use Rattle.bridge_tool.specs.Stages.{fold_steps}
-use Rattle.bridge_tool.specs.Told.{TellsFault}
-
--- the text has a first fault as a certificate, which this line tells of this file of the command
-abbrev pub IsCertificateRefused : Setting → (file : ℕ) → List ℕ → List ℕ → Type 0
-IsCertificateRefused s file text = TellsFault (HasCertificateFault s text) (certificate_line file)
+use Rattle.command_parts.specs.NlTold.{fold_line}
+use Rattle.command_parts.specs.Outcome.{Outcome, Refused, Done}
+use Rattle.command_parts.specs.Promise.{Promise}
+use Rattle.command_parts.specs.Refusal.{HasTextRefusal, IsCertificateRefused}
+use Rattle.command_parts.specs.SeveralFiles.{after_file, desk_promise, judges_last}
+use Rattle.command_parts.specs.Stages.{fold_steps}
 
 -- ---- what the values of both files come to
 

@@ -21,14 +21,13 @@ use Rattle.certificate_text.specs.Reader.{IsCertificateText}
 use Rattle.mps_certificates.specs.Problem.{mps_problem}
 use Rattle.mps_certificates.specs.Setting.{mps_setting}
 use Rattle.bridge_tool.specs.Claims.{IsClaimDenied, IsClaimTrue}
-use Rattle.bridge_tool.specs.Fixed.{IsFixedRefused}
-use Rattle.bridge_tool.specs.ImportTold.{import_line}
-use Rattle.bridge_tool.specs.Mps.{IsMpsRefused}
-use Rattle.bridge_tool.specs.Outcome.{Outcome, Refused}
-use Rattle.bridge_tool.specs.Promise.{Promise}
-use Rattle.bridge_tool.specs.SeveralFiles.{after_file, desk_promise, judges_last}
-use Rattle.bridge_tool.specs.Told.{refusal}
-use Rattle.bridge_tool.specs.Verify.{IsCertificateRefused, by_claim}
+use Rattle.command_parts.specs.Refusal.{IsFixedRefused, IsMpsRefused, IsCertificateRefused}
+use Rattle.command_parts.specs.ImportTold.{import_line}
+use Rattle.command_parts.specs.Outcome.{Outcome, Refused}
+use Rattle.command_parts.specs.Promise.{Promise}
+use Rattle.command_parts.specs.SeveralFiles.{after_file, desk_promise, judges_last}
+use Rattle.command_parts.specs.Told.{refusal}
+use Rattle.bridge_tool.specs.Verify.{by_claim}
 use Rattle.bridge_tool.specs.declared.verify_mps.Form.{Form}
 use Rattle.bridge_tool.specs.declared.verify_mps.Form.TheVariants.{Free, Fixed}
 

@@ -3,33 +3,28 @@
 ghost use Rattle.std.specs.Prelude.{◌≡◌, ◌+◌, ◌≤◌, ◌<ℤ◌, pos, IfOk, MatchOption, None, Some, length};
 ghost use Rattle.program_meaning.specs.Linear.{row_count, variable_count};
 ghost use Rattle.duality.specs.Verdict.{verdict};
-ghost use Rattle.exact_numbers.specs.Values.{dec_value};
 ghost use Rattle.linear_fold.specs.FoldedFaults.{first_fold_fault};
 ghost use Rattle.linear_program.specs.Programs.{linear_value};
 ghost use Rattle.nl_model.specs.Rules.{IsFile};
 ghost use Rattle.nl_segments.specs.Reader.{HasLines, value_of};
 ghost use Rattle.dual_bounds.specs.Answers.{answer_of};
 ghost use Rattle.dual_bounds.specs.Terms.{values_of};
-ghost use Rattle.bridge_tool.specs.InsideAnswer.{IsCounted};
-ghost use Rattle.bridge_tool.specs.Check.{IsCertified, by_fold, check_outcome, check_promise, most_steps, objective_number, steps_by_number, unfit};
-ghost use Rattle.bridge_tool.specs.SeveralFiles.{Comes};
-ghost use Rattle.bridge_tool.specs.VerdictTold.{is_yes, verdict_line};
+ghost use Rattle.command_parts.specs.InsideAnswer.{IsCounted};
+ghost use Rattle.bridge_tool.specs.Check.{by_fold, check_outcome, check_promise, most_steps, objective_number, steps_by_number, unfit};
+ghost use Rattle.command_parts.specs.SeveralFiles.{Comes};
+ghost use Rattle.command_parts.specs.VerdictTold.{is_yes, verdict_line};
 
-use crate::answer::Answer;
-use crate::nl_input::open_nl;
-use crate::one_file::end;
-use crate::refusal::Refusal;
-use crate::sol_input::open_sol;
-use crate::stages::fold;
-use crate::verdict_told::{is_yes, verdict_line};
-use certificate_check::{Columns, Verdict, certify, fit};
+use command_parts::{Answer, Refusal, end, fold, is_yes, open_nl, open_sol, verdict_line};
+use desk::Desk;
+use dual_bounds::{Columns, Verdict, certify};
 use exact_numbers::Dec;
-use linear_fold::Linear;
+use linear_program::Linear;
 use nl_model::NlFile;
 use nl_segments::NlRead;
 use sol_files::Sol;
+use solution_fit::fit;
 use std::alloc::{AllocError, Global};
-use text_base::{Desk, Ledger, Steps, Stop};
+use texts::{Ledger, Steps, Stop};
 
 // The number of the objective: that of the objno line, or 0 without one.
 fn objective_number(sol: &Sol) -> i32

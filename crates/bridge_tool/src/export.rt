@@ -5,20 +5,18 @@ ghost use Rattle.mps_model.specs.Text.{mps_text_by};
 ghost use Rattle.nl_segments.specs.Reader.{HasLines, value_of};
 ghost use Rattle.exported_program.specs.Program.{mps_of};
 ghost use Rattle.scaling.specs.Exported.{scaled_as};
-ghost use Rattle.bridge_tool.specs.InsideAnswer.{IsCounted};
+ghost use Rattle.command_parts.specs.InsideAnswer.{IsCounted};
 ghost use Rattle.bridge_tool.specs.Export.{ExportsAs, IsExportMeant, export_promise};
-ghost use Rattle.bridge_tool.specs.SeveralFiles.{Comes};
-ghost use Rattle.bridge_tool.specs.Stages.{fold_steps};
+ghost use Rattle.command_parts.specs.SeveralFiles.{Comes};
+ghost use Rattle.command_parts.specs.Stages.{fold_steps};
 
-use crate::answer::Answer;
-use crate::nl_input::open_nl;
-use crate::one_file::end;
-use crate::refusal::Refusal;
-use crate::stages::{fold_read, scale};
+use command_parts::{Answer, Refusal, end, fold_read, open_nl, scale};
+use desk::Desk;
 use nl_segments::NlRead;
-use row_scaling::{Scaled, write_exported};
+use row_scaling::write_exported;
+use scaling::Scaled;
 use std::alloc::{AllocError, Global};
-use text_base::{Desk, Ledger, Steps, Stop};
+use texts::{Ledger, Steps, Stop};
 
 // The written text of the program of a scaled one.
 fn write_program(alloc: Global, scaled: Scaled) -> Result<Vec<u8>, AllocError>

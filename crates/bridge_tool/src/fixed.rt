@@ -1,14 +1,12 @@
 // The command fixed: from an MPS text of fixed columns to the one written form of what it says, or
 // to a refusal.
-ghost use Rattle.bridge_tool.specs.InsideAnswer.{IsAtRest};
+ghost use Rattle.command_parts.specs.InsideAnswer.{IsAtRest};
 ghost use Rattle.bridge_tool.specs.Fixed.{fixed_promise};
 
-use crate::answer::Answer;
 use crate::mps::to_output;
-use crate::mps_input::open_fixed;
-use crate::one_file::end;
+use command_parts::{Answer, end, open_fixed};
+use desk::Desk;
 use std::alloc::Global;
-use text_base::Desk;
 
 /// Writes an MPS file of fixed columns as free text: reads its text, judges it, and writes what it
 /// comes to. Tells nothing.

@@ -1,19 +1,17 @@
 // The command import: from an MPS text to the .nl text of a file that means the same, or to a
 // refusal.
 ghost use Rattle.std.specs.Prelude.{◌≡◌};
-ghost use Rattle.bridge_tool.specs.InsideAnswer.{IsAtRest};
+ghost use Rattle.command_parts.specs.InsideAnswer.{IsAtRest};
 ghost use Rattle.bridge_tool.specs.Import.{import_outcome, import_promise};
-ghost use Rattle.bridge_tool.specs.SeveralFiles.{Comes};
+ghost use Rattle.command_parts.specs.SeveralFiles.{Comes};
 
-use crate::answer::Answer;
-use crate::mps_input::open_mps;
-use crate::one_file::end;
-use crate::refusal::Refusal;
+use command_parts::{Answer, Refusal, end, open_mps};
+use desk::Desk;
 use mps_import::import;
 use mps_model::Mps;
 use nl_writer::write_nl;
 use std::alloc::Global;
-use text_base::{Desk, Stop};
+use texts::Stop;
 
 // The bytes to write for a program, or why it is refused.
 fn to_output(alloc: Global, mps: &Mps) -> Result<(bool, Vec<u8>), Stop<Refusal>>

@@ -1,19 +1,15 @@
 // Each law is proved by a function with an empty body.
-ghost use Rattle.std.specs.Prelude.{◌≡◌, ◌↔◌, ◌+◌, ◌≤◌, ◌^◌, List, ℕ, None, Option, Some, length, take};
-ghost use Rattle.answer_file.specs.Names.{Setting as AnswerSetting};
+ghost use Rattle.std.specs.Prelude.{◌≡◌, ◌↔◌, ◌+◌, ◌≤◌, ◌^◌, List, ℕ, Option, Some, length, take, None};
+ghost use Rattle.export_round_trip.specs.ReadAs.{IsReadAs};
 ghost use Rattle.branch_check.specs.Leaves.{IsProved};
 ghost use Rattle.branch_check.specs.declared.leaf.ProofVerdict.TheVariants.{Yes};
 ghost use Rattle.certificates.specs.declared.proof.Claim.{Claim as ClaimValue};
 ghost use Rattle.certificates.specs.ProofSays.{IsProvedTrueOf};
-ghost use Rattle.certificates.specs.Setting.{Setting as CertificateSetting};
 ghost use Rattle.export_round_trip.specs.ReadAs.{IsReadAs};
 ghost use Rattle.exported_program.specs.Program.{mps_of};
 ghost use Rattle.file_certificates.specs.FileProblem.{problem_of};
 ghost use Rattle.file_meaning.specs.FoldFaults.{fold_fault};
 ghost use Rattle.file_meaning.specs.LinearFile.{linear_of};
-ghost use Rattle.linear_fold.specs.FoldedFaults.{HasFaultPlace};
-ghost use Rattle.linear_fold.specs.declared.fold_fault.FoldFault.{FoldFault};
-ghost use Rattle.name_files.specs.Names.{Counts};
 ghost use Rattle.name_files.specs.Renamed.{named};
 ghost use Rattle.nl_model.specs.File.{File};
 ghost use Rattle.nl_model.specs.Rules.{IsFile};
@@ -27,27 +23,21 @@ ghost use Rattle.nl_writer.specs.Written.{nl_text};
 ghost use Rattle.sol_files.specs.Reader.{IsSol};
 ghost use Rattle.sol_files.specs.Written.{sol_text};
 ghost use Rattle.desk.specs.Desk.{Texts};
-ghost use Rattle.texts.specs.Reading.{lines_of};
 ghost use Rattle.bridge_tool.specs.Commands.{ComesTo};
 ghost use Rattle.bridge_tool.specs.Export.{IsExportMeant, IsExported, MeansTheFile, export_told};
 ghost use Rattle.bridge_tool.specs.ByText.{IsByText, IsWritingByText};
-ghost use Rattle.bridge_tool.specs.Fixed.{IsFixedRefused, fixed_told};
+ghost use Rattle.bridge_tool.specs.Fixed.{fixed_told};
 ghost use Rattle.bridge_tool.specs.Import.{CannotBeImported, IsImportedAs, MeansTheProgram, import_told};
+ghost use Rattle.bridge_tool.specs.Mps.{IsMpsMeant, mps_told};
+ghost use Rattle.command_parts.specs.NameLists.{AreListed, column_counts, row_counts};
 ghost use Rattle.bridge_tool.specs.Instances.{InstancesAreSaid, InstancesAreWritable};
-ghost use Rattle.bridge_tool.specs.Mps.{IsMpsMeant, IsMpsRefused, mps_told};
-ghost use Rattle.bridge_tool.specs.NameLists.{AreListed, IsListRefused, column_counts, row_counts};
 ghost use Rattle.bridge_tool.specs.NamedExport.{IsNamedExport, Named};
 ghost use Rattle.bridge_tool.specs.Nl.{nl_told};
-ghost use Rattle.bridge_tool.specs.NlTold.{HasFaultLine};
-ghost use Rattle.bridge_tool.specs.Outcome.{Outcome};
-ghost use Rattle.bridge_tool.specs.Prove.{IsProofRefused};
-ghost use Rattle.bridge_tool.specs.Refusal.{HasTextRefusal};
-ghost use Rattle.bridge_tool.specs.Return.{IsAnswerRefused};
-ghost use Rattle.bridge_tool.specs.Sol.{IsSolMeant, IsSolRefused, sol_told};
-ghost use Rattle.bridge_tool.specs.Stages.{CannotBeExported, fold_steps};
-ghost use Rattle.bridge_tool.specs.ToldLines.{TellsLine, TellsPlace};
-ghost use Rattle.bridge_tool.specs.declared.transfer.TheConstants.{LIMIT};
-ghost use Rattle.bridge_tool.specs.Verify.{IsCertificateRefused};
+ghost use Rattle.command_parts.specs.Outcome.{Outcome};
+ghost use Rattle.command_parts.specs.Refusal.{HasTextRefusal, IsFixedRefused, IsMpsRefused, IsSolRefused};
+ghost use Rattle.bridge_tool.specs.Sol.{IsSolMeant, sol_told};
+ghost use Rattle.command_parts.specs.Stages.{CannotBeExported, fold_steps};
+ghost use Rattle.command_parts.specs.declared.transfer.TheConstants.{LIMIT};
 
 /// Words come to exactly one outcome, whatever texts a desk has.
 #[tactic(auto, using(crate::proofs::Headline::some_outcome, crate::proofs::Headline::one_outcome))]
@@ -103,32 +93,6 @@ pub fn named_exports_are_read_back()
         → AreListed (column_counts n.nl.file) columns n.columns
         → (bytes : List ℕ) (e : IsNamedExport n bytes) → length bytes ≤ 2 ^ 31
         → IsReadAs bytes (named (mps_of e.program) n.rows n.columns) }
-{}
-
-/// What is told of a text that is refused, whichever reader refuses it, names the text by its number
-/// among the files of the command, and one of its lines or the line after the last, and never line
-/// 0. What is told of a file that does not fold or scale may name a row or the objective instead. A
-/// fault of the fold at a place of the file stands at one of its lines.
-#[tactic(auto, using(crate::proofs::FaultLines::text_told, crate::proofs::FaultLines::sol_told, crate::proofs::FaultLines::names_told, crate::proofs::FaultLines::proof_told, crate::proofs::FaultLines::certificate_told, crate::proofs::FaultLines::mps_told, crate::proofs::FaultLines::fixed_told, crate::proofs::FaultLines::fault_lines))]
-pub fn told_lines_are_lines()
-    ensures nl { (text told : List ℕ) → HasTextRefusal text told → TellsLine 1 text told }
-    ensures sol { (file : ℕ) (text told : List ℕ) → IsSolRefused file text told
-        → TellsLine file text told }
-    ensures answer { (s : AnswerSetting) (text told : List ℕ) → IsAnswerRefused s text told
-        → TellsLine 2 text told }
-    ensures names { (counts : Counts) (file : ℕ) (text told : List ℕ)
-        → IsListRefused counts file text told → TellsLine file text told }
-    ensures proof { (s : CertificateSetting) (file : ℕ) (text told : List ℕ)
-        → IsProofRefused s file text told → TellsLine file text told }
-    ensures certificate { (s : CertificateSetting) (file : ℕ) (text told : List ℕ)
-        → IsCertificateRefused s file text told → TellsLine file text told }
-    ensures mps { (text told : List ℕ) → IsMpsRefused text told → TellsLine 1 text told }
-    ensures fixed { (text told : List ℕ) → IsFixedRefused text told → TellsLine 1 text told }
-    ensures stages { (text : List ℕ) (value : NlValue) (k : ℕ) (told : List ℕ) → IsNl text value
-        → CannotBeExported value k told → TellsPlace text told }
-    ensures places { (text : List ℕ) (value : NlValue) (fault : FoldFault) → IsNl text value
-        → HasFaultPlace value.file fault → HasFaultLine (length (lines_of text)) value.places
-        fault }
 {}
 
 /// A file is exported with the names of two lists exactly where it is exported without them.

@@ -6,23 +6,21 @@ ghost use Rattle.linear_fold.specs.FoldedFaults.{step_bound};
 ghost use Rattle.nl_segments.specs.Reader.{HasLines, value_of};
 ghost use Rattle.exported_program.specs.Program.{mps_of};
 ghost use Rattle.scaling.specs.Exported.{scaled_as};
-ghost use Rattle.bridge_tool.specs.InsideAnswer.{IsWorked, status_of};
+ghost use Rattle.command_parts.specs.InsideAnswer.{IsWorked, status_of};
 ghost use Rattle.bridge_tool.specs.Make.{IsSummedUp, LeavesInput, MakesAs, make_promise, made_text};
-ghost use Rattle.bridge_tool.specs.SeveralFiles.{Comes};
-ghost use Rattle.bridge_tool.specs.Stages.{fold_steps};
+ghost use Rattle.command_parts.specs.SeveralFiles.{Comes};
+ghost use Rattle.command_parts.specs.Stages.{fold_steps};
 
-use crate::answer::Answer;
-use crate::one_file::end;
-use crate::refusal::Refusal;
-use crate::stages::{exported, fold_read, scale};
 use crate::summary::{coefficient_count, exported_count, summary_line};
+use command_parts::{Answer, Refusal, end, exported, fold_read, scale};
+use desk::Desk;
 use instances::make_instance;
 use mps_writer::write_mps;
 use nl_segments::{NlRead, read_nl};
 use nl_writer::write_nl;
-use row_scaling::Scaled;
+use scaling::Scaled;
 use std::alloc::{AllocError, Global};
-use text_base::{Desk, Ledger, Steps, Stop};
+use texts::{Ledger, Steps, Stop};
 
 // The summary of the program of a scaled one, which has so many variables and exported rows.
 fn sum_up(alloc: Global, scaled: Scaled, variables: u32, rows: usize) -> Result<Vec<u8>, AllocError>

@@ -2,19 +2,17 @@
 // refusal.
 ghost use Rattle.std.specs.Prelude.{◌≡◌, true, IfOk};
 ghost use Rattle.mps_reader.specs.Written.{mps_text};
-ghost use Rattle.bridge_tool.specs.InsideAnswer.{IsAtRest};
+ghost use Rattle.command_parts.specs.InsideAnswer.{IsAtRest};
 ghost use Rattle.bridge_tool.specs.Mps.{IsMpsMeant, mps_promise};
-ghost use Rattle.bridge_tool.specs.Outcome.{Done};
-ghost use Rattle.bridge_tool.specs.SeveralFiles.{Comes};
+ghost use Rattle.command_parts.specs.Outcome.{Done};
+ghost use Rattle.command_parts.specs.SeveralFiles.{Comes};
 
-use crate::answer::Answer;
-use crate::mps_input::open_mps;
-use crate::one_file::end;
-use crate::refusal::Refusal;
+use command_parts::{Answer, Refusal, end, open_mps};
+use desk::Desk;
 use mps_model::Mps;
 use mps_writer::write_mps;
 use std::alloc::Global;
-use text_base::{Desk, Stop};
+use texts::Stop;
 
 /// The bytes to write for a program.
 pub(crate) fn to_output(alloc: Global, mps: &Mps) -> Result<(bool, Vec<u8>), Stop<Refusal>>

@@ -5,25 +5,24 @@ ghost use Rattle.name_files.specs.Renamed.{HasExportedNames, named};
 ghost use Rattle.nl_segments.specs.Reader.{HasLines, value_of};
 ghost use Rattle.exported_program.specs.Program.{mps_of};
 ghost use Rattle.scaling.specs.Exported.{scaled_as};
-ghost use Rattle.bridge_tool.specs.InsideAnswer.{IsCounted};
+ghost use Rattle.command_parts.specs.InsideAnswer.{IsCounted};
 ghost use Rattle.bridge_tool.specs.NamedExport.{AreNamedMeant, Named, NamedComesTo, named_promise};
 ghost use Rattle.bridge_tool.specs.InsideExport.{IsNamedTextOf};
-ghost use Rattle.bridge_tool.specs.SeveralFiles.{Comes};
-ghost use Rattle.bridge_tool.specs.Stages.{fold_steps};
+ghost use Rattle.command_parts.specs.SeveralFiles.{Comes};
+ghost use Rattle.command_parts.specs.Stages.{fold_steps};
 
-use crate::answer::Answer;
-use crate::name_input::{open_columns, open_rows};
-use crate::nl_input::open_nl;
-use crate::one_file::end;
-use crate::refusal::Refusal;
-use crate::stages::{exported, fold_read, scale};
+use command_parts::{
+    Answer, Refusal, end, exported, fold_read, open_columns, open_nl, open_rows, scale,
+};
+use desk::Desk;
 use mps_model::Mps;
 use mps_writer::write_mps;
-use name_files::{NameList, rename};
+use name_files::rename;
+use name_lists::NameList;
 use nl_segments::NlRead;
-use row_scaling::Scaled;
+use scaling::Scaled;
 use std::alloc::{AllocError, Global};
-use text_base::{Desk, Ledger, Steps, Stop};
+use texts::{Ledger, Steps, Stop};
 
 // The program with these names; the one without them is let go.
 fn renamed(

@@ -1,19 +1,17 @@
 // The command nl: from an .nl text to the one written text of its file, or to a refusal.
 ghost use Rattle.std.specs.Prelude.{◌≡◌, true};
 ghost use Rattle.nl_writer.specs.Written.{nl_text};
-ghost use Rattle.bridge_tool.specs.InsideAnswer.{IsAtRest};
+ghost use Rattle.command_parts.specs.InsideAnswer.{IsAtRest};
 ghost use Rattle.bridge_tool.specs.Nl.{nl_promise};
-ghost use Rattle.bridge_tool.specs.Outcome.{Done};
-ghost use Rattle.bridge_tool.specs.SeveralFiles.{Comes};
+ghost use Rattle.command_parts.specs.Outcome.{Done};
+ghost use Rattle.command_parts.specs.SeveralFiles.{Comes};
 
-use crate::answer::Answer;
-use crate::nl_input::open_nl;
-use crate::one_file::end;
-use crate::refusal::Refusal;
+use command_parts::{Answer, Refusal, end, open_nl};
+use desk::Desk;
 use nl_segments::NlRead;
 use nl_writer::write_nl;
 use std::alloc::Global;
-use text_base::{Desk, Stop};
+use texts::Stop;
 
 // The bytes to write for a file.
 fn to_output(alloc: Global, read: NlRead) -> Result<(bool, Vec<u8>), Stop<Refusal>>

@@ -6,26 +6,21 @@ ghost use Rattle.nl_segments.specs.Reader.{HasLines, value_of};
 ghost use Rattle.file_certificates.specs.Files.{IsProofIn};
 ghost use Rattle.branch_check.specs.Leaves.{IsProved, IsVerdictOn, fault_of};
 ghost use Rattle.certificates.specs.Proofs.{IsProofOf};
-ghost use Rattle.bridge_tool.specs.InsideAnswer.{IsCounted};
+ghost use Rattle.command_parts.specs.InsideAnswer.{IsCounted};
 ghost use Rattle.bridge_tool.specs.Prove.{IsLeftOpen, IsProvedOf, claimed_objective, prove_outcome, prove_promise};
-ghost use Rattle.bridge_tool.specs.ProofTold.{leaf_line};
-ghost use Rattle.bridge_tool.specs.SeveralFiles.{ByVerdict, Comes};
-ghost use Rattle.bridge_tool.specs.Stages.{fold_steps};
+ghost use Rattle.command_parts.specs.ProofTold.{leaf_line};
+ghost use Rattle.command_parts.specs.SeveralFiles.{ByVerdict, Comes};
+ghost use Rattle.command_parts.specs.Stages.{fold_steps};
 
-use crate::answer::Answer;
-use crate::nl_input::open_nl;
-use crate::one_file::end;
-use crate::proof_input::open_proof;
-use crate::proof_told::leaf_line;
-use crate::refusal::Refusal;
-use crate::stages::fold_read;
-use branch_check::check_proof_by_rows;
-use branch_proof::{Claim, Proof, ProofVerdict};
+use branch_check::{ProofVerdict, check_proof_by_rows};
+use certificates::proof::{Claim, Proof};
+use command_parts::{Answer, Refusal, end, fold_read, leaf_line, open_nl, open_proof};
+use desk::Desk;
 use dual_bounds::Program;
-use linear_fold::Linear;
+use linear_program::Linear;
 use nl_segments::NlRead;
 use std::alloc::{AllocError, Global};
-use text_base::{Desk, Ledger, Steps, Stop};
+use texts::{Ledger, Steps, Stop};
 
 // The number of the objective of the claim; 0 where it is of none.
 fn claimed_objective(proof: &Proof) -> u32

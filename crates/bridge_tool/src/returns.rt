@@ -4,26 +4,23 @@ ghost use Rattle.std.specs.Prelude.{◌≡◌, ◌+◌, ◌≤◌};
 ghost use Rattle.nl_model.specs.Rules.{IsFile};
 ghost use Rattle.nl_segments.specs.Reader.{HasLines, value_of};
 ghost use Rattle.dual_return.specs.Return.{IsAnswerFor};
-ghost use Rattle.bridge_tool.specs.InsideAnswer.{IsCounted};
-ghost use Rattle.bridge_tool.specs.InsideRefusal.{refused_by};
-ghost use Rattle.bridge_tool.specs.declared.refusal.Refusal.TheVariants.{Return as IsWideDual};
+ghost use Rattle.command_parts.specs.InsideAnswer.{IsCounted};
+ghost use Rattle.command_parts.specs.InsideRefusal.{refused_by};
+ghost use Rattle.command_parts.specs.declared.refusal.Refusal.TheVariants.{Return as IsWideDual};
 ghost use Rattle.bridge_tool.specs.Return.{Makes, ReturnsAs, named_return_promise, return_promise};
-ghost use Rattle.bridge_tool.specs.SeveralFiles.{Comes};
-ghost use Rattle.bridge_tool.specs.Stages.{fold_steps};
+ghost use Rattle.command_parts.specs.SeveralFiles.{Comes};
+ghost use Rattle.command_parts.specs.Stages.{fold_steps};
 
-use crate::answer::Answer;
-use crate::answer_input::{open_answer, open_named};
-use crate::name_input::{open_columns, open_rows};
-use crate::nl_input::open_nl;
-use crate::one_file::end;
-use crate::refusal::Refusal;
-use crate::stages::{fold, scale};
 use answer_file::Answer as Given;
+use command_parts::{
+    Answer, Refusal, end, fold, open_answer, open_columns, open_named, open_nl, open_rows, scale,
+};
+use desk::Desk;
 use dual_return::{ReturnFault, solution};
 use nl_segments::NlRead;
 use sol_files::{Sol, write_sol};
 use std::alloc::Global;
-use text_base::{Desk, Ledger, Steps, Stop};
+use texts::{Ledger, Steps, Stop};
 
 fn refused(stop: Stop<ReturnFault>) -> Stop<Refusal>
     ensures { result ≡ refused_by IsWideDual stop }

@@ -2,18 +2,16 @@
 // refusal.
 ghost use Rattle.std.specs.Prelude.{◌≡◌, true};
 ghost use Rattle.sol_files.specs.Written.{sol_text};
-ghost use Rattle.bridge_tool.specs.InsideAnswer.{IsAtRest};
-ghost use Rattle.bridge_tool.specs.Outcome.{Done};
-ghost use Rattle.bridge_tool.specs.SeveralFiles.{Comes};
+ghost use Rattle.command_parts.specs.InsideAnswer.{IsAtRest};
+ghost use Rattle.command_parts.specs.Outcome.{Done};
+ghost use Rattle.command_parts.specs.SeveralFiles.{Comes};
 ghost use Rattle.bridge_tool.specs.Sol.{sol_promise};
 
-use crate::answer::Answer;
-use crate::one_file::end;
-use crate::refusal::Refusal;
-use crate::sol_input::open_sol;
+use command_parts::{Answer, Refusal, end, open_sol};
+use desk::Desk;
 use sol_files::{Sol, write_sol};
 use std::alloc::Global;
-use text_base::{Desk, Stop};
+use texts::Stop;
 
 // The bytes to write for a value.
 fn to_output(alloc: Global, sol: &Sol) -> Result<(bool, Vec<u8>), Stop<Refusal>>

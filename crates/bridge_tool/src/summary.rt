@@ -1,5 +1,5 @@
 // What make writes of an exported program.
-ghost use Rattle.std.specs.Prelude.{◌≡◌, ◌++◌, ◌+◌, ◌≤◌, ◌^◌, IfOk, OnOk, codes, length};
+ghost use Rattle.std.specs.Prelude.{◌≡◌, ◌++◌, ◌+◌, ◌≤◌, ◌^◌, IfOk, OnOk};
 ghost use Rattle.std.specs.Fmt.{decimal};
 ghost use Rattle.std.specs.List.{count_by, sum_by};
 ghost use Rattle.linear_program.specs.Intervals.{is_sided};
@@ -8,12 +8,11 @@ ghost use Rattle.mps_model.specs.Built.{entry_of};
 ghost use Rattle.mps_model.specs.Valid.{entry_count};
 ghost use Rattle.bridge_tool.specs.Make.{coefficient_count, exported_count, is_coefficient, of_column, summary_line};
 
-use crate::told::put;
+use command_parts::put;
 use exact_numbers::Dec;
 use itoa::Buffer;
-use linear_fold::Linear;
+use linear_program::{Interval, Linear};
 use mps_model::{Mps, MpsColumn};
-use nl_model::Interval;
 use std::alloc::{AllocError, Global};
 
 fn count_sides(sides: &[Interval]) -> usize

@@ -6,26 +6,24 @@ ghost use Rattle.nl_segments.specs.Reader.{HasLines, value_of};
 ghost use Rattle.certificates.specs.Certificates.{IsCertificateOf, claim_outcome, claim_objective};
 ghost use Rattle.file_certificates.specs.Files.{IsCertificateIn};
 ghost use Rattle.certificate_walk.specs.Outcomes.{outcome_of};
-ghost use Rattle.bridge_tool.specs.InsideAnswer.{IsCounted};
-ghost use Rattle.bridge_tool.specs.CertificateTold.{HasFittingBound, is_held, outcome_line};
-ghost use Rattle.bridge_tool.specs.SeveralFiles.{ByVerdict, Comes};
-ghost use Rattle.bridge_tool.specs.Stages.{fold_steps};
+ghost use Rattle.command_parts.specs.InsideAnswer.{IsCounted};
+ghost use Rattle.command_parts.specs.CertificateTold.{HasFittingBound, is_held, outcome_line};
+ghost use Rattle.command_parts.specs.SeveralFiles.{ByVerdict, Comes};
+ghost use Rattle.command_parts.specs.Stages.{fold_steps};
 ghost use Rattle.bridge_tool.specs.Verify.{IsDenied, IsVerified, verify_outcome, verify_promise};
 
-use crate::answer::Answer;
-use crate::certificate_input::open_certificate;
-use crate::certificate_told::{claim_objective, is_held, outcome_line};
-use crate::nl_input::open_nl;
-use crate::one_file::end;
-use crate::refusal::Refusal;
-use crate::stages::fold_read;
 use certificate_walk::{Outcome, check_certificate};
 use certificates::Certificate;
+use command_parts::{
+    Answer, Refusal, claim_objective, end, fold_read, is_held, open_certificate, open_nl,
+    outcome_line,
+};
+use desk::Desk;
 use dual_bounds::Program;
-use linear_fold::Linear;
+use linear_program::Linear;
 use nl_segments::NlRead;
 use std::alloc::{AllocError, Global};
-use text_base::{Desk, Ledger, Steps, Stop};
+use texts::{Ledger, Steps, Stop};
 
 /// The verdict on a certificate for a linear program, which is let go as soon as its rows are held.
 pub(crate) fn outcome_on(

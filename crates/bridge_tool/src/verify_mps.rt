@@ -5,27 +5,26 @@ ghost use Rattle.linear_program.specs.Programs.{IsLinear, linear_value};
 ghost use Rattle.certificates.specs.Certificates.{IsCertificateOf};
 ghost use Rattle.certificates.specs.Setting.{IsCertificateFor, program_setting};
 ghost use Rattle.certificate_text.specs.Reader.{IsCertificateText};
-ghost use Rattle.bridge_tool.specs.CertificateTold.{HasFittingBound};
-ghost use Rattle.bridge_tool.specs.InsideAnswer.{IsAtRest, status_of};
+ghost use Rattle.command_parts.specs.CertificateTold.{HasFittingBound};
+ghost use Rattle.command_parts.specs.InsideAnswer.{IsAtRest, status_of};
 ghost use Rattle.bridge_tool.specs.InsideVerifyMps.{GivesProgram};
-ghost use Rattle.bridge_tool.specs.SeveralFiles.{Comes, ReadsFile, itself};
-ghost use Rattle.bridge_tool.specs.Verify.{IsCertificateRefused};
+ghost use Rattle.command_parts.specs.SeveralFiles.{Comes, ReadsFile, itself};
+ghost use Rattle.command_parts.specs.Refusal.{IsCertificateRefused};
 ghost use Rattle.bridge_tool.specs.VerifyMps.{IsTextIn, IsTextRefused, as_import, program_outcome, verify_mps_promise};
 
-use crate::answer::Answer;
-use crate::certificate_input::open_certificate_over;
-use crate::certificate_told::claim_objective;
-use crate::mps_input::{open_fixed, open_mps};
-use crate::one_file::{answered, end};
-use crate::refusal::Refusal;
 use crate::verify::{outcome_on, told_outcome};
 use certificates::Certificate;
-use linear_fold::{FoldFault, Linear};
+use command_parts::{
+    Answer, Refusal, answered, claim_objective, end, open_certificate_over, open_fixed, open_mps,
+};
+use desk::Desk;
+use linear_fold::FoldFault;
+use linear_program::Linear;
 use mps_import::ImportFault;
 use mps_model::Mps;
 use mps_program::{MpsFault, linear_of};
 use std::alloc::Global;
-use text_base::{Desk, Stop};
+use texts::Stop;
 
 /// How an MPS text stands on its lines: in free form, or in fixed columns.
 #[derive(Clone, Copy)]

@@ -6,3 +6,4 @@ pub mod InsideLeafSums
 pub mod InsideOperates
 pub mod InsideOwnerFolds
 pub mod InsideLinearTerms
+pub mod Reasons

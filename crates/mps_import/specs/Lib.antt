@@ -5,3 +5,4 @@ pub mod Faults
 pub mod InsideKinds
 pub mod InsideUses
 pub mod InsideParts
+pub mod Reasons

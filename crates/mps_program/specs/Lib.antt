@@ -7,3 +7,4 @@ pub mod Faults
 pub mod Decimals
 pub mod InsideColumns
 pub mod InsideForms
+pub mod Reasons

@@ -1,4 +1,8 @@
 // What may be wrong with a header line.
+ghost use Rattle.std.specs.Prelude.{◌≡◌};
+ghost use Rattle.nl_header.specs.Reasons.{fault_text};
+
+use std::fmt;
 
 /// The first fault of a header line, which carries no line.
 #[derive(Clone, Copy, Debug, PartialEq, Eq)]
@@ -18,4 +22,33 @@ pub enum HeadFault {
     RefusedCount,
     /// A count is above its limit.
     TooLarge,
+}
+
+impl HeadFault {
+    /// What is said of it.
+    pub fn text(self) -> &'static str
+        ensures { result.now ≡ fault_text self }
+    {
+        match self {
+            HeadFault::BinaryFile => "binary file",
+            HeadFault::BadFirstLine => "bad first line",
+            HeadFault::Options => "refused options",
+            HeadFault::BadHeaderNumber => "bad header number",
+            HeadFault::CountsDisagree => "counts disagree",
+            HeadFault::RefusedCount => "refused count",
+            HeadFault::TooLarge => "too large",
+        }
+    }
+}
+
+impl fmt::Display for HeadFault {
+    ghost use Rattle.std.specs.Prelude.{Some};
+    ghost use Rattle.nl_header.specs.Reasons.{fault_text};
+
+    ghost output = { λ fault. Some (fault_text fault) };
+
+    fn fmt<W: fmt::Write>(&self, f: &mut fmt::Formatter<W>) -> fmt::Result {
+        let text = self.text();
+        write!(f, "{text}")
+    }
 }

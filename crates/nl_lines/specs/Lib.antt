@@ -15,3 +15,4 @@ pub mod FirstRows
 pub mod InsideFrontLines
 pub mod HeadRows
 pub mod IntervalRows
+pub mod Reasons

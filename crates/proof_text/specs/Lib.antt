@@ -5,3 +5,4 @@ pub mod Grammar
 pub mod Reader
 pub mod Steps
 pub mod InsideReader
+pub mod Reasons

@@ -1,4 +1,8 @@
 // What is wrong with a proof text.
+ghost use Rattle.std.specs.Prelude.{◌≡◌, ◌≤◌, length};
+ghost use Rattle.proof_text.specs.Reasons.{reason_text};
+
+use std::fmt;
 use texts::TextFault;
 
 /// Why a line is refused, in the order of the tests: a line fault first, then the others of the
@@ -16,6 +20,40 @@ pub enum ProofReason {
     RepeatedIndex,
     TooLarge,
     Short,
+}
+
+impl ProofReason {
+    /// What is said of it.
+    pub fn text(self) -> &'static str
+        ensures text { result.now ≡ reason_text self }
+        ensures brief { length result.now ≤ 24 }
+    {
+        match self {
+            ProofReason::LineTooLong => "line too long",
+            ProofReason::InputTooLong => "input too long",
+            ProofReason::BadFirst => "bad first line",
+            ProofReason::Extra => "extra line",
+            ProofReason::BadLine => "bad line",
+            ProofReason::BadNumber => "bad number",
+            ProofReason::IndexOut => "index out of range",
+            ProofReason::NotWhole => "not whole",
+            ProofReason::RepeatedIndex => "repeated index",
+            ProofReason::TooLarge => "too large",
+            ProofReason::Short => "short file",
+        }
+    }
+}
+
+impl fmt::Display for ProofReason {
+    ghost use Rattle.std.specs.Prelude.{Some};
+    ghost use Rattle.proof_text.specs.Reasons.{reason_text};
+
+    ghost output = { λ reason. Some (reason_text reason) };
+
+    fn fmt<W: fmt::Write>(&self, f: &mut fmt::Formatter<W>) -> fmt::Result {
+        let text = self.text();
+        write!(f, "{text}")
+    }
 }
 
 /// The first fault of a proof text, and the line where it stands.

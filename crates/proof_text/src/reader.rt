@@ -3,10 +3,10 @@ ghost use Rattle.std.specs.Prelude.{◌≡◌, ◌++◌, List, ℕ, [], IfOk, If
 ghost use Rattle.std.specs.Result.{result_err};
 ghost use Rattle.texts.specs.Stopped.{IfFault};
 ghost use Rattle.texts.specs.Reading.{HasFaultSoFar, IsFreeSoFar};
-ghost use Rattle.file_certificates.specs.Files.{IsProofIn};
+ghost use Rattle.file_settings.specs.Files.{IsProofIn};
 ghost use Rattle.proof_text.specs.Grammar.{proof_rules};
 ghost use Rattle.certificates.specs.Setting.{IsProofFor, Setting};
-ghost use Rattle.file_certificates.specs.Setting.{setting_of};
+ghost use Rattle.file_settings.specs.Setting.{setting_of};
 ghost use Rattle.proof_text.specs.Reader.{IsFed, ReadsProof};
 ghost use Rattle.tree_text.specs.Rows.{rows_in};
 ghost use Rattle.proof_text.specs.Standing.{proof_standing};

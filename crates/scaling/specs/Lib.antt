@@ -7,3 +7,4 @@ pub mod Parts
 pub mod Rows
 pub mod Scaled
 pub mod Scaling
+pub mod Reasons

@@ -15,3 +15,4 @@ pub mod Built
 pub mod Written
 pub mod InsideFields
 pub mod InsideJudging
+pub mod Reasons

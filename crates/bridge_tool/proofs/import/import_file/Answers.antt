@@ -1,8 +1,8 @@
 use Rattle.std.proofs.Common.{refl, arith}
 use Rattle.bridge_tool.specs.Import.{MeansTheProgram}
-use Rattle.bridge_tool.specs.SeveralFiles.{itself}
+use Rattle.command_parts.specs.SeveralFiles.{itself}
 use Rattle.bridge_tool.proofs.OneFile.{import_last, meant_so}
-use Rattle.bridge_tool.proofs.SeveralFiles.{NoVerdict, at_rest, only_ended, only_stopped}
+use Rattle.command_parts.proofs.SeveralFiles.{NoVerdict, at_rest, only_ended, only_stopped}
 use Rattle.bridge_tool.proofs.import.import_file.Goals as goal
 
 pub returns-in-Err : goal.returns-in-Err

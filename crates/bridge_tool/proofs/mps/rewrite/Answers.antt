@@ -1,8 +1,8 @@
 use Rattle.std.proofs.Common.{refl, arith}
 use Rattle.bridge_tool.specs.Mps.{IsMpsMeant}
-use Rattle.bridge_tool.specs.SeveralFiles.{itself}
+use Rattle.command_parts.specs.SeveralFiles.{itself}
 use Rattle.bridge_tool.proofs.OneFile.{mps_last}
-use Rattle.bridge_tool.proofs.SeveralFiles.{NoVerdict, at_rest, meant_always, only_ended, only_stopped}
+use Rattle.command_parts.proofs.SeveralFiles.{NoVerdict, at_rest, meant_always, only_ended, only_stopped}
 use Rattle.bridge_tool.proofs.mps.rewrite.Goals as goal
 
 pub returns-in-Err : goal.returns-in-Err

@@ -3,7 +3,7 @@ use Rattle.nl_segments.specs.Reader.{value_of}
 use Rattle.scaling.specs.Exported.{scaled_as}
 use Rattle.bridge_tool.specs.NamedExport.{AreNamedMeant, IsNamedExport, Named}
 use Rattle.bridge_tool.proofs.NamedExporting.{written_so, export_named, named_meant}
-use Rattle.bridge_tool.proofs.Exporting.{exports_so}
+use Rattle.command_parts.proofs.ExportStages.{exports_so}
 use Rattle.bridge_tool.proofs.named_export.to_output.Goals as goal
 
 pub write_named-requires : goal.write_named-requires

@@ -3,7 +3,7 @@ use Rattle.nl_round_trip.specs.Writable.{IsText}
 use Rattle.nl_segments.specs.Reader.{value_of}
 use Rattle.nl_writer.specs.Written.{nl_text}
 use Rattle.bridge_tool.proofs.OneFile.{nl_last, nl_meant}
-use Rattle.bridge_tool.proofs.SeveralFiles.{NoVerdict, at_rest, meant_anyway, only_ended, only_stopped}
+use Rattle.command_parts.proofs.SeveralFiles.{NoVerdict, at_rest, meant_anyway, only_ended, only_stopped}
 use Rattle.bridge_tool.proofs.nl.rewrite.Goals as goal
 
 pub returns-in-Err : goal.returns-in-Err

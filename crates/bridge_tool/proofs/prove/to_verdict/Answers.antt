@@ -1,6 +1,6 @@
 use Rattle.nl_segments.specs.Reader.{value_of}
 use Rattle.bridge_tool.proofs.Verdicts.{proof_done, proof_says, proof_so}
-use Rattle.bridge_tool.proofs.Exporting.{folded_at}
+use Rattle.command_parts.proofs.ExportStages.{folded_at}
 use Rattle.bridge_tool.proofs.prove.to_verdict.Goals as goal
 
 pub verdict_of-requires : goal.verdict_of-requires

@@ -1,8 +1,8 @@
 use Rattle.std.proofs.Common.{refl, arith}
-use Rattle.bridge_tool.specs.SeveralFiles.{itself}
+use Rattle.command_parts.specs.SeveralFiles.{itself}
 use Rattle.bridge_tool.specs.Sol.{IsSolMeant}
 use Rattle.bridge_tool.proofs.OneFile.{sol_last, sol_meant}
-use Rattle.bridge_tool.proofs.SeveralFiles.{NoVerdict, at_rest, meant_anyway, only_ended, only_stopped}
+use Rattle.command_parts.proofs.SeveralFiles.{NoVerdict, at_rest, meant_anyway, only_ended, only_stopped}
 use Rattle.bridge_tool.proofs.sol.rewrite.Goals as goal
 
 pub returns-in-Err : goal.returns-in-Err

@@ -2,7 +2,7 @@ use Rattle.std.proofs.Common.{◌∙◌, ap}
 use Rattle.certificates.specs.Certificates.{claim_objective}
 use Rattle.nl_segments.specs.Reader.{value_of}
 use Rattle.bridge_tool.proofs.Verdicts.{bound_fits, certificate_so, claim_done, verified_so}
-use Rattle.bridge_tool.proofs.Exporting.{folded_at}
+use Rattle.command_parts.proofs.ExportStages.{folded_at}
 use Rattle.bridge_tool.proofs.verify.to_verdict.Goals as goal
 
 pub outcome_on-requires : goal.outcome_on-requires

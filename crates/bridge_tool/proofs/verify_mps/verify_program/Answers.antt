@@ -2,10 +2,10 @@ use Rattle.std.proofs.Common.{refl, arith}
 use Rattle.linear_program.specs.Programs.{linear_value}
 use Rattle.certificates.specs.Setting.{program_setting}
 use Rattle.certificates.proofs.Settings.{certificate_for, program_has_setting}
-use Rattle.bridge_tool.specs.SeveralFiles.{itself}
+use Rattle.command_parts.specs.SeveralFiles.{itself}
 use Rattle.bridge_tool.specs.VerifyMps.{IsDeniedMps, IsVerifiedMps}
 use Rattle.bridge_tool.proofs.Programs.{certificate_as, comes_as, fits_for, opened_as, program_ended, program_is, program_last, program_read, program_says, program_there, text_ended}
-use Rattle.bridge_tool.proofs.SeveralFiles.{at_rest, both_ended, both_stopped, second_stopped}
+use Rattle.command_parts.proofs.SeveralFiles.{at_rest, both_ended, both_stopped, second_stopped}
 use Rattle.bridge_tool.proofs.verify_mps.verify_program.Goals as goal
 
 pub returns-in-Err : goal.returns-in-Err

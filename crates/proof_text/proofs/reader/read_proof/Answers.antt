@@ -1,4 +1,4 @@
-use Rattle.file_certificates.specs.Setting.{setting_of}
+use Rattle.file_settings.specs.Setting.{setting_of}
 use Rattle.proof_text.proofs.ReadingLemmas.{proof_from}
 use Rattle.proof_text.proofs.reader.read_proof.Goals as goal
 

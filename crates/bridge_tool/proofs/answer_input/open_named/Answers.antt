@@ -1,5 +1,0 @@
-use Rattle.answer_file.specs.Names.{named_setting}
-use Rattle.bridge_tool.proofs.answer_input.open_named.Goals as goal
-
-pub returns-in-Ok-clause-reads : goal.returns-in-Ok-clause-reads
-returns-in-Ok-clause-reads g c = c.open_with.ensures.reads (named_setting c.args.file.now c.args.rows c.args.columns) c.in-Ok.ensures.fed.same

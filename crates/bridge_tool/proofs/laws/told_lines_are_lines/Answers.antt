@@ -1,8 +1,0 @@
-use Rattle.bridge_tool.proofs.FaultLines.{answer_told, export_told}
-use Rattle.bridge_tool.proofs.laws.told_lines_are_lines.Goals as goal
-
-pub returns-clause-answer : goal.returns-clause-answer
-returns-clause-answer c = answer_told
-
-pub returns-clause-stages : goal.returns-clause-stages
-returns-clause-stages c = export_told

@@ -1,0 +1,7 @@
+pub mod Known
+pub mod Ending
+pub mod SeveralFiles
+pub mod FaultLines
+pub mod NameLists
+pub mod TextsRead
+pub mod ExportStages

@@ -1,0 +1,579 @@
+-- Commands of files: exactly one outcome, and what each way to end them says.
+use Rattle.std.proofs.Common.{◌≡◌, inl, inr, ◌⊎◌, List, ℕ, Bool, true, false, refl, ap, ◌∙◌, sym, ap₂, ◌≢◌, ◌≤◌, ◌+◌, take, drop, Option, Some, None, Result, Ok, Err, subst, arith}
+use Rattle.command_parts.specs.Outcome.{Outcome, BadWords, DoneOrRefused, Untold, NoText, Refused as IsRefusal, Done as IsDone, Status}
+use Rattle.texts.specs.Judged.{Rules}
+use Rattle.texts.specs.Reading.{HasFault, IsRead, last_of, lines_of}
+use Rattle.texts.specs.declared.fault.TextFault.{TextFault}
+use Rattle.texts.proofs.JudgedLemmas.{one_outcome}
+use Rattle.command_parts.specs.Told.{TellsFault}
+use Rattle.std.proofs.lemmas.Option.{same_Some}
+use Rattle.std.specs.Prelude.{IfOk, IsTrue, MatchOption, MatchResult}
+use Rattle.std.specs.Global.{Vec}
+use Rattle.desk.specs.Desk.{IsUnknown, Meaning, OnlyInput, Rose, Texts}
+use Rattle.texts.specs.declared.stop.Stop.{Stop}
+use Rattle.texts.specs.declared.stop.Stop.TheVariants.{Fault, Memory}
+use Rattle.command_parts.specs.InsideRefusal.{refusal_line}
+use Rattle.command_parts.specs.InsideAnswer.{IsAtRest, IsCounted, IsWorked, Ends, Missed, status_of}
+use Rattle.command_parts.specs.Promise.{Promise}
+use Rattle.command_parts.specs.SeveralFiles.{Answered, ByValue, ByVerdict, Comes, HasEnded, HasSaid, ReadsFile, Says, after_file, desk_promise, judges_last}
+use Rattle.command_parts.specs.declared.refusal.Refusal.{Refusal}
+use Rattle.command_parts.specs.Transfer.{HasRead, HasReadCause, IsFrontRead, ReadsFront}
+use Rattle.command_parts.specs.declared.answer.Answer.{Answer}
+use Rattle.command_parts.specs.declared.answer.Answer.TheVariants.{Refused, InputFault, NoMemory}
+use Rattle.command_parts.specs.declared.transfer.Unread.{Unread}
+use Rattle.command_parts.specs.declared.transfer.Unread.TheVariants.{Fault as IsFault, Memory as IsMemory}
+use Rattle.command_parts.specs.declared.transfer.TheConstants.{LIMIT}
+use Rattle.command_parts.proofs.Ending.{HasComeTo, IsKnown, ends_status, fault_status, memory_worked, missed_worked, refused_worked, wrote_worked}
+use Rattle.command_parts.proofs.Known.{OnlyInput-same, OnlyInput-then}
+
+-- an outcome of a command whose texts are told
+abbrev pub IsPlain : Outcome → Type 0
+IsPlain BadWords = ⊥
+IsPlain (Untold judges) = ⊥
+IsPlain NoText = Unit {0}
+IsPlain (IsRefusal line) = Unit {0}
+IsPlain (IsDone holds bytes) = Unit {0}
+
+-- exactly one outcome, which is of this kind
+pub record HasOne (kind comes : Outcome → Type 0) : Type 0 where
+  pub outcome : Outcome
+  pub comes_to : comes outcome
+  pub is : kind outcome
+  pub one : (other : Outcome) → comes other → other ≡ outcome
+
+-- that of an equation
+pub same_one : (x : Outcome) → IsPlain x → HasOne IsPlain (λ outcome. outcome ≡ x)
+same_one x is = record { outcome = x; comes_to = refl; is = is; one = λ other h. h }
+
+-- bytes are accepted, or a line is refused: one of them, and not both
+pub record IsEither (accepts refuses : List ℕ → Type 0) : Type 0 where
+  pub accepted : (a b : List ℕ) → accepts a → accepts b → a ≡ b
+  pub refused : (a b : List ℕ) → refuses a → refuses b → a ≡ b
+  pub either : ((bytes : List ℕ) × accepts bytes) ⊎ ((line : List ℕ) × refuses line)
+  pub apart : (bytes line : List ℕ) → accepts bytes → refuses line → ⊥
+
+module _ (accepts refuses : List ℕ → Type 0) (d : IsEither accepts refuses) where
+  accepted_one : (bytes : List ℕ) → accepts bytes → (other : Outcome) → DoneOrRefused accepts refuses other → other ≡ IsDone true bytes
+  accepted_one bytes h (IsRefusal line) j = absurd (d.apart bytes line h j)
+  accepted_one bytes h (IsDone true other) j = ap (IsDone true) (d.accepted other bytes j h)
+  accepted_one bytes h other j = absurd j
+
+  refused_one : (line : List ℕ) → refuses line → (other : Outcome) → DoneOrRefused accepts refuses other → other ≡ IsRefusal line
+  refused_one line h (IsRefusal other) j = ap IsRefusal (d.refused other line j h)
+  refused_one line h (IsDone true other) j = absurd (d.apart other line j h)
+  refused_one line h other j = absurd j
+
+  pub one_of_both : HasOne IsPlain (DoneOrRefused accepts refuses)
+  one_of_both = elim d.either [
+    | inl h ↦ record { outcome = IsDone true h.0; comes_to = h.1; is = tt; one = accepted_one h.0 h.1 }
+    | inr h ↦ record { outcome = IsRefusal h.0; comes_to = h.1; is = tt; one = refused_one h.0 h.1 }
+  ]
+
+-- what is done is a yes
+pub done_so : (accepts refuses : List ℕ → Type 0) (holds : Bool) (bytes : List ℕ) → DoneOrRefused accepts refuses (IsDone holds bytes) → holds ≡ true
+done_so accepts refuses true bytes h = refl
+done_so accepts refuses false bytes h = absurd h
+
+-- ---- texts of a file
+
+-- each text says one value, or is refused with one line
+pub record AreRead {V : Type 0} (reads : List ℕ → V → Type 0) (refuses : List ℕ → List ℕ → Type 0) : Type 0 where
+  pub said : (text : List ℕ) (a b : V) → reads text a → reads text b → a ≡ b
+  pub refused : (text a b : List ℕ) → refuses text a → refuses text b → a ≡ b
+  pub either : (text : List ℕ) → ((value : V) × reads text value) ⊎ ((line : List ℕ) × refuses text line)
+  pub apart : (text : List ℕ) (value : V) (line : List ℕ) → reads text value → refuses text line → ⊥
+
+-- it says one value, or has one first fault, which a line tells
+pub read_so : {V F : Type 0} (reads : List ℕ → V → Type 0) (has : List ℕ → F → Type 0) (line_of : F → List ℕ)
+    → ((text : List ℕ) (a b : V) → reads text a → reads text b → a ≡ b) → ((text : List ℕ) (a b : F) → has text a → has text b → line_of a ≡ line_of b)
+    → ((text : List ℕ) → ((value : V) × reads text value) ⊎ ((fault : F) × has text fault)) → ((text : List ℕ) (value : V) (fault : F) → reads text value → has text fault → ⊥)
+    → AreRead reads (λ text. TellsFault (has text) line_of)
+read_so reads has line_of said same either apart = record {
+  said = said;
+  refused = λ text a b h k. h.told ∙ same text h.fault k.fault h.first k.first ∙ sym k.told;
+  either = λ text. elim (either text) [ inl h ↦ inl h | inr h ↦ inr (line_of h.0, record { fault = h.0; first = h.1; told = refl }) ];
+  apart = λ text value line h k. apart text value k.fault h k.first;
+}
+
+-- the same by rules, where clean lines say one value
+pub read_by : {V R : Type 0} (rules : Rules R) (says : List (List ℕ) → V → Type 0) (line_of : TextFault R → List ℕ) (value : List (List ℕ) → V)
+    → ((lines : List (List ℕ)) (v : V) → says lines v → v ≡ value lines) → ((lines : List (List ℕ)) → says lines (value lines))
+    → AreRead (IsRead rules says) (λ text. TellsFault (HasFault rules text) line_of)
+read_by rules says line_of value one is = read_so (IsRead rules says) (HasFault rules) line_of
+    (λ text a b h k. one (lines_of text) a h.said ∙ sym (one (lines_of text) b k.said))
+    (λ text a b h k.
+    let same = (one_outcome rules (lines_of text) (last_of text)).one_fault a.line b.line a.reason b.reason h k in
+    ap₂ (λ line reason. line_of (record { reason = reason; line = line })) same.0 same.1)
+    (λ text. elim (one_outcome rules (lines_of text) (last_of text)).some [
+      | inl clean ↦ inl (value (lines_of text), record { clean = clean; said = is (lines_of text) })
+      | inr found ↦ inr (record { reason = found.1; line = found.0 }, found.2)
+    ])
+    (λ text v fault h k. (one_outcome rules (lines_of text) (last_of text)).not_both h.clean fault.line fault.reason k)
+
+-- ---- promises
+
+-- exactly one outcome, one text that is started last, and steps need not be counted
+pub record IsSound (p : Promise) : Type 0 where
+  pub one : HasOne IsPlain p.comes
+  pub last : (a b : List ℕ) → p.last a → p.last b → a ≡ b
+  pub idle : (n : ℕ) → p.counts n n
+
+pub sound_end : (texts : Texts) (file : List ℕ) (comes : Outcome → Type 0) (counts : ℕ → ℕ → Type 0) (means denies : Type 0) → HasOne IsPlain comes → ((n : ℕ) → counts n n) → IsSound (judges_last texts file comes counts means denies)
+sound_end texts file comes counts means denies one idle = record {
+  one = one;
+  last = λ a b h k. same_Some a b (sym h ∙ k);
+  idle = idle;
+}
+
+module _ {V : Type 0} (reads : List ℕ → V → Type 0) (refuses : List ℕ → List ℕ → Type 0) where
+  -- a text that is refused with a line, or says a value, and no other
+  module _ (d : AreRead reads refuses) (text : List ℕ) where
+    pub one_refused : (line : List ℕ) → refuses text line → (P : List ℕ → Type 0) (Q : V → Type 0) → ByValue reads refuses text P Q → P line
+    one_refused line r P Q (inl h) = subst P (d.refused text h.0 line h.1.0 r) h.1.1
+    one_refused line r P Q (inr h) = absurd (d.apart text h.0 line h.1.0 r)
+
+    pub one_said : (value : V) → reads text value → (P : List ℕ → Type 0) (Q : V → Type 0) → ByValue reads refuses text P Q → Q value
+    one_said value r P Q (inl h) = absurd (d.apart text value h.0 r h.1.0)
+    one_said value r P Q (inr h) = subst Q (d.said text h.0 value h.1.0 r) h.1.1
+
+  -- the text comes to one outcome, where each value does
+  pub one_by_value : AreRead reads refuses → (comes : V → Outcome → Type 0) → ((value : V) → HasOne IsPlain (comes value)) → (text : List ℕ)
+      → HasOne IsPlain (λ outcome. ByValue reads refuses text (λ line. outcome ≡ IsRefusal line) (λ value. comes value outcome))
+  one_by_value d comes one text = elim (d.either text) [
+    | inl said ↦
+        let v = said.0 in
+        record {
+          outcome = (one v).outcome;
+          comes_to = inr (v, (said.1, (one v).comes_to));
+          is = (one v).is;
+          one = λ other h. (one v).one other (one_said d text v said.1 (λ line. other ≡ IsRefusal line) (λ value. comes value other) h);
+        }
+    | inr found ↦ record {
+      outcome = IsRefusal found.0;
+      comes_to = inl (found.0, (found.1, refl));
+      is = tt;
+      one = λ other h. one_refused d text found.0 found.1 (λ line. other ≡ IsRefusal line) (λ value. comes value other) h;
+    }
+  ]
+
+  module _ (d : AreRead reads refuses) (next : V → Promise) (s : (value : V) → IsSound (next value)) (whole text : List ℕ) where
+    one_last : (a b : List ℕ) → ByValue reads refuses text (λ line. a ≡ whole) (λ value. (next value).last a) → ByValue reads refuses text (λ line. b ≡ whole) (λ value. (next value).last b) → a ≡ b
+    one_last a b h k = elim (d.either text) [
+      | inl said ↦
+          let v = said.0 in
+          (s v).last a b (one_said d text v said.1 (λ line. a ≡ whole) (λ value. (next value).last a) h) (one_said d text v said.1 (λ line. b ≡ whole) (λ value. (next value).last b) k)
+      | inr found ↦
+          one_refused d text found.0 found.1 (λ line. a ≡ whole) (λ value. (next value).last a) h ∙ sym (one_refused d text found.0 found.1 (λ line. b ≡ whole) (λ value. (next value).last b) k)
+    ]
+
+    idle_text : (n : ℕ) → ByValue reads refuses text (λ line. n ≡ n) (λ value. (next value).counts n n)
+    idle_text n = elim (d.either text) [ inl said ↦ inr (said.0, (said.1, (s said.0).idle n)) | inr found ↦ inl (found.0, (found.1, refl)) ]
+
+    sound_text : IsSound (record {
+      comes = λ outcome. ByValue reads refuses text (λ line. outcome ≡ IsRefusal line) (λ value. (next value).comes outcome);
+      last = λ last. ByValue reads refuses text (λ line. last ≡ whole) (λ value. (next value).last last);
+      counts = λ old new. ByValue reads refuses text (λ line. new ≡ old) (λ value. (next value).counts old new);
+      means = ByValue reads refuses text (λ line. ⊥) (λ value. (next value).means);
+      denies = ByValue reads refuses text (λ line. ⊥) (λ value. (next value).denies);
+    })
+    sound_text = record { one = one_by_value d (λ value. (next value).comes) (λ value. (s value).one) text; last = one_last; idle = idle_text }
+
+  sound_by : AreRead reads refuses → (next : V → Promise) → ((value : V) → IsSound (next value)) → (text : Option (List ℕ)) → IsSound (record {
+    comes = λ outcome. MatchOption text (outcome ≡ NoText) (λ text. ByValue reads refuses (take LIMIT text) (λ line. outcome ≡ IsRefusal line) (λ value. (next value).comes outcome));
+    last = λ last. MatchOption text ⊥ (λ text. ByValue reads refuses (take LIMIT text) (λ line. last ≡ text) (λ value. (next value).last last));
+    counts = λ old new. MatchOption text (new ≡ old) (λ text. ByValue reads refuses (take LIMIT text) (λ line. new ≡ old) (λ value. (next value).counts old new));
+    means = MatchOption text ⊥ (λ text. ByValue reads refuses (take LIMIT text) (λ line. ⊥) (λ value. (next value).means));
+    denies = MatchOption text ⊥ (λ text. ByValue reads refuses (take LIMIT text) (λ line. ⊥) (λ value. (next value).denies));
+  })
+  sound_by d next s None = record {
+    one = record { outcome = NoText; comes_to = refl; is = tt; one = λ other j. j };
+    last = λ a b h k. absurd h;
+    idle = λ n. refl;
+  }
+  sound_by d next s (Some text) = sound_text d next s text (take LIMIT text)
+
+  -- a file is read, and what is next is sound
+  pub sound_after : AreRead reads refuses → (texts : Texts) (file : List ℕ) (next : V → Promise) → ((value : V) → IsSound (next value)) → IsSound (after_file reads refuses texts file next)
+  sound_after d texts file next s = sound_by d next s (texts file)
+
+-- ---- reading a file
+
+module _ {R V : Type 0} (seen : R → V) (reads : List ℕ → V → Type 0) (refuses : List ℕ → List ℕ → Type 0) where
+  ended_so : (file : List ℕ) (old new : Meaning) (fed : List ℕ → Type 0) (judged : Result R (Stop Refusal)) (result : Result R Answer)
+      → HasRead old.texts file LIMIT new.left fed → new.input_faults ≡ old.input_faults
+      → ((text : List ℕ) → fed text → Says seen reads refuses text judged) → Answered judged result
+      → MatchResult result (λ value. HasSaid reads file old new (seen value)) (λ answer. HasEnded refuses file old new answer)
+  ended_so file old new fed (Ok value) result read same says is = rw is (record { bytes = read.bytes; read = read.read; says = says read.bytes read.taken; same = same })
+  ended_so file old new fed (Err (Fault refusal)) result read same says is = rw is (record { bytes = read.bytes; read = read.read; says = says read.bytes read.taken; same = same })
+  ended_so file old new fed (Err Memory) result read same says is = rw is same
+
+  -- the text was read and judged
+  pub file_judged : (file : List ℕ) (old new : Meaning) (fed : List ℕ → Type 0) (judged : Result R (Stop Refusal)) (result : Result R Answer)
+      → HasRead old.texts file LIMIT new.left fed → new.input_faults ≡ old.input_faults → OnlyInput old new
+      → ((text : List ℕ) → fed text → Says seen reads refuses text judged) → Answered judged result
+      → ReadsFile seen reads refuses file old new result
+  file_judged file old new fed judged result read same rest says is = record { rest = rest; later = omega (arith, same); judged = ended_so file old new fed judged result read same says is }
+
+  missed_so : (T : Type 0) (file : List ℕ) (old new : Meaning) (unread : Unread) (answer : Answer)
+      → HasReadCause {T = T} (IsUnknown old.texts file) old.input_faults new.input_faults (Err unread) → Missed unread answer
+      → HasEnded refuses file old new answer
+  missed_so T file old new IsFault answer cause is = rw is cause.stop
+  missed_so T file old new IsMemory answer cause is = rw is cause.stop
+
+  -- the text was not read
+  pub file_missed : (T : Type 0) (file : List ℕ) (old new : Meaning) (unread : Unread) (answer : Answer)
+      → HasReadCause {T = T} (IsUnknown old.texts file) old.input_faults new.input_faults (Err unread) → OnlyInput old new → Missed unread answer
+      → ReadsFile seen reads refuses file old new (Err answer)
+  file_missed T file old new unread answer cause rest is = record { rest = rest; later = cause.later; judged = missed_so T file old new unread answer cause is }
+
+-- ---- a command at work
+
+-- q is what is left of p
+pub record IsPartOf (q p : Promise) : Type 0 where
+  pub comes : (outcome : Outcome) → q.comes outcome → p.comes outcome
+  pub last : (text : List ℕ) → q.last text → p.last text
+  pub counts : (m n : ℕ) → q.counts m n → p.counts m n
+  pub means : q.means → p.means
+  pub denies : q.denies → p.denies
+
+whole : (p : Promise) → IsPartOf p p
+whole p = record { comes = λ o h. h; last = λ t h. h; counts = λ m n h. h; means = λ h. h; denies = λ h. h }
+
+module _ {V : Type 0} (reads : List ℕ → V → Type 0) (refuses : List ℕ → List ℕ → Type 0) where
+  -- what is next is left where the file says its value
+  next_part : (texts : Texts) (file text : List ℕ) (value : V) (next : V → Promise) → texts file ≡ Some text → reads (take LIMIT text) value → IsPartOf (next value) (after_file reads refuses texts file next)
+  next_part texts file text value next is r = record {
+    comes = λ o h. rw is (inr (value, (r, h)));
+    last = λ l h. rw is (inr (value, (r, h)));
+    counts = λ m n h. rw is (inr (value, (r, h)));
+    means = λ h. rw is (inr (value, (r, h)));
+    denies = λ h. rw is (inr (value, (r, h)));
+  }
+
+part_of_part : (r q p : Promise) → IsPartOf r q → IsPartOf q p → IsPartOf r p
+part_of_part r q p h k = record {
+  comes = λ o x. k.comes o (h.comes o x);
+  last = λ t x. k.last t (h.last t x);
+  counts = λ m n x. k.counts m n (h.counts m n x);
+  means = λ x. k.means (h.means x);
+  denies = λ x. k.denies (h.denies x);
+}
+
+-- the bytes that a file said something with are its first bytes
+pub record HasFirst {V : Type 0} (reads : List ℕ → V → Type 0) (texts : Texts) (file : List ℕ) (left : Option (List ℕ)) (value : V) : Type 0 where
+  pub text : List ℕ
+  pub named : texts file ≡ Some text
+  pub says : reads (take LIMIT text) value
+  pub rest : left ≡ Some (drop LIMIT text)
+
+first_by : {V : Type 0} (reads : List ℕ → V → Type 0) (told : Option Texts) (texts : Texts) (file bytes : List ℕ) (left : Option (List ℕ)) (value : V) → told ≡ Some texts → ReadsFront told file LIMIT bytes left → reads bytes value → HasFirst reads texts file left value
+first_by reads told texts file bytes left value is read says =
+    let r : IsFrontRead texts file LIMIT bytes left = subst (λ (t : Option Texts). ReadsFront t file LIMIT bytes left) is read in
+    record { text = r.text; named = r.named; says = subst (λ (b : List ℕ). reads b value) r.front says; rest = r.rest }
+
+first_of : {V : Type 0} (reads : List ℕ → V → Type 0) (texts : Texts) (file : List ℕ) (old new : Meaning) (value : V) → old.texts ≡ Some texts → HasSaid reads file old new value → HasFirst reads texts file new.left value
+first_of reads texts file old new value is h = first_by reads old.texts texts file h.bytes new.left value is h.read h.says
+
+pub plain_known : (o : Outcome) → IsPlain o → IsKnown o
+unfolding IsKnown
+plain_known BadWords p = absurd p
+plain_known (Untold j) p = absurd p
+plain_known other p = λ e. absurd cc
+
+module _ (told : Texts → Promise) (judges : Bool) where
+  -- The command has come down to this part of its promise: the files before it were read, and said their values.
+  pub record HasComeDown (part : Texts → Promise) (old mid : Meaning) : Type 0 where
+    pub of : (texts : Texts) → old.texts ≡ Some texts → IsPartOf (part texts) (told texts)
+    pub same : mid.input_faults ≡ old.input_faults
+    pub rest : OnlyInput old mid
+
+  -- nothing was read
+  pub begun : (old : Meaning) → HasComeDown told old old
+  begun old = record { of = λ texts is. whole (told texts); same = refl; rest = OnlyInput-same old }
+
+  module _ {R V : Type 0} (seen : R → V) (reads : List ℕ → V → Type 0) (refuses : List ℕ → List ℕ → Type 0) (file : List ℕ) (next : Texts → V → Promise) (old mid new : Meaning) (h : HasComeDown (λ texts. after_file reads refuses texts file (next texts)) old mid) where
+    -- one file more was read
+    pub further : (value : R) → ReadsFile seen reads refuses file mid new (Ok value) → HasComeDown (λ texts. next texts (seen value)) old new
+    further value read = record {
+      of = λ texts is.
+          let first = first_of reads texts file mid new (seen value) (h.rest.texts ∙ is) read.judged in
+          part_of_part (next texts (seen value)) (after_file reads refuses texts file (next texts)) (told texts)
+          (next_part reads refuses texts file first.text (seen value) (next texts) first.named first.says) (h.of texts is);
+      same = read.judged.same ∙ h.same;
+      rest = OnlyInput-then _ _ _ h.rest read.rest;
+    }
+
+  module _ (s : (texts : Texts) → IsSound (told texts)) where
+    known_by : (texts : Option Texts) (o : Outcome) → (desk_promise judges told texts).comes o → IsKnown o
+    unfolding IsKnown
+    known_by None o h = λ e. absurd cc
+    known_by (Some texts) o h = plain_known o (subst IsPlain (sym ((s texts).one.one o h)) (s texts).one.is)
+
+    knows_by : (texts : Option Texts) (o x : Outcome) → ((t : Texts) → texts ≡ Some t → (told t).comes x) → (desk_promise judges told texts).comes o → (o ≡ Untold judges) ⊎ (o ≡ x)
+    knows_by None o x is h = inl h
+    knows_by (Some texts) o x is h = inr ((s texts).one.one o h ∙ sym ((s texts).one.one x (is texts refl)))
+
+    left_by : (texts : Option Texts) (left : Option (List ℕ)) → ((t : Texts) → texts ≡ Some t → (text : List ℕ) × (told t).last text × (left ≡ Some (drop LIMIT text))) → (text : List ℕ) → (desk_promise judges told texts).last text → left ≡ Some (drop LIMIT text)
+    left_by None left is text h = absurd h
+    left_by (Some texts) left is text h =
+        let there = is texts refl in
+        there.2 ∙ ap (λ (t : List ℕ). Some (drop LIMIT t)) ((s texts).last there.0 text there.1 h)
+
+    missed_by : (texts : Option Texts) (file : List ℕ) (input output : Type 0) (o : Outcome) → ((t : Texts) → texts ≡ Some t → t file ≡ None → (told t).comes NoText) → (input ⊎ IsUnknown texts file) → (desk_promise judges told texts).comes o → Status o input output 4
+    missed_by texts file input output o none (inl rose) h = fault_status o input output (known_by texts o h) rose
+    missed_by None file input output o none (inr unknown) h = absurd unknown
+    missed_by (Some texts) file input output o none (inr unknown) h =
+        let is : o ≡ NoText = (s texts).one.one o h ∙ sym ((s texts).one.one NoText (none texts refl unknown)) in
+        rw is (inl refl)
+
+    -- steps need not be counted
+    idle : (texts : Option Texts) (n : ℕ) → (desk_promise judges told texts).counts n n
+    idle None n = tt
+    idle (Some texts) n = (s texts).idle n
+
+    module _ {R V : Type 0} (seen : R → V) (reads : List ℕ → V → Type 0) (refuses : List ℕ → List ℕ → Type 0) (file : List ℕ) (next : Texts → V → Promise) (old mid new : Meaning) (h : HasComeDown (λ texts. after_file reads refuses texts file (next texts)) old mid) where
+      stopped_so : (answer : Answer) → old.input_faults ≤ new.input_faults → OnlyInput old new → HasEnded refuses file mid new answer → IsWorked (desk_promise judges told old.texts) old new answer
+      stopped_so (Refused refusal) later rest ended =
+          let line = refusal_line refusal in
+          refused_worked _ judges old new refusal (record {
+            knows = λ o c. knows_by old.texts o (IsRefusal line)
+                (λ texts is.
+                let first = first_of refuses texts file mid new line (h.rest.texts ∙ is) ended in
+                (h.of texts is).comes (IsRefusal line) (rw first.named (inl (line, (first.says, refl))))) c;
+            left = λ text c. left_by old.texts new.left
+                (λ texts is.
+                let first = first_of refuses texts file mid new line (h.rest.texts ∙ is) ended in
+                (first.text, (h.of texts is).last first.text (rw first.named (inl (line, (first.says, refl)))), first.rest)) text c;
+            same = ended.same ∙ h.same;
+            rest = rest;
+          })
+      stopped_so InputFault later rest ended =
+          missed_worked _ judges old new
+          (λ o c. missed_by old.texts file _ _ o
+          (λ texts is none. (h.of texts is).comes NoText (rw none refl))
+          (elim ended [ inl rose ↦ inl (subst (λ (n : ℕ). Rose n new.input_faults) h.same rose) | inr unknown ↦ inr (subst (λ (t : Option Texts). IsUnknown t file) h.rest.texts unknown) ]) c)
+          later rest
+      stopped_so NoMemory later rest ended = memory_worked _ judges old new (λ o c. known_by old.texts o c) (ended ∙ h.same) rest
+      stopped_so other later rest ended = absurd ended
+
+      ended_known : (answer : Answer) → HasEnded refuses file mid new answer → status_of answer ≢ 3
+      ended_known (Refused refusal) ended = λ e. absurd (omega (arith, e))
+      ended_known InputFault ended = λ e. absurd (omega (arith, e))
+      ended_known NoMemory ended = λ e. absurd (omega (arith, e))
+      ended_known other ended = absurd ended
+
+      -- the file ends the command with this answer, and no step was counted
+      pub stopped : (n : ℕ) (answer : Answer) → ReadsFile {R = R} seen reads refuses file mid new (Err answer) → IsCounted (desk_promise judges told old.texts) old new n n answer
+      stopped n answer read = record {
+        worked = stopped_so answer (omega (arith, h.same, read.later)) (OnlyInput-then _ _ _ h.rest read.rest) read.judged;
+        known = ended_known answer read.judged;
+        above = omega arith;
+        counts = idle old.texts n;
+        idle = λ e. refl;
+      }
+
+    -- ---- all files were read
+
+    module _ {R V : Type 0} (seen : R → V) (reads : List ℕ → V → Type 0) (refuses : List ℕ → List ℕ → Type 0) (file : List ℕ) (comes : V → Outcome → Type 0) (counts : V → ℕ → ℕ → Type 0) (means denies : V → Type 0) (old before mid : Meaning)
+        (h : HasComeDown (λ texts. after_file reads refuses texts file (λ value. judges_last texts file (comes value) (counts value) (means value) (denies value))) old before) (value : R) (read : ReadsFile seen reads refuses file before mid (Ok value)) where
+      abbrev ending : Texts → V → Promise
+      ending texts value = judges_last texts file (comes value) (counts value) (means value) (denies value)
+
+      down : HasComeDown (λ texts. ending texts (seen value)) old mid
+      down = further seen reads refuses file ending old before mid h value read
+
+      has_come_to : (x : Outcome) → comes (seen value) x → HasComeTo (desk_promise judges told old.texts) judges old mid x
+      has_come_to x is = record {
+        knows = λ o c. knows_by old.texts o x (λ texts told_so. (down.of texts told_so).comes x is) c;
+        left = λ text c. left_by old.texts mid.left
+            (λ texts told_so.
+            let first = first_of reads texts file before mid (seen value) (h.rest.texts ∙ told_so) read.judged in
+            (first.text, (down.of texts told_so).last first.text first.named, first.rest)) text c;
+        same = down.same;
+        rest = down.rest;
+      }
+
+      meant : (verdict : Bool) (texts : Option Texts) → ((t : Texts) → texts ≡ Some t → IsPartOf (ending t (seen value)) (told t)) → ByVerdict verdict (means (seen value)) (denies (seen value)) → ByVerdict verdict (desk_promise judges told texts).means (desk_promise judges told texts).denies
+      meant true None part m = tt
+      meant false None part m = tt
+      meant true (Some texts) part m = (part texts refl).means m
+      meant false (Some texts) part m = (part texts refl).denies m
+
+      judged_as : (new : Meaning) (judged : Result (Bool × Vec ℕ) (Stop Refusal)) (answer : Answer)
+          → Comes (comes (seen value)) judged
+          → IfOk judged (λ t. ((t.0 ≡ true) ⊎ IsTrue judges) × ByVerdict t.0 (means (seen value)) (denies (seen value)))
+          → Ends judged mid new answer
+          → IsWorked (desk_promise judges told old.texts) old new answer
+      judged_as new (Ok t) answer is m e = wrote_worked _ judges old mid new t.0 t.1.items answer (has_come_to (IsDone t.0 t.1.items) is) m.0 (meant t.0 old.texts down.of m.1) e
+      judged_as new (Err (Fault refusal)) answer is m e = rw (e.0, e.1) (refused_worked _ judges old mid refusal (has_come_to (IsRefusal (refusal_line refusal)) is))
+      judged_as new (Err Memory) answer is m e = rw (e.0, e.1) (memory_worked _ judges old mid (λ o c. known_by old.texts o c) down.same down.rest)
+
+      counted_by : (texts : Option Texts) (m n : ℕ) → ((t : Texts) → texts ≡ Some t → IsPartOf (ending t (seen value)) (told t)) → counts (seen value) m n → (desk_promise judges told texts).counts m n
+      counted_by None m n part c = tt
+      counted_by (Some texts) m n part c = (part texts refl).counts m n c
+
+      -- the values were judged so with these steps, and the command ended with this answer
+      pub ended : (m n : ℕ) (new : Meaning) (judged : Result (Bool × Vec ℕ) (Stop Refusal)) (answer : Answer)
+          → Comes (comes (seen value)) judged
+          → IfOk judged (λ t. ((t.0 ≡ true) ⊎ IsTrue judges) × ByVerdict t.0 (means (seen value)) (denies (seen value)))
+          → Ends judged mid new answer → m ≤ n → counts (seen value) m n
+          → IsCounted (desk_promise judges told old.texts) old new m n answer
+      ended m n new judged answer is meant e above c =
+          let status = ends_status judged mid new answer e in
+          record {
+            worked = judged_as new judged answer is meant e;
+            known = status.0;
+            above = above;
+            counts = counted_by old.texts m n down.of c;
+            idle = λ four. absurd (status.1 four);
+          }
+
+-- ---- the first file of a command
+
+module _ {V : Type 0} {reads : List ℕ → V → Type 0} {refuses : List ℕ → List ℕ → Type 0} (d : AreRead reads refuses) (judges : Bool) (next : Texts → V → Promise) (s : (texts : Texts) (value : V) → IsSound (next texts value)) (file : List ℕ) where
+  abbrev from_first : Texts → Promise
+  from_first texts = after_file reads refuses texts file (next texts)
+
+  pub first_sound : (texts : Texts) → IsSound (from_first texts)
+  first_sound texts = sound_after reads refuses d texts file (next texts) (s texts)
+
+  -- it ends the command
+  pub first_stopped : {R : Type 0} (seen : R → V) (n : ℕ) (old new : Meaning) (answer : Answer) → ReadsFile {R = R} seen reads refuses file old new (Err answer) → IsCounted (desk_promise judges from_first old.texts) old new n n answer
+  first_stopped seen n old new answer read = stopped from_first judges first_sound seen reads refuses file next old old new (begun from_first judges old) n answer read
+
+  -- it was read
+  pub first_down : {R : Type 0} (seen : R → V) (old new : Meaning) (value : R) → ReadsFile {R = R} seen reads refuses file old new (Ok value) → HasComeDown from_first judges (λ texts. next texts (seen value)) old new
+  first_down seen old new value read = further from_first judges seen reads refuses file next old old new (begun from_first judges old) value read
+
+-- ---- the last file of a command
+
+-- a command that gives no verdict promises nothing of another verdict
+abbrev pub NoVerdict : {V : Type 0} → V → Type 0
+NoVerdict value = Unit {0}
+
+-- what has to be shown of it, and of what its value comes to
+pub record IsLast (judges : Bool) {V : Type 0} (reads : List ℕ → V → Type 0) (refuses : List ℕ → List ℕ → Type 0) (comes : V → Outcome → Type 0) (counts : V → ℕ → ℕ → Type 0) : Type 0 where
+  pub read : AreRead reads refuses
+  pub one : (value : V) → HasOne IsPlain (comes value)
+  pub idle : (value : V) (n : ℕ) → counts value n n
+  pub verdict : (value : V) (holds : Bool) (bytes : List ℕ) → comes value (IsDone holds bytes) → (holds ≡ true) ⊎ IsTrue judges
+
+module _ {V : Type 0} {reads : List ℕ → V → Type 0} {refuses : List ℕ → List ℕ → Type 0} (read : AreRead reads refuses) where
+  -- it is written as a text
+  pub writes_last : (write : V → List ℕ) → IsLast false reads refuses (λ value outcome. outcome ≡ IsDone true (write value)) (λ value old new. new ≡ old)
+  writes_last write = record {
+    read = read;
+    one = λ value. same_one (IsDone true (write value)) tt;
+    idle = λ value n. refl;
+    verdict = λ value holds bytes e. inl cc;
+  }
+
+  -- it is accepted with bytes or refused with a line, in so many steps at most
+  pub either_last : (accepts denies : V → List ℕ → Type 0) (steps : V → ℕ) → ((value : V) → IsEither (accepts value) (denies value)) → IsLast false reads refuses (λ value. DoneOrRefused (accepts value) (denies value)) (λ value old new. new ≤ old + steps value)
+  either_last accepts denies steps either = record {
+    read = read;
+    one = λ value. one_of_both (accepts value) (denies value) (either value);
+    idle = λ value n. omega arith;
+    verdict = λ value holds bytes h. inl (done_so (accepts value) (denies value) holds bytes h);
+  }
+
+  -- it has a verdict
+  pub verdict_last : (outcome : V → Outcome) (steps : V → ℕ) → ((value : V) → IsPlain (outcome value)) → IsLast true reads refuses (λ value other. other ≡ outcome value) (λ value old new. new ≤ old + steps value)
+  verdict_last outcome steps plain = record {
+    read = read;
+    one = λ value. same_one (outcome value) (plain value);
+    idle = λ value n. omega arith;
+    verdict = λ value holds bytes e. inr refl;
+  }
+
+judged_so : (judges : Bool) (comes : Outcome → Type 0) (means denies : Type 0) (judged : Result (Bool × Vec ℕ) (Stop Refusal)) → ((holds : Bool) (bytes : List ℕ) → comes (IsDone holds bytes) → (holds ≡ true) ⊎ IsTrue judges)
+    → Comes comes judged → IfOk judged (λ t. ByVerdict t.0 means denies) → IfOk judged (λ t. ((t.0 ≡ true) ⊎ IsTrue judges) × ByVerdict t.0 means denies)
+judged_so judges comes means denies (Ok t) may is m = (may t.0 t.1.items is, m)
+judged_so judges comes means denies (Err stop) may is m = tt
+
+module _ {judges : Bool} {V : Type 0} {reads : List ℕ → V → Type 0} {refuses : List ℕ → List ℕ → Type 0} {comes : V → Outcome → Type 0} {counts : V → ℕ → ℕ → Type 0} (l : IsLast judges reads refuses comes counts) (means denies : V → Type 0) (file : List ℕ) where
+  abbrev the_end : Texts → V → Promise
+  the_end texts value = judges_last texts file (comes value) (counts value) (means value) (denies value)
+
+  abbrev from_last : Texts → Promise
+  from_last texts = after_file reads refuses texts file (the_end texts)
+
+  end_sound : (texts : Texts) (value : V) → IsSound (the_end texts value)
+  end_sound texts value = sound_end texts file (comes value) (counts value) (means value) (denies value) (l.one value) (l.idle value)
+
+  pub last_sound : (texts : Texts) → IsSound (from_last texts)
+  last_sound texts = sound_after reads refuses l.read texts file (the_end texts) (end_sound texts)
+
+  -- of a command that has come down to it
+  module _ (told : Texts → Promise) (s : (texts : Texts) → IsSound (told texts)) (old mid : Meaning) (down : HasComeDown told judges from_last old mid) where
+    -- it ends the command
+    pub last_stopped : {R : Type 0} (seen : R → V) (n : ℕ) (new : Meaning) (answer : Answer) → ReadsFile {R = R} seen reads refuses file mid new (Err answer) → IsCounted (desk_promise judges told old.texts) old new n n answer
+    last_stopped seen n new answer read = stopped told judges s seen reads refuses file the_end old mid new down n answer read
+
+    -- all was judged
+    pub last_ended : {R : Type 0} (seen : R → V) (new : Meaning) (value : R) → ReadsFile {R = R} seen reads refuses file mid new (Ok value) → (m n : ℕ) (last : Meaning) (judged : Result (Bool × Vec ℕ) (Stop Refusal)) (answer : Answer)
+        → Comes (comes (seen value)) judged → IfOk judged (λ t. ByVerdict t.0 (means (seen value)) (denies (seen value))) → Ends judged new last answer → m ≤ n → counts (seen value) m n
+        → IsCounted (desk_promise judges told old.texts) old last m n answer
+    last_ended seen new value read m n last judged answer is meant end above c =
+        ended told judges s seen reads refuses file comes counts means denies old mid new down value read m n last judged answer is (judged_so judges (comes (seen value)) (means (seen value)) (denies (seen value)) judged (l.verdict (seen value)) is meant) end above c
+
+  -- of a command of this file alone
+  pub only_stopped : {R : Type 0} (seen : R → V) (n : ℕ) (old new : Meaning) (answer : Answer) → ReadsFile {R = R} seen reads refuses file old new (Err answer) → IsCounted (desk_promise judges from_last old.texts) old new n n answer
+  only_stopped seen n old new answer read = last_stopped from_last last_sound old old (begun from_last judges old) seen n new answer read
+
+  pub only_ended : {R : Type 0} (seen : R → V) (old new : Meaning) (value : R) → ReadsFile {R = R} seen reads refuses file old new (Ok value) → (m n : ℕ) (last : Meaning) (judged : Result (Bool × Vec ℕ) (Stop Refusal)) (answer : Answer)
+      → Comes (comes (seen value)) judged → IfOk judged (λ t. ByVerdict t.0 (means (seen value)) (denies (seen value))) → Ends judged new last answer → m ≤ n → counts (seen value) m n
+      → IsCounted (desk_promise judges from_last old.texts) old last m n answer
+  only_ended seen old new value read = last_ended from_last last_sound old old (begun from_last judges old) seen new value read
+
+-- ---- a command of two files
+
+module _ {judges : Bool} {V W : Type 0} {reads : List ℕ → V → Type 0} {refuses : List ℕ → List ℕ → Type 0} {reads_second : V → List ℕ → W → Type 0} {refuses_second : V → List ℕ → List ℕ → Type 0} {comes : V → W → Outcome → Type 0} {counts : V → W → ℕ → ℕ → Type 0}
+    (d : AreRead reads refuses) (l : (value : V) → IsLast judges (reads_second value) (refuses_second value) (comes value) (counts value)) (means denies : V → W → Type 0) (file second : List ℕ) where
+  abbrev from_second : Texts → V → Promise
+  from_second texts value = from_last (l value) (means value) (denies value) second texts
+
+  second_sound : (texts : Texts) (value : V) → IsSound (from_second texts value)
+  second_sound texts value = last_sound (l value) (means value) (denies value) second texts
+
+  abbrev from_both : Texts → Promise
+  from_both texts = after_file reads refuses texts file (from_second texts)
+
+  pub both_sound : (texts : Texts) → IsSound (from_both texts)
+  both_sound = first_sound d judges from_second second_sound file
+
+  -- the first file ends it
+  pub both_stopped : {R : Type 0} (seen : R → V) (n : ℕ) (old new : Meaning) (answer : Answer) → ReadsFile {R = R} seen reads refuses file old new (Err answer) → IsCounted (desk_promise judges from_both old.texts) old new n n answer
+  both_stopped seen n old new answer read = first_stopped d judges from_second second_sound file seen n old new answer read
+
+  module _ {R S : Type 0} (seen : R → V) (seen_second : S → W) (old mid new : Meaning) (value : R) (read : ReadsFile {R = R} seen reads refuses file old mid (Ok value)) where
+    second_down : HasComeDown from_both judges (λ texts. from_second texts (seen value)) old mid
+    second_down = first_down d judges from_second second_sound file seen old mid value read
+
+    -- the second file ends it
+    pub second_stopped : (n : ℕ) (answer : Answer) → ReadsFile {R = S} seen_second (reads_second (seen value)) (refuses_second (seen value)) second mid new (Err answer) → IsCounted (desk_promise judges from_both old.texts) old new n n answer
+    second_stopped n answer other = last_stopped (l (seen value)) (means (seen value)) (denies (seen value)) second from_both both_sound old mid second_down seen_second n new answer other
+
+    -- both were judged
+    pub both_ended : (given : S) → ReadsFile {R = S} seen_second (reads_second (seen value)) (refuses_second (seen value)) second mid new (Ok given) → (m n : ℕ) (last : Meaning) (judged : Result (Bool × Vec ℕ) (Stop Refusal)) (answer : Answer)
+        → Comes (comes (seen value) (seen_second given)) judged → IfOk judged (λ t. ByVerdict t.0 (means (seen value) (seen_second given)) (denies (seen value) (seen_second given))) → Ends judged new last answer → m ≤ n → counts (seen value) (seen_second given) m n
+        → IsCounted (desk_promise judges from_both old.texts) old last m n answer
+    both_ended given other = last_ended (l (seen value)) (means (seen value)) (denies (seen value)) second from_both both_sound old mid second_down seen_second new given other
+
+-- what a yes means, where nothing is said of another verdict
+pub of_yes : (verdict : Bool) (M : Type 0) → (verdict ≡ true → M) → ByVerdict verdict M (Unit {0})
+of_yes true M m = m refl
+of_yes false M m = tt
+
+-- what holds of each verdict
+pub meant_always : (judged : Result (Bool × Vec ℕ) (Stop Refusal)) (M : Type 0) → IfOk judged (λ t. M) → IfOk judged (λ t. ByVerdict t.0 M (Unit {0}))
+meant_always (Ok t) M m = of_yes t.0 M (λ e. m)
+meant_always (Err stop) M m = tt
+
+pub meant_anyway : (judged : Result (Bool × Vec ℕ) (Stop Refusal)) (M : Type 0) → M → IfOk judged (λ t. ByVerdict t.0 M (Unit {0}))
+meant_anyway (Ok t) M m = of_yes t.0 M (λ e. m)
+meant_anyway (Err stop) M m = tt
+
+-- a command that counts no steps, whatever was counted before it
+pub at_rest : {p : Promise} {old new : Meaning} {answer : Answer} → ((n : ℕ) → IsCounted p old new n n answer) → IsAtRest p old new answer
+at_rest h = record { worked = (h 0).worked; known = (h 0).known; counts = λ n. (h n).counts }

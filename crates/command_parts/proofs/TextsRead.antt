@@ -1,0 +1,120 @@
+-- Each text that a command reads says one value, or is refused with one line.
+use Rattle.std.proofs.Common.{◌≡◌, inl, inr, ◌⊎◌, ℕ, List, refl, sym, ap, ◌∙◌, ap₂, Err}
+use Rattle.std.specs.Prelude.{map}
+use Rattle.nl_segments.specs.Grammar.{NlValue, nl_rules, standing, said, counts_of}
+use Rattle.command_parts.specs.NlTold.{nl_line}
+use Rattle.texts.specs.Judged.{HasOneOutcome, IsClean}
+use Rattle.texts.specs.Reading.{lines_of, last_of}
+use Rattle.texts.proofs.JudgedLemmas.{one_outcome}
+use Rattle.nl_lines.specs.Saying.{place_lines}
+use Rattle.nl_model.specs.Draft.{file_of}
+use Rattle.nl_segments.specs.Reader.{IsNl, HasNlFault, fault_of}
+use Rattle.nl_lines.specs.declared.fault.NlFault.{NlFault}
+use Rattle.command_parts.specs.Refusal.{HasTextRefusal, IsFixedRefused, IsMpsRefused, IsSolRefused, IsAnswerRefused, IsProofRefused, IsCertificateRefused}
+use Rattle.command_parts.proofs.SeveralFiles.{AreRead, read_so, read_by}
+use Rattle.mps_reader.specs.Grammar.{SaysMps, mps_rules, standing as mps_standing}
+use Rattle.mps_reader.specs.Reader.{IsMpsText}
+use Rattle.fixed_mps.specs.Fields.{free}
+use Rattle.fixed_mps.specs.Grammar.{SaysFixed, fixed_rules}
+use Rattle.fixed_mps.specs.Reader.{IsFixedText}
+use Rattle.command_parts.specs.MpsTold.{mps_line}
+use Rattle.sol_files.specs.Reader.{HasSolFault, IsSol}
+use Rattle.sol_files.proofs.ReadingLemmas.{one_reading}
+use Rattle.command_parts.specs.SolTold.{sol_line}
+use Rattle.texts.specs.declared.stop.Stop.{Stop}
+use Rattle.command_parts.specs.SeveralFiles.{Says, itself}
+use Rattle.command_parts.specs.declared.refusal.Refusal.{Refusal}
+use Rattle.texts.specs.declared.stop.Stop.TheVariants.{Fault, Memory}
+use Rattle.answer_file.specs.Grammar.{SaysAnswer, answer_of, answer_rules, standing as answer_standing}
+use Rattle.answer_file.specs.Names.{Setting}
+use Rattle.answer_file.specs.Reading.{IsAnswer, ReadsAnswer}
+use Rattle.answer_file.specs.declared.fault.AnswerReason.{AnswerReason}
+use Rattle.texts.specs.declared.fault.TextFault.{TextFault}
+use Rattle.command_parts.specs.AnswerTold.{answer_line}
+use Rattle.command_parts.specs.InsideRefusal.{refused_by}
+use Rattle.command_parts.specs.declared.refusal.Refusal.TheVariants.{Answer}
+use Rattle.proof_text.specs.Reader.{HasProofFault, IsProofText}
+use Rattle.certificates.specs.Setting.{Setting as CertificateSetting}
+use Rattle.proof_text.proofs.ReadingLemmas.{one_reading as one_proof}
+use Rattle.command_parts.specs.ProofTold.{proof_line}
+use Rattle.certificate_text.specs.Reader.{HasCertificateFault, IsCertificateText}
+use Rattle.certificate_text.proofs.ReadingLemmas.{one_reading as one_certificate}
+use Rattle.command_parts.specs.CertificateTold.{certificate_line}
+
+-- ---- .nl texts
+
+outcome_of_text : (text : List ℕ) → HasOneOutcome nl_rules (lines_of text) (last_of text)
+outcome_of_text text = one_outcome nl_rules (lines_of text) (last_of text)
+
+not_both : (text : List ℕ) (value : NlValue) (fault : NlFault) → IsNl text value → HasNlFault text fault → ⊥
+not_both text value fault h k = (outcome_of_text text).not_both h.clean fault.line _ k.first
+
+pub same_file : (text : List ℕ) (a b : NlValue) → IsNl text a → IsNl text b → a.file ≡ b.file
+same_file text a b h k = h.said.file ∙ sym k.said.file
+
+same_places : (text : List ℕ) (a b : NlValue) → IsNl text a → IsNl text b → a.places ≡ b.places
+same_places text a b h k = h.said.places ∙ sym k.said.places
+
+-- the file and the places are the value
+one_value : (text : List ℕ) (a b : NlValue) → IsNl text a → IsNl text b → a ≡ b
+one_value text a b h k = ap₂ (λ f p. record { file = f; places = p }) (same_file text a b h k) (same_places text a b h k)
+
+same_nl_line : (text : List ℕ) (a b : NlFault) → HasNlFault text a → HasNlFault text b → nl_line a ≡ nl_line b
+same_nl_line text a b h k =
+    let same = (outcome_of_text text).one_fault a.line b.line a.reason b.reason h.first k.first in
+    ap₂ (λ line reason. nl_line (record { reason = reason; line = line; opcode = 0 })) same.0 same.1
+
+value_of_text : List ℕ → NlValue
+value_of_text text = record { file = file_of (said (standing (lines_of text))); places = place_lines (counts_of (standing (lines_of text))) (standing (lines_of text)).pieces }
+
+clean_text : (text : List ℕ) → IsClean nl_rules (lines_of text) (last_of text) → IsNl text (value_of_text text)
+unfolding value_of_text
+clean_text text clean = record { clean = clean; said = record { file = refl; places = refl } }
+
+either_nl : (text : List ℕ) → ((value : NlValue) × IsNl text value) ⊎ ((fault : NlFault) × HasNlFault text fault)
+either_nl text = elim (outcome_of_text text).some [
+  | inl clean ↦ inl (value_of_text text, clean_text text clean)
+  | inr found ↦ inr (fault_of (record { reason = found.1; line = found.0 }), record { first = found.2; opcode = refl })
+]
+
+-- each text says one file with its places, or is refused with one line
+pub nl_read : AreRead IsNl HasTextRefusal
+nl_read = read_so IsNl HasNlFault nl_line one_value same_nl_line either_nl not_both
+
+-- ---- MPS and .sol texts
+
+pub mps_read : AreRead IsMpsText IsMpsRefused
+mps_read = read_by mps_rules SaysMps (mps_line 1) (λ lines. (mps_standing lines).draft.mps) (λ lines m h. h) (λ lines. refl)
+
+pub fixed_read : AreRead IsFixedText IsFixedRefused
+fixed_read = read_by fixed_rules SaysFixed (mps_line 1) (λ lines. (mps_standing (map free lines)).draft.mps) (λ lines m h. h) (λ lines. refl)
+
+-- each text says one value, or is refused with one line
+pub sol_read : (file : ℕ) → AreRead IsSol (IsSolRefused file)
+sol_read file =
+    read_so IsSol HasSolFault (sol_line file)
+    (λ text. (one_reading text).one_value) (λ text a b h k. ap (sol_line file) ((one_reading text).one_fault a b h k)) (λ text. (one_reading text).some) (λ text. (one_reading text).not_both)
+
+-- ---- answers
+
+pub answer_read : (s : Setting) → AreRead (IsAnswer s) (IsAnswerRefused s)
+answer_read s = read_by (answer_rules s) (SaysAnswer s) (answer_line 2) (λ lines. answer_of (answer_standing s lines)) (λ lines a h. h) (λ lines. refl)
+
+-- its fault is told with its line
+pub refused_so : (s : Setting) (text : List ℕ) (stop : Stop (TextFault AnswerReason)) (told : Stop Refusal) → ReadsAnswer s text (Err stop) → told ≡ refused_by Answer stop → Says itself (IsAnswer s) (IsAnswerRefused s) text (Err told)
+refused_so s text (Fault fault) told reads is = rw is (record { fault = fault; first = reads; told = refl })
+refused_so s text Memory told reads is = rw is tt
+
+-- ---- proofs and certificates
+
+-- each text says one proof, or is refused with one line
+pub proof_read : (s : CertificateSetting) (file : ℕ) → AreRead (IsProofText s) (IsProofRefused s file)
+proof_read s file =
+    read_so (IsProofText s) (HasProofFault s) (proof_line file)
+    (λ text. (one_proof s text).one_value) (λ text a b h claimed. ap (proof_line file) ((one_proof s text).one_fault a b h claimed)) (λ text. (one_proof s text).some) (λ text. (one_proof s text).not_both)
+
+-- each text says one certificate, or is refused with one line
+pub certificate_read : (s : CertificateSetting) (file : ℕ) → AreRead (IsCertificateText s) (IsCertificateRefused s file)
+certificate_read s file =
+    read_so (IsCertificateText s) (HasCertificateFault s) (certificate_line file)
+    (λ text. (one_certificate s text).one_value) (λ text a b h k. ap (certificate_line file) ((one_certificate s text).one_fault a b h k)) (λ text. (one_certificate s text).some) (λ text. (one_certificate s text).not_both)

@@ -1,0 +1,13 @@
+use Rattle.std.proofs.Common.{◌∙◌}
+use Rattle.command_parts.specs.NameLists.{row_counts}
+use Rattle.command_parts.proofs.NameLists.{count_so, rows_of}
+use Rattle.command_parts.proofs.name_input.open_rows.Goals as goal
+
+pub returns-clause-reads : goal.returns-clause-reads
+returns-clause-reads g c =
+    c.open_names.ensures.reads (row_counts c.args.nl.now) (rows_of c.args.nl.now c.counts-counts.result.now (c.counts-counts.ensures.value ∙ c.header.ensures.counts))
+
+pub returns-clause-count : goal.returns-clause-count
+returns-clause-count g c =
+    count_so (row_counts c.args.nl.now) c.args.file _ _ _ _
+    (c.open_names.ensures.reads (row_counts c.args.nl.now) (rows_of c.args.nl.now c.counts-counts.result.now (c.counts-counts.ensures.value ∙ c.header.ensures.counts)))

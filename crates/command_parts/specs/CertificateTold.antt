@@ -1,0 +1,81 @@
+-- The lines that tell faults of certificates' texts, and the lines of verdicts on certificates.
+use Rattle.std.specs.Prelude.{◌≡◌, ℕ, Bool, true, false, nat_lt, if◌then◌else◌, List, [], ◌++◌, codes}
+use Rattle.std.specs.Option.{option_map_or}
+use Rattle.std.specs.Fmt.{decimal}
+use Rattle.fractions.specs.Fits.{fits}
+use Rattle.duality.specs.Certificate.{Cause, at_point, not_whole, objective_wide, at_ray, at_leaf, ClaimOutcome, holds, fails}
+use Rattle.duality.specs.Ray.{RayFault, ray_row_wide, ray_row_broken, ray_bound_broken, ray_objective_wide, ray_no_better}
+use Rattle.duality.specs.Told.{Told, optimal, within, bound, feasible, infeasible, unbounded}
+use Rattle.texts.specs.declared.fault.TextFault.{TextFault}
+use Rattle.linear_program.specs.Numbers.{number_value}
+use Rattle.certificates.specs.Certificates.{claim_objective}
+use Rattle.certificates.specs.Told.{told_claim}
+use Rattle.certificates.specs.declared.certificate.Claim.{Claim}
+use Rattle.certificates.specs.declared.certificate.Claim.TheVariants.{Optimal, Within, Bound, Feasible, Infeasible, Unbounded}
+use Rattle.certificate_text.specs.declared.fault.CertificateReason.{CertificateReason}
+use Rattle.certificate_text.specs.Reasons.{reason_text as certificate_reason_text}
+use Rattle.command_parts.specs.LeafTold.{leaf_fault_text}
+use Rattle.command_parts.specs.Told.{number_text, refusal}
+use Rattle.command_parts.specs.VerdictTold.{cause_text as point_text}
+
+-- the line of a fault of a certificate's text, which is this file of its command
+abbrev pub certificate_line : ℕ → TextFault CertificateReason → List ℕ
+certificate_line file f =
+    refusal file (codes "line") f.line (certificate_reason_text f.reason)
+
+-- ---- verdicts
+
+-- what is said where a claim holds
+abbrev pub told_text : Told → List ℕ
+told_text (optimal v) = codes "optimal " ++ number_text v
+told_text (within b v) = codes "within " ++ number_text b ++ codes " " ++ number_text v
+told_text (bound v) = codes "bound " ++ number_text v
+told_text (feasible v) = codes "feasible " ++ number_text v
+told_text infeasible = codes "infeasible"
+told_text unbounded = codes "unbounded"
+
+-- the objective that it is said of; that of number 0 is not named
+abbrev pub objective_text : ℕ → List ℕ
+objective_text k = if nat_lt 0 k then codes " of objective " ++ decimal k else []
+
+-- the line where the claim holds
+abbrev pub told_line : Claim → Told → List ℕ
+told_line claim told = told_text told ++ objective_text (claim_objective claim) ++ codes "\n"
+
+-- why a ray shows nothing
+abbrev pub ray_text : RayFault → List ℕ
+ray_text (ray_row_wide i) = codes "too wide at ray row " ++ decimal i
+ray_text (ray_row_broken i) = codes "ray row " ++ decimal i ++ codes " broken"
+ray_text (ray_bound_broken j) = codes "ray bound " ++ decimal j ++ codes " broken"
+ray_text ray_objective_wide = codes "too wide at ray objective"
+ray_text ray_no_better = codes "ray does not improve"
+
+-- why a certificate shows nothing
+abbrev pub failed_text : Cause → List ℕ
+failed_text (at_point g) = point_text g
+failed_text (not_whole j) = codes "variable " ++ decimal j ++ codes " not whole"
+failed_text objective_wide = codes "too wide at objective"
+failed_text (at_ray g) = ray_text g
+failed_text (at_leaf g) = leaf_fault_text g
+
+abbrev pub outcome_text : Claim → ClaimOutcome → List ℕ
+outcome_text claim (holds value) = option_map_or told_text (told_claim claim value) []
+    ++ objective_text (claim_objective claim)
+outcome_text claim (fails cause) = failed_text cause
+
+-- the line of a verdict on a certificate for this claim
+abbrev pub outcome_line : Claim → ClaimOutcome → List ℕ
+outcome_line claim outcome = outcome_text claim outcome ++ codes "\n"
+
+abbrev pub is_held : ClaimOutcome → Bool
+is_held (holds value) = true
+is_held (fails cause) = false
+
+-- the bound of a claim that is written fits
+abbrev pub HasFittingBound : Claim → Type 0
+HasFittingBound (Within k b) = fits (number_value b) ≡ true
+HasFittingBound (Optimal k) = Unit {0}
+HasFittingBound (Bound k v) = Unit {0}
+HasFittingBound (Feasible k) = Unit {0}
+HasFittingBound Infeasible = Unit {0}
+HasFittingBound (Unbounded k) = Unit {0}

@@ -1,0 +1,158 @@
+-- Commands that read files, one or several.
+--
+-- A command that reads files one after another is a promise that is built from its end:
+--   `ends texts file comes counts means`: the files were read, `file` last, and the command comes
+--     to this; `writes texts file bytes means` where it always writes these bytes, and
+--     `judges_last texts file comes counts means denies` where it gives a verdict;
+--   `after_file reads refuses texts file next`: this file is read. A text that it refuses ends the
+--     command with its line; else the text says one value, and the rest of the command is
+--     `next value`, which may read a further file;
+--   `desk_promise judges known`: the whole, at a desk that tells its texts (`known`) or not.
+-- So a fault of a file comes before the next file is started, and a reader may depend on the values
+-- before it.
+--
+-- A further command of files f, g (see `Check`):
+--   x_told f g texts =
+--     after_file IsF RefusesF texts f (λ a.
+--     after_file (IsG a) (RefusesG a) texts g (λ b. ends texts g (X a b) ..))
+--   x_promise texts f g = desk_promise judges (x_told f g) texts
+-- where `judges` says whether it gives a verdict, with status 1 for one that is not yes, and `X` is
+-- an outcome (`λ outcome. outcome ≡ x a b`) or `DoneOrRefused` of what is written and which lines
+-- tell why it is not.
+-- In code: open each file (`open_nl`, `open_sol`; a new one is like them, with `open` and the
+-- clause `ReadsFile`), return the answer of one that ends the command, judge the values, and end
+-- with `end`.
+-- In proofs (`proofs/SeveralFiles`): `AreRead` for each file, and `IsLast` for the last with what
+-- its value comes to. From these `only_..` gives each clause of a command of one file, `both_..` of
+-- one of two; else `first_..` begins, `further` goes on, and `last_..` ends.
+use Rattle.std.specs.Prelude.{◌≡◌, ◌⊎◌, ◌≤◌, ℕ, Bool, true, false, List, take, Result, Ok, Err, MatchOption, MatchResult}
+use Rattle.std.specs.Global.{Vec}
+use Rattle.std.specs.declared.option.Option.{Option}
+use Rattle.std.specs.declared.option.Option.TheVariants.{None, Some}
+use Rattle.desk.specs.Desk.{IsUnknown, Meaning, OnlyInput, Rose, Texts}
+use Rattle.texts.specs.declared.stop.Stop.{Stop}
+use Rattle.texts.specs.declared.stop.Stop.TheVariants.{Fault, Memory}
+use Rattle.command_parts.specs.InsideRefusal.{Gives, refusal_line}
+use Rattle.command_parts.specs.declared.refusal.Refusal.{Refusal}
+use Rattle.command_parts.specs.Outcome.{Outcome, Untold, NoText, Refused as IsRefusal, Done as IsDone}
+use Rattle.command_parts.specs.Promise.{Promise}
+use Rattle.command_parts.specs.Transfer.{ReadsFront}
+use Rattle.command_parts.specs.declared.answer.Answer.{Answer}
+use Rattle.command_parts.specs.declared.answer.Answer.TheVariants.{Refused, InputFault, NoMemory}
+use Rattle.command_parts.specs.declared.transfer.TheConstants.{LIMIT}
+
+-- ---- promises
+
+module _ {V : Type 0} (reads : List ℕ → V → Type 0) (refuses : List ℕ → List ℕ → Type 0) where
+  -- the text is refused with a line, of which P holds, or it says a value, of which Q holds
+  abbrev pub ByValue : List ℕ → (P : List ℕ → Type 0) → (Q : V → Type 0) → Type 0
+  ByValue text P Q = ((line : List ℕ) × (refuses text line × P line))
+      ⊎ ((value : V) × (reads text value × Q value))
+
+  -- A file is read; what its first bytes say, up to the limit, leads to the promise that is next.
+  -- Where they are refused, the command comes to that refusal, this text is the last that it
+  -- starts, no step is counted, and neither 0 nor 1 can come; where there is no such file, it comes
+  -- to `NoText`.
+  abbrev pub after_file : Texts → List ℕ → (next : V → Promise) → Promise
+  after_file texts file next = record {
+    comes = λ outcome. MatchOption (texts file) (outcome ≡ NoText)
+        (λ text. ByValue (take LIMIT text) (λ line. outcome ≡ IsRefusal line)
+        (λ value. (next value).comes outcome));
+    last = λ last. MatchOption (texts file) ⊥ (λ text.
+        ByValue (take LIMIT text) (λ line. last ≡ text) (λ value. (next value).last last));
+    counts = λ old new. MatchOption (texts file) (new ≡ old)
+        (λ text. ByValue (take LIMIT text) (λ line. new ≡ old)
+        (λ value. (next value).counts old new));
+    means = MatchOption (texts file) ⊥ (λ text. ByValue (take LIMIT text) (λ line. ⊥)
+        (λ value. (next value).means));
+    denies = MatchOption (texts file) ⊥ (λ text. ByValue (take LIMIT text) (λ line. ⊥)
+        (λ value. (next value).denies));
+  }
+
+-- all files were read, this one last, and a verdict is given
+abbrev pub judges_last : Texts → List ℕ → (comes : Outcome → Type 0) → (counts : ℕ → ℕ → Type 0)
+    → (means denies : Type 0) → Promise
+judges_last texts file comes counts means denies = record {
+  comes = comes;
+  last = λ last. texts file ≡ Some last;
+  counts = counts;
+  means = means;
+  denies = denies;
+}
+
+-- the same without a verdict
+abbrev pub ends : Texts → List ℕ → (comes : Outcome → Type 0) → (counts : ℕ → ℕ → Type 0)
+    → (means : Type 0) → Promise
+ends texts file comes counts means = judges_last texts file comes counts means (Unit {0})
+
+-- the same, and these bytes are written; no steps are counted
+abbrev pub writes : Texts → List ℕ → (bytes : List ℕ) → (means : Type 0) → Promise
+writes texts file bytes means =
+    ends texts file (λ outcome. outcome ≡ IsDone true bytes) (λ old new. new ≡ old) means
+
+-- a desk does not tell its texts
+abbrev pub untold : Bool → Promise
+untold judges = record {
+  comes = λ outcome. outcome ≡ Untold judges;
+  last = λ last. ⊥;
+  counts = λ old new. Unit {0};
+  means = Unit {0};
+  denies = Unit {0};
+}
+
+-- the promise at a desk that tells its texts, or does not
+abbrev pub desk_promise : (judges : Bool) → (known : Texts → Promise) → Option Texts → Promise
+desk_promise judges known None = untold judges
+desk_promise judges known (Some texts) = known texts
+
+-- ---- code
+
+abbrev pub itself : {V : Type 0} → V → V
+itself v = v
+
+-- what judging a text answers: what it says, seen so, or why it is refused
+abbrev pub Says : {R V : Type 0} → (seen : R → V) → (reads : List ℕ → V → Type 0)
+    → (refuses : List ℕ → List ℕ → Type 0) → List ℕ → Result R (Stop Refusal) → Type 0
+Says seen reads refuses text = Gives (λ value. reads text (seen value)) (refuses text)
+
+-- the same, with the answer that ends the command
+abbrev pub Answered : {R : Type 0} → Result R (Stop Refusal) → Result R Answer → Type 0
+Answered (Ok value) result = result ≡ Ok value
+Answered (Err (Fault refusal)) result = result ≡ Err (Refused refusal)
+Answered (Err Memory) result = result ≡ Err NoMemory
+
+-- the file was read up to the limit, and its first bytes say this
+pub record HasSaid {V : Type 0} (reads : List ℕ → V → Type 0) (file : List ℕ) (old new : Meaning)
+    (value : V) : Type 0 where
+  pub bytes : List ℕ
+  pub read : ReadsFront old.texts file LIMIT bytes new.left
+  pub says : reads bytes value
+  pub same : new.input_faults ≡ old.input_faults
+
+-- why a file ends the command
+abbrev pub HasEnded : (refuses : List ℕ → List ℕ → Type 0) → List ℕ → Meaning → Meaning → Answer
+    → Type 0
+HasEnded refuses file old new (Refused refusal) =
+    HasSaid refuses file old new (refusal_line refusal)
+HasEnded refuses file old new InputFault =
+    Rose old.input_faults new.input_faults ⊎ IsUnknown old.texts file
+HasEnded refuses file old new NoMemory = new.input_faults ≡ old.input_faults
+HasEnded refuses file old new other = ⊥
+
+-- What reading and judging a file did: its value, seen so, or the answer that ends the command.
+pub record ReadsFile {R V : Type 0} (seen : R → V) (reads : List ℕ → V → Type 0)
+    (refuses : List ℕ → List ℕ → Type 0) (file : List ℕ) (old new : Meaning)
+    (result : Result R Answer) : Type 0 where
+  pub rest : OnlyInput old new
+  pub later : old.input_faults ≤ new.input_faults
+  pub judged : MatchResult result (λ value. HasSaid reads file old new (seen value))
+      (λ answer. HasEnded refuses file old new answer)
+
+-- what a verdict means, by whether it is yes
+abbrev pub ByVerdict : Bool → (means denies : Type 0) → Type 0
+ByVerdict true means denies = means
+ByVerdict false means denies = denies
+
+-- what judging all values answers: a verdict with the bytes to write, or a refusal
+abbrev pub Comes : (comes : Outcome → Type 0) → Result (Bool × Vec ℕ) (Stop Refusal) → Type 0
+Comes comes = Gives (λ t. comes (IsDone t.0 t.1.items)) (λ line. comes (IsRefusal line))
