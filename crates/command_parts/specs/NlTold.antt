@@ -16,7 +16,8 @@ use Rattle.command_parts.specs.Told.{refused_at, refusal}
 -- the line of a fault of an .nl text
 abbrev pub nl_line : NlFault → List ℕ
 nl_line f =
-    refused_at 1 (codes "line") f.line ++ nl_reason_text f.reason ++ opcode_text f.reason ++ codes "\n"
+    refused_at 1 (codes "line") f.line ++ nl_reason_text f.reason ++ opcode_text f.reason
+    ++ codes "\n"
 
 abbrev pub line_or_zero : Option ℕ → ℕ
 line_or_zero None = 0

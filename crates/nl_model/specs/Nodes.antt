@@ -52,7 +52,8 @@ mutual
     a_variable : (j : ℕ) → IsPrefix (variable j) (Var j ∷ [])
     a_defined : (i : ℕ) → IsPrefix (defined i) (Defined i ∷ [])
     an_operation : (o : ℕ) (ts : Trees) (ns : List Node)
-        → Takes (rule_of (class_of o)) (count_of ts) → ArePrefixes ts ns → IsPrefix (operator (class_of o) ts) (Op o (count_of ts) ∷ ns)
+        → Takes (rule_of (class_of o)) (count_of ts) → ArePrefixes ts ns
+        → IsPrefix (operator (class_of o) ts) (Op o (count_of ts) ∷ ns)
 
   pub data ArePrefixes : Trees → List Node → Type 0 where
     no_tree : ArePrefixes none []
