@@ -270,13 +270,20 @@ class Certifying:
             yield from self.short_points(clp, found, leaves, optima.note())
         if not found:
             yield Verdict(WITHOUT + "no exact point was found near the answer")
-            yield from self.infeasible()
+            yield from self.contradicted_here()
         for value, leaf in leaves:
             yield self.one_leaf(leaf, "bound", value, None)._replace(note=optima.note())
         if clp is not None:
             yield from self.loose_bounds(clp, found)
         if found:
             yield self.feasible(found[0])
+
+    def contradicted_here(self) -> Iterator[Verdict]:
+        """A contradiction; where its numbers are too wide for a certificate, others go on."""
+        try:
+            yield from self.infeasible()
+        except Refused as fault:
+            yield Verdict(WITHOUT + fault.line())
 
     def clp_seconds(self) -> float:
         return min(max(self.watch.left(), ONE_LEAF), MOST_CLP_SECONDS)
