@@ -22,6 +22,7 @@ use Rattle.command_parts.specs.Refusal.{HasTextRefusal}
 use Rattle.command_parts.proofs.SeveralFiles.{IsEither, IsLast, either_last}
 use Rattle.export_round_trip.specs.ReadAs.{IsReadAs}
 use Rattle.export_round_trip.proofs.ReadBack.{exported_back}
+use Rattle.bridge_tool.proofs.FileLimits.{file_exportable}
 use Rattle.exported_program.proofs.Export.{same_points, same_objective, same_sense, tied_points, tied_objective, tied_sense}
 use Rattle.scaled_program.proofs.Factor.{factor_above}
 use Rattle.file_meaning.proofs.Files.{count_lem, same_feasible, same_objective as same_value, same_sense as sense_of, linear_lem}
@@ -115,5 +116,5 @@ export_meant nl k file = λ bytes e. exports_mean nl k bytes e file
 -- and is read as the program
 pub exports_back : (text : List ℕ) (nl : NlValue) → IsNl text nl → (k : ℕ) (bytes : List ℕ) (e : IsExported nl k bytes) → IsReadAs bytes (mps_of e.program)
 exports_back text nl said k bytes e =
-    let read = exported_back nl.file k (text_file text nl said) e.staged.folded e.staged.scaled.rows e.program e.staged.scaled.objective e.exports in
+    let read = exported_back (linear_of nl.file k) (file_exportable nl.file k (text_file text nl said) e.staged.folded) e.staged.scaled.rows e.program e.staged.scaled.objective e.exports in
     subst (λ (b : List ℕ). IsReadAs b (mps_of e.program)) (sym e.written) read

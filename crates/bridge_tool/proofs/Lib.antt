@@ -1,4 +1,5 @@
 pub mod Exporting
+pub mod FileLimits
 pub mod Headline
 pub mod InstanceFiles
 pub mod InstanceNumbers

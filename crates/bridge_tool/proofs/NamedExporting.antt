@@ -47,6 +47,7 @@ use Rattle.nl_segments.specs.Reader.{IsNl}
 use Rattle.exact_numbers.proofs.Fitting.{picked}
 use Rattle.export_round_trip.proofs.Picked.{values_back, whole_picked}
 use Rattle.export_round_trip.proofs.ReadBack.{program_whole}
+use Rattle.bridge_tool.proofs.FileLimits.{file_exportable, file_rows, file_variables}
 use Rattle.export_round_trip.proofs.Reading.{text_of_values}
 
 -- ---- what a file with names comes to
@@ -109,14 +110,6 @@ linear_named f k file =
           (λ j lt. record { number = j; below = omega (arith, lt, variables); same = refl });
     }
 
-row_count : (f : File) (k : ℕ) → length (linear_of f k).rows ≡ f.counts.n_con
-unfolding linear_of
-row_count f k = elements_length (linear_row f) 0 f.counts.n_con
-
-column_count : (f : File) (k : ℕ) → length (linear_of f k).variables ≡ f.counts.n_var
-unfolding linear_of
-column_count f k = elements_length (linear_variable f) 0 f.counts.n_var
-
 by_objective : (l : Linear) (p : ScaledProgram) → IsNamedLinear l → IsScaledProgramOf l p → (IsDecimal l ⊎ (IsDecimal l → ⊥)) → HasExportedNames (length l.rows) (length l.variables) (mps_of p)
 by_objective l p is exports (inl d) = subst (λ q. HasExportedNames (length l.rows) (length l.variables) (mps_of q)) (sym (exports.plain d)) (plain_names l (factor_of_row l) is)
 by_objective l p is exports (inr n) = subst (λ q. HasExportedNames (length l.rows) (length l.variables) (mps_of q)) (sym (exports.tied n)) (tied_names l (factor_of_row l) is (factor_of_objective l))
@@ -126,8 +119,8 @@ pub export_named : (f : File) (k : ℕ) (p : ScaledProgram) (rows columns : ℕ)
 export_named f k p rows columns file exports r c =
     let l = linear_of f k in
     let names = by_objective l p (linear_named f k file) exports (decimal_decided l) in
-    let same_rows : length l.rows ≡ rows = row_count f k ∙ sym r in
-    let same_columns : length l.variables ≡ columns = column_count f k ∙ sym c in
+    let same_rows : length l.rows ≡ rows = file_rows f k ∙ sym r in
+    let same_columns : length l.variables ≡ columns = file_variables f k ∙ sym c in
     subst (λ (n : ℕ). HasExportedNames rows n (mps_of p)) same_columns (subst (λ (n : ℕ). HasExportedNames n (length l.variables) (mps_of p)) same_rows names)
 
 column_names : (columns : List (Column Dec)) → map (λ (c : Column ℚ). c.name) (map (column_with dec_value) columns) ≡ map (λ (c : Column Dec). c.name) columns
@@ -225,7 +218,7 @@ named_export_back text rows columns n read of_rows of_columns bytes e fits =
     let p = mps_of e.program in
     let file = text_file text n.nl read in
     let counts = counts_of_header f.options f.counts file.ruled in
-    let whole = program_whole f k file e.staged.folded e.staged.scaled.rows e.program e.staged.scaled.objective e.exports in
+    let whole = program_whole (linear_of f k) (file_exportable f k file e.staged.folded) e.staged.scaled.rows e.program e.staged.scaled.objective e.exports in
     let m : Mps Dec = with_values picked p in
     let values : with_values dec_value m ≡ p = values_back p whole.decimal in
     let row_names : AreNames n.rows = subst AreNames (sym of_rows.said) (listed_names (row_counts f) (lines_of rows) (last_of rows) (omega (arith, counts.constraints)) of_rows.clean) in

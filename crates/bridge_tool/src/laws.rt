@@ -1,11 +1,11 @@
 // Each law is proved by a function with an empty body.
 ghost use Rattle.std.specs.Prelude.{◌≡◌, ◌↔◌, ◌+◌, ◌≤◌, ◌^◌, List, ℕ, Option, Some, length, take, None};
+ghost use Rattle.export_round_trip.specs.Exportable.{IsExportable, IsNamedByNumber};
 ghost use Rattle.export_round_trip.specs.ReadAs.{IsReadAs};
 ghost use Rattle.branch_check.specs.Leaves.{IsProved};
 ghost use Rattle.branch_check.specs.declared.leaf.ProofVerdict.TheVariants.{Yes};
 ghost use Rattle.certificates.specs.declared.proof.Claim.{Claim as ClaimValue};
 ghost use Rattle.certificates.specs.ProofSays.{IsProvedTrueOf};
-ghost use Rattle.export_round_trip.specs.ReadAs.{IsReadAs};
 ghost use Rattle.exported_program.specs.Program.{mps_of};
 ghost use Rattle.file_certificates.specs.FileProblem.{problem_of};
 ghost use Rattle.file_meaning.specs.FoldFaults.{fold_fault};
@@ -77,6 +77,14 @@ pub fn commands_by_text()
 pub fn programs_mean_their_files()
     ensures { (nl : NlValue) (k : ℕ) (bytes : List ℕ) (e : IsExported nl k bytes) → IsFile nl.file
         → MeansTheFile nl.file k (mps_of e.program) }
+{}
+
+/// The linear program of a file is named by number; where the file folds, it is within the limits
+/// of what an export is read by.
+pub fn files_are_exportable()
+    ensures named { (f : File) (k : ℕ) → IsFile f → IsNamedByNumber (linear_of f k) }
+    ensures within { (f : File) (k : ℕ) → IsFile f → fold_fault f k ≡ None
+        → IsExportable (linear_of f k) }
 {}
 
 /// What is exported of a text is read as the program that was exported.

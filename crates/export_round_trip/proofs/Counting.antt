@@ -1,23 +1,17 @@
--- How many entries the program of a file has: at most as many as its linear program has coefficients, with some more.
-use Rattle.std.proofs.Common.{◌≡◌, ◌∙◌, ℕ, zero, suc, ◌+◌, ◌<◌, ◌≤◌, Bool, true, false, cond, if◌then◌else◌, nat_lt, List, [], ◌∷◌, ◌++◌, length, Option, Some, None, pos, refl, sym, ap, ap₂, arith}
-use Rattle.std.proofs.lemmas.Bool.{ltb-false}
+-- How many entries a program has: at most as many as its linear program has coefficients, with some more.
+use Rattle.std.proofs.Common.{◌≡◌, ◌∙◌, ℕ, zero, suc, ◌+◌, ◌<◌, ◌≤◌, ◌^◌, Bool, true, false, cond, if◌then◌else◌, List, [], ◌∷◌, ◌++◌, length, Option, Some, None, pos, refl, ap, arith}
+use Rattle.std.specs.List.{sum_by}
 use Rattle.std.proofs.lemmas.List.Sums.{sum_by-cons}
 use Rattle.fractions.specs.Rational.{ℚ, zero_ℚ, whole, ◌*ℚ◌}
 use Rattle.fractions.specs.Functions.{is_zero}
 use Rattle.fractions.proofs.Arithmetic.{*ℚ_zero}
-use Rattle.fractions.proofs.Tests.{is_zero-true, option_or-none}
-use Rattle.program_meaning.specs.Linear.{Form, Row, Variable, has_side}
+use Rattle.fractions.proofs.Tests.{is_zero-true}
+use Rattle.program_meaning.specs.Linear.{Form, Linear, Row, Variable, has_side, variable_count}
 use Rattle.mps_model.specs.Mps.{Entry, Column}
 use Rattle.mps_model.specs.Valid.{entry_count}
 use Rattle.scaled_program.specs.Program.{ScaledRow, nonzero, exported_rows, scaled_row}
 use Rattle.exported_program.specs.Program.{with_entry, entries_of, or_obj_zero, column_entries, columns_of}
-use Rattle.program_meaning.specs.Lines.{Line}
-use Rattle.nl_meaning.specs.Trees.{nothing_known}
-use Rattle.nl_model.specs.File.{File}
-use Rattle.file_meaning.specs.Expressions.{definitions_of}
-use Rattle.file_meaning.specs.FoldFaults.{Owner, FoldFault, Owned, coefficient_count, fold_fault, has_objective, head_fault, most_coefficients, owned_body, owned_definitions, owned_line, owned_objective, owners_fault}
-use Rattle.program_meaning.specs.Elements.{elements_from}
-use Rattle.file_meaning.specs.LinearFile.{objective_form, linear_row}
+use Rattle.export_round_trip.specs.Exportable.{IsExportable, form_count}
 
 -- ---- sums over rows, and over columns
 
@@ -117,20 +111,19 @@ less x y h = by (is_zero x) refl
     by true e = let none : is_there (nonzero y) ≡ 0 = ap (λ (z : ℚ). is_there (nonzero z)) (h (is_zero-true x e)) ∙ no_zero in omega (arith, none)
     by false e = there_or_not (nonzero y)
 
--- the count of a line's coefficients, from the front
-pub line_count : (l : Line) (n : ℕ) → range_sum (λ j. none_zero (l.coef j)) 0 n ≡ coefficient_count n l
-line_count l zero = refl
-line_count l (suc n) =
-    let last : none_zero (l.coef (0 + n)) ≡ none_zero (l.coef n) = ap (λ (j : ℕ). none_zero (l.coef j)) (omega arith) in
-    omega (arith, range_last (λ j. none_zero (l.coef j)) 0 n, line_count l n, last)
+-- the count of a form's coefficients, from the front
+abbrev front_count : ℕ → Form → ℕ
+front_count n f = range_sum (λ j. none_zero (f.coefficient j)) 0 n
 
--- of a form
-abbrev pub form_count : ℕ → Form → ℕ
-form_count n f = range_sum (λ j. none_zero (f.coefficient j)) 0 n
+counted_front : (n : ℕ) (f : Form) → front_count n f ≡ form_count n f
+counted_front zero f = refl
+counted_front (suc n) f =
+    let last : none_zero (f.coefficient (0 + n)) ≡ none_zero (f.coefficient n) = ap (λ (j : ℕ). none_zero (f.coefficient j)) (omega arith) in
+    omega (arith, range_last (λ j. none_zero (f.coefficient j)) 0 n, counted_front n f, last)
 
 -- coefficients that are 0 where those of the form are
 pub form_less : (c : ℕ → ℚ) (f : Form) (n : ℕ) → ((j : ℕ) → j < n → f.coefficient j ≡ zero_ℚ → c j ≡ zero_ℚ) → range_sum (counted c) 0 n ≤ form_count n f
-form_less c f n h = from 0 n (λ j lt. h j (omega (arith, lt)))
+form_less c f n h = omega (arith, counted_front n f, from 0 n (λ j lt. h j (omega (arith, lt))))
   where
     from : (j m : ℕ) → ((i : ℕ) → i < j + m → f.coefficient i ≡ zero_ℚ → c i ≡ zero_ℚ) → range_sum (counted c) j m ≤ range_sum (λ i. none_zero (f.coefficient i)) j m
     from j zero g = omega arith
@@ -159,54 +152,11 @@ sums_ones (x ∷ xs) = omega (arith, sums_ones xs)
 pub exported_rows_count : (factor : ℕ → ℕ) (i : ℕ) (rows : List Row) → length (exported_rows factor i rows) ≤ length rows
 exported_rows_count factor i rows = omega (arith, exported_sums (λ r. 1) (λ r. 1) (λ k r. omega arith) factor i rows, sums_ones (exported_rows factor i rows), sums_ones rows)
 
--- ---- a file that folds
+-- ---- the coefficients of a linear program
 
-few_at_head : (o : Owner) (count : ℕ) → head_fault o count ≡ None → count ≤ most_coefficients
-few_at_head o count e = by (nat_lt most_coefficients count) refl e
-  where
-    by : (b : Bool) → nat_lt most_coefficients count ≡ b → (if b then Some (FoldFault.fold_too_large o) else None) ≡ None → count ≤ most_coefficients
-    by true q h = absurd cc
-    by false q h = ltb-false most_coefficients count q
+summed : {A : Type 0} (f : A → ℕ) (xs : List A) → sum_by f xs ≡ sums f xs
+summed f [] = refl
+summed f (x ∷ xs) = sum_by-cons f x xs ∙ ap (λ (n : ℕ). f x + n) (summed f xs)
 
-few_owned : (n count : ℕ) (os : List Owned) → count ≤ most_coefficients → owners_fault n count os ≡ None → count + sums (λ o. coefficient_count n (owned_line o)) os ≤ most_coefficients
-few_owned n count [] le e = omega (arith, le)
-few_owned n count (o ∷ os) le e =
-    let total : ℕ = count + coefficient_count n (owned_line o) in
-    let parts = option_or-none _ _ e in
-    let head = option_or-none _ _ parts.0 in
-    let here : total ≤ most_coefficients = few_at_head o.owner total head.1 in
-    few_more count (coefficient_count n (owned_line o)) (sums (λ o. coefficient_count n (owned_line o)) os) (few_owned n total os here parts.1)
-  where
-    few_more : (a b c : ℕ) → (a + b) + c ≤ most_coefficients → a + (b + c) ≤ most_coefficients
-    few_more a b c h = omega (arith, h)
-
--- the bodies' lines are those of the linear program
-bodies_count : (f : File) (n i m : ℕ) → sums (λ o. coefficient_count n (owned_line o)) (elements_from (owned_body f) i m) ≡ sums (λ r. form_count n r.body) (elements_from (linear_row f) i m)
-unfolding elements_from
-bodies_count f n i zero = refl
-bodies_count f n i (suc m) = ap₂ (λ (a b : ℕ). a + b) (sym (line_count (owned_line (owned_body f i)) n)) (bodies_count f n (suc i) m)
-
-pub few_coefficients : (f : File) (k : ℕ) → fold_fault f k ≡ None
-    → sums (λ r. form_count f.counts.n_var r.body) (elements_from (linear_row f) 0 f.counts.n_con) + form_count f.counts.n_var (objective_form f k) ≤ most_coefficients
-unfolding fold_fault
-few_coefficients f k e = by (has_objective f k) e
-  where
-    n : ℕ
-    n = f.counts.n_var
-
-    bodies : List Owned
-    bodies = elements_from (owned_body f) 0 f.counts.n_con
-
-    definitions : List Owned
-    definitions = owned_definitions (λ at. nothing_known) 0 (definitions_of f)
-
-    size : Owned → ℕ
-    size o = coefficient_count n (owned_line o)
-
-    by : (b : Bool) → (if b then owners_fault n 0 (definitions ++ (bodies ++ owned_objective f k ∷ [])) else Some (FoldFault.no_such_objective k)) ≡ None
-        → sums (λ r. form_count n r.body) (elements_from (linear_row f) 0 f.counts.n_con) + form_count n (objective_form f k) ≤ most_coefficients
-    by true h =
-        let few = few_owned n 0 (definitions ++ (bodies ++ owned_objective f k ∷ [])) (omega arith) h in
-        let own : size (owned_objective f k) ≡ form_count n (objective_form f k) = sym (line_count (owned_line (owned_objective f k)) n) in
-        omega (arith, few, sums-append size definitions (bodies ++ owned_objective f k ∷ []), sums-append size bodies (owned_objective f k ∷ []), own, bodies_count f n 0 f.counts.n_con)
-    by false h = absurd cc
+pub few_coefficients : (l : Linear) → IsExportable l → sums (λ r. form_count (variable_count l) r.body) l.rows + form_count (variable_count l) l.objective ≤ 2 ^ 23
+few_coefficients l is = omega (arith, is.few_coefficients, summed (λ r. form_count (variable_count l) r.body) l.rows)

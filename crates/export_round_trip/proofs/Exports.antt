@@ -1,6 +1,6 @@
--- The program that a file is exported as is a whole decimal program.
+-- The numbers of the program that a linear program is exported as are decimals.
 use Rattle.std.proofs.Common.{◌≡◌, if◌then◌else◌, ◌≢◌, ◌∙◌, ⊎_elim, ℕ, zero, suc, ◌<◌, ◌≤◌, ◌^◌, Bool, true, false, cond, nat_eq, List, [], ◌∷◌, ◌++◌, get_or, Option, Some, None, pos, IsTrue, refl, sym, ap, subst, arith}
-use Rattle.std.specs.Prelude.{All, IfSome, option_map, is_some, ◌||◌}
+use Rattle.std.specs.Prelude.{All, is_some, ◌||◌}
 use Rattle.std.proofs.Math.ListN.{get_or-append}
 use Rattle.std.proofs.lemmas.Bool.{cases_lt, eq-eqb}
 use Rattle.std.proofs.lemmas.List.{length-append}
@@ -8,22 +8,16 @@ use Rattle.std.proofs.lemmas.List.Elements.{All-head, All-tail}
 use Rattle.fractions.specs.Rational.{ℚ, zero_ℚ, one_ℚ, whole, neg_ℚ, ◌-ℚ◌, ◌*ℚ◌, is_zero}
 use Rattle.fractions.proofs.Arithmetic.{*ℚ_zero, *ℚ_one, *ℚ-neg, +ℚ-neg, -ℚ_lem}
 use Rattle.fractions.proofs.Ring.{ring, v, num, ◌⊖◌, ◌⊗◌, opp}
-use Rattle.exact_numbers.specs.declared.dec.Dec.{Dec}
-use Rattle.exact_numbers.specs.Values.{FitsDec, dec_value}
-use Rattle.program_meaning.specs.Linear.{Form, Interval, Row, Variable, no_row}
+use Rattle.exact_numbers.specs.Values.{FitsDec}
+use Rattle.program_meaning.specs.Linear.{Form, Row, no_row}
 use Rattle.mps_model.specs.declared.kinds.RowKind.TheVariants.{N}
 use Rattle.scaled_program.specs.Fits.{IfBoth, IfSide, RangeFits, RowFits, ScaledFits, SideFits}
 use Rattle.scaled_program.specs.Factor.{coefficients_below, objective_numbers}
 use Rattle.scaled_program.specs.Program.{exported_rows, nonzero, range_of, scaled_row, scaled_side, tie, z_form, z_variable, is_exported}
 use Rattle.exported_program.specs.Program.{kind_of_row, rhs_of, two_sided}
-use Rattle.linear_program.specs.declared.interval.Interval.{Interval as Sides}
-use Rattle.nl_model.specs.File.{File}
-use Rattle.program_meaning.specs.Elements.{elements_from}
-use Rattle.file_meaning.specs.LinearFile.{linear_variable}
-use Rattle.linear_program.specs.Intervals.{interval_of, no_sides}
-use Rattle.program_meaning.proofs.Elements.{all_elements}
-use Rattle.exact_numbers.proofs.Fitting.{dec_fits, neg_fits, one_fits, whole_fits, zero_fits}
-use Rattle.export_round_trip.proofs.ProgramParts.{HasDecimalBounds, exported_all}
+use Rattle.exact_numbers.proofs.Fitting.{neg_fits, one_fits, whole_fits, zero_fits}
+use Rattle.export_round_trip.specs.Exportable.{HasDecimalBounds}
+use Rattle.export_round_trip.proofs.ProgramParts.{exported_all}
 use Rattle.export_round_trip.proofs.Whole.{IfFits, IsWritten}
 
 -- ---- numbers
@@ -89,7 +83,7 @@ sides_kept k constant None (Some u) h e = absurd cc
 sides_kept k constant (Some l) None h e = absurd cc
 sides_kept k constant (Some l) (Some u) h e = two_not_none (nonzero ((k *ℚ (u -ℚ constant)) -ℚ (k *ℚ (l -ℚ constant)))) e
 
--- a row of a file with its factor
+-- a row with its factor
 row_written : (n m k : ℕ) (r : Row) → ((j : ℕ) → n ≤ j → r.body.coefficient j ≡ zero_ℚ) → IsTrue (is_exported r) → RowFits n r k → IsWritten m (scaled_row k r)
 row_written n m k r past exported fits =
     let q = whole (pos k) in
@@ -107,7 +101,7 @@ row_written n m k r past exported fits =
       sided = sides_kept q r.body.constant r.side.lower r.side.upper exported;
     }
 
--- the rows of a file
+-- all rows
 pub rows_written : (n m : ℕ) (factor : ℕ → ℕ) (rs : List Row) → All (λ r. (j : ℕ) → n ≤ j → r.body.coefficient j ≡ zero_ℚ) rs
     → ((j : ℕ) → IsTrue (is_exported (get_or rs j no_row)) → RowFits n (get_or rs j no_row) (factor j)) → All (IsWritten m) (exported_rows factor 0 rs)
 rows_written n m factor rs past fits = exported_all (IsWritten m) factor 0 rs (λ j k e lt is. let same : j ≡ k = omega (arith, e) in
@@ -163,19 +157,6 @@ pub constant_fits : (n : ℕ) (objective : Form) → All FitsDec (objective_numb
 constant_fits n objective h = nonzero_fits (neg_ℚ objective.constant) (neg_fits objective.constant (All-head FitsDec objective.constant (coefficients_below objective.coefficient n) h))
 
 -- ---- bounds
-
-dec_side : (o : Option Dec) → IfSome (option_map dec_value o) FitsDec
-dec_side None = tt
-dec_side (Some d) = dec_fits d
-
-sides_decimal : (s : Sides) (x : Variable) → x.bound ≡ interval_of s → HasDecimalBounds x
-sides_decimal s x e = record {
-  lower = subst (λ (i : Interval). IfSome i.lower FitsDec) (sym e) (dec_side s.lo);
-  upper = subst (λ (i : Interval). IfSome i.upper FitsDec) (sym e) (dec_side s.hi);
-}
-
-pub variables_decimal : (f : File) (n : ℕ) → All HasDecimalBounds (elements_from (linear_variable f) 0 n)
-variables_decimal f n = all_elements (linear_variable f) HasDecimalBounds n (λ j lt. sides_decimal (get_or f.bounds j no_sides) (linear_variable f j) refl)
 
 pub z_decimal : HasDecimalBounds z_variable
 z_decimal = record { lower = tt; upper = tt }

@@ -1,21 +1,20 @@
 -- The names of an exported program have at most eight bytes.
-use Rattle.std.proofs.Common.{ℕ, ◌<◌, ◌≤◌, ◌^◌, Bool, List, ◌∷◌, length, map, arith}
+use Rattle.std.proofs.Common.{ℕ, ◌<◌, ◌≤◌, ◌^◌, Bool, List, ◌∷◌, length, map, subst, arith}
 use Rattle.std.specs.Prelude.{All}
 use Rattle.std.specs.Fmt.{decimal}
 use Rattle.std.proofs.lemmas.Fmt.{length-decimal-le}
 use Rattle.std.proofs.lemmas.List.Elements.{All-cons, All-map}
 use Rattle.fractions.specs.Rational.{ℚ}
-use Rattle.program_meaning.specs.Linear.{Form, Row, Variable, no_row}
+use Rattle.program_meaning.specs.Linear.{Form, Row, Variable, Linear, no_row, no_variable}
 use Rattle.scaled_program.specs.Program.{ScaledProgram, ScaledRow, exported_rows}
 use Rattle.exported_program.specs.Program.{mps_row, obj_name, mps_of}
-use Rattle.file_meaning.specs.LinearFile.{linear_row, linear_variable, linear_of}
-use Rattle.program_meaning.proofs.Elements.{all_elements}
 use Rattle.mps_model.specs.Mps.{MpsRow, Column, Mps}
 use Rattle.mps_model.specs.declared.kinds.RowKind.TheVariants.{N}
-use Rattle.nl_model.specs.File.{File}
+use Rattle.export_round_trip.specs.Exportable.{IsNamedByNumber}
+use Rattle.export_round_trip.proofs.ProgramNames.{other_default}
 use Rattle.export_round_trip.proofs.ProgramParts.{columns_all, exported_all}
 
--- ---- of a file
+-- ---- of a linear program
 
 abbrev pub ShortRow : Row → Type 0
 ShortRow r = length r.name ≤ 8
@@ -27,13 +26,11 @@ ShortVariable v = length v.name ≤ 8
 numbered : (letter n : ℕ) → n < 2 ^ 20 → length (letter ∷ decimal n) ≤ 8
 numbered letter n lt = omega (arith, length-decimal-le 7 n (omega arith) (omega (arith, lt)) (omega (arith, lt)))
 
-pub rows_of_file : (f : File) (k : ℕ) → f.counts.n_con ≤ 2 ^ 20 → All ShortRow (linear_of f k).rows
-unfolding linear_of
-rows_of_file f k few = all_elements (linear_row f) ShortRow f.counts.n_con (λ i lt. numbered 99 i (omega (arith, lt, few)))
+pub rows_short : (l : Linear) → IsNamedByNumber l → All ShortRow l.rows
+rows_short l is i d lt = subst (λ (r : Row). ShortRow r) (other_default l.rows i no_row d lt) (rw (is.rows i lt) (numbered 99 i (omega (arith, lt, is.few_rows))))
 
-pub variables_of_file : (f : File) (k : ℕ) → f.counts.n_var ≤ 2 ^ 20 → All ShortVariable (linear_of f k).variables
-unfolding linear_of
-variables_of_file f k few = all_elements (linear_variable f) ShortVariable f.counts.n_var (λ j lt. numbered 120 j (omega (arith, lt, few)))
+pub variables_short : (l : Linear) → IsNamedByNumber l → All ShortVariable l.variables
+variables_short l is j d lt = subst (λ (v : Variable). ShortVariable v) (other_default l.variables j no_variable d lt) (rw (is.variables j lt) (numbered 120 j (omega (arith, lt, is.few_variables))))
 
 -- ---- of the program
 

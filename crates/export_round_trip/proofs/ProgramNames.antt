@@ -1,21 +1,30 @@
--- The rows and columns of the program of a file have names, no two the same.
-use Rattle.std.proofs.Common.{◌≡◌, ◌≢◌, ◌∙◌, ℕ, zero, suc, ◌+◌, ◌<◌, ◌≤◌, ◌^◌, Bool, true, false, cond, List, [], ◌∷◌, ◌++◌, get_or, refl, sym, ap, arith}
+-- The rows and columns of the program of a linear program have names, no two the same.
+use Rattle.std.proofs.Common.{◌≡◌, ◌≢◌, ◌∙◌, ℕ, zero, suc, ◌+◌, ◌<◌, ◌≤◌, ◌^◌, Bool, true, false, cond, List, [], ◌∷◌, ◌++◌, get_or, length, refl, sym, ap, arith}
 use Rattle.std.specs.Prelude.{All}
 use Rattle.std.specs.List.{AllPairs}
 use Rattle.std.proofs.lemmas.List.Elements.{All-nil, All-cons, All-weaker, All-push}
 use Rattle.std.proofs.lemmas.List.Kept.{AllPairs-cons}
 use Rattle.std.proofs.lemmas.List.Quantifiers.{all_pairs_push}
 use Rattle.texts.specs.Names.{IsName}
-use Rattle.program_meaning.specs.Linear.{Variable, has_side}
+use Rattle.program_meaning.specs.Linear.{Row, Variable, has_side, no_row, no_variable}
 use Rattle.program_meaning.specs.Names.{row_name, variable_name}
 use Rattle.mps_model.specs.Valid.{marker_word}
-use Rattle.scaled_program.specs.Program.{ScaledRow, exported_rows, scaled_row, z_name, zdef_name, z_variable}
+use Rattle.scaled_program.specs.Program.{ScaledRow, exported_rows, scaled_row, zdef_name, z_variable}
 use Rattle.exported_program.specs.Program.{obj_name}
 use Rattle.exported_program.proofs.Names.{constraint_is_name, variable_is_name, z_is_name, zdef_is_name, constraints_apart, variables_apart, constraint_not_obj, constraint_not_zdef, constraint_not_marker, obj_not_zdef, zdef_not_marker, variable_not_z}
-use Rattle.program_meaning.specs.Elements.{elements_from}
-use Rattle.program_meaning.proofs.Elements.{all_elements, elements_at, elements_length}
-use Rattle.file_meaning.specs.LinearFile.{linear_row, linear_variable}
-use Rattle.nl_model.specs.File.{File}
+
+-- an element of a list is the same whatever the default
+pub other_default : {A : Type 0} (xs : List A) (i : ℕ) (d e : A) → i < length xs → get_or xs i d ≡ get_or xs i e
+other_default [] i d e lt = absurd (omega arith)
+other_default (x ∷ xs) zero d e lt = refl
+other_default (x ∷ xs) (suc i) d e lt = other_default xs i d e (omega (arith, lt))
+
+-- each row is named by its number, of which the first is i
+abbrev pub AreRowsFrom : ℕ → List Row → Type 0
+AreRowsFrom i rs = (k : ℕ) → k < length rs → (get_or rs k no_row).name ≡ row_name (i + k)
+
+abbrev pub AreVariables : List Variable → Type 0
+AreVariables vs = (j : ℕ) → j < length vs → (get_or vs j no_variable).name ≡ variable_name j
 
 -- named by a number from i on
 abbrev pub IsRowFrom : ℕ → ScaledRow → Type 0
@@ -40,16 +49,20 @@ rows_more i r rs lt e h = record {
     other : (s : ScaledRow) → IsRowFrom (suc i) s → r.name ≢ s.name
     other s from same = absurd (omega (arith, from.1, constraints_apart i from.0 lt from.2 (sym e ∙ same ∙ from.3)))
 
-exported_from : (factor : ℕ → ℕ) (f : File) (i n : ℕ) → i + n ≤ 2 ^ 32 → RowsFrom i (exported_rows factor i (elements_from (linear_row f) i n))
-unfolding exported_rows elements_from
-exported_from factor f i zero le = record { named = All-nil (IsRowFrom i); apart = λ a b d lt within. absurd (omega arith) }
-exported_from factor f i (suc n) le = by (has_side (linear_row f i).side) (exported_from factor f (suc i) n (omega arith))
+exported_from : (factor : ℕ → ℕ) (i : ℕ) (rs : List Row) → AreRowsFrom i rs → i + length rs ≤ 2 ^ 32 → RowsFrom i (exported_rows factor i rs)
+unfolding exported_rows
+exported_from factor i [] own le = record { named = All-nil (IsRowFrom i); apart = λ a b d lt within. absurd (omega arith) }
+exported_from factor i (r ∷ rs) own le =
+    by (has_side r.side) (exported_from factor (suc i) rs (λ k lt. own (suc k) (omega (arith, lt)) ∙ ap row_name (omega arith)) (omega (arith, le)))
   where
     rest : List ScaledRow
-    rest = exported_rows factor (suc i) (elements_from (linear_row f) (suc i) n)
+    rest = exported_rows factor (suc i) rs
 
-    by : (there : Bool) → RowsFrom (suc i) rest → RowsFrom i (cond there (scaled_row (factor i) (linear_row f i) ∷ rest) rest)
-    by true h = rows_more i (scaled_row (factor i) (linear_row f i)) rest (omega (arith, le)) refl h
+    here : r.name ≡ row_name i
+    here = own 0 (omega arith) ∙ ap row_name (omega arith)
+
+    by : (there : Bool) → RowsFrom (suc i) rest → RowsFrom i (cond there (scaled_row (factor i) r ∷ rest) rest)
+    by true h = rows_more i (scaled_row (factor i) r) rest (omega (arith, le)) here h
     by false h = record { named = All-weaker (IsRowFrom (suc i)) (IsRowFrom i) (later i) rest h.named; apart = h.apart }
 
 -- rows with names for a program
@@ -71,14 +84,14 @@ named_rows rs h = record {
   no_marker = All-weaker (IsRowFrom 0) (λ r. r.name ≢ marker_word) (λ r k e. constraint_not_marker k.0 (sym k.3 ∙ e)) rs h.named;
 }
 
-pub exported_named : (factor : ℕ → ℕ) (f : File) (n : ℕ) → n ≤ 2 ^ 32 → AreNamedRows (exported_rows factor 0 (elements_from (linear_row f) 0 n))
-exported_named factor f n le = named_rows (exported_rows factor 0 (elements_from (linear_row f) 0 n)) (exported_from factor f 0 n (omega (arith, le)))
+pub exported_named : (factor : ℕ → ℕ) (rs : List Row) → AreRowsFrom 0 rs → length rs ≤ 2 ^ 32 → AreNamedRows (exported_rows factor 0 rs)
+exported_named factor rs own le = named_rows (exported_rows factor 0 rs) (exported_from factor 0 rs own (omega (arith, le)))
 
 -- zdef as the last row
-pub tied_named : (factor : ℕ → ℕ) (f : File) (n : ℕ) (r : ScaledRow) → n ≤ 2 ^ 32 → r.name ≡ zdef_name → AreNamedRows (exported_rows factor 0 (elements_from (linear_row f) 0 n) ++ r ∷ [])
-tied_named factor f n r le e =
-    let rs = exported_rows factor 0 (elements_from (linear_row f) 0 n) in
-    let from = exported_from factor f 0 n (omega (arith, le)) in
+pub tied_named : (factor : ℕ → ℕ) (own : List Row) (r : ScaledRow) → AreRowsFrom 0 own → length own ≤ 2 ^ 32 → r.name ≡ zdef_name → AreNamedRows (exported_rows factor 0 own ++ r ∷ [])
+tied_named factor own r numbered le e =
+    let rs = exported_rows factor 0 own in
+    let from = exported_from factor 0 own numbered (omega (arith, le)) in
     let h = named_rows rs from in
     let others : All (λ s. s.name ≢ r.name) rs = All-weaker (IsRowFrom 0) (λ s. s.name ≢ r.name) (λ s k same. constraint_not_zdef k.0 (sym k.3 ∙ same ∙ e)) rs from.named in
     record {
@@ -88,26 +101,23 @@ tied_named factor f n r le e =
       no_marker = All-push (λ (s : ScaledRow). s.name ≢ marker_word) rs r h.no_marker (λ same. zdef_not_marker (sym e ∙ same));
     }
 
-pub variables_named : (f : File) (n : ℕ) → n ≤ 2 ^ 32 → AreNamedVariables (elements_from (linear_variable f) 0 n)
-variables_named f n le = record {
-  named = all_elements (linear_variable f) (λ v. IsName v.name) n (λ j lt. variable_is_name j (omega (arith, lt, le)));
-  apart = apart;
-}
-  where
-    name_at : (j : ℕ) (d : Variable) → j < n → (get_or (elements_from (linear_variable f) 0 n) j d).name ≡ variable_name j
-    name_at j d lt = ap (λ (v : Variable). v.name) (elements_at (linear_variable f) 0 n j d lt) ∙ ap variable_name (omega arith)
+module _ (vs : List Variable) (own : AreVariables vs) (le : length vs ≤ 2 ^ 32) where
+  name_at : (j : ℕ) (d : Variable) → j < length vs → (get_or vs j d).name ≡ variable_name j
+  name_at j d lt = ap (λ (v : Variable). v.name) (other_default vs j d no_variable lt) ∙ own j lt
 
-    apart : AllPairs (λ v w. v.name ≢ w.name) (elements_from (linear_variable f) 0 n)
-    apart a b d lt within same =
-        let below : b < n = omega (arith, within, elements_length (linear_variable f) 0 n) in
-        omega (arith, lt, variables_apart a b (omega (arith, lt, below, le)) (omega (arith, below, le)) (sym (name_at a d (omega (arith, lt, below))) ∙ same ∙ name_at b d below))
+  variables_apart_all : AllPairs (λ v w. v.name ≢ w.name) vs
+  variables_apart_all a b d lt within same =
+      omega (arith, lt, variables_apart a b (omega (arith, lt, within, le)) (omega (arith, within, le)) (sym (name_at a d (omega (arith, lt, within))) ∙ same ∙ name_at b d within))
 
--- z as the last variable
-pub tied_variables_named : (f : File) (n : ℕ) → n ≤ 2 ^ 32 → AreNamedVariables (elements_from (linear_variable f) 0 n ++ z_variable ∷ [])
-tied_variables_named f n le =
-    let vs = elements_from (linear_variable f) 0 n in
-    let h = variables_named f n le in
-    record {
-      named = All-push (λ (v : Variable). IsName v.name) vs z_variable h.named z_is_name;
-      apart = all_pairs_push (λ (v w : Variable). v.name ≢ w.name) vs z_variable h.apart (all_elements (linear_variable f) (λ v. v.name ≢ z_name) n (λ j lt. variable_not_z j));
-    }
+  pub variables_named : AreNamedVariables vs
+  variables_named = record {
+    named = λ j d lt. rw (name_at j d lt) (variable_is_name j (omega (arith, lt, le)));
+    apart = variables_apart_all;
+  }
+
+  -- z as the last variable
+  pub tied_variables_named : AreNamedVariables (vs ++ z_variable ∷ [])
+  tied_variables_named = record {
+    named = All-push (λ (v : Variable). IsName v.name) vs z_variable variables_named.named z_is_name;
+    apart = all_pairs_push (λ (v w : Variable). v.name ≢ w.name) vs z_variable variables_apart_all (λ j d lt same. variable_not_z j (sym (name_at j d lt) ∙ same));
+  }

@@ -13,6 +13,7 @@ use Rattle.mps_model.specs.Valid.{AreEntries, IsOtherBound, IsWithoutNumber, Set
 use Rattle.scaled_program.specs.Program.{ScaledRow, nonzero, exported_rows, scaled_row, is_exported}
 use Rattle.exported_program.specs.Program.{with_entry, entries_of, or_obj_zero, column_entries, columns_of, bound_record, fixed_or_both, column_bounds, bounds_of}
 use Rattle.exact_numbers.proofs.Fitting.{zero_fits}
+use Rattle.export_round_trip.specs.Exportable.{HasDecimalBounds}
 
 -- ---- entries
 
@@ -82,7 +83,7 @@ columns_all P Q objective rows j (v ∷ vs) h all =
     All-cons P (record { name = v.name; marked = v.whole; entries = column_entries objective rows j }) (columns_of objective rows (suc j) vs) (h j v (omega arith) (All-head Q v vs all))
     (columns_all P Q objective rows (suc j) vs (λ k w lt. h k w (omega (arith, lt))) (All-tail Q v vs all))
 
--- exported rows of a file, of which the first is row i
+-- exported rows, of which the first is row i
 pub exported_all : (P : ScaledRow → Type 0) (factor : ℕ → ℕ) (i : ℕ) (rs : List Row)
     → ((j k : ℕ) → k ≡ i + j → j < length rs → IsTrue (is_exported (get_or rs j no_row)) → P (scaled_row (factor k) (get_or rs j no_row))) → All P (exported_rows factor i rs)
 unfolding exported_rows
@@ -155,11 +156,6 @@ column_bounds_from j n None None bs lt fl fu h = alone j n (bound_record Fr j ze
 column_bounds_from j n None (Some u) bs lt fl fu h = both j n (bound_record Mi j zero_ℚ) (bound_record Up j u) bs lt refl refl (record { lower = tt; upper = tt }) (λ free. refl) (λ none. absurd none) zero_fits fu h
 column_bounds_from j n (Some l) None bs lt fl fu h = both j n (bound_record Lo j l) (bound_record Pl j zero_ℚ) bs lt refl refl (record { lower = tt; upper = tt }) (λ none. absurd none) (λ free. refl) fl zero_fits h
 column_bounds_from j n (Some l) (Some u) bs lt fl fu h = fixed j n l u (nonzero (u -ℚ l)) bs lt fl fu h
-
--- the bounds of a variable are decimals
-pub record HasDecimalBounds (v : Variable) : Type 0 where
-  pub lower : IfSome v.bound.lower FitsDec
-  pub upper : IfSome v.bound.upper FitsDec
 
 pub bounds_from : (j n : ℕ) (vs : List Variable) → j + length vs ≡ n → All HasDecimalBounds vs → AreBoundsFrom j n (bounds_of j vs)
 unfolding bounds_of

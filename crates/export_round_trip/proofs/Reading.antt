@@ -12,7 +12,6 @@ use Rattle.scaled_program.specs.Fits.{IsDecimal, factor_of_row, factor_of_object
 use Rattle.exported_program.specs.Program.{IsProgramOf, program, tied_program}
 use Rattle.scaled_program.specs.Factor.{objective_numbers}
 use Rattle.scaled_program.specs.Program.{exported_rows, scaled_row, tie, z_form, z_variable}
-use Rattle.file_meaning.specs.LinearFile.{linear_of}
 use Rattle.mps_model.specs.Mps.{Column, Mps, column_with, with_values}
 use Rattle.mps_model.specs.Text.{mps_text_by}
 use Rattle.mps_model.specs.Valid.{IsMps}
@@ -21,11 +20,9 @@ use Rattle.mps_reader.specs.Reader.{IsMpsText}
 use Rattle.mps_reader.specs.Written.{HasShortNames, mps_text}
 use Rattle.mps_reader.proofs.RoomLemmas.{room}
 use Rattle.mps_reader.proofs.RoundTrip.{written_again}
-use Rattle.nl_model.specs.File.{File}
-use Rattle.nl_model.specs.Rules.{IsFile}
-use Rattle.nl_model.proofs.Headers.{counts_of_header}
+use Rattle.export_round_trip.specs.Exportable.{IsNamedByNumber}
 use Rattle.export_round_trip.specs.ReadAs.{IsReadAs}
-use Rattle.export_round_trip.proofs.Names.{IsShort, ShortRow, ShortVariable, ShortScaled, ShortColumn, rows_of_file, variables_of_file, rows_exported, short_program}
+use Rattle.export_round_trip.proofs.Names.{IsShort, ShortRow, ShortVariable, ShortScaled, ShortColumn, rows_short, variables_short, rows_exported, short_program}
 
 -- ---- whether the objective is decimal
 
@@ -73,11 +70,8 @@ by_objective : (l : Linear) (m : Mps Dec) → All ShortRow l.rows → All ShortV
 by_objective l m rows vs is (inl d) = of_values m (subst IsShort (sym (is.plain d)) (plain_short l (factor_of_row l) rows vs))
 by_objective l m rows vs is (inr n) = of_values m (subst IsShort (sym (is.tied n)) (tied_short l (factor_of_row l) (factor_of_objective l) rows vs))
 
-pub short_names : (f : File) (k : ℕ) (m : Mps Dec) → IsFile f → IsProgramOf (linear_of f k) m → HasShortNames m
-short_names f k m file is =
-    let l = linear_of f k in
-    let counts = counts_of_header f.options f.counts file.ruled in
-    by_objective l m (rows_of_file f k counts.constraints) (variables_of_file f k counts.variables) is (all_fit (objective_numbers (variable_count l) l.objective))
+pub short_names : (l : Linear) (m : Mps Dec) → IsNamedByNumber l → IsProgramOf l m → HasShortNames m
+short_names l m named is = by_objective l m (rows_short l named) (variables_short l named) is (all_fit (objective_numbers (variable_count l) l.objective))
 
 -- ---- reading
 
@@ -87,9 +81,9 @@ same_texts = λ i. λ d. value_text-decimal d.m d.e d.spelled i
 pub text_of_values : (m : Mps Dec) → mps_text m ≡ mps_text_by value_text (with_values dec_value m)
 text_of_values m = ap (λ t. mps_text_by t m) (sym same_texts) ∙ sym (text_by_values value_text dec_value m)
 
-pub read_back : (f : File) (k : ℕ) (m : Mps Dec) → IsFile f → IsProgramOf (linear_of f k) m → IsMps dec_value m → IsReadAs (mps_text_by value_text (with_values dec_value m)) (with_values dec_value m)
-read_back f k m file is valid = record {
+pub read_back : (l : Linear) (m : Mps Dec) → IsNamedByNumber l → IsProgramOf l m → IsMps dec_value m → IsReadAs (mps_text_by value_text (with_values dec_value m)) (with_values dec_value m)
+read_back l m named is valid = record {
   program = m;
-  says = subst (λ (t : List ℕ). IsMpsText t m) (text_of_values m) (written_again m (record { valid = valid; room = room m valid (short_names f k m file is) }));
+  says = subst (λ (t : List ℕ). IsMpsText t m) (text_of_values m) (written_again m (record { valid = valid; room = room m valid (short_names l m named is) }));
   values = refl;
 }

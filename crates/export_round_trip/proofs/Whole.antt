@@ -15,12 +15,13 @@ use Rattle.mps_model.specs.Valid.{AreRows, AreEntries, AreRanges, IsPartOfMps, I
 use Rattle.scaled_program.specs.Program.{ScaledRow, nonzero, range_of}
 use Rattle.exported_program.specs.Program.{with_entry, entries_of, or_obj_zero, column_entries, columns_of, kind_of_row, mps_row, obj_name, mps_of, rhs_of, bounds_of}
 use Rattle.exported_program.proofs.Entries.{columns_length}
+use Rattle.export_round_trip.specs.Exportable.{HasDecimalBounds}
 use Rattle.export_round_trip.proofs.Names.{scaled_of}
 use Rattle.exported_program.proofs.Names.{nl_is_name, obj_is_name, obj_not_marker}
 use Rattle.exact_numbers.proofs.Fitting.{zero_fits}
 use Rattle.export_round_trip.proofs.Picked.{AreDecimal, IsDecimalProgram, pairs_mapped}
 use Rattle.export_round_trip.proofs.ProgramNames.{AreNamedRows, AreNamedVariables}
-use Rattle.export_round_trip.proofs.ProgramParts.{columns_all, entries_from, are_entries, objective_first, column_from, some_entry, all_from, AreBoundsFrom, HasDecimalBounds, bounds_from}
+use Rattle.export_round_trip.proofs.ProgramParts.{columns_all, entries_from, are_entries, objective_first, column_from, some_entry, all_from, AreBoundsFrom, bounds_from}
 
 -- ---- numbers that are decimals
 

@@ -1,1 +1,2 @@
+pub mod Exportable
 pub mod ReadAs

@@ -1,4 +1,4 @@
-//! What a file is exported as is read as what was exported.
+//! What a linear program is exported as is read as what was exported.
 #![tactic(auto)]
 
 pub mod laws;
