@@ -65,7 +65,7 @@ impl Grammar for MpsGrammar {
         if self.is_broken {
             return Front { len: 0, lines: 0 };
         }
-        self.state.take_entries(piece)
+        self.state.take_front(piece)
     }
 
     fn line_fault(&self, fault: LineFault) -> MpsReason {

@@ -4,8 +4,10 @@
 mod bounds;
 mod codes;
 mod columns;
-mod entry_lines;
 mod fault;
+mod front_bounds;
+mod front_lines;
+mod front_words;
 mod grammar;
 mod keyword;
 pub mod laws;

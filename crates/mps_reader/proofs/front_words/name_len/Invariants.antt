@@ -1,6 +1,6 @@
 use Rattle.std.proofs.Common.{◌≡◌, ◌≤◌, ◌-◌, length, take, true}
 use Rattle.texts.specs.Names.{has_name_bytes}
-use Rattle.mps_reader.proofs.entry_lines.name_len.Given as goal
+use Rattle.mps_reader.proofs.front_words.name_len.Given as goal
 
 -- the bytes so far may stand in a name
 abbrev pub invariant-bytes : goal.invariant-bytes

@@ -1,0 +1,107 @@
+-- Lines at the front of a piece, which are taken at once.
+use Rattle.std.specs.Prelude.{◌≡◌, ℕ, ◌<◌, ◌≤◌, true, false, List, [], ◌∷◌, ◌++◌, length, Some, None}
+use Rattle.std.specs.List.{AllByRecursion}
+use Rattle.std.specs.Str.{bytes_eq}
+use Rattle.texts.specs.Fronts.{IsFront}
+use Rattle.texts.specs.Judged.{first_reason}
+use Rattle.texts.specs.Names.{IsName}
+use Rattle.texts.specs.Words.{word_at}
+use Rattle.texts.specs.declared.grammar.Front.{Front}
+use Rattle.exact_numbers.specs.Numbers.{dec_of}
+use Rattle.exact_numbers.specs.declared.dec.Dec.{Dec}
+use Rattle.mps_model.specs.declared.kinds.BoundKind.{BoundKind}
+use Rattle.mps_model.specs.Mps.{Mps}
+use Rattle.mps_model.specs.Valid.{marker_word}
+use Rattle.mps_reader.specs.declared.keyword.Keyword.{Keyword}
+use Rattle.mps_reader.specs.declared.keyword.Keyword.TheVariants.{Name, Sense, Rows, Columns, Rhs, Ranges, Bounds, End}
+use Rattle.mps_reader.specs.Grammar.{line_reason}
+use Rattle.mps_reader.specs.InsideFronts.{IsLineOf, joined}
+use Rattle.mps_reader.specs.InsideHeld.{Held, program}
+use Rattle.mps_reader.specs.InsideHeldSteps.{with_sense_word, with_sensed, if_row, with_held_sides, with_held_column_line, with_held_bound_line}
+use Rattle.mps_reader.specs.InsidePairs.{CanGive}
+use Rattle.mps_reader.specs.Saying.{bound_kind_of, entry_in, is_current, needs_number, no_number, row_in}
+use Rattle.mps_reader.specs.Sections.{last_of}
+use Rattle.mps_reader.specs.Steps.{after}
+use Rattle.mps_reader.specs.Tests.{Standing, data_tests_in, pair_tests}
+
+-- nothing is wrong with these lines, one after the other, and they lead to this
+abbrev pub GoesOn : Standing → List (List ℕ) → Standing → Type 0
+GoesOn s [] t = t ≡ s
+GoesOn s (line ∷ lines) t = (line_reason s line ≡ None) × GoesOn (after s line) lines t
+
+-- lines at the front of a piece were taken
+pub record TakesLines (old : Held) (piece : List ℕ) (front : Front) (new : Held) : Type 0 where
+  pub lines : List (List ℕ)
+  pub is : IsFront piece front lines
+  pub goes : GoesOn old.standing lines new.standing
+
+-- ---- the next line
+
+-- what a data line of a section does to what is held
+abbrev pub held_after : Keyword → Held → List (List ℕ) → Held
+held_after Name h words = h
+held_after Sense h words = with_sensed (with_sense_word h (word_at words 0))
+held_after Rows h words = if_row h (row_in words)
+held_after Columns h words = with_held_column_line h words
+held_after Rhs h words = with_held_sides Rhs h words
+held_after Ranges h words = with_held_sides Ranges h words
+held_after Bounds h words = with_held_bound_line h words
+held_after End h words = h
+
+-- a text begins with a data line of the section that was begun last, nothing is wrong with it, and
+-- it leads to this
+pub record IsNext (k : Keyword) (h g : Held) (text rest : List ℕ) : Type 0 where
+  pub words : List (List ℕ)
+  pub some : 0 < length words
+  pub few : length words ≤ 12
+  pub line : IsLineOf words text rest
+  pub current : last_of h.standing.begun ≡ Some k
+  pub none : first_reason (data_tests_in h.standing words (Some k)) ≡ None
+  pub is : g ≡ held_after k h words
+
+-- ---- the line of a pair
+
+-- its first word: the name of the last column, which may go on, or the set's name
+abbrev pub IsHeadWord : Keyword → Held → List ℕ → Type 0
+IsHeadWord Columns h name = is_current h.standing.draft name ≡ true
+IsHeadWord keyword h name = h.standing.set ≡ Some name
+
+-- that word, a space, and what follows
+pub record IsAfterHead (k : Keyword) (h : Held) (text rest : List ℕ) : Type 0 where
+  pub name : List ℕ
+  pub parts : text ≡ name ++ 32 ∷ rest
+  pub is_name : IsName name
+  pub head : IsHeadWord k h name
+
+-- the row of this name is that of this place, and may have a pair more, whatever number it is
+pub record MayGive (k : Keyword) (m : Mps Dec) (name : List ℕ) (row : ℕ) : Type 0 where
+  pub other : bytes_eq name marker_word ≡ false
+  pub can : CanGive k m row
+  pub fine : (word : List ℕ) (value : Dec) → dec_of word ≡ Some value
+      → first_reason (pair_tests k m name word) ≡ None
+  pub entry : (word : List ℕ) (value : Dec) → dec_of word ≡ Some value
+      → entry_in m name word ≡ Some (record { row = row; value = value })
+
+-- ---- the line of a bound
+
+-- a space, the word of this kind, a space, and what follows
+pub record IsKindText (text : List ℕ) (kind : BoundKind) (rest : List ℕ) : Type 0 where
+  pub word : List ℕ
+  pub parts : text ≡ 32 ∷ word ++ 32 ∷ rest
+  pub is_word : IsName word
+  pub says : bound_kind_of word ≡ Some kind
+
+-- what stands behind the column's name: the number of the record, or none where it needs none
+abbrev pub SaysBound : BoundKind → List (List ℕ) → Dec → Type 0
+SaysBound kind [] value = (needs_number kind ≡ false) × (no_number ≡ Some value)
+SaysBound kind (word ∷ []) value = (needs_number kind ≡ true) × (dec_of word ≡ Some value)
+SaysBound kind (word ∷ other ∷ words) value = ⊥
+
+-- the column's name and that, LF, and what follows
+pub record IsBoundText (kind : BoundKind) (text name : List ℕ) (value : Dec) (rest : List ℕ)
+    : Type 0 where
+  pub words : List (List ℕ)
+  pub parts : text ≡ name ++ joined words (10 ∷ rest)
+  pub is_name : IsName name
+  pub each : AllByRecursion IsName words
+  pub says : SaysBound kind words value

@@ -1,0 +1,188 @@
+// Lines at the front of a piece, which are taken at once.
+ghost use Rattle.std.specs.Prelude.{◌≡◌, ◌≤◌, ◌+◌, ◌^◌, true, Some, IfSome, OnSome, length};
+ghost use Rattle.mps_reader.specs.InsideHeld.{HasPairs, IsKept, IsSound, MayPair, program};
+ghost use Rattle.mps_reader.specs.InsideHeldSteps.{with_held_entry};
+ghost use Rattle.mps_reader.specs.InsideLines.{IsAfterHead, IsNext, MayGive, TakesLines};
+ghost use Rattle.mps_reader.specs.InsidePairs.{CanGive};
+ghost use Rattle.mps_reader.specs.Sections.{last_of};
+
+use crate::front_words::{after_space, first_name, first_pair, is_marker_word};
+use crate::keyword::{Keyword, last_of};
+use crate::state::State;
+use exact_numbers::Dec;
+use texts::Front;
+
+// Whether the lines of a section are pairs behind a name.
+fn has_pairs(keyword: Keyword) -> bool
+    ensures { result ≡ true → HasPairs keyword }
+{
+    match keyword {
+        Keyword::Columns | Keyword::Rhs | Keyword::Ranges => true,
+        _ => false,
+    }
+}
+
+/// A pair, and what follows its line.
+#[derive(Clone, Copy)]
+struct NextPair<'a> {
+    row: u32,
+    value: Dec,
+    rest: &'a [u8],
+}
+
+impl State {
+    // What follows the name of the last column and a space, where a text begins with that and the
+    // column may go on.
+    fn after_column<'a>(&self, text: &'a [u8]) -> Option<&'a [u8]>
+        requires { IsKept self.now }
+        ensures { IfSome result (λ rest. IsAfterHead Keyword.Columns self.now text.now rest.now) }
+    {
+        if !self.is_current {
+            return None;
+        }
+        let Some(rest) = self.columns.after_last(text) else {
+            return None;
+        };
+        after_space(rest)
+    }
+
+    /// What follows the section's set name and a space, where a text begins with that.
+    pub(crate) fn after_set<'a>(&self, text: &'a [u8]) -> Option<&'a [u8]>
+        ensures { IfSome result (λ rest. IsAfterHead Keyword.Bounds self.now text.now rest.now) }
+    {
+        let Some(set) = &self.set_name else {
+            return None;
+        };
+        let Some((name, rest)) = first_name(text, b' ') else {
+            return None;
+        };
+        if name != set.as_slice() {
+            return None;
+        }
+        Some(rest)
+    }
+
+    // What follows the first word of a line of pairs, where that is the one that is awaited.
+    fn after_head<'a>(&self, keyword: Keyword, text: &'a [u8]) -> Option<&'a [u8]>
+        requires { IsKept self.now }
+        ensures { IfSome result (λ rest. IsAfterHead keyword self.now text.now rest.now) }
+    {
+        match keyword {
+            Keyword::Columns => self.after_column(text),
+            Keyword::Rhs => self.after_set(text),
+            Keyword::Ranges => self.after_set(text),
+            _ => None,
+        }
+    }
+
+    // The row of this name, where it may have a pair more.
+    fn free_row(&self, keyword: Keyword, name: &[u8]) -> Option<u32>
+        requires { MayPair keyword self.now }
+        ensures { IfSome result (λ row. MayGive keyword (program self.now) name.now row) }
+    {
+        let Some(row) = self.rows.find(name) else {
+            return None;
+        };
+        if self.marks.is_marked(row) {
+            return None;
+        }
+        if self.is_full(keyword) {
+            return None;
+        }
+        if self.is_refused_row(keyword, row) {
+            return None;
+        }
+        if is_marker_word(name) {
+            return None;
+        }
+        Some(row)
+    }
+
+    // The pair that a text begins with, where the section may have it.
+    fn next_pair<'a>(&self, keyword: Keyword, text: &'a [u8]) -> Option<NextPair<'a>>
+        requires sound { IsSound self.now }
+        requires current { last_of self.now.standing.begun ≡ Some keyword }
+        requires pairs { HasPairs keyword }
+        ensures next { IfSome result (λ e. IsNext keyword self.now
+            (with_held_entry keyword self.now (record { row = e.row; value = e.value }))
+            text.now e.rest.now) }
+        ensures may { OnSome result (MayPair keyword self.now) }
+        ensures can { IfSome result (λ e. CanGive keyword (program self.now) e.row) }
+    {
+        let Some(line) = after_space(text) else {
+            return None;
+        };
+        let Some(rest) = self.after_head(keyword, line) else {
+            return None;
+        };
+        let Some(pair) = first_pair(rest) else {
+            return None;
+        };
+        let Some(row) = self.free_row(keyword, pair.name) else {
+            return None;
+        };
+        Some(NextPair {
+            row,
+            value: pair.value,
+            rest: pair.rest,
+        })
+    }
+
+    // Takes the line of a pair, where a text begins with one.
+    fn take_pair_front(&mut self, keyword: Keyword, text: &[u8]) -> Front
+        requires sound { IsSound self.old }
+        requires current { last_of self.old.standing.begun ≡ Some keyword }
+        requires pairs { HasPairs keyword }
+        ensures lines { TakesLines self.old text.now result self.new }
+        ensures sound { IsSound self.new }
+    {
+        let Some(pair) = self.next_pair(keyword, text) else {
+            return Front { len: 0, lines: 0 };
+        };
+        match self.give_pair(keyword, pair.row, pair.value) {
+            Ok(()) => Front {
+                len: text.len() - pair.rest.len(),
+                lines: 1,
+            },
+            Err(_) => Front { len: 0, lines: 0 },
+        }
+    }
+
+    // Takes the line that a text begins with, where it is of the plain form and without a fault.
+    fn take_front_line(&mut self, text: &[u8]) -> Front
+        requires { IsSound self.old }
+        ensures lines { TakesLines self.old text.now result self.new }
+        ensures sound { IsSound self.new }
+    {
+        let Some(keyword) = last_of(&self.begun) else {
+            return Front { len: 0, lines: 0 };
+        };
+        if has_pairs(keyword) {
+            return self.take_pair_front(keyword, text);
+        }
+        match keyword {
+            Keyword::Bounds => self.take_bound_front(text),
+            _ => Front { len: 0, lines: 0 },
+        }
+    }
+
+    /// Takes lines at the front of a piece.
+    pub(crate) fn take_front(&mut self, piece: &[u8]) -> Front
+        requires sound { IsSound self.old }
+        requires few { length piece.now ≤ 2 ^ 31 + 1 }
+        ensures lines { TakesLines self.old piece.now result self.new }
+        ensures sound { IsSound self.new }
+    {
+        let mut front = Front { len: 0, lines: 0 };
+        'lines: loop {
+            let line = self.take_front_line(piece.split_at(front.len).1);
+            front = Front {
+                len: front.len + line.len,
+                lines: front.lines + line.lines,
+            };
+            if line.len == 0 {
+                return front;
+            }
+        }
+    }
+}
