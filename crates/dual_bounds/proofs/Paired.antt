@@ -11,7 +11,7 @@ use Rattle.duality.specs.Verdict.{first_fault}
 use Rattle.program_meaning.proofs.Elements.{elements_at}
 use Rattle.linear_program.specs.Numbers.{Pair, number_of, spread, number_value}
 use Rattle.dual_bounds.specs.Leaves.{AreIndices, run_pairs}
-use Rattle.dual_bounds.proofs.Firsts.{or_assoc, or_nothing}
+use Rattle.exact_numbers.proofs.OptionLemmas.{or_assoc, or_none}
 use Rattle.dual_bounds.proofs.Sparse.{rest_of}
 
 -- ---- the numbers of pairs
@@ -121,13 +121,13 @@ module _ {V : Type 0} (act : ℕ → ℚ → Option V) (still : (i : ℕ) → ac
   none_between from (suc to) l h =
       ⊎_elim
       (λ (a : from < suc to).
-      ap (option_or (first_fault fault_of to)) (ap (act to) (h to (omega arith) (omega arith)) ∙ still to) ∙ or_nothing (first_fault fault_of to) ∙ none_between from to (omega arith) (λ i p q. h i p (omega arith)))
+      ap (option_or (first_fault fault_of to)) (ap (act to) (h to (omega arith) (omega arith)) ∙ still to) ∙ or_none (first_fault fault_of to) ∙ none_between from to (omega arith) (λ i p q. h i p (omega arith)))
       (λ (b : suc to ≤ from). let same : suc to ≡ from = omega arith in ap (first_fault fault_of) same)
       (cases_lt from (suc to))
 
   first_paired : (from n : ℕ) (ps : List Pair) → AreIndices from n ps → from ≤ n → ((i : ℕ) → from ≤ i → i < n → y i ≡ number_of ps i zero_ℚ) → first_fault fault_of n ≡ option_or (first_fault fault_of from) (first_in act ps)
   unfolding AreIndices number_of first_fault
-  first_paired from n [] ok l same = none_between from n l same ∙ sym (or_nothing (first_fault fault_of from))
+  first_paired from n [] ok l same = none_between from n l same ∙ sym (or_none (first_fault fault_of from))
   first_paired from n (p ∷ ps) ok l same =
       let at : y p.0 ≡ number_value p.1 = same p.0 ok.0 ok.1 ∙ here_number p ps zero_ℚ ∙ before_number (suc p.0) n ps p.0 (number_value p.1) ok.2 (omega arith) in
       let left = none_between from p.0 ok.0 (λ i a b. same i a (omega (arith, ok.1)) ∙ other_number p ps i zero_ℚ (λ x. omega (arith, x)) ∙ before_number (suc p.0) n ps i zero_ℚ ok.2 (omega arith)) in

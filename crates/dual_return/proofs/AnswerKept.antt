@@ -41,7 +41,7 @@ use Rattle.answer_file.proofs.TableLemmas.{one_value_more}
 use Rattle.sol_files.specs.Tests.{has_index}
 use Rattle.sol_files.specs.Written.{IsSaidLine, are_values}
 use Rattle.std.proofs.Math.Seq.{drop-cons, take-suc}
-use Rattle.sol_files.proofs.LastLemmas.{all_push}
+use Rattle.texts.proofs.AllLemmas.{all_push}
 
 -- ---- values of a suffix
 

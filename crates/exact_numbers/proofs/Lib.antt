@@ -21,3 +21,4 @@ pub mod Few
 pub mod Zeros
 pub mod PaddedLemmas
 pub mod Fitting
+pub mod OptionLemmas

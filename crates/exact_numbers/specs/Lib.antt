@@ -8,3 +8,4 @@ pub mod SpelledLemmas
 pub mod Numbers
 pub mod InsidePacked
 pub mod InsideHeld
+pub mod Reasons

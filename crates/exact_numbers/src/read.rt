@@ -9,6 +9,7 @@ ghost use Rattle.exact_numbers.specs.Numbers.{IsUnmarked};
 
 use crate::dec::Dec;
 use crate::mantissa::{MAX_SIZE, with_sign};
+use std::fmt;
 
 /// Why a text is no number that can be held.
 #[derive(Clone, Copy, PartialEq, Eq, Debug)]
@@ -17,6 +18,32 @@ pub enum NumFault {
     NotNumber,
     /// The text is a number that is out of range.
     TooWide,
+}
+
+impl NumFault {
+    ghost use Rattle.exact_numbers.specs.Reasons.{number_fault_text};
+
+    /// What is said of it.
+    pub fn text(self) -> &'static str
+        ensures text { result.now ≡ number_fault_text self }
+        ensures brief { length result.now ≤ 24 }
+    {
+        match self {
+            NumFault::NotNumber => "bad number",
+            NumFault::TooWide => "too wide",
+        }
+    }
+}
+
+impl fmt::Display for NumFault {
+    ghost use Rattle.std.specs.Prelude.{Some};
+    ghost use Rattle.exact_numbers.specs.Reasons.{number_fault_text};
+
+    ghost output = { λ fault. Some (number_fault_text fault) };
+
+    fn fmt<W: fmt::Write>(&self, f: &mut fmt::Formatter<W>) -> fmt::Result {
+        f.write_str(self.text())
+    }
 }
 
 // Exponents are read up to this size, and larger ones as if they were it.

@@ -6,6 +6,7 @@ use crate::dec::Dec;
 use crate::frac::Frac;
 use crate::num_text::NumText;
 use itoa::Buffer;
+use std::fmt;
 
 // The digits with a point before the last `places` of them, and zeros in front so that one digit
 // stands before it.
@@ -78,6 +79,22 @@ impl Frac {
             out.push(b'/');
             let mut den_buffer = Buffer::new();
             out.append(den_buffer.format(self.den).as_bytes());
+        }
+    }
+}
+
+impl fmt::Display for Frac {
+    ghost use Rattle.std.specs.Prelude.{Some};
+
+    ghost output = { λ x. Some (frac_text (frac_value x).top (frac_value x).bottom) };
+
+    fn fmt<W: fmt::Write>(&self, f: &mut fmt::Formatter<W>) -> fmt::Result {
+        let num = self.num;
+        let den = self.den;
+        if den == 1 {
+            write!(f, "{num}")
+        } else {
+            write!(f, "{num}/{den}")
         }
     }
 }

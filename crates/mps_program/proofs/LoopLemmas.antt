@@ -9,6 +9,7 @@ use Rattle.std.specs.Option.{option_or}
 use Rattle.fractions.specs.Rational.{ℚ}
 use Rattle.exact_numbers.specs.declared.dec.Dec.{Dec}
 use Rattle.exact_numbers.specs.Values.{dec_value}
+use Rattle.exact_numbers.proofs.OptionLemmas.{or_assoc, or_none}
 use Rattle.mps_model.specs.Built.{entry_of}
 use Rattle.mps_model.specs.Mps.{MpsRow, Entry, Bound, at_row, bound_with, side_set, lower_set, upper_set, makes_whole, has_whole_record, objective_row}
 use Rattle.mps_model.specs.declared.kinds.BoundKind.{BoundKind}
@@ -51,14 +52,6 @@ at_end given k row h = sym (ap (λ ts. at_row row (map entry_of ts)) (drop_all g
 or_some : {A : Type 0} (o : Option A) (v : A) (p : Option A) → option_or (option_or o (Some v)) p ≡ option_or o (Some v)
 or_some None v p = refl
 or_some (Some x) v p = refl
-
-or_assoc : {A : Type 0} (o p q : Option A) → option_or (option_or o p) q ≡ option_or o (option_or p q)
-or_assoc None p q = refl
-or_assoc (Some x) p q = refl
-
-pub or_none : {A : Type 0} (o : Option A) → option_or o None ≡ o
-or_none None = refl
-or_none (Some x) = refl
 
 bool_or_assoc : (a b c : Bool) → (a || b) || c ≡ a || (b || c)
 bool_or_assoc true b c = refl

@@ -5,15 +5,12 @@ use Rattle.std.proofs.lemmas.Bool.{cond_both}
 use Rattle.std.proofs.lemmas.List.Elements.{All-cons, recursion_from_All}
 use Rattle.program_meaning.specs.Linear.{Form, Row, Variable, Linear, has_side}
 use Rattle.program_meaning.specs.Names.{row_name, variable_name}
+use Rattle.texts.proofs.AllLemmas.{all_push}
 use Rattle.mps_model.specs.Mps.{MpsRow, Column}
 use Rattle.fractions.specs.Rational.{ℚ}
 use Rattle.scaled_program.specs.Program.{ScaledRow, scaled_row, exported_rows, tie, z_form, z_variable}
 use Rattle.exported_program.specs.Program.{mps_row, columns_of, mps_of, program, tied_program}
 use Rattle.name_files.specs.Renamed.{IsExportedName, HasExportedNames, IsNamedLinear}
-
-with_last : {X : Type 0} (P : X → Type 0) (xs : List X) (x : X) → AllByRecursion P xs → P x → AllByRecursion P (xs ++ x ∷ [])
-with_last P [] x all here = (here, tt)
-with_last P (y ∷ xs) x all here = (all.0, with_last P xs x all.1 here)
 
 module _ (P : List ℕ → Type 0) where
   exported : (factor : ℕ → ℕ) (i : ℕ) (rows : List Row) → AllByRecursion (λ (r : Row). P r.name) rows → AllByRecursion (λ (r : ScaledRow). P r.name) (exported_rows factor i rows)
@@ -63,7 +60,7 @@ module _ (f : Linear) (factor : ℕ → ℕ) (is : IsNamedLinear f) where
   unfolding mps_of RowName VariableName
   tied_names g =
       let last : ScaledRow = scaled_row g (tie (length f.variables) f.objective) in
-      let rows = with_last (λ (r : ScaledRow). RowName r.name) (exported_rows factor 0 f.rows) last (exported RowName factor 0 f.rows row_names) (inl (inr (inl refl))) in
+      let rows = all_push (λ (r : ScaledRow). RowName r.name) (exported_rows factor 0 f.rows) last (exported RowName factor 0 f.rows row_names) (inl (inr (inl refl))) in
       record {
         rows = record {
           few = is.few_rows;
@@ -72,6 +69,6 @@ module _ (f : Linear) (factor : ℕ → ℕ) (is : IsNamedLinear f) where
         columns = record {
           few = is.few_variables;
           each = columns_named VariableName (z_form (length f.variables)) (exported_rows factor 0 f.rows ++ last ∷ []) 0 (f.variables ++ z_variable ∷ [])
-              (with_last (λ (v : Variable). VariableName v.name) f.variables z_variable variable_names (inl (inr (inr refl))));
+              (all_push (λ (v : Variable). VariableName v.name) f.variables z_variable variable_names (inl (inr (inr refl))));
         };
       }

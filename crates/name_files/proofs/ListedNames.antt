@@ -1,7 +1,7 @@
 -- The names that a text lists can be the names of a program.
 use Rattle.std.proofs.Common.{◌≡◌, ◌∙◌, ℕ, ◌+◌, ◌==◌, ◌<◌, ◌^◌, Bool, true, false, not, List, [], ◌∷◌, ◌++◌, length, Option, Some, None, refl, sym, subst, arith, append_assoc, length-append}
 use Rattle.std.specs.Prelude.{is_some, nat_le, nat_lt, if◌then◌else◌}
-use Rattle.std.proofs.lemmas.Bool.{eqb-false, leb-true, ltb-true, not-false, not-true}
+use Rattle.std.proofs.lemmas.Bool.{ltb-true, not-false}
 use Rattle.std.proofs.lemmas.List.{append-nil, take_all}
 use Rattle.std.proofs.lemmas.List.Elements.{All-nil}
 use Rattle.std.proofs.Math.Seq.{take_at, drop_at}
@@ -9,18 +9,13 @@ use Rattle.texts.specs.Judged.{IsClean, Last, first_reason, reason_at}
 use Rattle.texts.specs.Names.{IsName, is_name, place_of}
 use Rattle.texts.specs.Words.{word_at, words_of}
 use Rattle.texts.proofs.FirstReasons.{none_head}
-use Rattle.exact_numbers.specs.SpelledLemmas.{first_of_both, second_of_both}
+use Rattle.texts.proofs.NameTests.{tested_name}
+use Rattle.exact_numbers.specs.SpelledLemmas.{second_of_both}
 use Rattle.name_lists.specs.Names.{AreNames, is_reserved}
 use Rattle.name_files.specs.Names.{Counts, Standing, Tests, is_sole_name, is_used, line_reason, name_rules, name_tests, names_of, standing, tests_if, used_names, used_tests, with_name}
 use Rattle.name_files.specs.declared.fault.NameReason.TheVariants.{BadName, OtherCount, Repeated, Reserved}
 use Rattle.name_files.proofs.GrammarLemmas.{standing-more, standing-same}
 use Rattle.name_lists.proofs.NameLemmas.{names_more}
-
-is_a_name : (word : List ℕ) → is_name word ≡ true → IsName word
-is_a_name word e =
-    let sizes = first_of_both _ _ e in
-    let some = eqb-false (length word) 0 (not-true _ (first_of_both _ _ sizes)) in
-    record { some = omega (arith, some); most = leb-true (length word) 255 (second_of_both _ _ sizes); each = second_of_both _ _ e }
 
 none_there : (o : Option ℕ) → is_some o ≡ false → o ≡ None
 none_there None e = refl
@@ -44,7 +39,7 @@ with_more c s words room are fine =
         let name : is_name word ≡ true = second_of_both (length words == 1) (is_name word) sole in
         let less = ltb-true (length s.names) c.used e in
         let few : length s.names + 1 < 2 ^ 32 = omega (arith, less, room) in
-        names_more s.names word are (none_there (place_of s.names word) repeated.0) few (is_a_name word name) reserved.0
+        names_more s.names word are (none_there (place_of s.names word) repeated.0) few (tested_name word name) reserved.0
     by false e sole tests = are
 
 -- one line more

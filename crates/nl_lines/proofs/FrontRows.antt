@@ -14,7 +14,7 @@ use Rattle.texts.proofs.WordLemmas.{begins}
 use Rattle.nl_lines.specs.FirstRows.{IsFirstRow}
 use Rattle.nl_lines.specs.InsideFrontLines.{IsFrontRow, IsLineOf, IsWordBefore}
 use Rattle.nl_lines.specs.WholeRows.{IsWholeRow}
-use Rattle.nl_lines.proofs.PairRows.{front_one}
+use Rattle.texts.proofs.FrontLemmas.{front_one}
 
 -- ---- a word before a byte
 

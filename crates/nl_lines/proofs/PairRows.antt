@@ -1,15 +1,13 @@
 -- A row that is an index and a value alone is judged by its pair.
-use Rattle.std.proofs.Common.{◌≡◌, ◌∙◌, ℕ, ◌+◌, ◌-◌, ◌<◌, ◌≤◌, take, drop, Bool, true, false, List, [], ◌∷◌, ◌++◌, length, refl, sym, ap, ap₂, subst, arith, append_assoc, append-nil, length-append, length-take, take-append-drop, Option, Some, None, get_or}
+use Rattle.std.proofs.Common.{◌≡◌, ◌∙◌, ℕ, ◌+◌, ◌-◌, ◌<◌, ◌≤◌, take, drop, Bool, true, false, List, [], ◌∷◌, ◌++◌, length, refl, sym, ap, ap₂, subst, arith, append_assoc, length-append, length-take, take-append-drop, Option, Some, None, get_or}
 use Rattle.std.specs.Prelude.{unwrap_or, slice_index}
 use Rattle.std.specs.Char.{digit_value}
-use Rattle.std.proofs.Math.Seq.{take-append_seam}
 use Rattle.std.proofs.lemmas.List.{drop_more}
 use Rattle.std.proofs.lemmas.Bool.{ltb-true, not-false}
 use Rattle.std.proofs.lemmas.Bool.Decides.{nat_tests}
 use Rattle.texts.specs.Judged.{first_reason}
-use Rattle.texts.specs.Cut.{IsTextLine}
-use Rattle.texts.specs.Fronts.{IsFront}
 use Rattle.texts.specs.Words.{IsUnmarked, row_of, words_of, without_comment, word_at}
+use Rattle.texts.proofs.FrontLemmas.{front_one}
 use Rattle.texts.proofs.PairLemmas.{one_line-pair, pair_line, without_comment-pair, words_of-pair}
 use Rattle.texts.proofs.FirstReasons.{none_each}
 use Rattle.exact_numbers.specs.declared.dec.Dec.{Dec}
@@ -93,17 +91,6 @@ pair_row line word n i d within space cut some whole index dec word_some word_un
     subst (λ ws. IsPairRow ws (i, d)) (sym (ap (take 12) words)) (two_words (take n line) word i d whole dec)
 
 -- ---- such a line at the front of a text
-
-pub front_one : (text line more : List ℕ) (len : ℕ) → text ≡ (line ++ 10 ∷ []) ++ more → len ≡ length line + 1 → IsTextLine line → IsFront text (record { len = len; lines = 1 }) (line ∷ [])
-front_one text line more len parts is one =
-    let whole : length (line ++ 10 ∷ []) ≡ len = omega (arith, is, length-append line (10 ∷ [])) in
-    let front : take len text ≡ line ++ 10 ∷ [] = ap (take len) parts ∙ ap (λ k. take k ((line ++ 10 ∷ []) ++ more)) (sym whole) ∙ take-append_seam (line ++ 10 ∷ []) more in
-    record {
-      within = omega (arith, whole, ap length parts, length-append (line ++ 10 ∷ []) more);
-      text = front ∙ sym (append-nil (line ++ 10 ∷ []));
-      each = (one, tt);
-      count = refl;
-    }
 
 pub first_row : (text rest : List ℕ) (n m i : ℕ) (d : Dec) → n < length text → get_or text n 0 ≡ 32 → rest ≡ drop (n + 1) text → m < length rest → get_or rest m 0 ≡ 10 → n ≤ 40 → m ≤ 40
     → 0 < n → whole_of (take n text) ≡ Some i → IsUnmarked (take n text) → dec_of (take m rest) ≡ Some d → 0 < m → IsUnmarked (take m rest)

@@ -2,3 +2,4 @@ pub mod Example
 pub mod Faults
 pub mod Trees
 pub mod Parts
+pub mod Reasons

@@ -25,7 +25,7 @@ use Rattle.nl_writer.specs.Written.{numbers, options_line, header_lines}
 use Rattle.written_texts.proofs.WrittenWords.{word-decimal, word-lettered, word-signed_31}
 use Rattle.written_texts.proofs.NumbersRead.{whole_of-decimal}
 use Rattle.nl_round_trip.proofs.Reached.{AreHeadFine, header_reached, IsReached, in_body}
-use Rattle.nl_round_trip.proofs.TakenLemmas.{all_append}
+use Rattle.texts.proofs.AllLemmas.{all_append}
 use Rattle.nl_lines.proofs.PieceLemmas.{some_are}
 use Rattle.nl_lines.specs.Pieces.{Piece}
 use Rattle.nl_segments.specs.Grammar.{is_in_header}

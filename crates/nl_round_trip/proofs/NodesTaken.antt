@@ -48,7 +48,8 @@ use Rattle.written_texts.proofs.WordLemmas.{row-written}
 use Rattle.written_texts.proofs.WrittenWords.{word-lettered, word-number, word-decimal, written-one}
 use Rattle.nl_round_trip.specs.InsideTaking.{row_at, rows_at, IsTaken, taken_none}
 use Rattle.written_texts.proofs.NumbersRead.{whole_of-decimal, are_digits-decimal, dec_of-text}
-use Rattle.nl_round_trip.proofs.TakenLemmas.{with_lines, taken_then, IsLineFine, line_taken, all_append}
+use Rattle.texts.proofs.AllLemmas.{all_append}
+use Rattle.nl_round_trip.proofs.TakenLemmas.{with_lines, taken_then, IsLineFine, line_taken}
 use Rattle.nl_round_trip.proofs.PairPieces.{decimal_no_head}
 use Rattle.nl_lines.proofs.TotalLemmas.{nodes-append}
 

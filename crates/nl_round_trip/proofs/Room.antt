@@ -44,7 +44,7 @@ use Rattle.nl_round_trip.proofs.TreesTaken.{IsPlainDefinition, IsSized, range_mo
 use Rattle.nl_round_trip.proofs.HeaderSaid.{IsSmall, header_ready, header_each}
 use Rattle.nl_round_trip.proofs.NodesTaken.{IsNodeFine, opcode_small, definitions_in_range, nodes_fine, nodes-size}
 use Rattle.nl_round_trip.proofs.PairSections.{few_objects}
-use Rattle.nl_round_trip.proofs.TakenLemmas.{all_append}
+use Rattle.texts.proofs.AllLemmas.{all_append}
 
 -- ---- lines
 

@@ -19,7 +19,8 @@ use Rattle.nl_segments.proofs.PairLines.{suffixes_with}
 use Rattle.texts.specs.WordLines.{WordLine}
 use Rattle.nl_round_trip.specs.InsideStandings.{rank, IsStanding, Reaches}
 use Rattle.nl_round_trip.specs.InsideTaking.{IsTaken, taken_none}
-use Rattle.nl_round_trip.proofs.TakenLemmas.{all_append, awaited-append, taken_then}
+use Rattle.texts.proofs.AllLemmas.{all_append}
+use Rattle.nl_round_trip.proofs.TakenLemmas.{awaited-append, taken_then}
 use Rattle.nl_round_trip.proofs.PairPieces.{pairs_more, pair_total-append}
 
 -- ---- the written order

@@ -24,10 +24,6 @@ use Rattle.nl_lines.specs.Nodes.{nodes_from}
 
 -- ---- lines after lines
 
-pub all_append : {X : Type 0} (P : X → Type 0) (xs ys : List X) → AllByRecursion P xs → AllByRecursion P ys → AllByRecursion P (xs ++ ys)
-all_append P [] ys f g = g
-all_append P (x ∷ xs) ys f g = (f.0, all_append P xs ys f.1 g)
-
 pub taken_then : {o : List ℤ} {c : Counts} {before between after : List Piece} {n m : ℕ} {xs ys : List WordLine} → IsTaken o c before n xs between → m ≡ n + length xs → IsTaken o c between m ys after → IsTaken o c before n (xs ++ ys) after
 taken_then {o = o} {c = c} {before = before} {after = after} {ys = ys} taken_none e g = subst (λ k. IsTaken o c before k ys after) (omega (arith, e)) g
 taken_then (taken_line w f t) e g = taken_line w f (taken_then t (omega (arith, e)) g)

@@ -33,7 +33,8 @@ use Rattle.written_texts.proofs.WrittenWords.{plain-word, word-lettered, written
 use Rattle.written_texts.specs.Words.{IsKeptWord}
 use Rattle.nl_round_trip.specs.InsideTaking.{IsTaken, rows_at}
 use Rattle.written_texts.proofs.NumbersRead.{whole_of-decimal}
-use Rattle.nl_round_trip.proofs.TakenLemmas.{with_lines, taken_then, begun_piece, IsHeadFine, head_taken, number_head, all_append, line_rows_size}
+use Rattle.texts.proofs.AllLemmas.{all_append}
+use Rattle.nl_round_trip.proofs.TakenLemmas.{with_lines, taken_then, begun_piece, IsHeadFine, head_taken, number_head, line_rows_size}
 use Rattle.nl_round_trip.proofs.NodesTaken.{IsNodeFine, IsInTree, AreAwaited, TakesNodes, nodes_taken, tree_done, nodes-size, AreInRange, nodes_fine, with_lines-append}
 use Rattle.nl_round_trip.specs.InsideStandings.{rank, IsStanding, Reaches}
 use Rattle.nl_round_trip.proofs.PairPieces.{pairs_more, uncounted, IsTermBelow, fresh_none, each_small, MayTake, pair_piece, pairs_fine, pair_piece-pairs, pairs_taken}

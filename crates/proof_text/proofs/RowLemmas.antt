@@ -9,6 +9,7 @@ use Rattle.texts.specs.Words.{begins, word_at}
 use Rattle.texts.specs.declared.stop.Stop.{Stop}
 use Rattle.texts.proofs.FirstReasons.{none_each}
 use Rattle.exact_numbers.specs.Numbers.{dec_of, whole_of}
+use Rattle.exact_numbers.proofs.OptionLemmas.{or_none}
 use Rattle.exact_numbers.specs.declared.dec.Dec.{Dec}
 use Rattle.proof_text.specs.declared.fault.ProofReason.{ProofReason}
 use Rattle.certificates.specs.declared.proof.Claim.{Claim}
@@ -131,10 +132,6 @@ full b c ns ps = record { begun = b; claim = c; nodes = ns; pairs = ps }
 pub full_same : (a b : Bool) (c d : Option Claim) (ns ms : List ProofNode) (ps qs : List Pair) → a ≡ b → c ≡ d → ns ≡ ms → ps ≡ qs → full a c ns ps ≡ full b d ms qs
 full_same a b c d ns ms ps qs e f g h = cc
 
-or_none : (o : Option Claim) → o ≡ option_or o None
-or_none None = refl
-or_none (Some c) = refl
-
 pub row_is : (st : ProofStanding) (words : TextRow) (c : Option Claim) (n : Option ProofNode) (p : Option Pair) (now : ProofStanding) → Says words c n p → now.begun ≡ true → now.claim ≡ option_or st.claim c
     → now.nodes ≡ st.nodes ++ option_to_list n → now.pairs ≡ st.pairs ++ option_to_list p → now ≡ with_row st words
 unfolding full
@@ -142,7 +139,7 @@ row_is st words c n p now says b e f g =
     full_same _ _ _ _ _ _ _ _ b (e ∙ ap (option_or st.claim) (sym says.claim)) (f ∙ ap (λ o. st.nodes ++ option_to_list o) (sym says.node)) (g ∙ ap (λ o. st.pairs ++ option_to_list o) (sym says.pair))
 
 pub first_is : (st : ProofStanding) (words : TextRow) → Says words None None None → record st { begun = true } ≡ with_row st words
-first_is st words says = row_is st words None None None _ says refl (or_none st.claim) (sym (append-nil st.nodes)) (sym (append-nil st.pairs))
+first_is st words says = row_is st words None None None _ says refl (sym (or_none st.claim)) (sym (append-nil st.nodes)) (sym (append-nil st.pairs))
 
 none_or : (o p : Option Claim) → is_none o ≡ true → p ≡ option_or o p
 none_or None p e = refl
@@ -152,10 +149,10 @@ pub claim_is : (st : ProofStanding) (words : TextRow) (c : Option Claim) → Say
 claim_is st words c says b none = row_is st words c None None _ says b (none_or st.claim c none) (sym (append-nil st.nodes)) (sym (append-nil st.pairs))
 
 pub node_is : (st : ProofStanding) (words : TextRow) (n : Option ProofNode) → Says words None n None → st.begun ≡ true → with_node st n ≡ with_row st words
-node_is st words n says b = row_is st words None n None _ says b (or_none st.claim) refl (sym (append-nil st.pairs))
+node_is st words n says b = row_is st words None n None _ says b (sym (or_none st.claim)) refl (sym (append-nil st.pairs))
 
 pub pair_is : (st : ProofStanding) (words : TextRow) (p : Option Pair) → Says words None None p → st.begun ≡ true → with_pair st p ≡ with_row st words
-pair_is st words p says b = row_is st words None None p _ says b (or_none st.claim) (sym (append-nil st.nodes)) refl
+pair_is st words p says b = row_is st words None None p _ says b (sym (or_none st.claim)) (sym (append-nil st.nodes)) refl
 
 -- ---- what a call answers
 

@@ -24,7 +24,7 @@ use Rattle.sol_files.specs.InsideHeld.{HasNoValues, IsReadyAt}
 use Rattle.sol_files.proofs.ReadyLemmas.{ready_counts, ready_dual, ready_primal}
 use Rattle.sol_files.proofs.Kept.{Speaks, HasOptions, HasNoSuffixes, HasSuffixes, NoneBegun, KeptAt, KeepsAt, Keeps}
 use Rattle.sol_files.proofs.JudgingLemmas.{is_number}
-use Rattle.sol_files.proofs.LastLemmas.{all_push}
+use Rattle.texts.proofs.AllLemmas.{all_push}
 
 -- ---- tests without a reason
 

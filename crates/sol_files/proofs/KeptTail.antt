@@ -33,7 +33,8 @@ use Rattle.sol_files.proofs.ShortWords.{row-line}
 use Rattle.sol_files.proofs.Kept.{Speaks, HasOptions, Late, KeptAt, KeepsAt, Keeps}
 use Rattle.sol_files.proofs.KeptRows.{IsThere, fine_next, is_there, signed_of-fits}
 use Rattle.sol_files.proofs.JudgingLemmas.{is_number}
-use Rattle.sol_files.proofs.LastLemmas.{length_changed, all_push}
+use Rattle.sol_files.proofs.LastLemmas.{length_changed}
+use Rattle.texts.proofs.AllLemmas.{all_push}
 
 -- ---- the message
 

@@ -27,7 +27,7 @@ use Rattle.sol_files.proofs.MessageLemmas.{held_back, without_blank_end-more}
 use Rattle.sol_files.proofs.StandingLemmas.{standing-read, read-more, read-none, is_plain, plain_after, spoken, spoken_more}
 use Rattle.sol_files.proofs.ShortWords.{IsShortWord, are_words, row-line}
 use Rattle.written_texts.proofs.WordLemmas.{row-spaced}
-use Rattle.sol_files.proofs.LastLemmas.{all_push}
+use Rattle.texts.proofs.AllLemmas.{all_push}
 
 -- the lines have no fault, mean this, and each of them is a line of a text
 pub record IsReached (lines : List (List ℕ)) (s : Progress) : Type 0 where

@@ -9,7 +9,7 @@ use Rattle.shared_parts.specs.Options.{has_second_three}
 use Rattle.sol_files.specs.declared.suffix.SolSuffix.{SolSuffix}
 use Rattle.sol_files.specs.Sol.{Sol}
 use Rattle.sol_files.specs.Built.{AreGiven}
-use Rattle.texts.specs.Cut.{IsTextLine, lines_text}
+use Rattle.texts.specs.Cut.{IsTextLine, ended_lines}
 use Rattle.texts.specs.WordLines.{spaced}
 use Rattle.exact_numbers.specs.Values.{text_of}
 use Rattle.sol_files.specs.Parts.{is_options}
@@ -49,7 +49,7 @@ unfoldable pub sol_lines : Sol → List (List ℕ)
 sol_lines s = s.message ++ body_text_lines s
 
 unfoldable pub sol_text : Sol → List ℕ
-sol_text s = lines_text (sol_lines s)
+sol_text s = ended_lines (sol_lines s)
 
 -- ---- which values can be read again
 

@@ -3,7 +3,7 @@ ghost use Rattle.std.specs.Prelude.{◌≡◌, ◌++◌, ◌∷◌, ℤ, pos, []
 ghost use Rattle.std.specs.List.{flat_map};
 ghost use Rattle.std.specs.Fmt.{decimal, signed_decimal};
 ghost use Rattle.sol_files.specs.Written.{head_line, objno_lines, size_lines, sol_text, suffix_lines, value_line};
-ghost use Rattle.texts.specs.Cut.{lines_text};
+ghost use Rattle.texts.specs.Cut.{ended_lines};
 ghost use Rattle.texts.specs.WordLines.{spaced};
 ghost use Rattle.exact_numbers.specs.Values.{text_of};
 
@@ -21,7 +21,7 @@ use written_texts::{
 
 // A line of a number alone.
 fn put_count(out: &mut Vec<u8>, count: usize) -> Result<(), AllocError>
-    ensures { OnOk result (out.new.items ≡ out.old.items ++ lines_text (decimal count ∷ [])) }
+    ensures { OnOk result (out.new.items ≡ out.old.items ++ ended_lines (decimal count ∷ [])) }
 {
     put_number(out, count as u64)?;
     put_end(out)
@@ -29,7 +29,7 @@ fn put_count(out: &mut Vec<u8>, count: usize) -> Result<(), AllocError>
 
 // A line of a value alone.
 fn put_value(out: &mut Vec<u8>, value: Dec) -> Result<(), AllocError>
-    ensures { OnOk result (out.new.items ≡ out.old.items ++ lines_text (text_of value ∷ [])) }
+    ensures { OnOk result (out.new.items ≡ out.old.items ++ ended_lines (text_of value ∷ [])) }
 {
     put_dec(out, value)?;
     put_end(out)
@@ -37,7 +37,7 @@ fn put_value(out: &mut Vec<u8>, value: Dec) -> Result<(), AllocError>
 
 // Lines as they are.
 fn put_lines(out: &mut Vec<u8>, lines: &TextLines) -> Result<(), AllocError>
-    ensures { OnOk result (out.new.items ≡ out.old.items ++ lines_text lines.now) }
+    ensures { OnOk result (out.new.items ≡ out.old.items ++ ended_lines lines.now) }
 {
     for i in 0..lines.len() {
         put_line(out, lines.get(i))?;
@@ -48,7 +48,7 @@ fn put_lines(out: &mut Vec<u8>, lines: &TextLines) -> Result<(), AllocError>
 // A line of an option alone.
 fn put_option(out: &mut Vec<u8>, option: i32) -> Result<(), AllocError>
     ensures { OnOk result (out.new.items
-        ≡ out.old.items ++ lines_text (signed_decimal option ∷ [])) }
+        ≡ out.old.items ++ ended_lines (signed_decimal option ∷ [])) }
 {
     put_signed(out, option)?;
     put_end(out)
@@ -56,7 +56,7 @@ fn put_option(out: &mut Vec<u8>, option: i32) -> Result<(), AllocError>
 
 fn put_options(out: &mut Vec<u8>, options: &[i32]) -> Result<(), AllocError>
     ensures { OnOk result (out.new.items
-        ≡ out.old.items ++ lines_text (map signed_decimal options.now)) }
+        ≡ out.old.items ++ ended_lines (map signed_decimal options.now)) }
 {
     for option in options {
         put_option(out, *option)?;
@@ -65,7 +65,7 @@ fn put_options(out: &mut Vec<u8>, options: &[i32]) -> Result<(), AllocError>
 }
 
 fn put_decs(out: &mut Vec<u8>, values: &[Dec]) -> Result<(), AllocError>
-    ensures { OnOk result (out.new.items ≡ out.old.items ++ lines_text (map text_of values.now)) }
+    ensures { OnOk result (out.new.items ≡ out.old.items ++ ended_lines (map text_of values.now)) }
 {
     for value in values {
         put_value(out, *value)?;
@@ -74,7 +74,7 @@ fn put_decs(out: &mut Vec<u8>, values: &[Dec]) -> Result<(), AllocError>
 }
 
 fn put_objno(out: &mut Vec<u8>, objno: Option<(i32, i32)>) -> Result<(), AllocError>
-    ensures { OnOk result (out.new.items ≡ out.old.items ++ lines_text (objno_lines objno)) }
+    ensures { OnOk result (out.new.items ≡ out.old.items ++ ended_lines (objno_lines objno)) }
 {
     if let Some((number, code)) = objno {
         put(out, b"objno")?;
@@ -88,7 +88,7 @@ fn put_objno(out: &mut Vec<u8>, objno: Option<(i32, i32)>) -> Result<(), AllocEr
 // The first line of a suffix.
 fn put_head(out: &mut Vec<u8>, suffix: &SolSuffix) -> Result<(), AllocError>
     ensures { OnOk result (out.new.items
-        ≡ out.old.items ++ lines_text (head_line suffix.now ∷ [])) }
+        ≡ out.old.items ++ ended_lines (head_line suffix.now ∷ [])) }
 {
     put(out, b"suffix")?;
     put_next_number(out, suffix.kind as u64)?;
@@ -101,7 +101,7 @@ fn put_head(out: &mut Vec<u8>, suffix: &SolSuffix) -> Result<(), AllocError>
 
 // A line of an index and a value.
 fn put_pair(out: &mut Vec<u8>, pair: (u32, Dec)) -> Result<(), AllocError>
-    ensures { OnOk result (out.new.items ≡ out.old.items ++ lines_text (value_line pair ∷ [])) }
+    ensures { OnOk result (out.new.items ≡ out.old.items ++ ended_lines (value_line pair ∷ [])) }
 {
     put_number(out, pair.0 as u64)?;
     put_next_dec(out, pair.1)?;
@@ -110,7 +110,7 @@ fn put_pair(out: &mut Vec<u8>, pair: (u32, Dec)) -> Result<(), AllocError>
 
 fn put_pairs(out: &mut Vec<u8>, values: &[(u32, Dec)]) -> Result<(), AllocError>
     ensures { OnOk result (out.new.items
-        ≡ out.old.items ++ lines_text (map value_line values.now)) }
+        ≡ out.old.items ++ ended_lines (map value_line values.now)) }
 {
     for pair in values {
         put_pair(out, *pair)?;
@@ -119,7 +119,7 @@ fn put_pairs(out: &mut Vec<u8>, values: &[(u32, Dec)]) -> Result<(), AllocError>
 }
 
 fn put_suffix(out: &mut Vec<u8>, suffix: &SolSuffix) -> Result<(), AllocError>
-    ensures { OnOk result (out.new.items ≡ out.old.items ++ lines_text (suffix_lines suffix.now)) }
+    ensures { OnOk result (out.new.items ≡ out.old.items ++ ended_lines (suffix_lines suffix.now)) }
 {
     put_head(out, suffix)?;
     put_line(out, suffix.name.bytes())?;
@@ -130,7 +130,7 @@ fn put_suffix(out: &mut Vec<u8>, suffix: &SolSuffix) -> Result<(), AllocError>
 
 fn put_suffixes(out: &mut Vec<u8>, suffixes: &[SolSuffix]) -> Result<(), AllocError>
     ensures { OnOk result (out.new.items
-        ≡ out.old.items ++ lines_text (flat_map suffix_lines suffixes.now)) }
+        ≡ out.old.items ++ ended_lines (flat_map suffix_lines suffixes.now)) }
 {
     for suffix in suffixes {
         put_suffix(out, suffix)?;
@@ -140,7 +140,7 @@ fn put_suffixes(out: &mut Vec<u8>, suffixes: &[SolSuffix]) -> Result<(), AllocEr
 
 // The numbers of constraints, duals, variables and primals.
 fn put_sizes(out: &mut Vec<u8>, sol: &Sol) -> Result<(), AllocError>
-    ensures { OnOk result (out.new.items ≡ out.old.items ++ lines_text (size_lines sol.now)) }
+    ensures { OnOk result (out.new.items ≡ out.old.items ++ ended_lines (size_lines sol.now)) }
 {
     put_count(out, sol.n_con() as usize)?;
     put_count(out, sol.duals().len())?;
@@ -152,7 +152,7 @@ fn put_sizes(out: &mut Vec<u8>, sol: &Sol) -> Result<(), AllocError>
 // An empty line, `Options`, and the options with their number.
 fn put_all_options(out: &mut Vec<u8>, options: &Options) -> Result<(), AllocError>
     ensures { OnOk result (out.new.items
-        ≡ out.old.items ++ lines_text (([] ∷ codes "Options" ∷ decimal (length options.now)
+        ≡ out.old.items ++ ended_lines (([] ∷ codes "Options" ∷ decimal (length options.now)
         ∷ []) ++ map signed_decimal options.now)) }
 {
     put(out, b"\nOptions\n")?;

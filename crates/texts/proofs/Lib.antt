@@ -14,3 +14,5 @@ pub mod CutLines
 pub mod MarkLemmas
 pub mod CommentLemmas
 pub mod PairLemmas
+pub mod AllLemmas
+pub mod NameTests

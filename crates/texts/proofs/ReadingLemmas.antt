@@ -10,7 +10,7 @@ use Rattle.texts.specs.declared.fault.TextFault.{TextFault}
 use Rattle.texts.specs.Stopped.{IfFault, IsFaultAnd, MatchStop}
 use Rattle.texts.specs.Lines.{trimmed, scan, LinesState, StandsFor, GoesOn, EndsLine, number_of}
 use Rattle.texts.specs.Judged.{Rules, Last, Open, Bad, End, HasFaultAt}
-use Rattle.texts.specs.Cut.{IsTextLine, lines_text}
+use Rattle.texts.specs.Cut.{IsTextLine, ended_lines}
 use Rattle.texts.specs.Reading.{rest_line, lines_by, last_by, lines_of, last_of, lines_so_far, last_so_far, HasFault, IsRead, Reads, IsFreeSoFar, HasFaultSoFar, IsGoing, Stands, IsAtEnd}
 use Rattle.texts.proofs.Walk.{no_lines, walk}
 use Rattle.texts.proofs.WalkScan.{scan_is}
@@ -331,9 +331,9 @@ early rules says fed before piece more (Fault fault) is h = so_far-whole rules (
 -- ---- a text that was written
 
 -- lines that are written are read as themselves
-pub written_lines : (lines : List (List ℕ)) → AllByRecursion IsTextLine lines → length (lines_text lines) ≤ 2 ^ 31 → (lines_of (lines_text lines) ≡ lines) × (last_of (lines_text lines) ≡ End)
+pub written_lines : (lines : List (List ℕ)) → AllByRecursion IsTextLine lines → length (ended_lines lines) ≤ 2 ^ 31 → (lines_of (ended_lines lines) ≡ lines) × (last_of (ended_lines lines) ≡ End)
 unfolding walk lines_of last_of
 written_lines lines all room =
     let w = steps-written lines no_lines refl refl all (omega arith) in
-    let is = scan_is (lines_text lines) in
+    let is = scan_is (ended_lines lines) in
     (rw (is, w.2, w.0, w.1) (append-nil lines), rw (is, w.2) refl)

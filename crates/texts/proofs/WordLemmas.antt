@@ -1,5 +1,6 @@
 -- The words of a line, from its front.
 use Rattle.std.proofs.Common.{◌≡◌, ◌∙◌, ℕ, suc, List, [], ◌∷◌, take, drop, Bool, true, false, not, refl, sym, ap, subst, arith, ◌+◌, ◌<◌, length, get_or, length-drop, add-zero}
+use Rattle.std.proofs.lemmas.Bool.{not-true}
 use Rattle.std.proofs.lemmas.List.{get_or-drop, nil_from_length}
 use Rattle.std.proofs.lemmas.List.Sums.{passes_at_first}
 use Rattle.std.specs.List.{position_or_len}
@@ -58,16 +59,12 @@ at_word : (rest : List ℕ) → 0 < length rest → is_blank (get_or rest 0 0) �
 at_word [] some e = absurd (omega arith)
 at_word (b ∷ bytes) some e = words_of-word b bytes e
 
-not_true : (t : Bool) → not t ≡ true → t ≡ false
-not_true true e = sym e
-not_true false e = refl
-
 -- the first word of a line, behind its blanks
 pub first_word : (line : List ℕ) → 0 < length (drop (position_or_len (λ b. not (is_blank b)) line) line) → words_of line ≡ take (position_or_len is_blank (drop (position_or_len (λ b. not (is_blank b)) line) line)) (drop (position_or_len (λ b. not (is_blank b)) line) line) ∷ words_of (drop (position_or_len is_blank (drop (position_or_len (λ b. not (is_blank b)) line) line)) (drop (position_or_len (λ b. not (is_blank b)) line) line))
 first_word line some =
     let k : ℕ = position_or_len (λ b. not (is_blank b)) line in
     let lt : k < length line = omega (arith, length-drop k line) in
-    let here : is_blank (get_or line k 0) ≡ false = not_true _ (passes_at_first (λ b. not (is_blank b)) line 0 lt) in
+    let here : is_blank (get_or line k 0) ≡ false = not-true _ (passes_at_first (λ b. not (is_blank b)) line 0 lt) in
     let first : is_blank (get_or (drop k line) 0 0) ≡ false = ap is_blank (get_or-drop k line 0 0 ∙ ap (λ n. get_or line n 0) (add-zero k)) ∙ here in
     sym (words_of-blanks line) ∙ at_word (drop k line) some first
 

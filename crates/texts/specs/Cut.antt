@@ -24,13 +24,13 @@ pub record IsTextLine (line : List ℕ) : Type 0 where
   pub short : length line ≤ 65536
 
 -- the text of lines, each with its LF
-abbrev pub lines_text : List (List ℕ) → List ℕ
-lines_text lines = flat_map (λ line. line ++ 10 ∷ []) lines
+abbrev pub ended_lines : List (List ℕ) → List ℕ
+ended_lines lines = flat_map (λ line. line ++ 10 ∷ []) lines
 
 -- The text is lines, each with its LF, and a rest, and none of them is too long.
 pub record IsText (text : List ℕ) (lines : List (List ℕ)) (rest : List ℕ) : Type 0 where
   pub raw : List (List ℕ)
-  pub whole : text ≡ lines_text raw ++ rest
+  pub whole : text ≡ ended_lines raw ++ rest
   pub each : AllByRecursion IsLine raw
   pub last : IsLine rest
   pub dropped : lines ≡ map trimmed raw

@@ -3,14 +3,14 @@ use Rattle.std.specs.Prelude.{◌≡◌, ◌+◌, ◌≤◌, ℕ, List, ◌++◌
 use Rattle.std.specs.List.{AllByRecursion}
 use Rattle.std.specs.declared.option.Option.TheVariants.{None}
 use Rattle.texts.specs.declared.grammar.Front.{Front}
-use Rattle.texts.specs.Cut.{IsTextLine, lines_text}
+use Rattle.texts.specs.Cut.{IsTextLine, ended_lines}
 use Rattle.texts.specs.Judged.{Rules, Open, IsClean}
 use Rattle.texts.specs.Lines.{LinesState}
 
 -- the first bytes of a piece are these lines, each with its LF
 pub record IsFront (piece : List ℕ) (front : Front) (lines : List (List ℕ)) : Type 0 where
   pub within : front.len ≤ length piece
-  pub text : take front.len piece ≡ lines_text lines
+  pub text : take front.len piece ≡ ended_lines lines
   pub each : AllByRecursion IsTextLine lines
   pub count : front.lines ≡ length lines
 

@@ -11,3 +11,4 @@ pub mod InsideTextLines
 pub mod InsideStamps
 pub mod Readers
 pub mod Fronts
+pub mod Reasons

@@ -1,7 +1,7 @@
 // What holds of every grammar and of the lines of every text.
 ghost use Rattle.std.specs.Prelude.{◌≡◌, ◌≤◌, ◌^◌, List, ℕ, ◌++◌, length};
 ghost use Rattle.std.specs.List.{AllByRecursion};
-ghost use Rattle.texts.specs.Cut.{IsCut, IsTextLine, lines_text};
+ghost use Rattle.texts.specs.Cut.{IsCut, IsTextLine, ended_lines};
 ghost use Rattle.texts.specs.Judged.{Rules, HasOneOutcome, End};
 ghost use Rattle.texts.specs.Lines.{scan};
 ghost use Rattle.texts.specs.Reading.{lines_of, last_of, lines_so_far, last_so_far, HasFault, HasFaultSoFar, IsLineOf};
@@ -55,7 +55,7 @@ pub fn lines_are_lines()
 /// Lines that are written, each with its LF, are read as themselves.
 pub fn written_lines_are_read()
     ensures lines { (lines : List (List ℕ)) → AllByRecursion IsTextLine lines
-        → length (lines_text lines) ≤ 2 ^ 31 → lines_of (lines_text lines) ≡ lines }
+        → length (ended_lines lines) ≤ 2 ^ 31 → lines_of (ended_lines lines) ≡ lines }
     ensures end { (lines : List (List ℕ)) → AllByRecursion IsTextLine lines
-        → length (lines_text lines) ≤ 2 ^ 31 → last_of (lines_text lines) ≡ End }
+        → length (ended_lines lines) ≤ 2 ^ 31 → last_of (ended_lines lines) ≡ End }
 {}

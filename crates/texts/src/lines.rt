@@ -6,6 +6,7 @@ ghost use Rattle.texts.specs.Lines.{new_state, StandsFor, GoesOn, IfLine, TakesW
 
 use crate::grammar::Front;
 use std::alloc::{AllocError, Global};
+use std::fmt;
 use std::marker::Model;
 
 /// A line has at most so many bytes before its LF.
@@ -19,6 +20,31 @@ pub const LONGEST_INPUT: u32 = 0x8000_0000;
 pub enum LineFault {
     LineTooLong,
     InputTooLong,
+}
+
+impl LineFault {
+    ghost use Rattle.texts.specs.Reasons.{line_fault_text};
+
+    /// What is said of it.
+    pub fn text(self) -> &'static str
+        ensures text { result.now ≡ line_fault_text self }
+        ensures brief { length result.now ≤ 24 }
+    {
+        match self {
+            LineFault::LineTooLong => "line too long",
+            LineFault::InputTooLong => "input too long",
+        }
+    }
+}
+
+impl fmt::Display for LineFault {
+    ghost use Rattle.texts.specs.Reasons.{line_fault_text};
+
+    ghost output = { λ fault. Some (line_fault_text fault) };
+
+    fn fmt<W: fmt::Write>(&self, f: &mut fmt::Formatter<W>) -> fmt::Result {
+        f.write_str(self.text())
+    }
 }
 
 /// What came of a piece.

@@ -1,6 +1,7 @@
 use Rattle.std.proofs.Common.{◌∙◌, sym, ap, arith, get_or, None}
 use Rattle.std.specs.Option.{option_or}
-use Rattle.mps_program.proofs.LoopLemmas.{or_none, at_end}
+use Rattle.exact_numbers.proofs.OptionLemmas.{or_none}
+use Rattle.mps_program.proofs.LoopLemmas.{at_end}
 use Rattle.mps_program.proofs.PartLemmas.{entry_within}
 use Rattle.mps_program.proofs.by_place.by_row.Goals as goal
 

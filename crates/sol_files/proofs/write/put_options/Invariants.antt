@@ -1,7 +1,7 @@
 use Rattle.std.proofs.Common.{◌≡◌, ◌++◌, map, take}
 use Rattle.std.specs.Fmt.{signed_decimal}
-use Rattle.texts.specs.Cut.{lines_text}
+use Rattle.texts.specs.Cut.{ended_lines}
 use Rattle.sol_files.proofs.write.put_options.Given as goal
 
 abbrev pub invariant-loop-option : goal.invariant-loop-option
-invariant-loop-option l = l.out.items ≡ l.initial.out.items ++ lines_text (map signed_decimal (take l.option-index l.options))
+invariant-loop-option l = l.out.items ≡ l.initial.out.items ++ ended_lines (map signed_decimal (take l.option-index l.options))
