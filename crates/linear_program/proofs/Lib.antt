@@ -2,6 +2,7 @@ pub mod Closing
 pub mod CoefLemmas
 pub mod DecimalLemmas
 pub mod FracLemmas
+pub mod HeldPlaces
 pub mod Merging
 pub mod PlaceLemmas
 pub mod PlaceTerms

@@ -85,12 +85,6 @@ no_marks ps touched h e z =
       few = h;
     }
 
-pub zero_more : (ps : List Frac) (x : Frac) → AreZeros ps → frac_value x ≡ zero_ℚ → AreZeros (ps ++ x ∷ [])
-zero_more [] x z e zero = e
-zero_more [] x z e (suc j) = refl
-zero_more (p ∷ ps) x z e zero = z 0
-zero_more (p ∷ ps) x z e (suc j) = zero_more ps x (λ i. z (suc i)) e j
-
 module _ (ps now : List Frac) (view : ps ≡ now) (i : ℕ) (x : Frac) (within : i < length now) (is : x ≡ get_or ps i x) where
   inside : i < length ps
   inside = subst (λ l. i < length l) (sym view) within

@@ -9,8 +9,8 @@ use Rattle.fractions.specs.Fits.{sum_fits}
 use Rattle.fractions.specs.Rational.{ℚ, zero_ℚ, ◌+ℚ◌, ◌*ℚ◌}
 use Rattle.program_meaning.specs.Lines.{one_if}
 use Rattle.linear_program.specs.Coefs.{Term, found, coef_in, value_or_zero, AreAscending, AreBelow}
-use Rattle.linear_program.specs.Places.{place_in, put_all, AreZeros, AreListed}
-use Rattle.linear_program.proofs.CoefLemmas.{found_same, found_apart, found_before, found_beyond, adds_at, below_append}
+use Rattle.linear_program.specs.Places.{place_in, put_all, AreZeros}
+use Rattle.linear_program.proofs.CoefLemmas.{found_same, found_apart, found_before, found_beyond, adds_at}
 use Rattle.linear_program.proofs.PlaceLemmas.{place_set_same, place_set_other}
 
 pub put_length : (ts : List Term) (ps : List Frac) → length (put_all ts ps) ≡ length ps
@@ -45,21 +45,7 @@ put_coef n (t ∷ ts) ps j a b z =
     ap value_or_zero (found_apart t ts j apart) ∙ put_coef (suc t.0) ts now j a.2 (subst (λ m. AreBelow m ts) (sym (length-set ps t.0 t.1)) b.1) (place_set_other ps t.0 t.1 j apart ∙ z))
     (cases_eq j t.0)
 
-pub none_listed : (ps : List Frac) (ts : List Term) → ts ≡ [] → AreListed ps ts
-none_listed ps ts e =
-    record {
-      below = subst (AreBelow (length ps)) (sym e) tt;
-      zeros = λ some. absurd (some e);
-    }
-
 module _ (ps : List Frac) (ts : List Term) (v : ℕ) (f : Frac) (within : v < length ps) (last : AreBelow v ts) (zeros : AreZeros ps) where
-  pub one_more_listed : AreBelow (length ps) ts → AreListed ps (ts ++ (v, f) ∷ [])
-  one_more_listed b =
-      record {
-        below = below_append (length ps) ts ((v, f) ∷ []) b (within, tt);
-        zeros = λ some. zeros;
-      }
-
   held_zero : place_in (put_all ts ps) v ≡ zero_ℚ
   held_zero = put_elsewhere ts ps v (found_beyond v ts v last (omega arith)) ∙ zeros v
 

@@ -1,5 +1,5 @@
 -- A place for each variable, which holds its coefficient.
-use Rattle.std.specs.Prelude.{◌≡◌, ◌≢◌, ℕ, zero, suc, ◌<◌, ◌^◌, if◌then◌else◌, List, [], ◌∷◌, length, slice_set}
+use Rattle.std.specs.Prelude.{◌≡◌, ◌≢◌, ℕ, zero, suc, ◌<◌, ◌^◌, if◌then◌else◌, List, [], ◌∷◌, length, replicate, slice_set}
 use Rattle.std.specs.List.{Contains}
 use Rattle.exact_numbers.specs.declared.frac.Frac.{Frac}
 use Rattle.exact_numbers.specs.Values.{frac_value}
@@ -35,7 +35,14 @@ abbrev pub put_all : List Term → List Frac → List Frac
 put_all [] ps = ps
 put_all (t ∷ ts) ps = put_all ts (slice_set ps t.0 t.1)
 
--- each listed term has a place, and where anything is listed no place holds anything but 0
-pub record AreListed (ps : List Frac) (ts : List Term) : Type 0 where
-  pub below : AreBelow (length ps) ts
+-- the places that are held; where there are none n places, each of which holds this number
+abbrev pub all_places : ℕ → Frac → List Frac → List Frac
+all_places n empty [] = replicate n empty
+all_places n empty (p ∷ ps) = p ∷ ps
+
+-- each listed term has a place, where anything is listed no place holds anything but 0, and what
+-- is not held is 0
+pub record AreListed (n : ℕ) (empty : Frac) (ps : List Frac) (ts : List Term) : Type 0 where
+  pub below : AreBelow (length (all_places n empty ps)) ts
   pub zeros : ts ≢ [] → AreZeros ps
+  pub absent : frac_value empty ≡ zero_ℚ

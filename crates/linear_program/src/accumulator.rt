@@ -1,9 +1,10 @@
 // A sparse accumulator: the coefficients of a sum, each at the place of its variable.
-ghost use Rattle.std.specs.Prelude.{◌≡◌, ◌≢◌, ◌<◌, ℕ, [], length, IfOk, OnOk, true};
+ghost use Rattle.std.specs.Prelude.{◌≡◌, ◌≢◌, ◌<◌, ℕ, [], length, IfOk, OnErr, OnOk, true};
 ghost use Rattle.exact_numbers.specs.Values.{frac_value};
+ghost use Rattle.fractions.specs.Rational.{zero_ℚ};
 ghost use Rattle.linear_program.specs.Coefs.{AddsAt, AreAscending, AreBelow, coef_in};
 ghost use Rattle.linear_program.specs.Forms.{terms_left};
-ghost use Rattle.linear_program.specs.Places.{AreListed, AreZeros, place_in, terms_from};
+ghost use Rattle.linear_program.specs.Places.{AreZeros, all_places, place_in, put_all, terms_from};
 
 use crate::coefficients::Coefficients;
 use crate::form_terms::{FormTerms, TermSource};
@@ -16,10 +17,12 @@ use std::marker::Model;
 use texts::Stop;
 
 /// A place for each variable, and terms that are not yet put at theirs: while the variables that
-/// are added ascend, their terms are only listed.
+/// are added ascend, their terms are only listed. The places are made when the first term is put.
 #[derive(Drop)]
 pub struct Accumulator {
     alloc: Global,
+    count: u32,
+    empty: Frac,
     places: MarkedPlaces,
     listed: FractionTerms,
 }
@@ -27,27 +30,28 @@ pub struct Accumulator {
 impl Model for Accumulator {
     ghost use Rattle.std.specs.Prelude.{List};
     ghost use Rattle.exact_numbers.specs.declared.frac.Frac.{Frac as FracFields};
-    ghost use Rattle.linear_program.specs.Places.{AreListed, put_all};
+    ghost use Rattle.linear_program.specs.Places.{AreListed, all_places, put_all};
 
     ghost Value = { List FracFields };
 
-    ghost view = { λ w. put_all w.listed w.places };
+    ghost view = { λ w. put_all w.listed (all_places w.count w.empty w.places) };
 
-    ghost invariant = { λ w. AreListed w.places w.listed };
+    ghost invariant = { λ w. AreListed w.count w.empty w.places w.listed };
 }
 
 impl Accumulator {
     /// So many places, which hold 0.
-    pub(crate) fn new(alloc: Global, count: u32) -> Result<Accumulator, AllocError>
-        ensures zeros { IfOk result (λ w. AreZeros w) }
-        ensures count { IfOk result (λ w. length w ≡ count) }
+    pub(crate) fn new(alloc: Global, count: u32) -> Accumulator
+        ensures zeros { AreZeros result }
+        ensures count { length result ≡ count }
     {
-        let places = MarkedPlaces::new(alloc, count)?;
-        Ok(Accumulator {
+        Accumulator {
             alloc,
-            places,
+            count,
+            empty: Frac::zero(),
+            places: MarkedPlaces::without_places(alloc),
             listed: FractionTerms::new(alloc),
-        })
+        }
     }
 
     /// Adds a factor to the coefficient of a variable.
@@ -76,7 +80,13 @@ impl Accumulator {
             result }
         ensures count { length self.new ≡ length self.old }
     {
-        let put = self.places.put_all(self.listed.items());
+        let put = put_listed(
+            self.alloc,
+            self.count,
+            self.empty,
+            &mut self.places,
+            &self.listed,
+        );
         self.listed.clear();
         let Ok(()) = put else {
             return Err(Stop::Memory);
@@ -131,10 +141,47 @@ impl Accumulator {
     }
 }
 
+// Makes the places where there are none.
+fn make_places(
+    alloc: Global,
+    count: u32,
+    empty: Frac,
+    places: &mut MarkedPlaces,
+) -> Result<(), AllocError>
+    requires { frac_value empty ≡ zero_ℚ }
+    ensures made { OnOk result (places.new ≡ all_places count empty places.old) }
+    ensures kept { OnErr result (places.new ≡ places.old) }
+{
+    if !places.is_empty() {
+        return Ok(());
+    }
+    *places = MarkedPlaces::new(alloc, count, empty)?;
+    Ok(())
+}
+
+// Puts listed terms at their places.
+fn put_listed(
+    alloc: Global,
+    count: u32,
+    empty: Frac,
+    places: &mut MarkedPlaces,
+    listed: &FractionTerms,
+) -> Result<(), AllocError>
+    requires zero { frac_value empty ≡ zero_ℚ }
+    requires below { AreBelow (length (all_places count empty places.old)) listed.now }
+    ensures puts { OnOk result
+        (places.new ≡ put_all listed.now (all_places count empty places.old)) }
+    ensures count { length (all_places count empty places.new)
+        ≡ length (all_places count empty places.old) }
+{
+    make_places(alloc, count, empty, places)?;
+    places.put_all(listed.items())
+}
+
 // Whether a variable comes after each that is listed, and no place holds anything but 0.
 #[inline]
 fn comes_last(listed: &FractionTerms, places: &MarkedPlaces, variable: u32) -> bool
-    requires { AreListed places.now listed.now }
+    requires { listed.now ≢ [] → AreZeros places.now }
     ensures last { result ≡ true → AreBelow variable listed.now }
     ensures zeros { result ≡ true → AreZeros places.now }
     ensures found { listed.now ≢ [] → AreBelow variable listed.now → result ≡ true }

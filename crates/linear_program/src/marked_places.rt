@@ -1,6 +1,7 @@
 // Places for coefficients, of which those that may hold anything but 0 are known.
-ghost use Rattle.std.specs.Prelude.{◌≡◌, ◌+◌, ◌<◌, ◌∷◌, ℕ, [], drop, length, slice_set, IfOk, IfSome, None, OnOk, true, false};
+ghost use Rattle.std.specs.Prelude.{◌≡◌, ◌+◌, ◌<◌, ◌∷◌, ◌==◌, ℕ, [], drop, length, replicate, slice_set, IfOk, IfSome, None, OnOk, true, false};
 ghost use Rattle.exact_numbers.specs.Values.{frac_value};
+ghost use Rattle.fractions.specs.Rational.{zero_ℚ};
 ghost use Rattle.linear_program.specs.Coefs.{AddsAt, AreBelow, coef_in};
 ghost use Rattle.linear_program.specs.Places.{AreZeros, place_in, put_all, terms_from};
 
@@ -35,7 +36,7 @@ impl Model for MarkedPlaces {
 impl MarkedPlaces {
     /// No places.
     pub(crate) fn without_places(alloc: Global) -> MarkedPlaces
-        ensures { AreZeros result }
+        ensures { result ≡ [] }
     {
         MarkedPlaces {
             alloc,
@@ -44,15 +45,12 @@ impl MarkedPlaces {
         }
     }
 
-    /// So many places, which hold 0.
-    pub(crate) fn new(alloc: Global, count: u32) -> Result<MarkedPlaces, AllocError>
-        ensures zeros { IfOk result (λ w. AreZeros w) }
-        ensures count { IfOk result (λ w. length w ≡ count) }
+    /// So many places, each of which holds this 0.
+    pub(crate) fn new(alloc: Global, count: u32, zero: Frac) -> Result<MarkedPlaces, AllocError>
+        requires { frac_value zero ≡ zero_ℚ }
+        ensures { IfOk result (λ w. w ≡ replicate count zero) }
     {
-        let mut places = Vec::new(alloc);
-        for _ in 0..count {
-            places.push(Frac::zero())?;
-        }
+        let places = Vec::from_elem(alloc, zero, count as usize)?;
         Ok(MarkedPlaces {
             alloc,
             places,
@@ -94,6 +92,14 @@ impl MarkedPlaces {
 }
 
 impl MarkedPlaces {
+    /// Whether there is no place.
+    #[inline]
+    pub(crate) fn is_empty(&self) -> bool
+        ensures { result ≡ (length self.now == 0) }
+    {
+        self.places.is_empty()
+    }
+
     /// Whether nothing is touched; then each place holds 0.
     #[inline]
     pub(crate) fn are_untouched(&self) -> bool

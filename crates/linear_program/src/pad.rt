@@ -28,7 +28,7 @@ impl Pad {
     pub fn new(alloc: Global, n_var: u32) -> Result<Pad, AllocError>
         ensures { IfOk result (λ p. p ≡ n_var) }
     {
-        let accumulator = Accumulator::new(alloc, n_var)?;
+        let accumulator = Accumulator::new(alloc, n_var);
         let accumulator = Box::new(alloc, accumulator)?;
         Ok(Pad { accumulator })
     }
