@@ -9,11 +9,11 @@ use exact_numbers::Dec;
 use example_texts::proof_texts::{ONE_WHOLE, TWO_LEAVES};
 use linear_fold::fold_all;
 use nl_model::NlFile;
-use proof_text::{ProofFault, ProofReader, ProofReason, read_proof};
+use proof_text::{ProofReader, read_proof};
 use std::alloc::Global;
 use std::marker::Brand;
 use std::process::Abort;
-use text_base::{Blank, Ledger, Steps, Stop};
+use text_base::{Blank, Ledger, Steps};
 
 // Whether it claims that no point has a better value of this objective.
 fn says_value(claim: Claim, objective: u32, value: Dec) -> bool {
@@ -87,24 +87,5 @@ fn a_proof_comes_in_pieces(rt: HostRuntime) {
     let proof = reader.finish().expect(&rt, "a proof");
     assert!(rt; is_two_leaves(&proof));
     drop(proof);
-    drop(file);
-}
-
-// A node too many, after so many that are allowed.
-#[test]
-fn there_are_so_many_nodes(rt: HostRuntime) {
-    let file = file_of(&rt, rt.alloc(), ONE_WHOLE);
-    let mut reader = ProofReader::new(rt.alloc(), &file).expect(&rt, "memory");
-    assert!(rt; reader.feed(b"proof 1\nvalue 0 2\n").is_ok());
-    for _ in 0..65_536 {
-        assert!(rt; reader.feed(b"split 0 0\n").is_ok());
-    }
-    let fault = ProofFault {
-        reason: ProofReason::TooLarge,
-        line: 65_539,
-    };
-    assert!(rt; reader.feed(b"split 0 0\n") == Err(Stop::Fault(fault)));
-    assert!(rt; reader.feed(b"") == Err(Stop::Fault(fault)));
-    drop(reader);
     drop(file);
 }

@@ -1,6 +1,6 @@
 // Certificates of small files, as they are read.
 use crate::segments::file_of;
-use certificate_text::{CertificateFault, CertificateReader, CertificateReason, read_certificate};
+use certificate_text::{CertificateReader, read_certificate};
 use certificates::CertificateNode;
 use exact_numbers::Frac;
 use example_texts::certificate_texts::{
@@ -11,7 +11,6 @@ use linear_program::{Kind, Number};
 use nl_model::all_kinds;
 use std::alloc::Global;
 use std::process::Abort;
-use text_base::Stop;
 
 // The numerator of a number.
 fn num_of(number: &Number) -> i128 {
@@ -99,130 +98,4 @@ fn a_certificate_comes_in_pieces(rt: HostRuntime) {
     assert!(rt; certificate.nodes().is_empty());
     assert!(rt; certificate.pairs().len() == 2);
     drop(certificate);
-}
-
-fn is_fault<T: Drop>(
-    read: Result<T, Stop<CertificateFault>>,
-    reason: CertificateReason,
-    line: u32,
-) -> bool {
-    match read {
-        Err(Stop::Fault(fault)) => fault.reason == reason && fault.line == line,
-        _ => false,
-    }
-}
-
-// Whether this is the first fault of each text for this file, at its line.
-fn are_refused(
-    rt: &impl Abort,
-    alloc: Global,
-    nl: &str,
-    reason: CertificateReason,
-    cases: &[(&str, u32)],
-) -> bool {
-    let mut are_all = true;
-    for (text, line) in cases {
-        let (rows, kinds) = setting_of(rt, alloc, nl);
-        let read = read_certificate(alloc, rows, kinds, text.as_bytes());
-        are_all &= is_fault(read, reason, *line);
-    }
-    are_all
-}
-
-#[test]
-fn first_faults_of_claims(rt: HostRuntime) {
-    let first = [("", 1), ("\n \t\n", 3), ("certificate 2\n", 1)];
-    assert!(rt; are_refused(&rt, rt.alloc(), THIRDS, CertificateReason::BadFirst, &first));
-    let lines = [
-        ("certificate 1\n\nprove 0\n", 3),
-        ("certificate 1\nwithin 0\n", 2),
-        ("certificate 1\noptimal 0\nray 0\n", 3),
-        ("certificate 1\nwithin 0 1\nduals 0\n", 3),
-        ("certificate 1\ninfeasible\nduals 0\n", 3),
-        (
-            "certificate 1\ninfeasible\nlemma 1 1/2\n0 1/2\nduals 0\nduals 0\n",
-            6,
-        ),
-    ];
-    assert!(rt; are_refused(&rt, rt.alloc(), THIRDS, CertificateReason::BadLine, &lines));
-    let short = [
-        ("certificate 1\n", 2),
-        ("certificate 1\nfeasible 0\npoint 1\n", 4),
-        (
-            "certificate 1\ninfeasible\nplane 1 0\n0 1\nweights 1\n1 1\n",
-            7,
-        ),
-    ];
-    assert!(rt; are_refused(&rt, rt.alloc(), THIRDS, CertificateReason::Short, &short));
-    let extra = [("certificate 1\nfeasible 0\npoint 0\nweights 0\n", 4)];
-    assert!(rt; are_refused(&rt, rt.alloc(), THIRDS, CertificateReason::Extra, &extra));
-}
-
-#[test]
-fn first_faults_of_numbers(rt: HostRuntime) {
-    let numbers = [
-        ("certificate 1\nbound 2147483648 1\n", 2),
-        ("certificate 1\nwithin 0 1/0\n", 2),
-        ("certificate 1\ninfeasible\nsplit 0 1/2\n", 3),
-        ("certificate 1\ninfeasible\nplane 0 0\n", 3),
-        ("certificate 1\ninfeasible\nplane 1 0\n0 1/2\n", 4),
-        ("certificate 1\ninfeasible\nlemma 0 1/2\n", 3),
-    ];
-    assert!(rt;
-        are_refused(
-            &rt,
-            rt.alloc(),
-            THIRDS,
-            CertificateReason::BadNumber,
-            &numbers
-        )
-    );
-    let order = [("certificate 1\nfeasible 0\npoint 2\n1 1\n1 1/2\n", 5)];
-    assert!(rt;
-        are_refused(
-            &rt,
-            rt.alloc(),
-            THIRDS,
-            CertificateReason::IndexOrder,
-            &order
-        )
-    );
-    let out = [
-        ("certificate 1\nfeasible 0\npoint 1\n3 1\n", 4),
-        ("certificate 1\ninfeasible\nsplit 3 0\n", 3),
-        ("certificate 1\ninfeasible\nweights 1\n1 1\n", 4),
-        (
-            "certificate 1\ninfeasible\nplane 1 0\n0 1\nweights 1\n2 1\n",
-            6,
-        ),
-        ("certificate 1\ninfeasible\nlemma 1 1/2\n3 1\n", 4),
-        (
-            "certificate 1\ninfeasible\nlemma 1 1/2\n0 1/2\nduals 1\n1 1\n",
-            6,
-        ),
-        (
-            "certificate 1\ninfeasible\nlemma 1 1/2\n0 1/2\nduals 0\nweights 1\n2 1\n",
-            7,
-        ),
-    ];
-    assert!(rt; are_refused(&rt, rt.alloc(), THIRDS, CertificateReason::IndexOut, &out));
-}
-
-#[test]
-fn first_faults_of_a_continuous_file(rt: HostRuntime) {
-    let whole = [
-        ("certificate 1\nbound 0 1\nsplit 0 0\n", 3),
-        ("certificate 1\nbound 0 1\nplane 1 0\n0 1\n", 4),
-    ];
-    assert!(rt;
-        are_refused(
-            &rt,
-            rt.alloc(),
-            ONE_FREE,
-            CertificateReason::NotWhole,
-            &whole
-        )
-    );
-    let short = [("certificate 1\nbound 0 1\nlemma 1 0\n0 1\nduals 0\n", 6)];
-    assert!(rt; are_refused(&rt, rt.alloc(), ONE_FREE, CertificateReason::Short, &short));
 }

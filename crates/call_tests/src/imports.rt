@@ -48,28 +48,3 @@ fn columns_come_by_their_kinds(rt: HostRuntime) {
     drop(text);
     drop(file);
 }
-
-// Whether this is the fault of an import.
-fn is_fault<T: Drop>(answer: Result<T, Stop<ImportFault>>, wanted: ImportFault) -> bool {
-    match answer {
-        Err(Stop::Fault(fault)) => fault == wanted,
-        _ => false,
-    }
-}
-
-#[test]
-fn the_first_fault_is_answered(rt: HostRuntime) {
-    let cases = [
-        (
-            "ROWS\n N C\n L R\nCOLUMNS\n X C 1\nRHS\nBOUNDS\n LO B X 1\n UP B X 0\nENDATA\n",
-            ImportFault::EmptyInterval(0),
-        ),
-        (
-            "ROWS\n N C\n L R\nCOLUMNS\n X C 1\nRHS\n RHS R 1e30\nRANGES\n RNG R 1e-30\nBOUNDS\n LO B X 1\n UP B X 0\nENDATA\n",
-            ImportFault::TooWide(1),
-        ),
-    ];
-    for (text, fault) in cases {
-        assert!(rt; is_fault(imported(&rt, rt.alloc(), text), fault));
-    }
-}

@@ -37,8 +37,6 @@ mod sol_texts;
 #[cfg(test)]
 mod stages;
 #[cfg(test)]
-mod tables;
-#[cfg(test)]
 mod words_and_lines;
 #[cfg(test)]
 mod written;

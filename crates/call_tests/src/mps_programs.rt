@@ -53,35 +53,3 @@ fn a_program_keeps_its_numbering(rt: HostRuntime) {
     assert!(rt; linear.kinds() == [Kind::Integer, Kind::Binary, Kind::Continuous].as_slice());
     drop(linear);
 }
-
-fn is_fault<T: Drop>(answer: Result<T, Stop<MpsFault>>, wanted: MpsFault) -> bool {
-    match answer {
-        Err(Stop::Fault(fault)) => fault == wanted,
-        _ => false,
-    }
-}
-
-#[test]
-fn the_first_fault_of_a_program(rt: HostRuntime) {
-    let cases = [
-        (
-            "ROWS\n N C\n L R\nCOLUMNS\n X C 1 R 1e-60\nRHS\nBOUNDS\n LO B X 1\n UP B X 0\nENDATA\n",
-            MpsFault::EmptyInterval(0),
-        ),
-        (
-            "ROWS\n N C\n L R\nCOLUMNS\n X C 1\nRHS\n RHS R 1e30\nRANGES\n RNG R 1e-30\nBOUNDS\n LO B X 1\n UP B X 0\nENDATA\n",
-            MpsFault::TooWide(1),
-        ),
-        (
-            "ROWS\n N C\n L Q\n L R\nCOLUMNS\n X C 1e-60 R 1e-60\nRHS\nENDATA\n",
-            MpsFault::TooWide(2),
-        ),
-        (
-            "ROWS\n L Q\n N C\n N D\nCOLUMNS\n X C 1e-60 D 1e-60\n X Q 1\nRHS\nENDATA\n",
-            MpsFault::TooWide(1),
-        ),
-    ];
-    for (text, fault) in cases {
-        assert!(rt; is_fault(read_linear(&rt, rt.alloc(), text), fault));
-    }
-}

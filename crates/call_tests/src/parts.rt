@@ -45,33 +45,6 @@ const COUNTS: Counts = Counts {
     como1: 0,
 };
 
-fn accepts(n_con: u32, niv: u32, nlvci: u32) -> bool {
-    let counts = Counts {
-        n_con,
-        niv,
-        nlvci,
-        ..COUNTS
-    };
-    Header::new(Options::new(), counts).is_some()
-}
-
-#[test]
-fn headers_keep_the_rules(rt: HostRuntime) {
-    let cases = [
-        (1, 1, 1, true),
-        (1, 1, 2, false),
-        (1, 2, 1, false),
-        (1_048_576, 1, 1, true),
-        (1_048_577, 1, 1, false),
-    ];
-    for (n_con, niv, nlvci, wanted) in cases {
-        assert!(rt;
-            accepts(n_con, niv, nlvci) == wanted,
-            "at {n_con} {niv} {nlvci}"
-        );
-    }
-}
-
 fn started(rt: &impl Abort, alloc: Global) -> NlBuilder {
     let header = Header::new(Options::new(), COUNTS).expect(rt, "a header");
     NlBuilder::new(alloc, header).expect(rt, "memory")

@@ -1,10 +1,7 @@
 // The verdict on points of a small file, over its folded rows by columns.
 ghost use Rattle.std.specs.Prelude.{◌≡◌, ◌<◌};
 
-use certificate_check::{
-    BoundVerdict, Columns, FitFault, Goal, SolutionCounts, Spot, Verdict, certify, dual_bound,
-    fit_counts,
-};
+use certificate_check::{BoundVerdict, Columns, Goal, Spot, Verdict, certify, dual_bound};
 use exact_numbers::{Dec, Frac};
 use example_texts::nl_texts::{one_row, text_of};
 use linear_fold::fold_all;
@@ -82,39 +79,4 @@ fn a_file_is_judged(rt: HostRuntime) {
         assert!(rt; bound_on(&columns, &[lo], &[hi], &[one]) == Some(wanted));
     }
     drop(columns);
-}
-
-#[test]
-fn counts_come_first(rt: HostRuntime) {
-    let file = small_file(&rt, rt.alloc());
-    let full = SolutionCounts {
-        n_con: 1,
-        n_var: 1,
-        duals: 1,
-        primals: 1,
-    };
-    let cases = [
-        (full, Ok(())),
-        (
-            SolutionCounts {
-                n_var: 3,
-                primals: 0,
-                ..full
-            },
-            Err(FitFault::OtherCounts),
-        ),
-        (
-            SolutionCounts {
-                duals: 0,
-                primals: 0,
-                ..full
-            },
-            Err(FitFault::NoPrimal),
-        ),
-        (SolutionCounts { duals: 0, ..full }, Err(FitFault::NoDual)),
-    ];
-    for (given, wanted) in cases {
-        assert!(rt; fit_counts(&file, given) == wanted);
-    }
-    drop(file);
 }

@@ -2,7 +2,7 @@
 
 use example_texts::mps_texts::{PAIRS, PAIRS_WRITTEN};
 use mps_model::Mps;
-use mps_reader::{MpsFault, MpsReader, MpsReason};
+use mps_reader::{MpsFault, MpsReader};
 use mps_writer::write_mps;
 use std::alloc::Global;
 use std::process::Abort;
@@ -53,21 +53,4 @@ const MARKED_WRITTEN: &str =
 #[test]
 fn columns_of_a_marked_stretch(rt: HostRuntime) {
     assert!(rt; is_written_as(&rt, rt.alloc(), MARKED, 4, MARKED_WRITTEN));
-}
-
-fn is_fault<T: Drop>(answer: Result<T, Stop<MpsFault>>, reason: MpsReason, line: u32) -> bool {
-    match answer {
-        Err(Stop::Fault(fault)) => fault.reason == reason && fault.line == line,
-        _ => false,
-    }
-}
-
-// A fault is answered once its line has ended, and again.
-#[test]
-fn a_fault_stays(rt: HostRuntime) {
-    let mut reader = MpsReader::new(rt.alloc()).expect(&rt, "memory");
-    assert!(rt; reader.feed(b"ROWS\n X c0").is_ok());
-    assert!(rt; reader.feed(b"\n").is_err());
-    assert!(rt; reader.feed(b" N c1\n").is_err());
-    assert!(rt; is_fault(reader.finish(), MpsReason::BadLine, 2));
 }

@@ -1,7 +1,7 @@
-// Segments of .nl texts: what a whole text says, and the first fault of others.
+// Segments of .nl texts: what a whole text says, and that a reader keeps its fault.
 
 use exact_numbers::Dec;
-use example_texts::nl_texts::{Sizes, header, text_of};
+use example_texts::nl_texts::{header, text_of};
 use nl_model::{Def, Interval, NlFile, Suffix, Terms};
 use nl_segments::{NlFault, NlReader, NlReason, read_nl};
 use std::alloc::Global;
@@ -16,55 +16,9 @@ fn fault_in<T: Drop>(answer: Result<T, Stop<NlFault>>) -> Option<(NlReason, u32)
     }
 }
 
-/// The first fault of a text, and its line.
-pub(crate) fn fault_of(alloc: Global, text: &[u8]) -> Option<(NlReason, u32)> {
-    fault_in(read_nl(alloc, text))
-}
-
 /// The file of a text.
 pub(crate) fn file_of(rt: &impl Abort, alloc: Global, text: &str) -> NlFile {
     read_nl(alloc, text.as_bytes()).expect(rt, "a file").file
-}
-
-// The first fault of a body after its header, and its line.
-fn fault_of_body(
-    rt: &impl Abort,
-    alloc: Global,
-    sizes: &Sizes,
-    body: &str,
-) -> Option<(NlReason, u32)> {
-    let text = text_of(alloc, sizes, body).expect(rt, "memory");
-    let fault = fault_of(alloc, text.as_bytes());
-    drop(text);
-    fault
-}
-
-#[test]
-fn faults_of_segments(rt: HostRuntime) {
-    let sizes = header("2 1 1", "2 2", "0");
-    let cases = [
-        ("O00 01\n", NlReason::ShortSegment, 12),
-        ("k2\n", NlReason::BadHead, 11),
-        ("r1\n", NlReason::BadHead, 11),
-        ("S256 1 a\n", NlReason::BadHead, 11),
-        ("J1 1\n", NlReason::IndexOut, 11),
-        ("S5 1 a\n0 2.5\n0 1\n", NlReason::ExtraLine, 13),
-        ("S1 1 a\n0 2.5\n", NlReason::BadNumber, 12),
-        ("S2 1 a\n1 2\n", NlReason::IndexOut, 12),
-        ("S1 1 a\n0 2\nS5 1 a\n", NlReason::RepeatedSegment, 13),
-        ("k1\n7 1\n", NlReason::BadLine, 12),
-        ("C0\no54\n0\n", NlReason::BadNumber, 13),
-        ("r\n0 2 1\n", NlReason::EmptyInterval, 12),
-        ("d1\n0 1\nx2\n0 1\n0 2\n", NlReason::RepeatedIndex, 15),
-        ("C0\nf0\n", NlReason::RefusedLeaf, 12),
-        ("C0\nv2\n", NlReason::IndexOut, 12),
-    ];
-    for (body, reason, line) in cases {
-        assert!(rt;
-            fault_of_body(&rt, rt.alloc(), &sizes, body) == Some((reason, line)),
-            "at {body}"
-        );
-    }
 }
 
 // Each segment once.
@@ -169,30 +123,4 @@ fn a_reader_keeps_its_fault(rt: HostRuntime) {
     assert!(rt; is_fault(reader.feed(b"\n"), NlReason::BinaryFile));
     assert!(rt; is_fault(reader.feed(b"\n"), NlReason::BinaryFile));
     assert!(rt; is_fault(reader.finish(), NlReason::BinaryFile));
-}
-
-// The fault of a piece that comes after a text without faults.
-fn fault_after(
-    rt: &impl Abort,
-    alloc: Global,
-    text: &[u8],
-    piece: &[u8],
-) -> Option<(NlReason, u32)> {
-    let mut reader = NlReader::new(alloc).expect(rt, "memory");
-    assert!(*rt; reader.feed(text).is_ok());
-    let fault = fault_in(reader.feed(piece));
-    drop(reader);
-    fault
-}
-
-#[test]
-fn a_line_has_65536_bytes(rt: HostRuntime) {
-    let long = vec![in rt.alloc(); b'x'; 65_537].expect(&rt, "memory");
-    let fronts: [(&[u8], u32); 2] = [(b"", 1), (b"g3 1 1 0\n1 1 1 0 0\n", 3)];
-    for (front, line) in fronts {
-        assert!(rt;
-            fault_after(&rt, rt.alloc(), front, &long) == Some((NlReason::LineTooLong, line))
-        );
-    }
-    drop(long);
 }

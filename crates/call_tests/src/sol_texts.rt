@@ -3,7 +3,7 @@ ghost use Rattle.std.specs.Prelude.{◌≡◌, []};
 
 use exact_numbers::Dec;
 use nl_model::{Options, Terms};
-use sol_files::{Sol, SolBuilder, SolFault, SolReader, SolReason, SolSuffix, write_sol};
+use sol_files::{Sol, SolBuilder, SolFault, SolReader, SolSuffix, write_sol};
 use std::alloc::Global;
 use std::process::Abort;
 use text_base::{Name, Stop, TextLines};
@@ -25,13 +25,6 @@ fn read_in_pieces(alloc: Global, text: &[u8], len: usize) -> Result<Sol, Stop<So
         rest = more;
     }
     reader.finish()
-}
-
-fn is_fault<T: Drop>(read: Result<T, Stop<SolFault>>, reason: SolReason, line: u32) -> bool {
-    match read {
-        Err(Stop::Fault(fault)) => fault.reason == reason && fault.line == line,
-        _ => false,
-    }
 }
 
 fn is_solved(sol: &Sol) -> bool {
@@ -67,16 +60,6 @@ fn is_written(rt: &impl Abort, alloc: Global, sol: Sol, wanted: &[u8]) -> bool {
 fn a_solved_file_is_written(rt: HostRuntime) {
     let sol = read_in_pieces(rt.alloc(), SOLVED, 1000).expect(&rt, "a solution");
     assert!(rt; is_written(&rt, rt.alloc(), sol, WRITTEN));
-}
-
-// A fault is answered once its line has ended, and again.
-#[test]
-fn a_sol_fault_stays(rt: HostRuntime) {
-    let mut reader = SolReader::new(rt.alloc()).expect(&rt, "memory is wanting");
-    assert!(rt; reader.feed(b"Options\n10").is_ok());
-    assert!(rt; reader.feed(b"\n").is_err());
-    assert!(rt; reader.feed(b"0\n").is_err());
-    assert!(rt; is_fault(reader.finish(), SolReason::Options, 2));
 }
 
 // A suffix without a table.

@@ -1,7 +1,7 @@
 // The command verify over a desk in memory: each claim and each kind of verdict on certificates for
-// a small file, and why others are refused.
+// a small file.
 
-use crate::commands::{comes_to, tell_in_turn};
+use crate::commands::comes_to;
 use example_texts::proof_texts::ONE_WHOLE;
 use std::alloc::Global;
 use std::process::Abort;
@@ -118,40 +118,6 @@ fn judges_certificates_of_other_files(rt: HostRuntime) {
     }
 }
 
-// With a second objective: 3 x, whose greatest value is 15.
-#[test]
-fn names_the_second_objective(rt: HostRuntime) {
-    let nl =
-        "g3 1 1 0\n1 1 2 0 0\n0 0\n0 0\n0 0 0\n0 0 0 1\n0 1 0 0 0\n1 2\n0 0\n0 0 0 0 0\nO0 0\nn0\nO1 1\nn0\nr\n2 3\nb\n0 0 5\nJ0 1\n0 2\nG0 1\n0 1\nG1 1\n0 3\n";
-    let cases = [
-        (
-            "optimal 1\npoint 1\n0 5\nduals 0\n",
-            0,
-            "optimal 15 of objective 1\n",
-        ),
-        (
-            "within 1 31/2\npoint 1\n0 5\nduals 0\n",
-            0,
-            "within 31/2 15 of objective 1\n",
-        ),
-        ("bound 1 16\nduals 0\n", 0, "bound 16 of objective 1\n"),
-        (
-            "feasible 1\npoint 1\n0 2\n",
-            0,
-            "feasible 6 of objective 1\n",
-        ),
-        ("feasible 0\npoint 1\n0 2\n", 0, "feasible 2\n"),
-        ("bound 1 14\nduals 0\n", 1, "leaf 0 gap 15\n"),
-        ("feasible 1\npoint 0\n", 1, "row 0 broken\n"),
-    ];
-    for (rest, status, line) in cases {
-        assert!(rt;
-            begins_well(&rt, rt.alloc(), nl, rest, (status, line)),
-            "at {rest}"
-        );
-    }
-}
-
 // With the objective turned and no upper bound.
 #[test]
 fn shows_that_there_is_no_end(rt: HostRuntime) {
@@ -163,45 +129,4 @@ fn shows_that_there_is_no_end(rt: HostRuntime) {
         .expect(&rt, "memory");
     let rest = "unbounded 0\npoint 1\n0 2\nray 1\n0 1\n";
     assert!(rt; begins_well(&rt, rt.alloc(), &nl, rest, (0, "unbounded\n")));
-}
-
-#[test]
-fn refuses_texts_that_are_no_certificates(rt: HostRuntime) {
-    let cases = [
-        ("best 0\n", 2, "refused file 2 line 2: bad line\n"),
-        ("bound 0 1/0\n", 2, "refused file 2 line 2: bad number\n"),
-        (
-            "bound 0 2\nsplit 1 0\n",
-            2,
-            "refused file 2 line 3: index out of range\n",
-        ),
-        (
-            "bound 0 2\nplane 1 0\n0 1\nduals 2\n1 1\n0 1\n",
-            2,
-            "refused file 2 line 7: index out of order\n",
-        ),
-        (
-            "feasible 0\npoint 0\nduals 0\n",
-            2,
-            "refused file 2 line 4: extra line\n",
-        ),
-        ("optimal 0\n", 2, "refused file 2 line 3: short file\n"),
-    ];
-    for (rest, status, line) in cases {
-        assert!(rt;
-            begins_well(&rt, rt.alloc(), ONE_WHOLE, rest, (status, line)),
-            "at {line}"
-        );
-    }
-}
-
-#[test]
-fn the_first_file_comes_first(rt: HostRuntime) {
-    let runs: [(&[&str], u8); 3] = [
-        (&["verify", "a.nl", "none"], 2),
-        (&["verify", "none", "a.nl"], 4),
-        (&["verify", "a.nl"], 3),
-    ];
-    let told = "refused line 1: binary file\ninput fault\nbad words\n";
-    assert!(rt; tell_in_turn(&rt, rt.alloc(), ("a.nl", b"b3 1 1 0\n"), &runs, told));
 }

@@ -1,7 +1,6 @@
-// The command check over a desk in memory: the verdicts on solutions of one file, and why others
-// are refused.
+// The command check over a desk in memory: the verdicts on solutions of one file.
 
-use crate::commands::{comes_to, tell_in_turn};
+use crate::commands::comes_to;
 use example_texts::nl_texts::{header, text_of};
 use std::alloc::Global;
 use std::process::Abort;
@@ -46,41 +45,4 @@ fn judges_solutions(rt: HostRuntime) {
             "at {line}"
         );
     }
-}
-
-#[test]
-fn refuses_solutions_that_do_not_fit(rt: HostRuntime) {
-    let cases = [
-        ("1\n0\n2\n2\n3\n1\n", 2, "refused file 2: no dual values\n"),
-        ("1\n1\n2\n0\n3\n", 2, "refused file 2: no primal values\n"),
-        ("1\n1\n3\n0\n3\n", 2, "refused file 2: other counts\n"),
-        ("1\n1\n2\n", 2, "refused file 2 line 8: short file\n"),
-        (
-            "1\n1\n2\n2\n3\n3\n1\nobjno -1 0\n",
-            2,
-            "refused objective -1: no such objective\n",
-        ),
-        (
-            "1\n1\n2\n2\n3\n3\n1\nobjno 1 0\n",
-            2,
-            "refused objective 1: no such objective\n",
-        ),
-    ];
-    for (values, status, line) in cases {
-        assert!(rt;
-            judges_so(&rt, rt.alloc(), LEAST, values, (status, line)),
-            "at {line}"
-        );
-    }
-}
-
-#[test]
-fn the_first_file_comes_first(rt: HostRuntime) {
-    let runs: [(&[&str], u8); 3] = [
-        (&["check", "a.nl", "none"], 2),
-        (&["check", "none", "a.nl"], 4),
-        (&["check", "a.nl"], 3),
-    ];
-    let told = "refused line 1: binary file\ninput fault\nbad words\n";
-    assert!(rt; tell_in_turn(&rt, rt.alloc(), ("a.nl", b"b3 1 1 0\n"), &runs, told));
 }

@@ -2,7 +2,7 @@
 ghost use Rattle.std.specs.Prelude.{◌≡◌, ◌<◌};
 
 use bridge_tool::bridge;
-use std::alloc::{AllocError, Global};
+use std::alloc::Global;
 use std::marker::Brand;
 use std::process::Abort;
 use text_base::{Blank, Desk, Ledger, MemoryDesk, Steps};
@@ -24,16 +24,6 @@ pub(crate) fn command<D: Desk>(rt: &impl Abort, alloc: Global, desk: &mut D, wor
             .expect(rt, "memory");
     }
     run::<D, Brand>(alloc, &all, desk, Blank::new(1))
-}
-
-/// The first lines of a text.
-pub(crate) fn first_lines(rt: &impl Abort, alloc: Global, text: &str, count: usize) -> String {
-    let mut out = String::new(alloc);
-    for line in text.lines().take(count) {
-        out.push_str(line).expect(rt, "memory");
-        out.push_str("\n").expect(rt, "memory");
-    }
-    out
 }
 
 /// Puts these texts under their names, and works the command of these words.
@@ -113,34 +103,6 @@ pub(crate) fn writes_in_pieces(
     ended_so(desk, ended, 0, written)
 }
 
-// Whether commands, one after the other, end with these statuses.
-fn end_so(rt: &impl Abort, alloc: Global, desk: &mut MemoryDesk, runs: &[(&[&str], u8)]) -> bool {
-    for (words, status) in runs {
-        if command(rt, alloc, desk, *words) != *status {
-            return false;
-        }
-    }
-    true
-}
-
-/// Whether commands, one after the other over one desk with this text, end with these statuses and
-/// tell these lines.
-pub(crate) fn tell_in_turn(
-    rt: &impl Abort,
-    alloc: Global,
-    named: (&str, &[u8]),
-    runs: &[(&[&str], u8)],
-    told: &str,
-) -> bool {
-    let (name, text) = named;
-    let mut desk = MemoryDesk::new(alloc, 4000).expect(rt, "memory");
-    desk.put(name, text).expect(rt, "memory");
-    let ended = end_so(rt, alloc, &mut desk, runs);
-    let is_told = desk.told() == told.as_bytes();
-    drop(desk);
-    ended && is_told
-}
-
 // Whether words are bad, by status and line.
 fn are_bad(rt: &impl Abort, alloc: Global, words: &[&str]) -> bool {
     comes_to(
@@ -164,23 +126,5 @@ fn tells_bad_words(rt: HostRuntime) {
     ];
     for words in cases {
         assert!(rt; are_bad(&rt, rt.alloc(), words));
-    }
-}
-
-#[test]
-fn numbers_are_plain(rt: HostRuntime) {
-    let cases = [
-        ("0", false),
-        ("4294967295", false),
-        ("4294967296", true),
-        ("+1", true),
-        ("00", true),
-        ("", true),
-    ];
-    for (word, is_bad) in cases {
-        assert!(rt;
-            are_bad(&rt, rt.alloc(), &["export", "a.nl", word]) == is_bad,
-            "at {word}"
-        );
     }
 }

@@ -1,6 +1,6 @@
 // The command fixed over a desk in memory.
 
-use crate::commands::{comes_to, first_lines};
+use crate::commands::comes_to;
 use example_texts::mps_texts::{FIXED, FIXED_WRITTEN};
 use std::alloc::Global;
 use std::process::Abort;
@@ -9,12 +9,6 @@ use std::process::Abort;
 fn writes(rt: &impl Abort, alloc: Global, text: &str, written: &str) -> bool {
     let words = ["fixed", "m.mps"];
     comes_to(rt, alloc, &[("m.mps", text.as_bytes())], &words, 0, written)
-}
-
-// Whether the text is refused with this line.
-fn refuses(rt: &impl Abort, alloc: Global, text: &str, told: &str) -> bool {
-    let words = ["fixed", "m.mps"];
-    comes_to(rt, alloc, &[("m.mps", text.as_bytes())], &words, 2, told)
 }
 
 // The example with another line 7.
@@ -34,12 +28,6 @@ fn writes_line(rt: &impl Abort, alloc: Global, line: &str) -> bool {
     writes(rt, alloc, text.as_str(), FIXED_WRITTEN)
 }
 
-// Whether the example with this line 7 is refused at it.
-fn refuses_line(rt: &impl Abort, alloc: Global, line: &str) -> bool {
-    let text = with_line(rt, alloc, line);
-    refuses(rt, alloc, text.as_str(), "refused line 7: bad line\n")
-}
-
 #[test]
 fn keeps_to_the_fields(rt: HostRuntime) {
     let cases = [
@@ -52,23 +40,4 @@ fn keeps_to_the_fields(rt: HostRuntime) {
     for line in cases {
         assert!(rt; writes_line(&rt, rt.alloc(), line), "at {line}");
     }
-}
-
-#[test]
-fn tells_a_line_that_leaves_the_fields(rt: HostRuntime) {
-    let cases = [
-        "    X         COST               1.0  LIM1                2.0",
-        "    X         COST               1.0   LIM1\t              2.0",
-        "    X   Y     COST               1.0   LIM1               2.0",
-        "    X       x COST               1.0   LIM1               2.0",
-    ];
-    for line in cases {
-        assert!(rt; refuses_line(&rt, rt.alloc(), line), "at {line}");
-    }
-}
-
-#[test]
-fn tells_that_fixed_columns_have_no_end(rt: HostRuntime) {
-    let text = first_lines(&rt, rt.alloc(), FIXED, 13);
-    assert!(rt; refuses(&rt, rt.alloc(), text.as_str(), "refused line 14: no end\n"));
 }

@@ -1,6 +1,6 @@
-// The command import over a desk in memory: what is written or told for whole texts.
+// The command import over a desk in memory: what is written for a whole text.
 
-use crate::commands::{comes_to, first_lines};
+use crate::commands::comes_to;
 use example_texts::mps_texts::PAIRS;
 use std::alloc::Global;
 use std::process::Abort;
@@ -15,46 +15,7 @@ fn writes(rt: &impl Abort, alloc: Global, text: &str, written: &str) -> bool {
     comes_to(rt, alloc, &[("m.mps", text.as_bytes())], &words, 0, written)
 }
 
-// Whether the text is refused with this line.
-fn refuses(rt: &impl Abort, alloc: Global, text: &str, told: &str) -> bool {
-    let words = ["import", "m.mps"];
-    comes_to(rt, alloc, &[("m.mps", text.as_bytes())], &words, 2, told)
-}
-
 #[test]
 fn imports_a_program(rt: HostRuntime) {
     assert!(rt; writes(&rt, rt.alloc(), PAIRS, PAIRS_IMPORTED));
-}
-
-// The program with these lines at its end.
-fn with_end(rt: &impl Abort, alloc: Global, end: &str) -> String {
-    let mut text = first_lines(rt, alloc, PAIRS, 16);
-    text.push_str(end).expect(rt, "memory");
-    text
-}
-
-// Whether that program is refused with this line.
-fn refuses_end(rt: &impl Abort, alloc: Global, end: &str, told: &str) -> bool {
-    let text = with_end(rt, alloc, end);
-    refuses(rt, alloc, text.as_str(), told)
-}
-
-#[test]
-fn tells_the_first_fault(rt: HostRuntime) {
-    let cases = [
-        (
-            " LO BN X -3\nENDATA\n",
-            "refused column 0: empty interval\n",
-        ),
-        (
-            " LO BN X 1e41\nENDATA\nRHS\n",
-            "refused line 19: bad section\n",
-        ),
-        (" LO BN X -3\n", "refused line 18: no end\n"),
-    ];
-    for (end, told) in cases {
-        assert!(rt; refuses_end(&rt, rt.alloc(), end, told), "at {end}");
-    }
-    let wide = "ROWS\n N C\n E R\nCOLUMNS\n X C 1\nRHS\n R R 1e30\nRANGES\n G R 1e-30\nENDATA\n";
-    assert!(rt; refuses(&rt, rt.alloc(), wide, "refused row 1: too wide\n"));
 }

@@ -1,5 +1,5 @@
 // The command make.
-use crate::commands::{comes_to, command};
+use crate::commands::command;
 use std::alloc::Global;
 use std::process::Abort;
 use text_base::MemoryDesk;
@@ -31,16 +31,4 @@ fn sums_up_instances(rt: HostRuntime) {
 fn sums_up_the_largest_size(rt: HostRuntime) {
     let line = b"variables 20000 rows 20000 terms 90000 bytes ";
     assert!(rt; sums_up(&rt, rt.alloc(), "7", "20000", line));
-}
-
-#[test]
-fn tells_bad_sizes(rt: HostRuntime) {
-    let cases = [("1", "0"), ("1", "20001"), ("01", "1"), ("4294967296", "1")];
-    for (seed, size) in cases {
-        let words = ["make", seed, size];
-        assert!(rt;
-            comes_to(&rt, rt.alloc(), &[], &words, 3, "bad words\n"),
-            "at {seed} {size}"
-        );
-    }
 }

@@ -153,32 +153,3 @@ fn returns_with_names(rt: HostRuntime) {
         );
     }
 }
-
-// Whether these words end with this status and tell this, at a desk with the knapsack and a binary
-// file.
-fn tells(rt: &impl Abort, alloc: Global, words: &[&str], status: u8, line: &str) -> bool {
-    let texts = [("a.nl", KNAPSACK.as_bytes()), ("b", b"b3 1 1 0\n")];
-    comes_to(rt, alloc, &texts, words, status, line)
-}
-
-#[test]
-fn lists_come_after_the_file(rt: HostRuntime) {
-    let cases: [(&[&str], u8, &str); 5] = [
-        (
-            &["export", "b", "0", "none", "none"],
-            2,
-            "refused line 1: binary file\n",
-        ),
-        (&["export", "a.nl", "0", "none", "none"], 4, "input fault\n"),
-        (
-            &["return", "a.nl", "none", "b", "none"],
-            2,
-            "refused file 3 line 1: bad name\n",
-        ),
-        (&["export", "a.nl", "0", "b"], 3, "bad words\n"),
-        (&["return", "a.nl", "b", "b"], 3, "bad words\n"),
-    ];
-    for (words, status, line) in cases {
-        assert!(rt; tells(&rt, rt.alloc(), words, status, line), "at {line}");
-    }
-}

@@ -1,7 +1,7 @@
 // The commands verify_mps and verify_fixed over a desk in memory: each claim and each kind of
-// verdict on certificates for small MPS programs, and why others are refused.
+// verdict on certificates for small MPS programs.
 
-use crate::commands::{comes_to, tell_in_turn};
+use crate::commands::comes_to;
 use example_texts::mps_texts::{FIXED, WHOLE_IN_TWO};
 use std::alloc::Global;
 use std::process::Abort;
@@ -175,64 +175,4 @@ fn judges_certificates_of_fixed_columns(rt: HostRuntime) {
             "at {rest}"
         );
     }
-}
-
-#[test]
-fn refuses_what_is_no_certificate_of_a_program(rt: HostRuntime) {
-    let cases = [
-        ("best 0\n", 2, "refused file 2 line 2: bad line\n"),
-        (
-            "bound 0 2\nsplit 2 0\n",
-            2,
-            "refused file 2 line 3: index out of range\n",
-        ),
-        (
-            "bound 0 2\nsplit 1 0\n",
-            2,
-            "refused file 2 line 3: not whole\n",
-        ),
-        (
-            "bound 0 2\nduals 1\n2 1\n",
-            2,
-            "refused file 2 line 4: index out of range\n",
-        ),
-        ("optimal 0\n", 2, "refused file 2 line 3: short file\n"),
-        (
-            "bound 1 2\nduals 0\n",
-            2,
-            "refused objective 1: no such objective\n",
-        ),
-    ];
-    for (rest, status, line) in cases {
-        assert!(rt;
-            judges_so(
-                &rt,
-                rt.alloc(),
-                "verify_mps",
-                WHOLE_IN_TWO,
-                rest,
-                (status, line)
-            ),
-            "at {line}"
-        );
-    }
-}
-
-// A fault of the program comes before the certificate is read.
-#[test]
-fn the_program_comes_first(rt: HostRuntime) {
-    let runs: [(&[&str], u8); 4] = [
-        (&["verify_mps", "a", "none"], 2),
-        (&["verify_mps", "none", "a"], 4),
-        (&["verify_mps", "a"], 3),
-        (&["verify_fixed", "a", "none"], 2),
-    ];
-    let told = "refused row 1: too wide\ninput fault\nbad words\nrefused line 2: bad line\n";
-    let wide =
-        b"ROWS\n N C\n G TWO\nCOLUMNS\n X C 1 TWO 2\nRHS\n RHS TWO 3\nRANGES\n RNG TWO 1e-40\nENDATA\n";
-    assert!(rt; tell_in_turn(&rt, rt.alloc(), ("a", wide), &runs, told));
-    let runs: [(&[&str], u8); 1] = [(&["verify_mps", "a", "none"], 2)];
-    let told = "refused column 0: empty interval\n";
-    let empty = b"ROWS\n N C\nCOLUMNS\n X C 1\nBOUNDS\n LO BND X 2\n UP BND X 1\nENDATA\n";
-    assert!(rt; tell_in_turn(&rt, rt.alloc(), ("a", empty), &runs, told));
 }

@@ -1,9 +1,8 @@
-// The command prove over a desk in memory: verdicts on proofs of small files, and why others are
-// refused.
+// The command prove over a desk in memory: verdicts on proofs of small files.
 
-use crate::commands::{comes_to, tell_in_turn};
+use crate::commands::comes_to;
 use example_texts::nl_texts::KNAPSACK;
-use example_texts::proof_texts::{ONE_WHOLE, TWO_LEAVES};
+use example_texts::proof_texts::ONE_WHOLE;
 use std::alloc::Global;
 use std::process::Abort;
 
@@ -111,76 +110,4 @@ fn proves_the_optimum_of_the_knapsack(rt: HostRuntime) {
         .expect(&rt, "memory");
     let gap = (1, "leaf 0 gap 17\n");
     assert!(rt; judges_so(&rt, alloc, KNAPSACK, &better, gap));
-}
-
-#[test]
-fn refuses_texts_that_are_no_proofs(rt: HostRuntime) {
-    let cases = [
-        ("valu 0 2\n", 2, "refused file 2 line 2: bad line\n"),
-        (
-            "infeasible\nduals 0\n",
-            2,
-            "refused file 2 line 3: bad line\n",
-        ),
-        ("value 0 x\n", 2, "refused file 2 line 2: bad number\n"),
-        (
-            "value 0 2\nduals 1\nduals 1\n",
-            2,
-            "refused file 2 line 4: bad number\n",
-        ),
-        (
-            "value 0 2\nsplit 1 0\n",
-            2,
-            "refused file 2 line 3: index out of range\n",
-        ),
-        (
-            "value 0 2\nduals 2\n0 1\n0 1\n",
-            2,
-            "refused file 2 line 5: repeated index\n",
-        ),
-        (
-            "value 0 2\n\nsplit 0 1\nduals 0\n",
-            2,
-            "refused file 2 line 6: short file\n",
-        ),
-        ("", 2, "refused file 2 line 2: short file\n"),
-        (
-            "infeasible\nweights 0\nweights 0\n",
-            2,
-            "refused file 2 line 4: extra line\n",
-        ),
-    ];
-    for (rest, status, line) in cases {
-        assert!(rt;
-            begins_well(&rt, rt.alloc(), ONE_WHOLE, rest, (status, line)),
-            "at {line}"
-        );
-    }
-}
-
-#[test]
-fn tells_faults_of_other_lines(rt: HostRuntime) {
-    let alloc = rt.alloc();
-    let continuous = ONE_WHOLE
-        .replace(alloc, "0 1 0 0 0", "0 0 0 0 0")
-        .expect(&rt, "memory");
-    let not_whole = (2, "refused file 2 line 3: not whole\n");
-    assert!(rt; judges_so(&rt, alloc, &continuous, TWO_LEAVES, not_whole));
-    let bad_first = (2, "refused file 2 line 1: bad first line\n");
-    assert!(rt; judges_so(&rt, alloc, ONE_WHOLE, "proof 2\n", bad_first));
-    assert!(rt; judges_so(&rt, alloc, ONE_WHOLE, "", bad_first));
-    let long = "a".repeat(alloc, 65_537).expect(&rt, "memory");
-    let too_long = (2, "refused file 2 line 1: line too long\n");
-    assert!(rt; judges_so(&rt, alloc, ONE_WHOLE, &long, too_long));
-}
-
-#[test]
-fn the_first_file_comes_first(rt: HostRuntime) {
-    let runs: [(&[&str], u8); 3] = [
-        (&["prove", "a.nl", "none"], 2),
-        (&["prove", "none", "a.nl"], 4),
-        (&["prove", "a.nl"], 3),
-    ];
-    let told = "refused line 1: binary file\ninput fault\nbad words\n";
-    assert!(rt; tell_in_turn(&rt, rt.alloc(), ("a.nl", b"b3 1 1 0\n"), &runs, told));
 }

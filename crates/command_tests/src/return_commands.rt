@@ -1,7 +1,6 @@
-// The command return over a desk in memory: the .sol texts of answers for small files, and why
-// others are refused.
+// The command return over a desk in memory: the .sol texts of answers for small files.
 
-use crate::commands::{comes_to, tell_in_turn};
+use crate::commands::comes_to;
 use example_texts::nl_texts::{Sizes, header, text_of};
 use std::alloc::Global;
 use std::process::Abort;
@@ -69,66 +68,4 @@ fn returns_answers(rt: HostRuntime) {
             "at {rest}"
         );
     }
-}
-
-#[test]
-fn refuses_answers(rt: HostRuntime) {
-    let most = (header("1 1 1", "1 1", "0"), MOST);
-    let thirds = (header("2 1 0", "2 0", "0"), THIRDS);
-    let cases = [
-        (
-            thirds,
-            "col x0 1\n",
-            2,
-            "refused file 2 line 3: partial answer\n",
-        ),
-        (
-            thirds,
-            "row c0 170141183460469231731687303715884105727\n",
-            2,
-            "refused row 0: dual too wide\n",
-        ),
-        (most, "answer 1\n", 2, "refused file 2 line 2: bad line\n"),
-        (
-            most,
-            "col x00 1\n",
-            2,
-            "refused file 2 line 2: unknown name\n",
-        ),
-        (
-            most,
-            "status 1000\n",
-            2,
-            "refused file 2 line 2: bad number\n",
-        ),
-        (
-            most,
-            "col x0 1\ncol x0 1\n",
-            2,
-            "refused file 2 line 3: repeated\n",
-        ),
-        (
-            most,
-            "objno 1\n",
-            2,
-            "refused objective 1: no such objective\n",
-        ),
-    ];
-    for (file, rest, status, out) in cases {
-        assert!(rt;
-            returns_so(&rt, rt.alloc(), file, rest, (status, out)),
-            "at {rest}"
-        );
-    }
-}
-
-#[test]
-fn the_first_file_comes_first(rt: HostRuntime) {
-    let runs: [(&[&str], u8); 3] = [
-        (&["return", "a.nl", "none"], 2),
-        (&["return", "none", "a.nl"], 4),
-        (&["return", "a.nl"], 3),
-    ];
-    let told = "refused line 1: binary file\ninput fault\nbad words\n";
-    assert!(rt; tell_in_turn(&rt, rt.alloc(), ("a.nl", b"b3 1 1 0\n"), &runs, told));
 }

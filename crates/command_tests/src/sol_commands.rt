@@ -1,6 +1,6 @@
-// The command sol over a desk in memory: what is written or told for whole texts.
+// The command sol over a desk in memory: what is written for whole texts.
 
-use crate::commands::{comes_to, first_lines};
+use crate::commands::comes_to;
 use std::alloc::Global;
 use std::process::Abort;
 
@@ -18,28 +18,8 @@ fn writes(rt: &impl Abort, alloc: Global, text: &str, written: &str) -> bool {
     comes_to(rt, alloc, &[("a.sol", text.as_bytes())], &words, 0, written)
 }
 
-// Whether the text is refused with this line.
-fn refuses(rt: &impl Abort, alloc: Global, text: &str, told: &str) -> bool {
-    let words = ["sol", "a.sol"];
-    comes_to(rt, alloc, &[("a.sol", text.as_bytes())], &words, 2, told)
-}
-
 #[test]
 fn writes_a_solution_again(rt: HostRuntime) {
     assert!(rt; writes(&rt, rt.alloc(), SMALL, SMALL_WRITTEN));
     assert!(rt; writes(&rt, rt.alloc(), SMALL_WRITTEN, SMALL_WRITTEN));
-}
-
-#[test]
-fn refuses_solutions(rt: HostRuntime) {
-    let alloc = rt.alloc();
-    let front = first_lines(&rt, alloc, SMALL, 13);
-    let cases = [
-        (front.as_str(), "refused line 14: short file\n"),
-        ("done\n", "refused line 2: no options\n"),
-        ("Options\n3\n1\n3\n0\n", "refused line 4: refused options\n"),
-    ];
-    for (text, told) in cases {
-        assert!(rt; refuses(&rt, alloc, text, told), "at {told}");
-    }
 }
