@@ -160,7 +160,7 @@ others (e ∷ es) row none = elim (eqb_tells e.row row) [
   | inr q ↦ All-cons (IsOtherEntry row) e es q.1 (others es row (rw q.0 at none))
 ]
 
-below : (n most : ℕ) → nat_le most n ≡ false → n < most
+pub below : (n most : ℕ) → nat_le most n ≡ false → n < most
 below n most e = grind (arith, nat_tests, e)
 
 -- it is a row of the program
@@ -234,7 +234,7 @@ may_next k h text rest s last pairs o = absurd pairs
 
 -- ---- the name of a set
 
-and_false : (b : Bool) → (b && false) ≡ false
+pub and_false : (b : Bool) → (b && false) ≡ false
 and_false true = refl
 and_false false = refl
 
@@ -258,7 +258,7 @@ name_fine d name named current = rw (name_is name named, current) refl
 abbrev given : Keyword → Held → ℕ → Dec → Held
 given k h place value = with_held_entry k h (record { row = place; value = value })
 
-pair_taken : (k : Keyword) (h : Held) (row word : List ℕ) (place : ℕ) (value : Dec) → MayGive k (program h) row place → dec_of word ≡ Some value
+pub pair_taken : (k : Keyword) (h : Held) (row word : List ℕ) (place : ℕ) (value : Dec) → MayGive k (program h) row place → dec_of word ≡ Some value
     → Takes (pairs_tests k (program h) (row ∷ word ∷ [])) (with_held_pairs k h (row ∷ word ∷ [])) (Ok tt) (given k h place value)
 pair_taken k h row word place value may says =
     one_pair k h (row ∷ word ∷ []) (Ok tt) (given k h place value) refl (may.fine word value says, ap (if_held_entry k h) (sym (may.entry word value says)))
@@ -360,8 +360,8 @@ module _ (h : Held) (kind : BoundKind) (text behind rest name left : List ℕ) (
 
 -- ---- lines after one another
 
-pub none_taken : (h new : Held) (piece : List ℕ) → new ≡ h → TakesLines h piece (record { len = 0; lines = 0 }) new
-none_taken h new piece same = record { lines = []; is = record { within = omega arith; text = refl; each = tt; count = refl }; goes = ap (λ (x : Held). x.standing) same }
+pub none_taken : (h new : Held) (piece : List ℕ) → new.standing ≡ h.standing → TakesLines h piece (record { len = 0; lines = 0 }) new
+none_taken h new piece same = record { lines = []; is = record { within = omega arith; text = refl; each = tt; count = refl }; goes = same }
 
 all_joined : (xs ys : List (List ℕ)) → AllByRecursion IsTextLine xs → AllByRecursion IsTextLine ys → AllByRecursion IsTextLine (xs ++ ys)
 all_joined [] ys h k = k

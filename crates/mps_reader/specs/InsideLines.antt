@@ -10,16 +10,17 @@ use Rattle.texts.specs.declared.grammar.Front.{Front}
 use Rattle.exact_numbers.specs.Numbers.{dec_of}
 use Rattle.exact_numbers.specs.declared.dec.Dec.{Dec}
 use Rattle.mps_model.specs.declared.kinds.BoundKind.{BoundKind}
+use Rattle.mps_model.specs.declared.kinds.RowKind.{RowKind}
 use Rattle.mps_model.specs.Mps.{Mps}
 use Rattle.mps_model.specs.Valid.{marker_word}
 use Rattle.mps_reader.specs.declared.keyword.Keyword.{Keyword}
 use Rattle.mps_reader.specs.declared.keyword.Keyword.TheVariants.{Name, Sense, Rows, Columns, Rhs, Ranges, Bounds, End}
 use Rattle.mps_reader.specs.Grammar.{line_reason}
-use Rattle.mps_reader.specs.InsideFronts.{IsLineOf, joined}
+use Rattle.mps_reader.specs.InsideFronts.{IsLineOf, IsPairText, joined}
 use Rattle.mps_reader.specs.InsideHeld.{Held, program}
 use Rattle.mps_reader.specs.InsideHeldSteps.{with_sense_word, with_sensed, if_row, with_held_sides, with_held_column_line, with_held_bound_line}
 use Rattle.mps_reader.specs.InsidePairs.{CanGive}
-use Rattle.mps_reader.specs.Saying.{bound_kind_of, entry_in, is_current, needs_number, no_number, row_in}
+use Rattle.mps_reader.specs.Saying.{bound_kind_of, entry_in, is_current, needs_number, no_number, row_in, row_kind_of}
 use Rattle.mps_reader.specs.Sections.{last_of}
 use Rattle.mps_reader.specs.Steps.{after}
 use Rattle.mps_reader.specs.Tests.{Standing, data_tests_in, pair_tests}
@@ -59,7 +60,24 @@ pub record IsNext (k : Keyword) (h g : Held) (text rest : List ℕ) : Type 0 whe
   pub none : first_reason (data_tests_in h.standing words (Some k)) ≡ None
   pub is : g ≡ held_after k h words
 
+-- ---- the line of a row
+
+-- a space, the word of this kind, a space, a name, LF, and what follows
+pub record IsRowText (text : List ℕ) (kind : RowKind) (name rest : List ℕ) : Type 0 where
+  pub word : List ℕ
+  pub parts : text ≡ 32 ∷ word ++ 32 ∷ name ++ 10 ∷ rest
+  pub is_word : IsName word
+  pub is_name : IsName name
+  pub says : row_kind_of word ≡ Some kind
+
 -- ---- the line of a pair
+
+-- a space, a column's name, a space, and a pair
+pub record IsColumnText (text name row : List ℕ) (value : Dec) (rest : List ℕ) : Type 0 where
+  pub pair : List ℕ
+  pub parts : text ≡ 32 ∷ name ++ 32 ∷ pair
+  pub is_name : IsName name
+  pub of_pair : IsPairText pair row value rest
 
 -- its first word: the name of the last column, which may go on, or the set's name
 abbrev pub IsHeadWord : Keyword → Held → List ℕ → Type 0

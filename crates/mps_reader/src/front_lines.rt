@@ -1,5 +1,5 @@
 // Lines at the front of a piece, which are taken at once.
-ghost use Rattle.std.specs.Prelude.{◌≡◌, ◌≤◌, ◌+◌, ◌^◌, true, Some, IfSome, OnSome, length};
+ghost use Rattle.std.specs.Prelude.{◌≡◌, ◌≤◌, ◌+◌, ◌^◌, true, false, Some, IfSome, OnSome, length};
 ghost use Rattle.mps_reader.specs.InsideHeld.{HasPairs, IsKept, IsSound, MayPair, program};
 ghost use Rattle.mps_reader.specs.InsideHeldSteps.{with_held_entry};
 ghost use Rattle.mps_reader.specs.InsideLines.{IsAfterHead, IsNext, MayGive, TakesLines};
@@ -20,6 +20,13 @@ fn has_pairs(keyword: Keyword) -> bool
         Keyword::Columns | Keyword::Rhs | Keyword::Ranges => true,
         _ => false,
     }
+}
+
+/// Lines that were taken, and whether memory was wanting in the middle of the next one.
+#[derive(Clone, Copy)]
+pub struct FrontTaken {
+    pub front: Front,
+    pub is_broken: bool,
 }
 
 /// A pair, and what follows its line.
@@ -148,15 +155,30 @@ impl State {
         }
     }
 
-    // Takes the line that a text begins with, where it is of the plain form and without a fault.
-    fn take_front_line(&mut self, text: &[u8]) -> Front
-        requires { IsSound self.old }
+    // Takes a line of the columns, where a text begins with one.
+    fn take_entry_front(&mut self, text: &[u8]) -> FrontTaken
+        requires sound { IsSound self.old }
+        requires current { last_of self.old.standing.begun ≡ Some Keyword.Columns }
+        ensures lines { TakesLines self.old text.now result.front self.new }
+        ensures sound { result.is_broken ≡ false → IsSound self.new }
+    {
+        let front = self.take_pair_front(Keyword::Columns, text);
+        if front.len > 0 {
+            return FrontTaken {
+                front,
+                is_broken: false,
+            };
+        }
+        self.take_column_front(text)
+    }
+
+    // Takes a line of pairs or of bounds, where a text begins with one.
+    fn take_late_front(&mut self, keyword: Keyword, text: &[u8]) -> Front
+        requires sound { IsSound self.old }
+        requires current { last_of self.old.standing.begun ≡ Some keyword }
         ensures lines { TakesLines self.old text.now result self.new }
         ensures sound { IsSound self.new }
     {
-        let Some(keyword) = last_of(&self.begun) else {
-            return Front { len: 0, lines: 0 };
-        };
         if has_pairs(keyword) {
             return self.take_pair_front(keyword, text);
         }
@@ -166,22 +188,47 @@ impl State {
         }
     }
 
+    // Takes the line that a text begins with, where it is of the plain form and without a fault.
+    fn take_front_line(&mut self, text: &[u8]) -> FrontTaken
+        requires { IsSound self.old }
+        ensures lines { TakesLines self.old text.now result.front self.new }
+        ensures sound { result.is_broken ≡ false → IsSound self.new }
+    {
+        let Some(keyword) = last_of(&self.begun) else {
+            return FrontTaken {
+                front: Front { len: 0, lines: 0 },
+                is_broken: false,
+            };
+        };
+        match keyword {
+            Keyword::Columns => self.take_entry_front(text),
+            Keyword::Rows => self.take_row_front(text),
+            _ => FrontTaken {
+                front: self.take_late_front(keyword, text),
+                is_broken: false,
+            },
+        }
+    }
+
     /// Takes lines at the front of a piece.
-    pub(crate) fn take_front(&mut self, piece: &[u8]) -> Front
+    pub(crate) fn take_front(&mut self, piece: &[u8]) -> FrontTaken
         requires sound { IsSound self.old }
         requires few { length piece.now ≤ 2 ^ 31 + 1 }
-        ensures lines { TakesLines self.old piece.now result self.new }
-        ensures sound { IsSound self.new }
+        ensures lines { TakesLines self.old piece.now result.front self.new }
+        ensures sound { result.is_broken ≡ false → IsSound self.new }
     {
         let mut front = Front { len: 0, lines: 0 };
         'lines: loop {
             let line = self.take_front_line(piece.split_at(front.len).1);
             front = Front {
-                len: front.len + line.len,
-                lines: front.lines + line.lines,
+                len: front.len + line.front.len,
+                lines: front.lines + line.front.lines,
             };
-            if line.len == 0 {
-                return front;
+            if line.is_broken || line.front.len == 0 {
+                return FrontTaken {
+                    front,
+                    is_broken: line.is_broken,
+                };
             }
         }
     }

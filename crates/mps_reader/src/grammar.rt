@@ -65,7 +65,9 @@ impl Grammar for MpsGrammar {
         if self.is_broken {
             return Front { len: 0, lines: 0 };
         }
-        self.state.take_front(piece)
+        let taken = self.state.take_front(piece);
+        self.is_broken = taken.is_broken;
+        taken.front
     }
 
     fn line_fault(&self, fault: LineFault) -> MpsReason {

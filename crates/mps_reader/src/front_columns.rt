@@ -1,0 +1,160 @@
+// The first lines of columns at the front of a piece.
+ghost use Rattle.std.specs.Prelude.{◌≡◌, ◌<◌, ◌^◌, ◌∷◌, [], false, None, Some, OnOk, OnErr, IfSome, length};
+ghost use Rattle.std.specs.Str.{bytes_eq};
+ghost use Rattle.texts.specs.Names.{IsName};
+ghost use Rattle.mps_model.specs.Built.{CanAddColumn, CanAddEntries};
+ghost use Rattle.mps_model.specs.Valid.{marker_word};
+ghost use Rattle.mps_reader.specs.InsideHeld.{IsKept, IsSound, program};
+ghost use Rattle.mps_reader.specs.InsideHeldSteps.{with_first_entry};
+ghost use Rattle.mps_reader.specs.InsideLines.{IsColumnText, IsNext, TakesLines};
+ghost use Rattle.mps_reader.specs.Saying.{place_of};
+ghost use Rattle.mps_reader.specs.Sections.{last_of};
+ghost use Rattle.mps_reader.specs.Tests.{is_full};
+
+use crate::front_lines::FrontTaken;
+use crate::front_words::{PairText, after_space, first_name, first_pair, is_marker_word};
+use crate::keyword::Keyword;
+use crate::sides::Sides;
+use crate::state::State;
+use exact_numbers::Dec;
+use std::alloc::AllocError;
+use texts::{Front, Name};
+
+/// A column and its first entry, and what follows its line.
+#[derive(Clone, Copy)]
+struct NextColumn<'a> {
+    name: &'a [u8],
+    row: u32,
+    value: Dec,
+    rest: &'a [u8],
+}
+
+// The name and the pair that a text begins with.
+#[inline]
+fn first_column(text: &[u8]) -> Option<(&[u8], PairText<'_>)>
+    ensures { IfSome result (λ p. IsColumnText text.now p.0.now p.1.name.now p.1.value
+        p.1.rest.now) }
+{
+    let Some(line) = after_space(text) else {
+        return None;
+    };
+    let Some((name, behind)) = first_name(line, b' ') else {
+        return None;
+    };
+    let Some(pair) = first_pair(behind) else {
+        return None;
+    };
+    Some((name, pair))
+}
+
+impl State {
+    // The row of this name, where a new column may have an entry there.
+    fn first_free_row(&self, name: &[u8]) -> Option<u32>
+        requires { IsKept self.now }
+        ensures place { IfSome result (λ row. place_of self.now.rows name.now ≡ Some row) }
+        ensures full { IfSome result (λ row. is_full Keyword.Columns (program self.now) ≡ false) }
+        ensures other { IfSome result (λ row. bytes_eq name.now marker_word ≡ false) }
+    {
+        if self.is_full(Keyword::Columns) {
+            return None;
+        }
+        if is_marker_word(name) {
+            return None;
+        }
+        let Some(row) = self.rows.find(name) else {
+            return None;
+        };
+        Some(row)
+    }
+
+    // The column that a text begins with, where it may come.
+    fn next_column<'a>(&self, text: &'a [u8]) -> Option<NextColumn<'a>>
+        requires sound { IsSound self.now }
+        requires current { last_of self.now.standing.begun ≡ Some Keyword.Columns }
+        ensures next { IfSome result (λ c. IsNext Keyword.Columns self.now
+            (with_first_entry self.now c.name.now (record { row = c.row; value = c.value }))
+            text.now c.rest.now) }
+        ensures name { IfSome result (λ c. IsName c.name.now) }
+        ensures can { IfSome result (λ c. CanAddColumn (program self.now) c.name.now) }
+        ensures entries { IfSome result (λ c. CanAddEntries (program self.now)
+            ((c.row, c.value) ∷ [])) }
+        ensures new { IfSome result (λ c. place_of self.now.columns c.name.now ≡ None) }
+        ensures within { IfSome result (λ c. c.row < length self.now.marks) }
+        ensures kept { IfSome result (λ c. IsKept
+            (with_first_entry self.now c.name.now (record { row = c.row; value = c.value }))) }
+    {
+        let Some((name, pair)) = first_column(text) else {
+            return None;
+        };
+        let Some(row) = self.first_free_row(pair.name) else {
+            return None;
+        };
+        if !self.columns.takes(name) {
+            return None;
+        }
+        Some(NextColumn {
+            name,
+            row,
+            value: pair.value,
+            rest: pair.rest,
+        })
+    }
+
+    // Adds a column with its first entry. Want of memory may leave its name, but adds nothing to
+    // the program.
+    fn add_first(&mut self, word: &[u8], row: u32, value: Dec) -> Result<(), AllocError>
+        requires kept { IsKept self.old }
+        requires current { last_of self.old.standing.begun ≡ Some Keyword.Columns }
+        requires name { IsName word.now }
+        requires can { CanAddColumn (program self.old) word.now }
+        requires entries { CanAddEntries (program self.old) ((row, value) ∷ []) }
+        requires new { place_of self.old.columns word.now ≡ None }
+        requires within { row < length self.old.marks }
+        ensures ok { OnOk result (self.new
+            ≡ with_first_entry self.old word.now (record { row = row; value = value })) }
+        ensures err { OnErr result (self.new.standing ≡ self.old.standing) }
+    {
+        let name = Name::tested(self.alloc, word)?;
+        let mut entries = Vec::new(self.alloc);
+        entries.push((row, value))?;
+        self.columns.add(self.alloc, word)?;
+        self.sides.push(Sides {
+            lower: false,
+            upper: false,
+        })?;
+        self.builder.add_column(name, self.is_marked, entries)?;
+        self.marks.clear();
+        self.marks.mark(row);
+        self.is_current = true;
+        self.entries += 1;
+        Ok(())
+    }
+
+    /// Takes the first line of a column, where a text begins with one.
+    pub(crate) fn take_column_front(&mut self, text: &[u8]) -> FrontTaken
+        requires sound { IsSound self.old }
+        requires current { last_of self.old.standing.begun ≡ Some Keyword.Columns }
+        ensures lines { TakesLines self.old text.now result.front self.new }
+        ensures sound { result.is_broken ≡ false → IsSound self.new }
+    {
+        let Some(column) = self.next_column(text) else {
+            return FrontTaken {
+                front: Front { len: 0, lines: 0 },
+                is_broken: false,
+            };
+        };
+        match self.add_first(column.name, column.row, column.value) {
+            Ok(()) => FrontTaken {
+                front: Front {
+                    len: text.len() - column.rest.len(),
+                    lines: 1,
+                },
+                is_broken: false,
+            },
+            Err(_) => FrontTaken {
+                front: Front { len: 0, lines: 0 },
+                is_broken: true,
+            },
+        }
+    }
+}
