@@ -4,7 +4,6 @@ use Rattle.std.specs.Option.{option_map_or}
 use Rattle.std.specs.Fmt.{decimal}
 use Rattle.fractions.specs.Fits.{fits}
 use Rattle.duality.specs.Certificate.{Cause, at_point, not_whole, objective_wide, at_ray, at_leaf, ClaimOutcome, holds, fails}
-use Rattle.duality.specs.Ray.{RayFault, ray_row_wide, ray_row_broken, ray_bound_broken, ray_objective_wide, ray_no_better}
 use Rattle.duality.specs.Told.{Told, optimal, within, bound, feasible, infeasible, unbounded}
 use Rattle.texts.specs.declared.fault.TextFault.{TextFault}
 use Rattle.linear_program.specs.Numbers.{number_value}
@@ -14,9 +13,10 @@ use Rattle.certificates.specs.declared.certificate.Claim.{Claim}
 use Rattle.certificates.specs.declared.certificate.Claim.TheVariants.{Optimal, Within, Bound, Feasible, Infeasible, Unbounded}
 use Rattle.certificate_text.specs.declared.fault.CertificateReason.{CertificateReason}
 use Rattle.certificate_text.specs.Reasons.{certificate_reason_text}
+use Rattle.dual_bounds.specs.Reasons.{cause_text as point_text}
+use Rattle.certificate_walk.specs.Reasons.{ray_text}
 use Rattle.command_parts.specs.LeafTold.{leaf_fault_text}
 use Rattle.command_parts.specs.Told.{number_text, refusal}
-use Rattle.command_parts.specs.VerdictTold.{cause_text as point_text}
 
 -- the line of a fault of a certificate's text, which is this file of its command
 abbrev pub certificate_line : ℕ → TextFault CertificateReason → List ℕ
@@ -41,14 +41,6 @@ objective_text k = if nat_lt 0 k then codes " of objective " ++ decimal k else [
 -- the line where the claim holds
 abbrev pub told_line : Claim → Told → List ℕ
 told_line claim told = told_text told ++ objective_text (claim_objective claim) ++ codes "\n"
-
--- why a ray shows nothing
-abbrev pub ray_text : RayFault → List ℕ
-ray_text (ray_row_wide i) = codes "too wide at ray row " ++ decimal i
-ray_text (ray_row_broken i) = codes "ray row " ++ decimal i ++ codes " broken"
-ray_text (ray_bound_broken j) = codes "ray bound " ++ decimal j ++ codes " broken"
-ray_text ray_objective_wide = codes "too wide at ray objective"
-ray_text ray_no_better = codes "ray does not improve"
 
 -- why a certificate shows nothing
 abbrev pub failed_text : Cause → List ℕ

@@ -9,11 +9,12 @@ ghost use Rattle.linear_program.specs.Numbers.{number_value};
 ghost use Rattle.dual_bounds.specs.Terms.{value_found};
 ghost use Rattle.certificates.specs.Certificates.{claim_objective};
 ghost use Rattle.certificates.specs.Told.{told_claim};
+ghost use Rattle.dual_bounds.specs.Reasons.{cause_text};
+ghost use Rattle.certificate_walk.specs.Reasons.{ray_text};
 ghost use Rattle.certificate_walk.specs.Outcomes.{cause_of, leaf_fault_of, outcome_of, point_fault_of, ray_fault_of};
-ghost use Rattle.command_parts.specs.CertificateTold.{failed_text, HasFittingBound, is_held, objective_text, outcome_line, outcome_text, ray_text, told_text};
+ghost use Rattle.command_parts.specs.CertificateTold.{failed_text, HasFittingBound, is_held, objective_text, outcome_line, outcome_text, told_text};
 ghost use Rattle.command_parts.specs.LeafTold.{leaf_fault_text};
 ghost use Rattle.command_parts.specs.Told.{number_text};
-ghost use Rattle.command_parts.specs.VerdictTold.{cause_text};
 
 use crate::leaf_told::{put_gap, put_side, put_wide};
 use crate::told::{put, put_decimal, put_frac, put_index};

@@ -2,7 +2,8 @@
 ghost use Rattle.std.specs.Prelude.{◌≡◌, ◌++◌, IfOk, OnOk};
 ghost use Rattle.dual_bounds.specs.Answers.{answer_of, place_of};
 ghost use Rattle.dual_bounds.specs.declared.verdict.Verdict.TheVariants.{Gap, TooWide, Yes};
-ghost use Rattle.command_parts.specs.VerdictTold.{fit_line, is_yes, negative_line, place_text, verdict_line, verdict_text};
+ghost use Rattle.dual_bounds.specs.Reasons.{place_text};
+ghost use Rattle.command_parts.specs.VerdictTold.{fit_line, is_yes, negative_line, verdict_line, verdict_text};
 
 use crate::told::{fixed, put, put_frac, put_index, put_signed};
 use dual_bounds::{Spot, Verdict};

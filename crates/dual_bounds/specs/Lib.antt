@@ -6,3 +6,4 @@ pub mod InsideCosts
 pub mod Built
 pub mod Sums
 pub mod Leaves
+pub mod Reasons
