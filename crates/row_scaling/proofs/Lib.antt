@@ -4,3 +4,4 @@ pub mod ColumnLemmas
 pub mod LineLemmas
 pub mod NumberLemmas
 pub mod PartLemmas
+pub mod RowLemmas

@@ -1,4 +1,4 @@
-use Rattle.std.proofs.Common.{◌≡◌, ℕ, zero, suc, ◌+◌, ◌∙◌, sym, ap, ap₂, refl, arith, codes, List, [], ◌∷◌, ◌++◌, length, drop, get_or, append-nil, map, Option, Some, None, true, false, cond, Bool, ◌-◌, ◌<◌, ◌≤◌, take, take-append-drop, drop-drop, All}
+use Rattle.std.proofs.Common.{◌≡◌, ℕ, zero, suc, ◌+◌, ◌∙◌, sym, ap, ap₂, refl, arith, codes, List, [], ◌∷◌, ◌++◌, length, drop, get_or, append-nil, map, Option, Some, None, true, false, cond, Bool, ◌-◌, ◌<◌, ◌≤◌, take, take-append-drop, drop-drop, All, append_assoc, subst}
 use Rattle.std.proofs.lemmas.List.{get_or-drop, drop_all, get_or-map, get_or_default, length-map, map-append, nil_from_length}
 use Rattle.std.specs.List.{flat_map}
 use Rattle.fractions.specs.Rational.{ℚ, neg_ℚ, zero_ℚ, ◌-ℚ◌}
@@ -9,20 +9,25 @@ use Rattle.texts.specs.WordLines.{WordLine, indented, line_text, lines_text, unl
 use Rattle.written_texts.proofs.Writing.{lines_after, rest_written}
 use Rattle.mps_model.specs.Mps.{MpsRow, Entry, no_mps_row, Bound, Column, no_column}
 use Rattle.mps_model.specs.declared.kinds.RowKind.TheVariants.{N}
-use Rattle.mps_model.specs.Text.{entry_line, entry_lines, row_line, section, name_of_row as name_at, bound_line, bound_text, change_lines, column_lines, markers_after, value_words}
+use Rattle.mps_model.specs.Text.{mps_lines, mps_text_by, entry_line, entry_lines, row_line, section, name_of_row as name_at, bound_line, bound_text, change_lines, column_lines, markers_after, value_words}
 use Rattle.mps_writer.proofs.Writing.{unless_map, column_written, last_change}
 use Rattle.scaled_program.specs.Program.{ScaledRow, nonzero, z_variable}
-use Rattle.exported_program.specs.Program.{entries_of, mps_row, obj_name, with_entry, bound_record, bounds_of, column_bounds, column_entries, columns_of, fixed_or_both, or_obj_zero}
+use Rattle.exported_program.specs.Program.{mps_of, entries_of, mps_row, obj_name, with_entry, bound_record, bounds_of, column_bounds, column_entries, columns_of, fixed_or_both, or_obj_zero}
 use Rattle.scaling.specs.Scaled.{ScaledValue, IsScaled}
-use Rattle.scaling.specs.Exported.{program_objective, program_rows, exported_from, program_variables, tied_rows}
-use Rattle.row_scaling.specs.InsideSections.{all_ranges, all_rows, all_sides, range_lines, row_lines, side_lines, value_lines, all_bounds, all_columns, lines_from, named_bound, bound_by}
+use Rattle.scaling.specs.Exported.{scaled_as, program_objective, program_rows, exported_from, program_variables, tied_rows}
+use Rattle.row_scaling.specs.InsideSections.{all_ranges, all_rows, all_sides, first_lines, last_lines, range_lines, row_lines, side_lines, value_lines, all_bounds, all_columns, lines_from, named_bound, bound_by}
 use Rattle.row_scaling.specs.InsideSides.{range_in, right_side_of}
-use Rattle.row_scaling.proofs.AddLemmas.{others_left, column_rising, columns_more, column_sides, all_variables, bounds_left, bounds_more, bounds_none, variables_end, left_variables, variable_at}
+use Rattle.row_scaling.proofs.AddLemmas.{others_left, column_rising, columns_more, column_sides, all_kinds, all_variables, bounds_left, bounds_more, bounds_none, variables_end, left_variables, variable_at, variable_of}
 use Rattle.row_scaling.proofs.ColumnLemmas.{entries_more, entries_none, Rows, left, left_some}
 use Rattle.std.proofs.Math.ListN.{get_or-append}
 use Rattle.program_meaning.specs.Names.{row_name}
 use Rattle.program_meaning.specs.Linear.{Form, Variable}
 use Rattle.linear_program.specs.declared.interval.Interval.{Interval}
+use Rattle.linear_program.specs.declared.kind.Kind.{Kind}
+use Rattle.linear_program.specs.declared.kind.Kind.TheVariants.{Continuous}
+use Rattle.linear_program.specs.Intervals.{is_whole_kind, no_sides}
+use Rattle.row_scaling.specs.InsideHeads.{AreHeads}
+use Rattle.row_scaling.specs.declared.heads.Heads.{Heads}
 use Rattle.linear_program.specs.Decimals.{DecimalTerm as TermOf}
 use Rattle.mps_model.specs.declared.kinds.BoundKind.{BoundKind}
 use Rattle.scaling.specs.Rows.{side_value}
@@ -178,7 +183,7 @@ no_entries_written s word [] z out0 out1 h e now =
 no_entries_written s word (t ∷ ts) z out0 out1 h e now = absurd (omega arith)
 
 module _ (s : ScaledValue) (word : List ℕ) where
-  abbrev lines_of : List TermOf → List WordLine
+  abbrev pub lines_of : List TermOf → List WordLine
   lines_of ts = entry_lines value_text (all_rows s) word (map entry_value ts)
 
   -- a few lines, from the last to the first
@@ -205,6 +210,10 @@ module _ (s : ScaledValue) (word : List ℕ) where
 
   pub entries_end : (ts : List TermOf) (i : ℕ) (out total : List ℕ) → length ts ≤ i → out ++ lines_text (lines_of (drop i ts)) ≡ total → out ≡ total
   entries_end ts i out total past start = sym (append-nil out) ∙ ap (λ us. out ++ lines_text (lines_of us)) (sym (drop_all i ts past)) ∙ start
+
+-- an entry is of a row of the program, as all are
+pub few_within : (n : ℕ) (ts : List TermOf) (k : ℕ) (t : TermOf) → All (λ t. t.0 < n) ts → k < length ts → t ≡ get_or ts k t → t.0 < n
+few_within n ts k t within h is = subst (λ u. u.0 < n) (sym is) (within k t h)
 
 names_of : (rs : List ScaledRow) (q : ℕ) → (get_or (map mps_row rs) q no_mps_row).name ≡ get_or (map (λ r. r.name) rs) q []
 names_of [] q = refl
@@ -305,6 +314,18 @@ module _ (s : ScaledValue) (h : IsScaled s) where
       section_written (codes "BOUNDS") (map line_of (all_bounds s)) out0 out1 out2 first second
       ∙ ap (λ ls. out0 ++ lines_text ls) (sym (some_bounds 0 (program_variables s) (section (codes "BOUNDS") ∷ map line_of (all_bounds s)) (omega (arith, some, all_variables s h))))
 
+-- ---- the heads of the columns
+module _ (s : ScaledValue) (heads : Heads) (h : AreHeads s heads) (j : ℕ) (within : j < length heads.kinds.items) where
+  variable_is : get_or (program_variables s) j z_variable ≡ variable_of (length s.bounds) j (get_or (column_sides s) j no_sides) (get_or (all_kinds s) j Continuous)
+  variable_is = variable_at s h.scaled j z_variable (omega (arith, within, h.count))
+
+  pub marked_is : (k : Kind) (marked : Bool) → k ≡ get_or heads.kinds.items j k → marked ≡ is_whole_kind k → marked ≡ (get_or (program_variables s) j z_variable).whole
+  marked_is k marked is whole =
+      whole ∙ ap is_whole_kind (is ∙ get_or_default heads.kinds.items j k Continuous within ∙ ap (λ ks. get_or ks j Continuous) h.kinds) ∙ sym (ap (λ (v : Variable). v.whole) variable_is)
+
+  pub name_is : (name : List ℕ) → name ≡ column_in heads.variables j → name ≡ (get_or (program_variables s) j z_variable).name
+  name_is name is = is ∙ ap (λ n. column_in n j) h.variables ∙ sym (ap (λ (v : Variable). v.name) variable_is)
+
 -- ---- a part of the columns
 pub part_later : {V : Type 0} (items : V → List TermOf) (first m : ℕ) (old now : List (List TermOf)) (columns : List V) → AreLater first old now → first + m ≤ length old → ArePart items first m now columns → ArePart items first m old columns
 part_later items first m old now columns later within p = record { count = p.count; terms = λ k d l. p.terms k d l ∙ later.same (first + k) (omega arith) (omega (arith, l, within)) }
@@ -317,3 +338,21 @@ part_columns items s n first m all columns p a within =
       count = refl;
       terms = λ k d l. (let inside : k < m = omega (arith, l, size) in ap (map entry_value) (p.terms k d inside) ∙ a.terms (first + k) [] (omega (arith, inside, within)));
     }
+
+-- ---- the whole text
+pub text_is : (s : ScaledValue) (first columns last : List ℕ) → first ≡ lines_text (first_lines s) → last ≡ lines_text (last_lines s) →
+    columns ≡ first ++ lines_text (section (codes "COLUMNS") ∷ column_lines value_text (all_rows s) false 0 (all_columns s)) →
+    columns ++ last ≡ mps_text_by value_text (mps_of (scaled_as s))
+unfolding mps_lines mps_of scaled_as
+text_is s first columns last before after now =
+    let column_part = section (codes "COLUMNS") ∷ column_lines value_text (all_rows s) false 0 (all_columns s) in
+    let side_part = section (codes "RHS") ∷ entry_lines value_text (all_rows s) (codes "RHS") (all_sides s) in
+    let range_part = unless_empty (all_ranges s) (section (codes "RANGES") ∷ entry_lines value_text (all_rows s) (codes "RNG") (all_ranges s)) in
+    let bound_part = unless_empty (all_bounds s) (section (codes "BOUNDS") ∷ map (bound_line value_text (all_columns s)) (all_bounds s)) in
+    let end_part = section (codes "ENDATA") ∷ [] in
+    let front = first_lines s ++ column_part in
+    let columns_so : columns ≡ lines_text front = lines_after [] _ _ (first_lines s) column_part before now in
+    lines_after [] _ _ front (last_lines s) columns_so (ap (λ x. columns ++ x) after)
+    ∙ ap lines_text (sym (append_assoc front (side_part ++ range_part ++ bound_part) end_part)
+    ∙ ap (λ ls. ls ++ end_part) (sym (append_assoc front (side_part ++ range_part) bound_part)
+    ∙ ap (λ ls. ls ++ bound_part) (sym (append_assoc front side_part range_part))))

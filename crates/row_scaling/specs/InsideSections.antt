@@ -1,15 +1,15 @@
 -- The program of a scaled linear program, section by section, and the lines of its rows.
-use Rattle.std.specs.Prelude.{ℕ, Bool, List, [], ◌∷◌, drop, map, codes, Option, Some, None}
+use Rattle.std.specs.Prelude.{ℕ, Bool, List, [], ◌∷◌, ◌++◌, drop, map, codes, Option, Some, None}
 use Rattle.fractions.specs.Rational.{ℚ, neg_ℚ}
 use Rattle.exact_numbers.specs.declared.dec.Dec.{Dec}
 use Rattle.exact_numbers.specs.Values.{text_of, value_text}
-use Rattle.texts.specs.WordLines.{WordLine, indented}
+use Rattle.texts.specs.WordLines.{WordLine, indented, unless_empty}
 use Rattle.mps_model.specs.Mps.{MpsRow, Entry, Column, Bound}
 use Rattle.mps_model.specs.declared.kinds.BoundKind.{BoundKind}
 use Rattle.mps_model.specs.declared.kinds.RowKind.TheVariants.{N}
-use Rattle.mps_model.specs.Text.{bound_text, column_lines, row_line, value_words}
+use Rattle.mps_model.specs.Text.{bound_line, bound_text, column_lines, entry_lines, name_lines, row_line, section, sense_lines, value_words}
 use Rattle.scaled_program.specs.Program.{ScaledRow, nonzero}
-use Rattle.exported_program.specs.Program.{bounds_of, columns_of, entries_of, mps_row, obj_name, with_entry}
+use Rattle.exported_program.specs.Program.{bounds_of, columns_of, entries_of, mps_row, nl_name, obj_name, with_entry}
 use Rattle.scaling.specs.Scaled.{ScaledValue}
 use Rattle.scaling.specs.Exported.{program_objective, program_rows, program_variables}
 use Rattle.row_scaling.specs.InsideSides.{range_in, right_side_of}
@@ -35,6 +35,23 @@ all_ranges s = entries_of range_in 1 (program_rows s)
 -- the bounds of the variables
 abbrev pub all_bounds : ScaledValue → List (Bound ℚ)
 all_bounds s = bounds_of 0 (program_variables s)
+
+-- the lines before those of the columns
+abbrev pub first_lines : ScaledValue → List WordLine
+first_lines s =
+    name_lines nl_name
+    ++ sense_lines s.maximise
+    ++ section (codes "ROWS") ∷ map row_line (all_rows s)
+
+-- the lines after those of the columns
+abbrev pub last_lines : ScaledValue → List WordLine
+last_lines s =
+    section (codes "RHS") ∷ entry_lines value_text (all_rows s) (codes "RHS") (all_sides s)
+    ++ unless_empty (all_ranges s)
+    (section (codes "RANGES") ∷ entry_lines value_text (all_rows s) (codes "RNG") (all_ranges s))
+    ++ unless_empty (all_bounds s)
+    (section (codes "BOUNDS") ∷ map (bound_line value_text (all_columns s)) (all_bounds s))
+    ++ section (codes "ENDATA") ∷ []
 
 -- ---- lines by name
 -- the line of a row

@@ -10,13 +10,14 @@ ghost use Rattle.row_scaling.specs.InsideSections.{all_bounds, all_columns, boun
 
 use crate::names::put_column_name;
 use crate::numbers::{same_value, zero};
+use crate::pieces::{Pieces, put, put_line};
 use exact_numbers::Dec;
 use linear_program::Interval;
 use mps_model::BoundKind;
 use mps_writer::bound_front;
 use scaling::Scaled;
 use std::alloc::AllocError;
-use written_texts::{LineText, put, put_line};
+use written_texts::LineText;
 
 // Writes the name of column j in front, and the value behind it where the kind has one.
 fn put_tail(lines: &mut LineText<256>, n: usize, j: u32, kind: BoundKind, value: Dec)
@@ -51,15 +52,15 @@ fn put_bound_before(lines: &mut LineText<256>, n: usize, j: u32, kind: BoundKind
 
 // The line of the one bound of a column.
 fn put_one(
-    out: &mut Vec<u8>,
+    out: &mut Pieces,
     lines: &mut LineText<256>,
     n: usize,
     j: u32,
     kind: BoundKind,
     value: Dec,
 ) -> Result<(), AllocError>
-    ensures { OnOk result (out.new.items
-        ≡ out.old.items ++ lines_text (bound_by (column_in n j) kind value ∷ [])) }
+    ensures { OnOk result (out.new
+        ≡ out.old ++ lines_text (bound_by (column_in n j) kind value ∷ [])) }
 {
     lines.clear();
     put_bound_before(lines, n, j, kind, value);
@@ -68,14 +69,14 @@ fn put_one(
 
 // The lines of both bounds of a column, the second of which is written first.
 fn put_both(
-    out: &mut Vec<u8>,
+    out: &mut Pieces,
     lines: &mut LineText<256>,
     n: usize,
     j: u32,
     lower: (BoundKind, Dec),
     upper: (BoundKind, Dec),
 ) -> Result<(), AllocError>
-    ensures { OnOk result (out.new.items ≡ out.old.items ++ lines_text
+    ensures { OnOk result (out.new ≡ out.old ++ lines_text
         (bound_by (column_in n j) lower.0 lower.1
         ∷ bound_by (column_in n j) upper.0 upper.1 ∷ [])) }
 {
@@ -87,13 +88,13 @@ fn put_both(
 
 // The bounds of column j, both sides by name.
 fn put_column_bounds(
-    out: &mut Vec<u8>,
+    out: &mut Pieces,
     lines: &mut LineText<256>,
     n: usize,
     j: u32,
     side: Interval,
 ) -> Result<(), AllocError>
-    ensures { OnOk result (out.new.items ≡ out.old.items ++ lines_text
+    ensures { OnOk result (out.new ≡ out.old ++ lines_text
         (map (named_bound (column_in n j))
         (column_bounds j (side_value side.lo) (side_value side.hi)))) }
 {
@@ -143,8 +144,8 @@ fn put_column_bounds(
 }
 
 // The bounds of the columns.
-fn put_listed_bounds(out: &mut Vec<u8>, scaled: &Scaled) -> Result<(), AllocError>
-    ensures { OnOk result (out.new.items ≡ out.old.items ++ lines_text
+fn put_listed_bounds(out: &mut Pieces, scaled: &Scaled) -> Result<(), AllocError>
+    ensures { OnOk result (out.new ≡ out.old ++ lines_text
         (map (bound_line value_text (all_columns scaled.now)) (all_bounds scaled.now))) }
 {
     let n = scaled.variables();
@@ -157,8 +158,8 @@ fn put_listed_bounds(out: &mut Vec<u8>, scaled: &Scaled) -> Result<(), AllocErro
 }
 
 /// Writes the bounds; nothing where there is no column.
-pub(crate) fn put_bounds(out: &mut Vec<u8>, scaled: &Scaled) -> Result<(), AllocError>
-    ensures { OnOk result (out.new.items ≡ out.old.items ++ lines_text
+pub(crate) fn put_bounds(out: &mut Pieces, scaled: &Scaled) -> Result<(), AllocError>
+    ensures { OnOk result (out.new ≡ out.old ++ lines_text
         (unless_empty (all_bounds scaled.now) (section (codes "BOUNDS")
         ∷ map (bound_line value_text (all_columns scaled.now)) (all_bounds scaled.now)))) }
 {

@@ -8,9 +8,12 @@ mod column_lines;
 mod columns;
 mod entry_lines;
 mod export;
+mod heads;
+mod heads_of;
 mod names;
 mod numbers;
 mod part_columns;
+mod pieces;
 mod program_columns;
 mod row_lines;
 mod rows;
@@ -23,4 +26,4 @@ pub use export::program;
 pub use scaling::{
     FactoredRow, ScaleFault, Scaled, ScaledObjective, ScaledRow, Tie, scale_program, scale_rows,
 };
-pub use written::write_exported;
+pub use written::{write_exported, write_pieces};

@@ -7,22 +7,23 @@ ghost use Rattle.texts.specs.WordLines.{line_text, lines_text};
 ghost use Rattle.row_scaling.specs.InsideSections.{all_rows, row_lines};
 
 use crate::names::put_row_name;
+use crate::pieces::{Pieces, put, put_line, put_row};
 use crate::rows::kind_of;
 use mps_model::RowKind;
-use mps_writer::{put_row, row_front};
+use mps_writer::row_front;
 use scaling::{FactoredRow, Scaled};
 use std::alloc::AllocError;
-use written_texts::{LineText, put, put_line};
+use written_texts::LineText;
 
 // The line of row i, in the room of a line.
 fn put_row_line(
-    out: &mut Vec<u8>,
+    out: &mut Pieces,
     line: &mut LineText<256>,
     n: usize,
     i: u32,
     kind: RowKind,
 ) -> Result<(), AllocError>
-    ensures { OnOk result (out.new.items ≡ out.old.items ++ line_text
+    ensures { OnOk result (out.new ≡ out.old ++ line_text
         (row_line (record { name = name_in n i; kind = kind }))) }
 {
     line.clear();
@@ -34,13 +35,13 @@ fn put_row_line(
 
 // The rows of a list, row n being that of a tie.
 fn put_listed_rows(
-    out: &mut Vec<u8>,
+    out: &mut Pieces,
     rows: &[Option<FactoredRow>],
     n: usize,
 ) -> Result<(), AllocError>
     requires { length rows.now ≤ 2 ^ 20 + 1 }
-    ensures { OnOk result (out.new.items
-        ≡ out.old.items ++ lines_text (flat_map row_lines (rows_in (name_in n) 0 rows.now))) }
+    ensures { OnOk result (out.new
+        ≡ out.old ++ lines_text (flat_map row_lines (rows_in (name_in n) 0 rows.now))) }
 {
     let mut line = LineText::<256>::new();
     for (i, row) in rows.iter().enumerate() {
@@ -53,8 +54,8 @@ fn put_listed_rows(
 }
 
 /// Writes the rows, the objective first.
-pub(crate) fn put_rows(out: &mut Vec<u8>, scaled: &Scaled) -> Result<(), AllocError>
-    ensures { OnOk result (out.new.items ≡ out.old.items ++ lines_text
+pub(crate) fn put_rows(out: &mut Pieces, scaled: &Scaled) -> Result<(), AllocError>
+    ensures { OnOk result (out.new ≡ out.old ++ lines_text
         (section (codes "ROWS") ∷ map row_line (all_rows scaled.now))) }
 {
     put_line(out, b"ROWS")?;

@@ -10,22 +10,22 @@ ghost use Rattle.row_scaling.specs.InsideSections.{all_ranges, all_rows, all_sid
 
 use crate::names::put_row_name;
 use crate::numbers::{negated, nonzero};
+use crate::pieces::{Pieces, put, put_entry, put_line};
 use crate::sides::right_side;
 use exact_numbers::Dec;
-use mps_writer::put_entry;
 use scaling::{FactoredRow, Scaled};
 use std::alloc::AllocError;
-use written_texts::{LineText, put, put_line};
+use written_texts::LineText;
 
 // The line of a value at a name, where there is one.
 fn put_value(
-    out: &mut Vec<u8>,
+    out: &mut Pieces,
     word: &[u8],
     name: &[u8],
     value: Option<Dec>,
 ) -> Result<(), AllocError>
-    ensures { OnOk result (out.new.items
-        ≡ out.old.items ++ lines_text (value_lines word.now name.now (side_value value))) }
+    ensures { OnOk result (out.new
+        ≡ out.old ++ lines_text (value_lines word.now name.now (side_value value))) }
 {
     let Some(number) = value else {
         return Ok(());
@@ -36,7 +36,7 @@ fn put_value(
 
 // The line of a value in row i, in the room of a line.
 fn put_row_value(
-    out: &mut Vec<u8>,
+    out: &mut Pieces,
     line: &mut LineText<256>,
     word: &[u8],
     n: usize,
@@ -44,7 +44,7 @@ fn put_row_value(
     value: Dec,
 ) -> Result<(), AllocError>
     requires { length word.now ≤ 32 }
-    ensures { OnOk result (out.new.items ≡ out.old.items ++ line_text
+    ensures { OnOk result (out.new ≡ out.old ++ line_text
         (indented (word.now ∷ name_in n i ∷ text_of value ∷ []))) }
 {
     line.clear();
@@ -59,14 +59,10 @@ fn put_row_value(
 }
 
 // The right sides of the rows of a list, row n being that of a tie.
-fn put_row_sides(
-    out: &mut Vec<u8>,
-    rows: &[Option<FactoredRow>],
-    n: usize,
-) -> Result<(), AllocError>
+fn put_row_sides(out: &mut Pieces, rows: &[Option<FactoredRow>], n: usize) -> Result<(), AllocError>
     requires { length rows.now ≤ 2 ^ 20 + 1 }
-    ensures { OnOk result (out.new.items
-        ≡ out.old.items ++ lines_text (flat_map side_lines (rows_in (name_in n) 0 rows.now))) }
+    ensures { OnOk result (out.new
+        ≡ out.old ++ lines_text (flat_map side_lines (rows_in (name_in n) 0 rows.now))) }
 {
     let mut line = LineText::<256>::new();
     for (i, row) in rows.iter().enumerate() {
@@ -83,8 +79,8 @@ fn put_row_sides(
 
 /// Writes the right sides; minus the objective's constant comes first, where that is not 0.
 #[tactic(auto, using(crate::proofs::LineLemmas::sides_written))]
-pub(crate) fn put_sides(out: &mut Vec<u8>, scaled: &Scaled) -> Result<(), AllocError>
-    ensures { OnOk result (out.new.items ≡ out.old.items ++ lines_text
+pub(crate) fn put_sides(out: &mut Pieces, scaled: &Scaled) -> Result<(), AllocError>
+    ensures { OnOk result (out.new ≡ out.old ++ lines_text
         (section (codes "RHS")
         ∷ entry_lines value_text (all_rows scaled.now) (codes "RHS") (all_sides scaled.now))) }
 {
@@ -115,13 +111,13 @@ fn has_ranges(rows: &[Option<FactoredRow>]) -> bool
 
 // The ranges of the rows of a list, row n being that of a tie.
 fn put_row_ranges(
-    out: &mut Vec<u8>,
+    out: &mut Pieces,
     rows: &[Option<FactoredRow>],
     n: usize,
 ) -> Result<(), AllocError>
     requires { length rows.now ≤ 2 ^ 20 + 1 }
-    ensures { OnOk result (out.new.items
-        ≡ out.old.items ++ lines_text (flat_map range_lines (rows_in (name_in n) 0 rows.now))) }
+    ensures { OnOk result (out.new
+        ≡ out.old ++ lines_text (flat_map range_lines (rows_in (name_in n) 0 rows.now))) }
 {
     let mut line = LineText::<256>::new();
     for (i, row) in rows.iter().enumerate() {
@@ -137,8 +133,8 @@ fn put_row_ranges(
 }
 
 /// Writes the ranges; nothing where there is none.
-pub(crate) fn put_ranges(out: &mut Vec<u8>, scaled: &Scaled) -> Result<(), AllocError>
-    ensures { OnOk result (out.new.items ≡ out.old.items ++ lines_text
+pub(crate) fn put_ranges(out: &mut Pieces, scaled: &Scaled) -> Result<(), AllocError>
+    ensures { OnOk result (out.new ≡ out.old ++ lines_text
         (unless_empty (all_ranges scaled.now) (section (codes "RANGES")
         ∷ entry_lines value_text (all_rows scaled.now) (codes "RNG")
         (all_ranges scaled.now)))) }

@@ -200,4 +200,13 @@ impl Scaled {
     {
         &self.parts.kinds
     }
+
+    /// The same rows as `program_rows`, where all else is let go.
+    pub fn into_program_rows(self) -> Vec<Option<FactoredRow>>
+        ensures rows { AreProgramRows self result.items }
+        ensures scaled { IsScaled self }
+    {
+        let parts = self.parts;
+        parts.rows
+    }
 }

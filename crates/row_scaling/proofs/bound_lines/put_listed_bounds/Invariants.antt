@@ -8,5 +8,5 @@ use Rattle.row_scaling.proofs.AddLemmas.{left_variables}
 use Rattle.row_scaling.proofs.bound_lines.put_listed_bounds.Given as goal
 
 abbrev pub invariant-loop-j : goal.invariant-loop-j
-invariant-loop-j l = l.out.items ++ lines_text (map (bound_line value_text (all_columns l.scaled)) (bounds_of l.j (left_variables l.scaled l.j)))
-    ≡ l.initial.out.items ++ lines_text (map (bound_line value_text (all_columns l.scaled)) (all_bounds l.scaled))
+invariant-loop-j l = l.out ++ lines_text (map (bound_line value_text (all_columns l.scaled)) (bounds_of l.j (left_variables l.scaled l.j)))
+    ≡ l.initial.out ++ lines_text (map (bound_line value_text (all_columns l.scaled)) (all_bounds l.scaled))

@@ -1,6 +1,10 @@
 use Rattle.std.proofs.Common.{◌≡◌, ◌≤◌, ◌<◌, ◌%◌, ◌-◌, ◌++◌, false}
 use Rattle.texts.specs.WordLines.{lines_text}
 use Rattle.row_scaling.specs.InsideBatches.{AreLater}
+use Rattle.scaling.specs.Parts.{column_count}
+use Rattle.scaling.specs.Scaled.{ScaledValue}
+use Rattle.row_scaling.specs.InsideColumns.{AreColumns, entries_in_column}
+use Rattle.row_scaling.specs.InsideHeads.{AreHeads}
 use Rattle.row_scaling.specs.InsideSections.{lines_from}
 use Rattle.row_scaling.proofs.column_lines.put_parts.Given as goal
 
@@ -10,7 +14,8 @@ invariant-parts l = record {
   start : l.done < l.total → l.done % 1024 ≡ 0;
   later : AreLater l.done l.initial.batches l.batches;
   few : l.place.markers ≤ l.done;
-  text : l.out.items ++ lines_text (lines_from l.scaled l.place.marked l.place.markers l.done) ≡ l.initial.out.items ++ lines_text (lines_from l.scaled false 0 0);
+  text : (s : ScaledValue) → AreHeads s l.heads → AreColumns (λ c. c) (column_count s) (entries_in_column s) l.initial.batches →
+      l.out ++ lines_text (lines_from s l.place.marked l.place.markers l.done) ≡ l.initial.out ++ lines_text (lines_from s false 0 0);
 }
 
 abbrev pub decreases-parts : goal.decreases-parts

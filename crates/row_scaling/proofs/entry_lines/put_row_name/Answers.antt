@@ -15,22 +15,22 @@ digits_fit n old new fits now =
 pub put_number-requires : goal.put_number-requires
 put_number-requires c =
     let d = digits_fit c.in-Some.number.now [] (decimal c.in-Some.number.now ++ []) (omega (arith, (c.type_inv.numbers (c.args.row - 1)).fits, c.in-Some.ensures.lookup.3.1 0)) refl in
-    omega (arith, c.requires.room, d.0)
+    omega (arith, c.requires, d.0)
 
 pub put_byte-requires : goal.put_byte-requires
 put_byte-requires c =
     let d = digits_fit c.in-Some.number.now c.args.lines.now c.put_number.new.self (omega (arith, (c.type_inv.numbers (c.args.row - 1)).fits, c.in-Some.ensures.lookup.3.1 0)) c.put_number.ensures in
-    omega (arith, c.requires.room, d.1)
+    omega (arith, c.requires, d.1)
 
 pub returns-in-Some : goal.returns-in-Some
 returns-in-Some c =
     let item = c.in-Some.ensures.lookup.3 in
-    let named = row_is_named c.args._scaled.now c.args.numbers.now c.args.row c.in-Some.number.now c.requires.numbers c.if-row-eq0.false item.0 (item.1 0) in
     let d = digits_fit c.in-Some.number.now c.args.lines.now c.put_number.new.self (omega (arith, (c.type_inv.numbers (c.args.row - 1)).fits, c.in-Some.ensures.lookup.3.1 0)) c.put_number.ensures in
     record {
-      text = c.put_byte.ensures ∙ ap (λ x. 99 ∷ x) c.put_number.ensures ∙ ap (λ ns. ns ++ c.args.lines.now) named;
+      text = λ s numbers within. c.put_byte.ensures ∙ ap (λ x. 99 ∷ x) c.put_number.ensures
+          ∙ ap (λ ns. ns ++ c.args.lines.now) (row_is_named s c.args.numbers.now c.args.row c.in-Some.number.now numbers c.if-row-eq0.false item.0 (item.1 0));
       short = omega (arith, ap length c.put_byte.ensures, d.1);
     }
 
 pub returns-in-None-clause-text : goal.returns-in-None-clause-text
-returns-in-None-clause-text c = grind (arith, common_steps)
+returns-in-None-clause-text c = λ s numbers within. grind (arith, common_steps, numbers, within)

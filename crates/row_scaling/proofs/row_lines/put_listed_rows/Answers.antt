@@ -30,11 +30,11 @@ rows_end name rows i out total e start = sym (append-nil out) ∙ ap (λ (rs : L
 
 pub loop-i-preserved-in_default : goal.loop-i-preserved-in_default
 loop-i-preserved-in_default c =
-    ap (λ (rs : List ScaledRow). c.loop-i.out.items ++ lines_text (flat_map row_lines rs)) (sym (left_none (name_in c.args.n) c.args.rows.now c.loop-i.i c.index-rows-i.result (omega arith) c.index-rows-i.is c.in_default.is)) ∙ c.loop-i.invariant
+    ap (λ (rs : List ScaledRow). c.loop-i.out ++ lines_text (flat_map row_lines rs)) (sym (left_none (name_in c.args.n) c.args.rows.now c.loop-i.i c.index-rows-i.result (omega arith) c.index-rows-i.is c.in_default.is)) ∙ c.loop-i.invariant
 
 pub loop-i-preserved : goal.loop-i-preserved
 loop-i-preserved c =
-    row_written (name_in c.args.n) c.args.rows.now c.loop-i.i c.index-rows-i.result c.in-Some.factored c.kind_of.result (name_in c.args.n c.loop-i.i) c.loop-i.out.items c.put_row_line.new.out.items _ (omega arith) c.index-rows-i.is c.in-Some.is c.kind_of.ensures refl c.loop-i.invariant c.in_ok-put_row_line.ensures
+    row_written (name_in c.args.n) c.args.rows.now c.loop-i.i c.index-rows-i.result c.in-Some.factored c.kind_of.result (name_in c.args.n c.loop-i.i) c.loop-i.out c.put_row_line.new.out _ (omega arith) c.index-rows-i.is c.in-Some.is c.kind_of.ensures refl c.loop-i.invariant c.in_ok-put_row_line.ensures
 
 pub returns : goal.returns
-returns c = rows_end (name_in c.args.n) c.args.rows.now c.loop-i.i c.loop-i.out.items _ (omega arith) c.loop-i.invariant
+returns c = rows_end (name_in c.args.n) c.args.rows.now c.loop-i.i c.loop-i.out _ (omega arith) c.loop-i.invariant

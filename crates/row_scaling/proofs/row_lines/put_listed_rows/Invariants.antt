@@ -7,4 +7,4 @@ use Rattle.row_scaling.proofs.ColumnLemmas.{left}
 use Rattle.row_scaling.proofs.row_lines.put_listed_rows.Given as goal
 
 abbrev pub invariant-loop-i : goal.invariant-loop-i
-invariant-loop-i l = l.out.items ++ lines_text (flat_map row_lines (left (name_in l.fn.n) l.rows l.i)) ≡ l.initial.out.items ++ lines_text (flat_map row_lines (left (name_in l.fn.n) l.rows 0))
+invariant-loop-i l = l.out ++ lines_text (flat_map row_lines (left (name_in l.fn.n) l.rows l.i)) ≡ l.initial.out ++ lines_text (flat_map row_lines (left (name_in l.fn.n) l.rows 0))

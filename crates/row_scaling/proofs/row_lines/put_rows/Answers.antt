@@ -5,5 +5,5 @@ use Rattle.row_scaling.proofs.row_lines.put_rows.Goals as goal
 
 pub returns : goal.returns
 returns c =
-    rows_written c.args.scaled.now _ c.args.out.now.items c.put_line.new.out.items c.put_row.new.out.items c.put_listed_rows.new.out.items
+    rows_written c.args.scaled.now _ c.args.out.now c.put_line.new.out c.put_row.new.out c.put_listed_rows.new.out
     (ap (λ n. rows_in (name_in n) 0 c.program_rows.result.now) c.constraints.ensures.value ∙ c.program_rows.ensures.rows.named) c.in_ok-put_line.ensures c.in_ok-put_row.ensures c.in_ok-put_listed_rows.ensures

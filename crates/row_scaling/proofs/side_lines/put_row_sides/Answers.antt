@@ -6,5 +6,5 @@ use Rattle.row_scaling.proofs.side_lines.put_row_sides.Goals as goal
 
 pub loop-i-preserved : goal.loop-i-preserved
 loop-i-preserved c =
-    row_line_written right_side_of (codes "RHS") (name_in c.args.n) c.args.rows.now c.loop-i.i c.index-rows-i.result c.in-Some.factored c.right_side.result c.in-Some-right_side.side (name_in c.args.n c.loop-i.i) c.loop-i.out.items c.put_row_value.new.out.items _ (omega arith) c.index-rows-i.is c.in-Some.is
+    row_line_written right_side_of (codes "RHS") (name_in c.args.n) c.args.rows.now c.loop-i.i c.index-rows-i.result c.in-Some.factored c.right_side.result c.in-Some-right_side.side (name_in c.args.n c.loop-i.i) c.loop-i.out c.put_row_value.new.out _ (omega arith) c.index-rows-i.is c.in-Some.is
     c.right_side.ensures c.in-Some-right_side.is refl c.loop-i.invariant c.in_ok-put_row_value.ensures

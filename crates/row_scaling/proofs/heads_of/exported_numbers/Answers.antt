@@ -3,7 +3,7 @@ use Rattle.std.proofs.lemmas.List.{map-append}
 use Rattle.scaled_program.specs.Program.{ScaledRow}
 use Rattle.scaling.specs.declared.row.FactoredRow.{FactoredRow}
 use Rattle.row_scaling.proofs.ColumnLemmas.{Rows, left, left_end, left_none, left_some}
-use Rattle.row_scaling.proofs.column_lines.exported_numbers.Goals as goal
+use Rattle.row_scaling.proofs.heads_of.exported_numbers.Goals as goal
 
 -- the number of the next row, which is there
 number_kept : (name : ℕ → List ℕ) (rows : Rows) (i : ℕ) (o : Option FactoredRow) (r : FactoredRow) (old new : List ℕ) (total : List (List ℕ)) → i < length rows → o ≡ get_or rows i o → o ≡ Some r → new ≡ old ++ i ∷ [] →
