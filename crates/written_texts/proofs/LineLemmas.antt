@@ -7,8 +7,7 @@ use Rattle.std.proofs.lemmas.List.Folds.{flat_map-map}
 use Rattle.std.proofs.lemmas.List.Sums.{suffix_len_is}
 use Rattle.std.specs.List.{AllByRecursion, suffix_len}
 use Rattle.texts.proofs.ReadingLemmas.{written_lines}
-use Rattle.texts.specs.Cut as texts
-use Rattle.texts.specs.Cut.{HasNoEnd, IsTextLine}
+use Rattle.texts.specs.Cut.{HasNoEnd, IsTextLine, ended_lines}
 use Rattle.texts.specs.Judged.{End}
 use Rattle.texts.specs.Lines.{trimmed}
 use Rattle.texts.specs.Names.{has_name_bytes}
@@ -91,11 +90,11 @@ pub text-lines : (lines : List WordLine) → AllByRecursion IsWordLine lines →
 text-lines [] all = tt
 text-lines (words ∷ lines) all = (text-line words all.0, text-lines lines all.1)
 
-lines_text-spaced : (lines : List WordLine) → texts.lines_text (map spaced lines) ≡ lines_text lines
-lines_text-spaced lines = flat_map-map (λ line. line ++ 10 ∷ []) spaced lines
+ended_lines-spaced : (lines : List WordLine) → ended_lines (map spaced lines) ≡ lines_text lines
+ended_lines-spaced lines = flat_map-map (λ line. line ++ 10 ∷ []) spaced lines
 
 pub lines-read : (lines : List WordLine) → AllByRecursion IsWordLine lines → length (lines_text lines) ≤ 2 ^ 31 → (lines_of (lines_text lines) ≡ map spaced lines) × (last_of (lines_text lines) ≡ End)
 lines-read lines all room =
-    let text = lines_text-spaced lines in
+    let text = ended_lines-spaced lines in
     let both = written_lines (map spaced lines) (text-lines lines all) (subst (λ (t : List ℕ). length t ≤ 2 ^ 31) (sym text) room) in
     (ap lines_of (sym text) ∙ both.0, ap last_of (sym text) ∙ both.1)
