@@ -152,30 +152,6 @@ fn entry_of_sum(
     }
 }
 
-// The sum of a form and of terms, of which the first has a number.
-fn summed_terms<L: Ledger>(
-    alloc: Global,
-    form: &Form,
-    terms: &[(u32, Dec)],
-    first: usize,
-    total: &mut Sum,
-    steps: &mut Steps<L>,
-) -> Result<Entry, AllocError>
-    requires blank { IsBlank total.old }
-    requires within { IsWithin (place_count total.old) form.now }
-    requires below { AreTermsBelow (place_count total.old) terms.now }
-    requires first { first ≤ 2 ^ 22 }
-    ensures blank { OnOk result (StaysBlank total.old total.new) }
-    ensures entry { IfOk result
-        (λ e. ComesToTerms (form_line form.now) first (linear_terms terms.now) e) }
-    ensures above { steps.old ≤ steps.new }
-    ensures below { steps.new ≤ steps.old + (place_count total.old + 1) + length terms.now }
-{
-    put(total, form, steps)?;
-    let summed = add_linear_terms(total, terms, first, steps);
-    entry_of_sum(alloc, total, summed)
-}
-
 // A form with terms, of which the first has a number.
 fn with_terms<L: Ledger>(
     alloc: Global,
@@ -198,7 +174,9 @@ fn with_terms<L: Ledger>(
     if form.is_constant() && are_ascending(terms) {
         return form_of_ascending(alloc, form, terms, first, steps);
     }
-    summed_terms(alloc, form, terms, first, total, steps)
+    put(total, form, steps)?;
+    let summed = add_linear_terms(total, terms, first, steps);
+    entry_of_sum(alloc, total, summed)
 }
 
 // The entry of a tree with terms, of which the first has a number.
