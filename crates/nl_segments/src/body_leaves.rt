@@ -1,10 +1,11 @@
 // A line with a node that is a letter and a number alone.
-ghost use Rattle.std.specs.Prelude.{◌≡◌, ◌≤◌, ◌+◌, ◌-◌, ◌^◌, List, ℕ, All, length};
+ghost use Rattle.std.specs.Prelude.{◌≡◌, ◌≤◌, ◌+◌, ◌-◌, ◌^◌, List, ℕ, All, IfSome, length};
 ghost use Rattle.texts.specs.Judged.{Decides};
 ghost use Rattle.nl_lines.specs.declared.awaited.Awaited.TheVariants.{Node};
 ghost use Rattle.nl_segments.specs.Current.{Current as CurrentValue};
 ghost use Rattle.nl_segments.specs.Held.{Body, HoldsSome, IsAwaiting, TakesRow, body_of};
 ghost use Rattle.nl_segments.specs.InsideNodeRuns.{AwaitsNodes, HasNodes, with_nodes};
+ghost use Rattle.nl_lines.specs.FirstRows.{IsFirstRow};
 ghost use Rattle.nl_lines.specs.Leaves.{IsLeafRow};
 ghost use Rattle.nl_lines.specs.NodeRows.{IsNodeKnown};
 ghost use Rattle.nl_segments.specs.InsideTermRuns.{TakesLines};
@@ -12,7 +13,7 @@ ghost use Rattle.nl_segments.specs.InsideTreeSteps.{IsNextRow, counted_node_test
 
 use crate::body::BodyReader;
 use crate::body_nodes::{MOST_NODES, row_count, settle, take_next_row};
-use nl_lines::{Awaited, Leaf, NlReason, NodeRow, first_leaf, read_leaf_row};
+use nl_lines::{Awaited, FirstLeaf, Leaf, NlReason, NodeRow, first_leaf, read_leaf_row};
 use nl_model::{ExprBuilder, NlBuilder};
 use texts::{Front, Stop};
 
@@ -33,6 +34,22 @@ fn read_next(leaf: Leaf, builder: &NlBuilder, nodes: u32) -> Result<NodeRow, NlR
     Ok(row)
 }
 
+// What the line that a text begins with says in an expression. That of a product, which stands at
+// each term, is known by its three bytes.
+#[inline]
+fn first_line(text: &[u8]) -> Option<FirstLeaf>
+    ensures { IfSome result
+        (λ p. IsFirstRow text.now p.len (λ words. IsLeafRow words p.leaf)) }
+{
+    if text.len() >= 3 && text[0] == b'o' && text[1] == b'2' && text[2] == b'\n' {
+        return Some(FirstLeaf {
+            leaf: Leaf::Opcode(2),
+            len: 3,
+        });
+    }
+    first_leaf(text)
+}
+
 /// Gives an expression the nodes of lines at the front of a piece, after so many nodes of the file,
 /// up to a line that is an opcode whose number of operands is on the next.
 pub(crate) fn give_nodes(
@@ -50,7 +67,7 @@ pub(crate) fn give_nodes(
 {
     let mut front = Front { len: 0, lines: 0 };
     'lines: while nodes.wants() > 0 {
-        let Some(line) = first_leaf(piece.split_at(front.len).1) else {
+        let Some(line) = first_line(piece.split_at(front.len).1) else {
             return front;
         };
         let Ok(row) = read_next(line.leaf, builder, before + front.lines) else {
@@ -93,7 +110,7 @@ impl BodyReader {
         requires held { HoldsSome (body_of self.old) }
         ensures { TakesLines (body_of self.old) piece.now number result (body_of self.new) }
     {
-        let Some(first) = first_leaf(piece) else {
+        let Some(first) = first_line(piece) else {
             return Front { len: 0, lines: 0 };
         };
         let Ok(row) = read_next(first.leaf, &self.builder, self.nodes) else {

@@ -15,6 +15,7 @@ mod body_pairs;
 mod body_terms;
 mod closing;
 mod current;
+mod earlier_runs;
 mod ending;
 mod grammar;
 pub mod laws;

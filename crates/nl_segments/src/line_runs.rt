@@ -3,6 +3,7 @@ ghost use Rattle.std.specs.Prelude.{◌≡◌, ◌≤◌, ◌+◌, ◌^◌, ◌+
 ghost use Rattle.std.specs.List.{range_with_len};
 ghost use Rattle.nl_segments.specs.InsideLineRuns.{follows, lines_in, run_lines};
 
+use crate::earlier_runs::EarlierRuns;
 use std::alloc::{AllocError, Global};
 use std::marker::Model;
 
@@ -18,7 +19,7 @@ pub struct LineRun {
 /// wanted while it grows.
 #[derive(Drop)]
 pub struct LineRuns {
-    earlier: Vec<LineRun>,
+    earlier: EarlierRuns,
     last: LineRun,
 }
 
@@ -28,10 +29,10 @@ impl Model for LineRuns {
 
     ghost Value = { List ℕ };
 
-    ghost view = { λ l. run_lines l.earlier.items ++ lines_in l.last };
+    ghost view = { λ l. run_lines l.earlier ++ lines_in l.last };
 
     // where the last run has no lines, there are none
-    ghost invariant = { λ l. l.last.last < l.last.first → l.earlier.items ≡ [] };
+    ghost invariant = { λ l. l.last.last < l.last.first → l.earlier ≡ [] };
 }
 
 // No lines.
@@ -41,9 +42,9 @@ fn no_run() -> LineRun
     LineRun { first: 1, last: 0 }
 }
 
-// The line at a place of a run, or the place in what follows the run.
+/// The line at a place of a run, or the place in what follows the run.
 #[tactic(auto, using(crate::proofs::StandingLemmas::in_run, crate::proofs::StandingLemmas::after_run))]
-fn line_in(run: LineRun, place: u32) -> Result<u32, u32>
+pub(crate) fn line_in(run: LineRun, place: u32) -> Result<u32, u32>
     ensures { MatchResult result
         (λ line. (rest : List ℕ) → slice_get (lines_in run ++ rest) place ≡ Some line)
         (λ left. (rest : List ℕ) → slice_get (lines_in run ++ rest) place ≡ slice_get rest left) }
@@ -58,8 +59,8 @@ fn line_in(run: LineRun, place: u32) -> Result<u32, u32>
     Err(place - more - 1)
 }
 
-// The line at a place.
-fn line_at(earlier: &[LineRun], last: LineRun, place: u32) -> Option<u32>
+/// The line at a place.
+pub(crate) fn line_at(earlier: &[LineRun], last: LineRun, place: u32) -> Option<u32>
     ensures { result ≡ slice_get (run_lines earlier.now ++ lines_in last) place }
 {
     let mut left = place;
@@ -82,7 +83,7 @@ impl LineRuns {
         ensures { result ≡ [] }
     {
         LineRuns {
-            earlier: Vec::new(alloc),
+            earlier: EarlierRuns::new(alloc),
             last: no_run(),
         }
     }
@@ -159,6 +160,6 @@ impl LineRuns {
     pub(crate) fn get(&self, place: u32) -> Option<u32>
         ensures { result ≡ slice_get self.now place }
     {
-        line_at(&self.earlier, self.last, place)
+        self.earlier.line_at(self.last, place)
     }
 }
