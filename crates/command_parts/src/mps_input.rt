@@ -96,7 +96,8 @@ fn judge_mps(reader: MpsReader) -> Result<Mps, Stop<Refusal>>
 {
     match reader.finish() {
         Ok(mps) => Ok(mps),
-        Err(stop) => Err(stop.map_fault(|fault| Refusal::Mps(fault))),
+        Err(Stop::Fault(fault)) => Err(Stop::Fault(Refusal::Mps(fault))),
+        Err(Stop::Memory) => Err(Stop::Memory),
     }
 }
 
@@ -108,7 +109,8 @@ fn judge_fixed(reader: FixedReader) -> Result<Mps, Stop<Refusal>>
 {
     match reader.finish() {
         Ok(mps) => Ok(mps),
-        Err(stop) => Err(stop.map_fault(|fault| Refusal::Mps(fault))),
+        Err(Stop::Fault(fault)) => Err(Stop::Fault(Refusal::Mps(fault))),
+        Err(Stop::Memory) => Err(Stop::Memory),
     }
 }
 

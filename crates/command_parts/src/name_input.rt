@@ -62,7 +62,8 @@ fn judge_names(reader: NameReader, file: u32) -> Result<NameList, Stop<Refusal>>
 {
     match reader.finish() {
         Ok(names) => Ok(names),
-        Err(stop) => Err(stop.map_fault(|fault| Refusal::Names(file, fault))),
+        Err(Stop::Fault(fault)) => Err(Stop::Fault(Refusal::Names(file, fault))),
+        Err(Stop::Memory) => Err(Stop::Memory),
     }
 }
 

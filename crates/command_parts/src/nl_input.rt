@@ -57,7 +57,8 @@ fn judge_nl(reader: NlReader) -> Result<NlRead, Stop<Refusal>>
 {
     match reader.finish() {
         Ok(read) => Ok(read),
-        Err(stop) => Err(stop.map_fault(|fault| Refusal::Nl(fault))),
+        Err(Stop::Fault(fault)) => Err(Stop::Fault(Refusal::Nl(fault))),
+        Err(Stop::Memory) => Err(Stop::Memory),
     }
 }
 

@@ -60,7 +60,8 @@ fn judge_sol(reader: SolReader, file: u32) -> Result<Sol, Stop<Refusal>>
 {
     match reader.finish() {
         Ok(sol) => Ok(sol),
-        Err(stop) => Err(stop.map_fault(|fault| Refusal::Sol(file, fault))),
+        Err(Stop::Fault(fault)) => Err(Stop::Fault(Refusal::Sol(file, fault))),
+        Err(Stop::Memory) => Err(Stop::Memory),
     }
 }
 

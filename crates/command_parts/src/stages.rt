@@ -71,7 +71,8 @@ pub fn scale(alloc: Global, linear: Linear, objective: u32) -> Result<Scaled, St
     let scaled = scale_program(alloc, linear);
     match scaled {
         Ok(scaled) => Ok(scaled),
-        Err(stop) => Err(stop.map_fault(|fault| Refusal::Scale(objective, fault))),
+        Err(Stop::Fault(fault)) => Err(Stop::Fault(Refusal::Scale(objective, fault))),
+        Err(Stop::Memory) => Err(Stop::Memory),
     }
 }
 
