@@ -1,13 +1,13 @@
 #!/usr/bin/env python3
 """Checks one crate over libraries that another clone has proved, and builds nothing below it.
 
-    dev/check.py CRATE [--library] [rattle's flags, as --only MODULE::FUNCTION, --test, --jobs N]
+    dev/check.py CRATE [--library] [--kept FOLDER] [rattle's flags, as --only MODULE::FUNCTION, --test, --jobs N]
 
 GATE (a variable, else ../gate) is a clone in which `rt ci` ran or runs: its crates/X/out/rlib/X.rlib are the proved
 libraries. A crate below CRATE that differs here from GATE's is taken from this clone's own crates/X/out/rlib, which
 --library makes: it builds CRATE itself as a library, and proves it. It says where a library is missing. Libraries over
 two builds of one crate do not go together: OWN (a variable, names of crates) are those taken from this clone although
-their text is the same, since a crate below them differs.
+their text is the same, since a crate below them differs. What was checked is kept in the crate's out/kept, or in FOLDER.
 """
 from __future__ import annotations
 
@@ -89,9 +89,14 @@ def main(crate: str, flags: list[str]) -> int:
         ask = ["build", *words(crate), "--statements", "-o", f"{folder}/out/rlib/{crate}.rlib"]
     else:
         ask = ["check", *words(crate)]
+        kept = f"{folder}/out/kept"
+        if "--kept" in flags:
+            at = flags.index("--kept")
+            kept = flags[at + 1]
+            del flags[at:at + 2]
         if "--test" not in flags:
-            os.makedirs(f"{folder}/out/kept", exist_ok=True)
-            ask += ["--incremental", f"{folder}/out/kept"]
+            os.makedirs(kept, exist_ok=True)
+            ask += ["--incremental", kept]
     jobs = [] if "--jobs" in flags else ["--jobs", "1"]
     return subprocess.run([f"{KIT}/bin/rattle", *ask, *jobs, *flags], cwd=folder).returncode
 
