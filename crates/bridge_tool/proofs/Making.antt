@@ -203,7 +203,7 @@ left_so (Err IsMemory) old new answer h = rw h.1 (refl, refl)
 pub make_leaves : (old new : Meaning) (judged : Result (Bool × Vec ℕ) (Stop Refusal)) (answer : Answer) → Ends judged old new answer → LeavesInput old new (status_of answer)
 make_leaves old new judged answer ends =
     let left = left_so judged old new answer ends in
-    record { left = left.0; faults = left.1; known = (ends_status judged old new answer ends).1 }
+    record { left = left.0; faults = left.1; known = (ends_status (λ v. v.items) judged old new answer ends).1 }
 
 -- what is told changes nothing of it
 pub leaves_told : (command : Option Command) (old mid new : Meaning) (status told : ℕ) → Leaves command old mid status → told ≡ status → OnlyMessages mid new → Leaves command old new told

@@ -1,5 +1,6 @@
 // The command export: from the text of a file to the text of its program, or to a refusal.
 ghost use Rattle.std.specs.Prelude.{◌≡◌, ◌+◌, ◌≤◌, IfOk};
+ghost use Rattle.std.specs.List.{flat_map};
 ghost use Rattle.exact_numbers.specs.Values.{value_text};
 ghost use Rattle.mps_model.specs.Text.{mps_text_by};
 ghost use Rattle.nl_segments.specs.Reader.{HasLines, value_of};
@@ -7,22 +8,23 @@ ghost use Rattle.exported_program.specs.Program.{mps_of};
 ghost use Rattle.scaling.specs.Exported.{scaled_as};
 ghost use Rattle.command_parts.specs.InsideAnswer.{IsCounted};
 ghost use Rattle.bridge_tool.specs.Export.{ExportsAs, IsExportMeant, export_promise};
-ghost use Rattle.command_parts.specs.SeveralFiles.{Comes};
+ghost use Rattle.command_parts.specs.SeveralFiles.{ComesInPieces};
 ghost use Rattle.command_parts.specs.Stages.{fold_steps};
 
-use command_parts::{Answer, Refusal, end, fold_read, open_nl, scale};
+use command_parts::{Answer, Refusal, end_in_pieces, fold_read, open_nl, scale};
 use desk::Desk;
 use nl_segments::NlRead;
-use row_scaling::write_exported;
+use row_scaling::write_pieces;
 use scaling::Scaled;
 use std::alloc::{AllocError, Global};
 use texts::{Ledger, Steps, Stop};
 
 // The written text of the program of a scaled one.
-fn write_program(alloc: Global, scaled: Scaled) -> Result<Vec<u8>, AllocError>
-    ensures { IfOk result (λ out. out.items ≡ mps_text_by value_text (mps_of (scaled_as scaled))) }
+fn write_program(alloc: Global, scaled: Scaled) -> Result<Vec<Vec<u8>>, AllocError>
+    ensures { IfOk result (λ out. flat_map (λ p. p.items) out.items
+        ≡ mps_text_by value_text (mps_of (scaled_as scaled))) }
 {
-    write_exported(alloc, &scaled)
+    write_pieces(alloc, scaled)
 }
 
 // The bytes to write for a file, or why it is refused.
@@ -31,9 +33,9 @@ fn to_output<L: Ledger>(
     read: NlRead,
     objective: u32,
     steps: &mut Steps<L>,
-) -> Result<(bool, Vec<u8>), Stop<Refusal>>
+) -> Result<(bool, Vec<Vec<u8>>), Stop<Refusal>>
     requires { HasLines read }
-    ensures comes { Comes (ExportsAs (value_of read) objective) result }
+    ensures comes { ComesInPieces (ExportsAs (value_of read) objective) result }
     ensures means { IfOk result (λ t. IsExportMeant (value_of read) objective) }
     ensures above { steps.old ≤ steps.new }
     ensures counts { steps.new ≤ steps.old + fold_steps (value_of read) objective }
@@ -60,5 +62,5 @@ pub(crate) fn export<D: Desk, L: Ledger>(
         Err(ended) => return ended,
     };
     let judged = to_output(alloc, read, objective, steps);
-    end(desk, judged)
+    end_in_pieces(desk, judged)
 }

@@ -1,14 +1,13 @@
 -- What each way to end a command says of its outcome and of the desk.
 use Rattle.std.proofs.Common.{◌≡◌, ◌≢◌, ◌∙◌, inl, inr, ◌⊎◌, ℕ, zero, suc, ◌<◌, ◌≤◌, List, Bool, true, false, drop, Option, Some, None, IfSome, refl, subst, arith}
 use Rattle.std.specs.Prelude.{IsTrue, Result, Ok, Err}
-use Rattle.std.specs.Global.{Vec}
 use Rattle.texts.specs.declared.stop.Stop.{Stop}
 use Rattle.texts.specs.declared.stop.Stop.TheVariants.{Fault, Memory}
 use Rattle.std.specs.Io.KnownBytes.{Appends}
 use Rattle.desk.specs.Desk.{Meaning, Rose, OnlyInput}
 use Rattle.command_parts.specs.InsideRefusal.{refusal_line}
 use Rattle.command_parts.specs.declared.refusal.Refusal.{Refusal}
-use Rattle.command_parts.specs.InsideAnswer.{IsWorked, Ends, EndsWriting, status_of, told_by, HasWritten, HasStopped}
+use Rattle.command_parts.specs.InsideAnswer.{IsWorked, EndsBy, EndsWriting, status_of, told_by, HasWritten, HasStopped}
 use Rattle.command_parts.specs.Outcome.{Outcome, BadWords, Untold, NoText, Refused, Done, Status, Written, IsQuiet, told_line, verdict_status}
 use Rattle.command_parts.specs.Promise.{Promise}
 use Rattle.command_parts.specs.SeveralFiles.{ByVerdict}
@@ -183,8 +182,8 @@ done_status true = (λ e. absurd (omega (arith, e)), λ e. absurd (omega (arith,
 done_status false = (λ e. absurd (omega (arith, e)), λ e. absurd (omega (arith, e)))
 
 -- where all files were read, words are known and no input call failed
-pub ends_status : (judged : Result (Bool × Vec ℕ) (Stop Refusal)) (old new : Meaning) (answer : Answer) → Ends judged old new answer → (status_of answer ≢ 3) × (status_of answer ≢ 4)
-ends_status (Ok t) old new answer (inl h) = rw h.0 (done_status t.0)
-ends_status (Ok t) old new answer (inr h) = rw h.0 (λ e. absurd (omega (arith, e)), λ e. absurd (omega (arith, e)))
-ends_status (Err (Fault refusal)) old new answer h = rw h.0 (λ e. absurd (omega (arith, e)), λ e. absurd (omega (arith, e)))
-ends_status (Err Memory) old new answer h = rw h.0 (λ e. absurd (omega (arith, e)), λ e. absurd (omega (arith, e)))
+pub ends_status : {T : Type 0} (bytes : T → List ℕ) (judged : Result (Bool × T) (Stop Refusal)) (old new : Meaning) (answer : Answer) → EndsBy bytes judged old new answer → (status_of answer ≢ 3) × (status_of answer ≢ 4)
+ends_status bytes (Ok t) old new answer (inl h) = rw h.0 (done_status t.0)
+ends_status bytes (Ok t) old new answer (inr h) = rw h.0 (λ e. absurd (omega (arith, e)), λ e. absurd (omega (arith, e)))
+ends_status bytes (Err (Fault refusal)) old new answer h = rw h.0 (λ e. absurd (omega (arith, e)), λ e. absurd (omega (arith, e)))
+ends_status bytes (Err Memory) old new answer h = rw h.0 (λ e. absurd (omega (arith, e)), λ e. absurd (omega (arith, e)))

@@ -1,11 +1,14 @@
 -- Known bytes that grow, or are read, in several steps.
-use Rattle.std.proofs.Common.{[], ◌≡◌, ◌∙◌, ℕ, ◌+◌, ◌-◌, ◌≤◌, ◌<◌, List, ◌++◌, length, take, drop, arith, append_assoc, length-append, ap, sym, subst, refl, Ok}
-use Rattle.std.proofs.lemmas.List.{take_rest, take_at, drop_at, take_all, drop_all, append-nil, take-append-le, take-append-drop, length-take-le}
-use Rattle.std.proofs.Math.Seq.{take-add}
+use Rattle.std.proofs.Common.{[], ◌∷◌, get_or, ◌≡◌, ◌∙◌, ℕ, ◌+◌, ◌-◌, ◌≤◌, ◌<◌, List, ◌++◌, length, take, drop, arith, append_assoc, length-append, ap, sym, subst, refl, Ok}
+use Rattle.std.proofs.lemmas.List.{take_rest, take_at, drop_at, take_all, drop_all, append-nil, take-append-le, take-append-drop, length-take-le, take_more}
+use Rattle.std.proofs.Math.Seq.{take-add, take-append-add}
+use Rattle.std.proofs.lemmas.Grind.{flat_map-append}
+use Rattle.std.specs.Global.{Vec}
+use Rattle.std.specs.List.{flat_map}
 use Rattle.std.specs.declared.option.Option.{Option}
 use Rattle.std.specs.declared.option.Option.TheVariants.{None, Some}
 use Rattle.desk.specs.Desk.{Texts, Starts, Meaning, OnlyInput, OnlyOutput, OnlyMessages}
-use Rattle.command_parts.specs.Transfer.{FeedsText, FeedsToLimit, ReadsFront, ReadsToLimit}
+use Rattle.command_parts.specs.Transfer.{AppendsPart, FeedsText, FeedsToLimit, ReadsFront, ReadsToLimit}
 use Rattle.std.specs.Io.KnownBytes.{Appends, Consumes, IsAtEnd}
 
 pub Appends-then : (a b c : Option (List ℕ)) (x y : List ℕ) → Appends a b x → Appends b c y → Appends a c (x ++ y)
@@ -17,6 +20,30 @@ Appends-then (Some xs) (Some ys) (Some zs) x y h k = k ∙ ap (λ l. l ++ y) h �
 -- a further part of the bytes
 pub Appends-further : (a b c : Option (List ℕ)) (bytes : List ℕ) (d n : ℕ) → Appends a b (take d bytes) → Appends b c (take n (take (length bytes - d) (drop d bytes))) → Appends a c (take (d + n) bytes)
 Appends-further a b c bytes d n h k = rw take-add (Appends-then a b c (take d bytes) (take n (drop d bytes)) h (rw take_rest at k))
+
+-- ---- bytes in pieces
+pieces_more : (pieces : List (Vec ℕ)) (i : ℕ) (p : Vec ℕ) → i < length pieces → p ≡ get_or pieces i p → flat_map (λ p. p.items) (take (i + 1) pieces) ≡ flat_map (λ p. p.items) (take i pieces) ++ p.items
+pieces_more pieces i p h is = ap (flat_map (λ p. p.items)) (take_more pieces i p h ∙ ap (λ q. take i pieces ++ q ∷ []) (sym is)) ∙ flat_map-append (λ (p : Vec ℕ). p.items) (take i pieces) (p ∷ []) ∙ ap (λ x. flat_map (λ p. p.items) (take i pieces) ++ x) (append-nil p.items)
+
+-- the next piece
+pub Appends-piece : (a b c : Option (List ℕ)) (pieces : List (Vec ℕ)) (i : ℕ) (p : Vec ℕ) (bytes : List ℕ) → i < length pieces → p ≡ get_or pieces i p → bytes ≡ p.items →
+    Appends a b (flat_map (λ p. p.items) (take i pieces)) → Appends b c bytes → Appends a c (flat_map (λ p. p.items) (take (i + 1) pieces))
+Appends-piece a b c pieces i p bytes h is e before now = rw (pieces_more pieces i p h is) (Appends-then a b c (flat_map (λ p. p.items) (take i pieces)) p.items before (rw (sym e) now))
+
+-- a part of the next piece is a part of all
+pub part_of_pieces : (a b c : Option (List ℕ)) (pieces : List (Vec ℕ)) (i : ℕ) (p : Vec ℕ) (bytes : List ℕ) → i < length pieces → p ≡ get_or pieces i p → bytes ≡ p.items →
+    Appends a b (flat_map (λ p. p.items) (take i pieces)) → AppendsPart b c bytes → AppendsPart a c (flat_map (λ p. p.items) pieces)
+part_of_pieces a b c pieces i p bytes h is e before now =
+    let done = flat_map (λ (p : Vec ℕ). p.items) (take i pieces) in
+    let rest = flat_map (λ (p : Vec ℕ). p.items) (drop (i + 1) pieces) in
+    let whole : flat_map (λ p. p.items) pieces ≡ (done ++ bytes) ++ rest =
+    ap (flat_map (λ p. p.items)) (sym (take-append-drop (i + 1) pieces)) ∙ flat_map-append (λ (p : Vec ℕ). p.items) (take (i + 1) pieces) (drop (i + 1) pieces) ∙ ap (λ x. x ++ rest) (pieces_more pieces i p h is ∙ ap (λ x. done ++ x) (sym e)) in
+    let k = now.0 in
+    let few = now.1 in (
+      length done + k,
+      omega (arith, few, ap length whole, length-append (done ++ bytes) rest, length-append done bytes),
+      rw (ap (take (length done + k)) (whole ∙ append_assoc done bytes rest) ∙ take-append-add done (bytes ++ rest) k ∙ ap (λ x. done ++ x) (take-append-le k bytes rest (omega (arith, few)))) (Appends-then a b c done (take k bytes) before now.2),
+    )
 
 pub Consumes-then : (a b c : Option (List ℕ)) (x y : List ℕ) → Consumes a b x → Consumes b c y → Consumes a c (x ++ y)
 Consumes-then None b c x y h k = tt

@@ -9,13 +9,14 @@ use Rattle.command_parts.specs.Told.{TellsFault}
 use Rattle.std.proofs.lemmas.Option.{same_Some}
 use Rattle.std.specs.Prelude.{IfOk, IsTrue, MatchOption, MatchResult}
 use Rattle.std.specs.Global.{Vec}
+use Rattle.std.specs.List.{flat_map}
 use Rattle.desk.specs.Desk.{IsUnknown, Meaning, OnlyInput, Rose, Texts}
 use Rattle.texts.specs.declared.stop.Stop.{Stop}
 use Rattle.texts.specs.declared.stop.Stop.TheVariants.{Fault, Memory}
 use Rattle.command_parts.specs.InsideRefusal.{refusal_line}
-use Rattle.command_parts.specs.InsideAnswer.{IsAtRest, IsCounted, IsWorked, Ends, Missed, status_of}
+use Rattle.command_parts.specs.InsideAnswer.{IsAtRest, IsCounted, IsWorked, Ends, EndsBy, EndsInPieces, Missed, status_of}
 use Rattle.command_parts.specs.Promise.{Promise}
-use Rattle.command_parts.specs.SeveralFiles.{Answered, ByValue, ByVerdict, Comes, HasEnded, HasSaid, ReadsFile, Says, after_file, desk_promise, judges_last}
+use Rattle.command_parts.specs.SeveralFiles.{Answered, ByValue, ByVerdict, Comes, ComesBy, ComesInPieces, HasEnded, HasSaid, ReadsFile, Says, after_file, desk_promise, judges_last}
 use Rattle.command_parts.specs.declared.refusal.Refusal.{Refusal}
 use Rattle.command_parts.specs.Transfer.{HasRead, HasReadCause, IsFrontRead, ReadsFront}
 use Rattle.command_parts.specs.declared.answer.Answer.{Answer}
@@ -399,29 +400,29 @@ module _ (told : Texts → Promise) (judges : Bool) where
       meant true (Some texts) part m = (part texts refl).means m
       meant false (Some texts) part m = (part texts refl).denies m
 
-      judged_as : (new : Meaning) (judged : Result (Bool × Vec ℕ) (Stop Refusal)) (answer : Answer)
-          → Comes (comes (seen value)) judged
+      judged_as : {T : Type 0} (bytes : T → List ℕ) (new : Meaning) (judged : Result (Bool × T) (Stop Refusal)) (answer : Answer)
+          → ComesBy bytes (comes (seen value)) judged
           → IfOk judged (λ t. ((t.0 ≡ true) ⊎ IsTrue judges) × ByVerdict t.0 (means (seen value)) (denies (seen value)))
-          → Ends judged mid new answer
+          → EndsBy bytes judged mid new answer
           → IsWorked (desk_promise judges told old.texts) old new answer
-      judged_as new (Ok t) answer is m e = wrote_worked _ judges old mid new t.0 t.1.items answer (has_come_to (IsDone t.0 t.1.items) is) m.0 (meant t.0 old.texts down.of m.1) e
-      judged_as new (Err (Fault refusal)) answer is m e = rw (e.0, e.1) (refused_worked _ judges old mid refusal (has_come_to (IsRefusal (refusal_line refusal)) is))
-      judged_as new (Err Memory) answer is m e = rw (e.0, e.1) (memory_worked _ judges old mid (λ o c. known_by old.texts o c) down.same down.rest)
+      judged_as bytes new (Ok t) answer is m e = wrote_worked _ judges old mid new t.0 (bytes t.1) answer (has_come_to (IsDone t.0 (bytes t.1)) is) m.0 (meant t.0 old.texts down.of m.1) e
+      judged_as bytes new (Err (Fault refusal)) answer is m e = rw (e.0, e.1) (refused_worked _ judges old mid refusal (has_come_to (IsRefusal (refusal_line refusal)) is))
+      judged_as bytes new (Err Memory) answer is m e = rw (e.0, e.1) (memory_worked _ judges old mid (λ o c. known_by old.texts o c) down.same down.rest)
 
       counted_by : (texts : Option Texts) (m n : ℕ) → ((t : Texts) → texts ≡ Some t → IsPartOf (ending t (seen value)) (told t)) → counts (seen value) m n → (desk_promise judges told texts).counts m n
       counted_by None m n part c = tt
       counted_by (Some texts) m n part c = (part texts refl).counts m n c
 
       -- the values were judged so with these steps, and the command ended with this answer
-      pub ended : (m n : ℕ) (new : Meaning) (judged : Result (Bool × Vec ℕ) (Stop Refusal)) (answer : Answer)
-          → Comes (comes (seen value)) judged
+      pub ended_by : {T : Type 0} (bytes : T → List ℕ) (m n : ℕ) (new : Meaning) (judged : Result (Bool × T) (Stop Refusal)) (answer : Answer)
+          → ComesBy bytes (comes (seen value)) judged
           → IfOk judged (λ t. ((t.0 ≡ true) ⊎ IsTrue judges) × ByVerdict t.0 (means (seen value)) (denies (seen value)))
-          → Ends judged mid new answer → m ≤ n → counts (seen value) m n
+          → EndsBy bytes judged mid new answer → m ≤ n → counts (seen value) m n
           → IsCounted (desk_promise judges told old.texts) old new m n answer
-      ended m n new judged answer is meant e above c =
-          let status = ends_status judged mid new answer e in
+      ended_by bytes m n new judged answer is meant e above c =
+          let status = ends_status bytes judged mid new answer e in
           record {
-            worked = judged_as new judged answer is meant e;
+            worked = judged_as bytes new judged answer is meant e;
             known = status.0;
             above = above;
             counts = counted_by old.texts m n down.of c;
@@ -486,10 +487,10 @@ module _ {V : Type 0} {reads : List ℕ → V → Type 0} {refuses : List ℕ �
     verdict = λ value holds bytes e. inr refl;
   }
 
-judged_so : (judges : Bool) (comes : Outcome → Type 0) (means denies : Type 0) (judged : Result (Bool × Vec ℕ) (Stop Refusal)) → ((holds : Bool) (bytes : List ℕ) → comes (IsDone holds bytes) → (holds ≡ true) ⊎ IsTrue judges)
-    → Comes comes judged → IfOk judged (λ t. ByVerdict t.0 means denies) → IfOk judged (λ t. ((t.0 ≡ true) ⊎ IsTrue judges) × ByVerdict t.0 means denies)
-judged_so judges comes means denies (Ok t) may is m = (may t.0 t.1.items is, m)
-judged_so judges comes means denies (Err stop) may is m = tt
+judged_so : {T : Type 0} (bytes : T → List ℕ) (judges : Bool) (comes : Outcome → Type 0) (means denies : Type 0) (judged : Result (Bool × T) (Stop Refusal)) → ((holds : Bool) (bytes : List ℕ) → comes (IsDone holds bytes) → (holds ≡ true) ⊎ IsTrue judges)
+    → ComesBy bytes comes judged → IfOk judged (λ t. ByVerdict t.0 means denies) → IfOk judged (λ t. ((t.0 ≡ true) ⊎ IsTrue judges) × ByVerdict t.0 means denies)
+judged_so bytes judges comes means denies (Ok t) may is m = (may t.0 (bytes t.1) is, m)
+judged_so bytes judges comes means denies (Err stop) may is m = tt
 
 module _ {judges : Bool} {V : Type 0} {reads : List ℕ → V → Type 0} {refuses : List ℕ → List ℕ → Type 0} {comes : V → Outcome → Type 0} {counts : V → ℕ → ℕ → Type 0} (l : IsLast judges reads refuses comes counts) (means denies : V → Type 0) (file : List ℕ) where
   abbrev the_end : Texts → V → Promise
@@ -511,11 +512,17 @@ module _ {judges : Bool} {V : Type 0} {reads : List ℕ → V → Type 0} {refus
     last_stopped seen n new answer read = stopped told judges s seen reads refuses file the_end old mid new down n answer read
 
     -- all was judged
+    last_ended_by : {T : Type 0} (bytes : T → List ℕ) → {R : Type 0} (seen : R → V) (new : Meaning) (value : R) → ReadsFile {R = R} seen reads refuses file mid new (Ok value) → (m n : ℕ) (last : Meaning) (judged : Result (Bool × T) (Stop Refusal)) (answer : Answer)
+        → ComesBy bytes (comes (seen value)) judged → IfOk judged (λ t. ByVerdict t.0 (means (seen value)) (denies (seen value))) → EndsBy bytes judged new last answer → m ≤ n → counts (seen value) m n
+        → IsCounted (desk_promise judges told old.texts) old last m n answer
+    last_ended_by bytes seen new value read m n last judged answer is meant end above c =
+        ended_by told judges s seen reads refuses file comes counts means denies old mid new down value read bytes m n last judged answer is
+        (judged_so bytes judges (comes (seen value)) (means (seen value)) (denies (seen value)) judged (l.verdict (seen value)) is meant) end above c
+
     pub last_ended : {R : Type 0} (seen : R → V) (new : Meaning) (value : R) → ReadsFile {R = R} seen reads refuses file mid new (Ok value) → (m n : ℕ) (last : Meaning) (judged : Result (Bool × Vec ℕ) (Stop Refusal)) (answer : Answer)
         → Comes (comes (seen value)) judged → IfOk judged (λ t. ByVerdict t.0 (means (seen value)) (denies (seen value))) → Ends judged new last answer → m ≤ n → counts (seen value) m n
         → IsCounted (desk_promise judges told old.texts) old last m n answer
-    last_ended seen new value read m n last judged answer is meant end above c =
-        ended told judges s seen reads refuses file comes counts means denies old mid new down value read m n last judged answer is (judged_so judges (comes (seen value)) (means (seen value)) (denies (seen value)) judged (l.verdict (seen value)) is meant) end above c
+    last_ended seen new value read = last_ended_by (λ v. v.items) seen new value read
 
   -- of a command of this file alone
   pub only_stopped : {R : Type 0} (seen : R → V) (n : ℕ) (old new : Meaning) (answer : Answer) → ReadsFile {R = R} seen reads refuses file old new (Err answer) → IsCounted (desk_promise judges from_last old.texts) old new n n answer
@@ -525,6 +532,12 @@ module _ {judges : Bool} {V : Type 0} {reads : List ℕ → V → Type 0} {refus
       → Comes (comes (seen value)) judged → IfOk judged (λ t. ByVerdict t.0 (means (seen value)) (denies (seen value))) → Ends judged new last answer → m ≤ n → counts (seen value) m n
       → IsCounted (desk_promise judges from_last old.texts) old last m n answer
   only_ended seen old new value read = last_ended from_last last_sound old old (begun from_last judges old) seen new value read
+
+  -- the same, with the bytes in pieces
+  pub ended_in_pieces : {R : Type 0} (seen : R → V) (old new : Meaning) (value : R) → ReadsFile {R = R} seen reads refuses file old new (Ok value) → (m n : ℕ) (last : Meaning) (judged : Result (Bool × Vec (Vec ℕ)) (Stop Refusal)) (answer : Answer)
+      → ComesInPieces (comes (seen value)) judged → IfOk judged (λ t. ByVerdict t.0 (means (seen value)) (denies (seen value))) → EndsInPieces judged new last answer → m ≤ n → counts (seen value) m n
+      → IsCounted (desk_promise judges from_last old.texts) old last m n answer
+  ended_in_pieces seen old new value read = last_ended_by from_last last_sound old old (begun from_last judges old) (λ v. flat_map (λ p. p.items) v.items) seen new value read
 
 -- ---- a command of two files
 
@@ -566,7 +579,7 @@ of_yes true M m = m refl
 of_yes false M m = tt
 
 -- what holds of each verdict
-pub meant_always : (judged : Result (Bool × Vec ℕ) (Stop Refusal)) (M : Type 0) → IfOk judged (λ t. M) → IfOk judged (λ t. ByVerdict t.0 M (Unit {0}))
+pub meant_always : {T : Type 0} (judged : Result (Bool × T) (Stop Refusal)) (M : Type 0) → IfOk judged (λ t. M) → IfOk judged (λ t. ByVerdict t.0 M (Unit {0}))
 meant_always (Ok t) M m = of_yes t.0 M (λ e. m)
 meant_always (Err stop) M m = tt
 

@@ -1,6 +1,7 @@
 -- How a command ends: its status, its line, and what it did.
 use Rattle.std.specs.Prelude.{◌≡◌, ◌≢◌, ◌⊎◌, ◌<◌, ◌≤◌, ℕ, Bool, List, [], codes, drop, IfSome, Some, Result, Ok, Err}
 use Rattle.std.specs.Global.{Vec}
+use Rattle.std.specs.List.{flat_map}
 use Rattle.std.specs.Io.KnownBytes.{Appends}
 use Rattle.desk.specs.Desk.{Meaning, OnlyOutput, Rose}
 use Rattle.texts.specs.declared.stop.Stop.{Stop}
@@ -95,8 +96,19 @@ abbrev pub EndsWriting : Bool → List ℕ → Meaning → Meaning → Answer �
 EndsWriting verdict bytes old new answer = ((answer ≡ Done verdict) × HasWritten bytes old new)
     ⊎ ((answer ≡ OutputFault) × HasStopped bytes old new)
 
--- the end of a command that was judged so: this verdict with these bytes, or a refusal
+-- the end of a command that was judged so: this verdict with the bytes of a T, or a refusal
+abbrev pub EndsBy : {T : Type 0} → (T → List ℕ) → Result (Bool × T) (Stop Refusal)
+    → Meaning → Meaning → Answer → Type 0
+EndsBy bytes (Ok t) old new answer = EndsWriting t.0 (bytes t.1) old new answer
+EndsBy bytes (Err (Fault refusal)) old new answer = (answer ≡ Refused refusal) × (new ≡ old)
+EndsBy bytes (Err Memory) old new answer = (answer ≡ NoMemory) × (new ≡ old)
+
+-- this verdict with these bytes, or a refusal
 abbrev pub Ends : Result (Bool × Vec ℕ) (Stop Refusal) → Meaning → Meaning → Answer → Type 0
-Ends (Ok t) old new answer = EndsWriting t.0 t.1.items old new answer
-Ends (Err (Fault refusal)) old new answer = (answer ≡ Refused refusal) × (new ≡ old)
-Ends (Err Memory) old new answer = (answer ≡ NoMemory) × (new ≡ old)
+Ends judged old new answer = EndsBy (λ v. v.items) judged old new answer
+
+-- the same, with the bytes in pieces
+abbrev pub EndsInPieces : Result (Bool × Vec (Vec ℕ)) (Stop Refusal) → Meaning → Meaning
+    → Answer → Type 0
+EndsInPieces judged old new answer =
+    EndsBy (λ v. flat_map (λ p. p.items) v.items) judged old new answer

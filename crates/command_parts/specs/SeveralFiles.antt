@@ -27,6 +27,7 @@
 -- one of two; else `first_..` begins, `further` goes on, and `last_..` ends.
 use Rattle.std.specs.Prelude.{◌≡◌, ◌⊎◌, ◌≤◌, ℕ, Bool, true, false, List, take, Result, Ok, Err, MatchOption, MatchResult}
 use Rattle.std.specs.Global.{Vec}
+use Rattle.std.specs.List.{flat_map}
 use Rattle.std.specs.declared.option.Option.{Option}
 use Rattle.std.specs.declared.option.Option.TheVariants.{None, Some}
 use Rattle.desk.specs.Desk.{IsUnknown, Meaning, OnlyInput, Rose, Texts}
@@ -153,6 +154,16 @@ abbrev pub ByVerdict : Bool → (means denies : Type 0) → Type 0
 ByVerdict true means denies = means
 ByVerdict false means denies = denies
 
--- what judging all values answers: a verdict with the bytes to write, or a refusal
+-- what judging all values answers: a verdict with the bytes of a T to write, or a refusal
+abbrev pub ComesBy : {T : Type 0} → (T → List ℕ) → (comes : Outcome → Type 0)
+    → Result (Bool × T) (Stop Refusal) → Type 0
+ComesBy bytes comes = Gives (λ t. comes (IsDone t.0 (bytes t.1))) (λ line. comes (IsRefusal line))
+
+-- a verdict with the bytes to write, or a refusal
 abbrev pub Comes : (comes : Outcome → Type 0) → Result (Bool × Vec ℕ) (Stop Refusal) → Type 0
-Comes comes = Gives (λ t. comes (IsDone t.0 t.1.items)) (λ line. comes (IsRefusal line))
+Comes comes = ComesBy (λ v. v.items) comes
+
+-- the same, with the bytes in pieces
+abbrev pub ComesInPieces : (comes : Outcome → Type 0)
+    → Result (Bool × Vec (Vec ℕ)) (Stop Refusal) → Type 0
+ComesInPieces comes = ComesBy (λ v. flat_map (λ p. p.items) v.items) comes

@@ -33,7 +33,7 @@ pub use input::{Input, open};
 pub use mps_input::{open_fixed, open_mps};
 pub use name_input::{open_columns, open_rows};
 pub use nl_input::open_nl;
-pub use one_file::{answered, end};
+pub use one_file::{answered, end, end_in_pieces};
 pub use proof_input::open_proof;
 pub use proof_told::leaf_line;
 pub use refusal::Refusal;

@@ -1,14 +1,15 @@
 // What all commands share that read files: feeding a reader, and ending with what was judged.
 ghost use Rattle.std.specs.Prelude.{◌≡◌, [], IfOk};
+ghost use Rattle.std.specs.List.{flat_map};
 ghost use Rattle.desk.specs.Desk.{IsUnknown, OnlyInput};
-ghost use Rattle.command_parts.specs.InsideAnswer.{Ends, EndsWriting, Missed};
+ghost use Rattle.command_parts.specs.InsideAnswer.{Ends, EndsInPieces, EndsWriting, Missed};
 ghost use Rattle.command_parts.specs.SeveralFiles.{Answered};
 ghost use Rattle.command_parts.specs.Transfer.{HasRead, HasReadCause};
 
 use crate::answer::Answer;
 use crate::input::Input;
 use crate::refusal::Refusal;
-use crate::transfer::{LIMIT, Unread, feed_text, write_all};
+use crate::transfer::{LIMIT, Unread, feed_text, write_all, write_pieces};
 use desk::Desk;
 use std::alloc::Global;
 use texts::Stop;
@@ -58,6 +59,31 @@ pub fn end<D: Desk>(desk: &mut D, judged: Result<(bool, Vec<u8>), Stop<Refusal>>
 {
     match judged {
         Ok((holds, out)) => write_out(desk, holds, &out),
+        Err(Stop::Fault(refusal)) => Answer::Refused(refusal),
+        Err(Stop::Memory) => Answer::NoMemory,
+    }
+}
+
+/// Writes the bytes of the pieces, for this verdict.
+pub fn write_out_pieces<D: Desk>(desk: &mut D, holds: bool, pieces: &[Vec<u8>]) -> Answer
+    ensures { EndsWriting holds (flat_map (λ p. p.items) pieces.now) (D.meaning desk.old)
+        (D.meaning desk.new) result }
+{
+    match write_pieces(desk, pieces) {
+        Ok(()) => Answer::Done(holds),
+        Err(_) => Answer::OutputFault,
+    }
+}
+
+/// Ends with a verdict and the bytes to write, which are in pieces, or with the refusal.
+pub fn end_in_pieces<D: Desk>(
+    desk: &mut D,
+    judged: Result<(bool, Vec<Vec<u8>>), Stop<Refusal>>,
+) -> Answer
+    ensures { EndsInPieces judged (D.meaning desk.old) (D.meaning desk.new) result }
+{
+    match judged {
+        Ok((holds, out)) => write_out_pieces(desk, holds, &out),
         Err(Stop::Fault(refusal)) => Answer::Refused(refusal),
         Err(Stop::Memory) => Answer::NoMemory,
     }

@@ -1,5 +1,6 @@
 // The loops that feed a text to a reader, write bytes and tell a line.
 ghost use Rattle.std.specs.Prelude.{◌≡◌, ◌<◌, ◌≤◌, IfOk, OnOk, length, take};
+ghost use Rattle.std.specs.List.{flat_map};
 ghost use Rattle.std.specs.Io.KnownBytes.{ReadConsumes};
 ghost use Rattle.desk.specs.Desk.{HasCause, IsUnknown, OnlyInput, OnlyOutput, OnlyMessages};
 ghost use Rattle.command_parts.specs.Transfer.{AppendsAll, TellsFront, FeedsText, FeedsToLimit, HasReadCause};
@@ -51,6 +52,20 @@ pub fn write_all<D: Desk>(desk: &mut D, bytes: &[u8]) -> Result<(), Failed>
     let mut done = 0;
     while done < bytes.len() {
         done += desk.write(&bytes[done..])?;
+    }
+    Ok(())
+}
+
+/// Writes all the bytes of the pieces, in order.
+pub fn write_pieces<D: Desk>(desk: &mut D, pieces: &[Vec<u8>]) -> Result<(), Failed>
+    ensures bytes { AppendsAll (D.meaning desk.old).written (D.meaning desk.new).written result
+        (flat_map (λ p. p.items) pieces.now) }
+    ensures cause { HasCause (D.meaning desk.old).output_faults (D.meaning desk.new).output_faults
+        result }
+    ensures rest { OnlyOutput (D.meaning desk.old) (D.meaning desk.new) }
+{
+    for piece in pieces {
+        write_all(desk, piece)?;
     }
     Ok(())
 }
