@@ -17,7 +17,7 @@ use Rattle.mps_reader.specs.declared.keyword.Keyword.{Keyword}
 use Rattle.mps_reader.specs.declared.keyword.Keyword.TheVariants.{Name, Sense, Rows, Columns, Rhs, Ranges, Bounds, End}
 use Rattle.mps_reader.specs.Grammar.{line_reason}
 use Rattle.mps_reader.specs.InsideFronts.{IsLineOf, IsPairText, joined}
-use Rattle.mps_reader.specs.InsideHeld.{Held, program}
+use Rattle.mps_reader.specs.InsideHeld.{Held}
 use Rattle.mps_reader.specs.InsideHeldSteps.{with_sense_word, with_sensed, if_row, with_held_sides, with_held_column_line, with_held_bound_line}
 use Rattle.mps_reader.specs.InsidePairs.{CanGive}
 use Rattle.mps_reader.specs.Saying.{bound_kind_of, entry_in, is_current, needs_number, no_number, row_in, row_kind_of}

@@ -1,4 +1,4 @@
-use Rattle.std.proofs.Common.{◌≡◌, ◌∙◌, ◌<◌, ◌^◌, ap, arith, length, sym}
+use Rattle.std.proofs.Common.{◌∙◌, ◌<◌, ◌^◌, ap, arith, length, sym}
 use Rattle.mps_reader.specs.InsideHeld.{Held}
 use Rattle.mps_reader.specs.Saying.{place_of}
 use Rattle.mps_reader.proofs.FrontAdded.{next_is_row, row_can}
