@@ -12,7 +12,8 @@ use Rattle.nl_model.specs.declared.node.Node.TheVariants.{Num, Defined}
 use Rattle.nl_model.specs.File.{Term}
 use Rattle.nl_model.specs.declared.definition.Def.{Def as Definition}
 use Rattle.nl_model.specs.declared.objective.Objective.{Objective}
-use Rattle.nl_model.specs.InsideKinds.{Run, kind_among, runs}
+use Rattle.nl_model.specs.declared.kinds.Run.{Run}
+use Rattle.nl_model.specs.InsideKinds.{kind_among, runs}
 use Rattle.nl_model.specs.Kinds.{variable_kind}
 use Rattle.nl_model.proofs.KindRuns.{variable_kind_by_runs}
 use Rattle.nl_model.specs.Nodes.{a_number, a_defined}

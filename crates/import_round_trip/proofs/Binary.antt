@@ -20,7 +20,8 @@ use Rattle.linear_program.specs.Intervals.{interval_of}
 use Rattle.linear_program.specs.declared.interval.Interval.{Interval as Sides}
 use Rattle.linear_program.specs.declared.kind.Kind.{Kind}
 use Rattle.linear_program.specs.declared.kind.Kind.TheVariants.{Continuous, Binary, Integer}
-use Rattle.nl_model.specs.InsideKinds.{Run, run_of, kind_among}
+use Rattle.nl_model.specs.declared.kinds.Run.{Run}
+use Rattle.nl_model.specs.InsideKinds.{run_of, kind_among}
 use Rattle.nl_model.specs.Kinds.{variable_kind}
 use Rattle.nl_model.proofs.KindRuns.{variable_kind_by_runs}
 use Rattle.nl_lines.specs.Tests.{is_binary, is_within_unit}

@@ -10,11 +10,11 @@ use Rattle.texts.specs.Judged.{first_reason, Takes}
 use Rattle.texts.specs.Names.{IsName}
 use Rattle.texts.specs.declared.grammar.Front.{Front}
 use Rattle.texts.proofs.FrontLemmas.{front_few}
-use Rattle.texts.proofs.NamePlaces.{bytes_other, place_none, place_some}
+use Rattle.texts.proofs.NamePlaces.{bytes_other, place_none}
 use Rattle.exact_numbers.specs.Numbers.{dec_of}
 use Rattle.exact_numbers.specs.declared.dec.Dec.{Dec}
 use Rattle.mps_model.specs.declared.kinds.RowKind.{RowKind}
-use Rattle.mps_model.specs.Built.{CanAddColumn, CanAddEntries, CanAddRow, entry_of, with_entry_last}
+use Rattle.mps_model.specs.Built.{CanAddColumn, CanAddEntries, CanAddRow, with_entry_last}
 use Rattle.mps_model.specs.Mps.{Column, Entry, Mps, MpsRow}
 use Rattle.mps_model.specs.Valid.{entry_count, marker_word}
 use Rattle.mps_reader.specs.declared.keyword.Keyword.TheVariants.{Columns, Rows}

@@ -1,14 +1,11 @@
 -- The kinds of variables as runs: so many of one kind, one run behind the other.
 use Rattle.std.specs.Prelude.{ℕ, ◌-◌, max, nat_lt, List, [], ◌∷◌, if◌then◌else◌}
+use Rattle.nl_model.specs.declared.kinds.Run.{Run}
 use Rattle.nl_model.specs.declared.header_counts.Counts.{Counts}
 use Rattle.linear_program.specs.declared.kind.Kind.{Kind}
 use Rattle.linear_program.specs.declared.kind.Kind.TheVariants.{Continuous, Binary, Integer}
 
 -- so many variables of one kind
-pub record Run : Type 0 where
-  pub size : ℕ
-  pub kind : Kind
-
 abbrev pub run_of : ℕ → Kind → Run
 run_of n k = record { size = n; kind = k }
 

@@ -8,7 +8,8 @@ use Rattle.linear_program.specs.declared.kind.Kind.TheVariants.{Binary, Continuo
 use Rattle.texts.specs.declared.grammar.Front.{Front}
 use Rattle.nl_model.specs.declared.header_counts.Counts.{Counts}
 use Rattle.nl_model.specs.Draft.{Draft}
-use Rattle.nl_model.specs.InsideKinds.{Run, run_of, kind_among}
+use Rattle.nl_model.specs.declared.kinds.Run.{Run}
+use Rattle.nl_model.specs.InsideKinds.{run_of, kind_among}
 use Rattle.nl_model.specs.Kinds.{variable_kind}
 use Rattle.nl_lines.specs.declared.awaited.Awaited.{Awaited}
 use Rattle.nl_lines.specs.declared.awaited.Awaited.TheVariants.{ColumnCount, Interval as IntervalLine}

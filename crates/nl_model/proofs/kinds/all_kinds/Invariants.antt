@@ -1,7 +1,6 @@
-use Rattle.std.proofs.Common.{◌≡◌, ◌-◌, ◌++◌}
-use Rattle.nl_model.specs.Kinds.{variable_kind}
-use Rattle.program_meaning.specs.Elements.{elements_from}
+use Rattle.std.proofs.Common.{◌≡◌, ◌-◌, ◌≤◌, ◌++◌, drop, length}
+use Rattle.nl_model.proofs.KindRuns.{kinds_left}
 use Rattle.nl_model.proofs.kinds.all_kinds.Given as goal
 
-abbrev pub invariant-loop-var : goal.invariant-loop-var
-invariant-loop-var l = l.kinds.items ++ elements_from (variable_kind l.file.counts) l.var (l.file.counts.n_var - l.var) ≡ elements_from (variable_kind l.file.counts) 0 l.file.counts.n_var
+abbrev pub invariant-runs : goal.invariant-runs
+invariant-runs l = (length l.kinds.items ≤ l.count) × (l.kinds.items ++ kinds_left (drop l.i l.runs) (l.count - length l.kinds.items) ≡ kinds_left l.runs l.count)
