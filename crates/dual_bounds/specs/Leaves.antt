@@ -1,5 +1,5 @@
 -- The bound of a leaf: over the rows of a program and those of planes after them.
-use Rattle.std.specs.Prelude.{◌≡◌, ℕ, suc, ◌<◌, ◌≤◌, ◌++◌, Bool, List, [], ◌∷◌, length, if◌then◌else◌, slice_get, Option, Some, option_and_then}
+use Rattle.std.specs.Prelude.{◌≡◌, ℕ, suc, ◌<◌, ◌≤◌, ◌+◌, ◌++◌, Bool, List, [], ◌∷◌, length, if◌then◌else◌, slice_get, Option, Some, option_and_then}
 use Rattle.fractions.specs.Functions.{is_zero}
 use Rattle.fractions.specs.Rational.{ℚ}
 use Rattle.program_meaning.specs.Linear.{Linear, row_at, row_count, variable_count}
@@ -7,15 +7,30 @@ use Rattle.duality.specs.Checked.{fitting, less_product}
 use Rattle.linear_program.specs.Intervals.{interval_of}
 use Rattle.linear_program.specs.Coefs.{Term, coef_in}
 use Rattle.linear_program.specs.Numbers.{Pair, number_value}
+use Rattle.exact_numbers.specs.declared.dec.Dec.{Dec}
+use Rattle.dual_bounds.specs.declared.costs.Costs.{Costs}
 use Rattle.dual_bounds.specs.declared.program.Program.{Program}
 use Rattle.dual_bounds.specs.declared.form.Row.{Row}
+use Rattle.dual_bounds.specs.Built.{AreWithin}
 use Rattle.dual_bounds.specs.Lists.{form_of}
+use Rattle.dual_bounds.specs.Sums.{AreZero, cost_count}
 use Rattle.dual_bounds.specs.Terms.{AreTerms}
 
 -- the indices ascend, from `from` and below n
 unfoldable pub AreIndices : ℕ → ℕ → List Pair → Type 0
 AreIndices from n [] = Unit {0}
 AreIndices from n (p ∷ ps) = (from ≤ p.0) × (p.0 < n) × AreIndices (suc p.0) n ps
+
+-- what a leaf's bound needs: numbers of rows of the program and its planes, in ascending order;
+-- planes, costs that are 0, and bounds, all over the program's variables
+pub record CanBound (c : Program) (rows : List Row) (costs : Costs) (lo hi : List (Option Dec))
+    (ps : List Pair) : Type 0 where
+  pub pairs : AreIndices 0 (length c.rows.items + length rows) ps
+  pub planes : AreWithin (length c.lower.items) rows
+  pub zero : AreZero costs
+  pub count : cost_count costs ≡ length c.lower.items
+  pub lowers : length lo ≡ length c.lower.items
+  pub uppers : length hi ≡ length c.lower.items
 
 -- row i of the program is this row
 pub record IsRowAt (f : Linear) (i : ℕ) (r : Row) : Type 0 where

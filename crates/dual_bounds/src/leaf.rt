@@ -1,5 +1,5 @@
 // The bound of a leaf, by the rows that have a number.
-ghost use Rattle.std.specs.Prelude.{◌≡◌, ◌+◌, IfOk, length};
+ghost use Rattle.std.specs.Prelude.{◌≡◌, IfOk, length};
 ghost use Rattle.program_meaning.specs.Linear.{Linear, row_count};
 ghost use Rattle.fractions.specs.Rational.{zero_ℚ};
 ghost use Rattle.duality.specs.Parts.{maximising};
@@ -8,8 +8,7 @@ ghost use Rattle.exact_numbers.specs.Values.{frac_value};
 ghost use Rattle.linear_program.specs.Coefs.{coef_in};
 ghost use Rattle.linear_program.specs.Numbers.{spread};
 ghost use Rattle.dual_bounds.specs.Answers.{bound_answer_of};
-ghost use Rattle.dual_bounds.specs.Built.{AreWithin};
-ghost use Rattle.dual_bounds.specs.Leaves.{AreIndices, HasRows, IsGoal, IsOver};
+ghost use Rattle.dual_bounds.specs.Leaves.{CanBound, HasRows, IsGoal, IsOver};
 ghost use Rattle.dual_bounds.specs.Programs.{asked, bounds_in};
 ghost use Rattle.dual_bounds.specs.Sums.{AreZero, cost_count};
 ghost use Rattle.dual_bounds.specs.Terms.{AreTerms};
@@ -36,13 +35,8 @@ fn bound_of_goal(
     hi: &[Option<Dec>],
     pairs: &[(u32, Number)],
 ) -> Result<BoundVerdict, AllocError>
-    requires pairs { AreIndices 0 (length program.now.rows.items + length planes.now) pairs.now }
-    requires planes { AreWithin (length program.now.lower.items) planes.now }
+    requires leaf { CanBound program.now planes.now costs.old lo.now hi.now pairs.now }
     requires terms { AreTerms 0 (length program.now.lower.items) terms.now }
-    requires zero { AreZero costs.old }
-    requires count { cost_count costs.old ≡ length program.now.lower.items }
-    requires lowers { length lo.now ≡ length program.now.lower.items }
-    requires uppers { length hi.now ≡ length program.now.lower.items }
     ensures exact { IfOk result (λ v. (f : Linear) → HasRows program.now planes.now f
         → IsGoal maximise (frac_value constant) terms.now f → bound_answer_of v
         ≡ dual_bound f (bounds_in lo.now hi.now) (spread (row_count f) pairs.now)) }
@@ -74,12 +68,7 @@ pub fn leaf_bound(
     hi: &[Option<Dec>],
     pairs: &[(u32, Number)],
 ) -> Result<BoundVerdict, AllocError>
-    requires pairs { AreIndices 0 (length program.now.rows.items + length planes.now) pairs.now }
-    requires planes { AreWithin (length program.now.lower.items) planes.now }
-    requires zero { AreZero costs.old }
-    requires count { cost_count costs.old ≡ length program.now.lower.items }
-    requires lowers { length lo.now ≡ length program.now.lower.items }
-    requires uppers { length hi.now ≡ length program.now.lower.items }
+    requires leaf { CanBound program.now planes.now costs.old lo.now hi.now pairs.now }
     ensures exact { IfOk result (λ v. (f : Linear) → IsOver program.now planes.now f
         → bound_answer_of v ≡ dual_bound (asked goal f) (bounds_in lo.now hi.now)
         (spread (row_count f) pairs.now)) }
@@ -127,13 +116,8 @@ pub fn sum_bound(
     hi: &[Option<Dec>],
     pairs: &[(u32, Number)],
 ) -> Result<BoundVerdict, AllocError>
-    requires pairs { AreIndices 0 (length program.now.rows.items + length planes.now) pairs.now }
-    requires planes { AreWithin (length program.now.lower.items) planes.now }
+    requires leaf { CanBound program.now planes.now costs.old lo.now hi.now pairs.now }
     requires terms { AreTerms 0 (length program.now.lower.items) terms.now }
-    requires zero { AreZero costs.old }
-    requires count { cost_count costs.old ≡ length program.now.lower.items }
-    requires lowers { length lo.now ≡ length program.now.lower.items }
-    requires uppers { length hi.now ≡ length program.now.lower.items }
     ensures exact { IfOk result (λ v. (f : Linear) → HasRows program.now planes.now f
         → bound_answer_of v
         ≡ dual_bound (maximising f (record { constant = zero_ℚ; coefficient = coef_in terms.now }))
