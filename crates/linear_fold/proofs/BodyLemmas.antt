@@ -23,7 +23,8 @@ use Rattle.file_meaning.specs.FoldFaults.{Owned, owners_fault, definition, const
 use Rattle.program_meaning.specs.Elements.{elements_from}
 use Rattle.linear_fold.specs.declared.fold_fault.FoldFault.{FoldFault}
 use Rattle.linear_program.specs.declared.form.Form.{Form}
-use Rattle.linear_fold.specs.FoldedFaults.{named_fault, nodes_in_all, step_bound, term_total, first_fold_fault}
+use Rattle.linear_fold.specs.FoldedFaults.{HasFaultPlace, named_fault, nodes_in_all, step_bound, term_total}
+use Rattle.linear_fold.specs.FoldedFile.{AreFoldSteps, FoldsWith, IsFirstFault}
 use Rattle.linear_fold.specs.InsideFolds.{AreKnown, AreSlotsWithin, HasLineOf, IsGiven, IsExpressionFolded}
 use Rattle.linear_program.specs.Forms.{IsWithin, form_line, form_terms}
 use Rattle.linear_fold.specs.InsideOwnerFolds.{AreSlotsOf, HasStopped, HasFolded, IsFormOf, definitions_size, form_count, known_by, AreBodiesOf, bodies_size, coefficients_of, expression_at, owned_at, owner_size, AreFormsOf}
@@ -43,7 +44,7 @@ use Rattle.linear_program.specs.declared.kind.Kind.{Kind}
 use Rattle.nl_model.specs.Kinds.{variable_kind}
 use Rattle.linear_program.specs.Intervals.{IsOrdered, no_sides}
 use Rattle.program_meaning.proofs.Elements.{elements_length}
-use Rattle.file_meaning.specs.LinearFile.{linear_of, linear_row, linear_variable, HasLines}
+use Rattle.file_meaning.specs.LinearFile.{linear_of, linear_row, linear_variable}
 use Rattle.linear_program.specs.Programs.{IsFormOver, IsLinear, LinearValue, linear_value, rows_from, variables_from}
 use Rattle.file_meaning.proofs.Folding.{clean_has_lines}
 use Rattle.file_meaning.proofs.Formed.{file_formed}
@@ -471,9 +472,13 @@ pub no_objective_there : (f : File) (k : ℕ) → has_objective f k ≡ false �
 unfolding fold_fault
 no_objective_there f k e = ap (λ b. if b then owners_fault f.counts.n_var 0 (owners_of f k) else Some (no_such_objective k)) e
 
-pub owners_stopped : (f : File) (k : ℕ) (s : Stop FoldFault) → has_objective f k ≡ true → IfFault s (λ x. option_map (named_fault f) (owners_fault f.counts.n_var 0 (owners_of f k)) ≡ Some x) → IfFault s (λ x. first_fold_fault f k ≡ Some x)
-owners_stopped f k (Fault x) e h = ap (option_map (named_fault f)) (fault_of_owners f k e) ∙ h
-owners_stopped f k Memory e h = tt
+pub owners_stopped : (f : File) (k : ℕ) (s : Stop FoldFault) → has_objective f k ≡ true → IfFault s (λ x. option_map (named_fault f) (owners_fault f.counts.n_var 0 (owners_of f k)) ≡ Some x) → IfFault s (HasFaultPlace f) → IfFault s (IsFirstFault f k)
+owners_stopped f k (Fault x) e h there = record { first = ap (option_map (named_fault f)) (fault_of_owners f k e) ∙ h; place = there }
+owners_stopped f k Memory e h there = tt
 
-pub has_lines : (f : File) (k : ℕ) → IsFile f → fold_fault f k ≡ None → HasLines f k
-has_lines f k file fine = clean_has_lines f k (file_formed f file k) fine
+pub folds_with : (f : File) (k : ℕ) → IsFile f → fold_fault f k ≡ None → FoldsWith f k
+folds_with f k file fine = record { fine = fine; values = clean_has_lines f k (file_formed f file k) fine }
+
+pub are_fold_steps : (f : File) (k before after : ℕ) → has_objective f k ≡ true → before ≤ after → after ≤ before + step_bound f → AreFoldSteps f k before after
+are_fold_steps f k before after e above below =
+    record { above = above; below = below; none = λ none. let clash : false ≡ true = sym none ∙ e in cc }

@@ -1,4 +1,5 @@
 pub mod FoldedFaults
+pub mod FoldedFile
 pub mod InsideFolds
 pub mod InsideHeld
 pub mod InsideHeldBodies

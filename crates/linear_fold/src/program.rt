@@ -1,16 +1,12 @@
 // The fold of a whole file.
-ghost use Rattle.std.specs.Prelude.{◌≡◌, ◌+◌, ◌<◌, ◌≤◌, ◌==◌, ◌&&◌, ◌||◌, IfOk, IfErr, OnOk, None, Some, nat_lt, false, true};
+ghost use Rattle.std.specs.Prelude.{◌≡◌, ◌<◌, ◌==◌, ◌&&◌, ◌||◌, IfOk, IfErr, OnOk, nat_lt, true};
 ghost use Rattle.texts.specs.Stopped.{IfFault};
 ghost use Rattle.nl_model.specs.HeaderRules.{AreCounts};
 ghost use Rattle.nl_model.specs.Rules.{IsFile};
 ghost use Rattle.file_meaning.specs.Expressions.{maximises};
-ghost use Rattle.file_meaning.specs.FoldFaults.{fold_fault, has_objective};
-ghost use Rattle.file_meaning.specs.LinearFile.{linear_of, HasLines};
-ghost use Rattle.linear_fold.specs.FoldedFaults.{first_fold_fault, HasFaultPlace, step_bound};
+ghost use Rattle.linear_fold.specs.FoldedFile.{IsLinearOf, FoldsWith, IsFirstFault, AreFoldSteps};
 ghost use Rattle.linear_fold.specs.InsideHeldBodies.{HasBodies, bodies_in};
 ghost use Rattle.linear_fold.specs.InsideOwnerFolds.{AreFormsOf};
-ghost use Rattle.nl_model.specs.Kinds.{kinds_in};
-ghost use Rattle.linear_program.specs.Programs.{linear_value};
 
 use crate::bodies::{Bodies, fold_forms};
 use crate::completing::completed_forms;
@@ -82,11 +78,7 @@ fn assemble(
     requires file { IsFile file.now }
     requires counts { AreCounts file.now.counts }
     requires forms { AreFormsOf file.now objective bodies.items form }
-    ensures linear { IfOk result (λ l. linear_value l ≡ linear_of file.now objective) }
-    ensures number { IfOk result (λ l. l.number ≡ objective) }
-    ensures sides { IfOk result (λ l. l.sides ≡ file.now.sides) }
-    ensures bounds { IfOk result (λ l. l.bounds ≡ file.now.bounds) }
-    ensures kinds { IfOk result (λ l. l.kinds ≡ kinds_in file.now) }
+    ensures { IfOk result (IsLinearOf file.now objective) }
 {
     let sides = sides_of(alloc, file)?;
     let bounds = bounds_of(alloc, file)?;
@@ -108,11 +100,7 @@ fn assemble_file(
     requires counts { AreCounts file.counts }
     requires forms { AreFormsOf file objective (bodies_in file bodies) form }
     requires bodies { HasBodies file true bodies }
-    ensures linear { IfOk result (λ l. linear_value l ≡ linear_of file objective) }
-    ensures number { IfOk result (λ l. l.number ≡ objective) }
-    ensures sides { IfOk result (λ l. l.sides ≡ file.sides) }
-    ensures bounds { IfOk result (λ l. l.bounds ≡ file.bounds) }
-    ensures kinds { IfOk result (λ l. l.kinds ≡ kinds_in file) }
+    ensures { IfOk result (IsLinearOf file objective) }
 {
     let maximise = is_maximised(&file, objective);
     let listed = all_kinds(alloc, &file);
@@ -136,14 +124,9 @@ fn forms_of<L: Ledger>(
     ensures bodies { IfOk result (λ r. HasBodies file.now hold r.0) }
     ensures file { IsFile file.now }
     ensures counts { AreCounts file.now.counts }
-    ensures fine { OnOk result (fold_fault file.now objective ≡ None) }
-    ensures values { OnOk result (HasLines file.now objective) }
-    ensures fault { IfErr result
-        (λ stop. IfFault stop (λ fault. first_fold_fault file.now objective ≡ Some fault)) }
-    ensures place { IfErr result (λ stop. IfFault stop (λ fault. HasFaultPlace file.now fault)) }
-    ensures above { steps.old ≤ steps.new }
-    ensures below { steps.new ≤ steps.old + step_bound file.now }
-    ensures none { has_objective file.now objective ≡ false → steps.new ≡ steps.old }
+    ensures folds { OnOk result (FoldsWith file.now objective) }
+    ensures fault { IfErr result (λ stop. IfFault stop (IsFirstFault file.now objective)) }
+    ensures steps { AreFoldSteps file.now objective steps.old steps.new }
 {
     if !has_objective(file.header().counts(), objective) {
         return Err(Stop::Fault(FoldFault::NoSuchObjective(objective)));
@@ -163,27 +146,10 @@ pub fn fold_all<L: Ledger>(
     objective: u32,
     steps: &mut Steps<L>,
 ) -> Result<Linear, Stop<FoldFault>>
-    // The linear program of the file, which has no fault; sides, bounds and kinds are the file's
-    // own.
-    ensures linear { IfOk result (λ l. linear_value l ≡ linear_of file.now objective) }
-    ensures number { IfOk result (λ l. l.number ≡ objective) }
-    ensures sides { IfOk result (λ l. l.sides ≡ file.now.sides) }
-    ensures bounds { IfOk result (λ l. l.bounds ≡ file.now.bounds) }
-    ensures kinds { IfOk result (λ l. l.kinds ≡ kinds_in file.now) }
-    ensures fine { OnOk result (fold_fault file.now objective ≡ None) }
-
-    // At every assignment each body and the objective have the values of their forms.
-    ensures values { OnOk result (HasLines file.now objective) }
-
-    // The first fault, at a place of the file.
-    ensures fault { IfErr result
-        (λ stop. IfFault stop (λ fault. first_fold_fault file.now objective ≡ Some fault)) }
-    ensures place { IfErr result (λ stop. IfFault stop (λ fault. HasFaultPlace file.now fault)) }
-
-    // No step is counted where there is no such objective.
-    ensures above { steps.old ≤ steps.new }
-    ensures below { steps.new ≤ steps.old + step_bound file.now }
-    ensures none { has_objective file.now objective ≡ false → steps.new ≡ steps.old }
+    ensures linear { IfOk result (IsLinearOf file.now objective) }
+    ensures folds { OnOk result (FoldsWith file.now objective) }
+    ensures fault { IfErr result (λ stop. IfFault stop (IsFirstFault file.now objective)) }
+    ensures steps { AreFoldSteps file.now objective steps.old steps.new }
 {
     let (bodies, form) = match forms_of(alloc, file, objective, false, steps) {
         Ok(forms) => forms,
@@ -202,27 +168,10 @@ pub fn fold_file<L: Ledger>(
     objective: u32,
     steps: &mut Steps<L>,
 ) -> Result<Linear, Stop<FoldFault>>
-    // The linear program of the file, which has no fault; sides, bounds and kinds are the file's
-    // own.
-    ensures linear { IfOk result (λ l. linear_value l ≡ linear_of file objective) }
-    ensures number { IfOk result (λ l. l.number ≡ objective) }
-    ensures sides { IfOk result (λ l. l.sides ≡ file.sides) }
-    ensures bounds { IfOk result (λ l. l.bounds ≡ file.bounds) }
-    ensures kinds { IfOk result (λ l. l.kinds ≡ kinds_in file) }
-    ensures fine { OnOk result (fold_fault file objective ≡ None) }
-
-    // At every assignment each body and the objective have the values of their forms.
-    ensures values { OnOk result (HasLines file objective) }
-
-    // The first fault, at a place of the file.
-    ensures fault { IfErr result
-        (λ stop. IfFault stop (λ fault. first_fold_fault file objective ≡ Some fault)) }
-    ensures place { IfErr result (λ stop. IfFault stop (λ fault. HasFaultPlace file fault)) }
-
-    // No step is counted where there is no such objective.
-    ensures above { steps.old ≤ steps.new }
-    ensures below { steps.new ≤ steps.old + step_bound file }
-    ensures none { has_objective file objective ≡ false → steps.new ≡ steps.old }
+    ensures linear { IfOk result (IsLinearOf file objective) }
+    ensures folds { OnOk result (FoldsWith file objective) }
+    ensures fault { IfErr result (λ stop. IfFault stop (IsFirstFault file objective)) }
+    ensures steps { AreFoldSteps file objective steps.old steps.new }
 {
     let forms = forms_of(alloc, &file, objective, true, steps);
     let (bodies, form) = match forms {

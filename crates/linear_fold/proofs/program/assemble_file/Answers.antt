@@ -17,16 +17,12 @@ pub of_parts-requires : goal.of_parts-requires
 of_parts-requires c =
     is_linear c.args.file c.requires.file c.args.objective c.completed_forms-all.result.items c.args.form (forms_of (goal.at.of_parts-requires c).After-completed_forms-all) c.is_maximised-maximise.result c.into_rows-terms.result.1.items c.into_rows-terms.result.2.items c.in_ok-kinds.kinds.items c.is_maximised-maximise.ensures c.into_rows-terms.ensures.sides c.into_rows-terms.ensures.bounds c.in_ok-kinds.ensures c.requires.counts
 
-pub returns-clause-linear : goal.returns-clause-linear
-returns-clause-linear c =
-    ap linear_value c.of_parts.ensures
-    ∙ is_program c.args.file c.requires.file c.args.objective c.completed_forms-all.result.items c.args.form (forms_of (goal.at.returns-clause-linear c).After-completed_forms-all) c.is_maximised-maximise.result c.into_rows-terms.result.1.items c.into_rows-terms.result.2.items c.in_ok-kinds.kinds.items c.is_maximised-maximise.ensures c.into_rows-terms.ensures.sides c.into_rows-terms.ensures.bounds c.in_ok-kinds.ensures
-
-pub returns-clause-sides : goal.returns-clause-sides
-returns-clause-sides c = ap (λ (l : LinearValue). l.sides) c.of_parts.ensures ∙ c.into_rows-terms.ensures.sides
-
-pub returns-clause-bounds : goal.returns-clause-bounds
-returns-clause-bounds c = ap (λ (l : LinearValue). l.bounds) c.of_parts.ensures ∙ c.into_rows-terms.ensures.bounds
-
-pub returns-clause-kinds : goal.returns-clause-kinds
-returns-clause-kinds c = ap (λ (l : LinearValue). l.kinds) c.of_parts.ensures ∙ c.in_ok-kinds.ensures
+pub returns : goal.returns
+returns c =
+    record {
+      linear = ap linear_value c.of_parts.ensures ∙ is_program c.args.file c.requires.file c.args.objective c.completed_forms-all.result.items c.args.form (forms_of (goal.at.returns c).After-completed_forms-all) c.is_maximised-maximise.result c.into_rows-terms.result.1.items c.into_rows-terms.result.2.items c.in_ok-kinds.kinds.items c.is_maximised-maximise.ensures c.into_rows-terms.ensures.sides c.into_rows-terms.ensures.bounds c.in_ok-kinds.ensures;
+      number = ap (λ (l : LinearValue). l.number) c.of_parts.ensures;
+      sides = ap (λ (l : LinearValue). l.sides) c.of_parts.ensures ∙ c.into_rows-terms.ensures.sides;
+      bounds = ap (λ (l : LinearValue). l.bounds) c.of_parts.ensures ∙ c.into_rows-terms.ensures.bounds;
+      kinds = ap (λ (l : LinearValue). l.kinds) c.of_parts.ensures ∙ c.in_ok-kinds.ensures;
+    }
