@@ -221,7 +221,6 @@ fn is_the_same_in_bytes(rt: &impl Abort, alloc: Global, case: &Case) -> bool {
 #[test]
 fn calls_of_commands_fail(rt: HostRuntime) {
     let cases = [
-        of_one("export", KNAPSACK, 0),
         of_one("nl", ONE_WHOLE, 0),
         of_one("mps", PAIRS, 0),
         of_one("sol", BEST, 0),
@@ -245,6 +244,30 @@ fn calls_of_commands_fail(rt: HostRuntime) {
             );
         }
     }
+}
+
+// Whether a run ended with a front of what the whole run wrote, since a write failed.
+fn ends_short(run: &Ended, whole: &Ended) -> bool {
+    let count = run.desk.written().len();
+    run.status == 5
+        && count < whole.desk.written().len()
+        && run.desk.written() == front(whole.desk.written(), count)
+        && run.desk.told() == b"output fault\n".as_slice()
+}
+
+// An export writes in pieces: here all up to the columns, and then the rest.
+#[test]
+fn writes_of_pieces_fail(rt: HostRuntime) {
+    let case = of_one("export", KNAPSACK, 0);
+    assert!(rt; is_the_same_in_bytes(&rt, rt.alloc(), &case));
+    let whole = run(&rt, rt.alloc(), &case, 4000, &[]);
+    let first = all_input_calls(&case, 4000) as u64;
+    for call in [first, first.saturating_add(1)] {
+        let one = run(&rt, rt.alloc(), &case, 4000, &[call]);
+        assert!(rt; ends_short(&one, &whole));
+        drop(one);
+    }
+    drop(whole);
 }
 
 #[test]
