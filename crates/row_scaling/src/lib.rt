@@ -4,6 +4,7 @@
 mod batches;
 mod bound_lines;
 mod bounds;
+mod chunks;
 mod column_lines;
 mod columns;
 mod entry_lines;

@@ -15,7 +15,7 @@ ghost use Rattle.row_scaling.specs.InsideSections.{first_lines, last_lines};
 use crate::batches::Batches;
 use crate::bound_lines::put_bounds;
 use crate::column_lines::put_columns;
-use crate::columns::{column_sizes, in_batches, moved_batches};
+use crate::columns::{in_batches, moved_batches};
 use crate::heads::Heads;
 use crate::heads_of::heads_of;
 use crate::pieces::{Pieces, put, put_line, put_sense};
@@ -87,8 +87,7 @@ fn copied_pieces(alloc: Global, scaled: &Scaled) -> Result<Vec<Vec<u8>>, AllocEr
     let last = last_sections(alloc, scaled)?;
     let first = first_sections(alloc, scaled)?;
     let heads = heads_of(alloc, scaled)?;
-    let sizes = column_sizes(alloc, scaled)?;
-    let batches = in_batches(alloc, scaled, &sizes)?;
+    let batches = in_batches(alloc, scaled)?;
     with_columns(alloc, first, &heads, batches, last)
 }
 
