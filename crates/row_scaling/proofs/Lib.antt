@@ -1,5 +1,6 @@
 pub mod AddLemmas
 pub mod BatchLemmas
+pub mod ChunkLemmas
 pub mod ColumnLemmas
 pub mod LineLemmas
 pub mod NumberLemmas

@@ -101,7 +101,7 @@ fn put_parts(
     let mut done = 0usize;
     'parts: while done < total {
         let end = part_end(done, total);
-        columns = batches.take_part(alloc, done as u32, end - done, columns)?;
+        columns = batches.take_part(done as u32, end - done, columns)?;
         place = put_part(out, heads, done as u32, &columns, place)?;
         done = end;
     }
