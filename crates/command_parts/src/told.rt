@@ -27,14 +27,6 @@ pub fn put_frac(line: &mut Vec<u8>, value: Frac) -> Result<(), AllocError>
     put(line, text.bytes())
 }
 
-/// Appends a whole number.
-pub fn put_decimal(line: &mut Vec<u8>, number: u32) -> Result<(), AllocError>
-    ensures { OnOk result (line.new.items ≡ line.old.items ++ decimal number) }
-{
-    let mut digits = Buffer::new();
-    put(line, digits.format(number).as_bytes())
-}
-
 /// Appends a word, an index and a word after it.
 pub fn put_index(
     line: &mut Vec<u8>,
