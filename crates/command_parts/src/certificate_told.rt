@@ -1,5 +1,5 @@
 // The lines of verdicts on certificates.
-ghost use Rattle.std.specs.Prelude.{[], ◌≡◌, ◌++◌, codes, IfOk, OnOk, true};
+ghost use Rattle.std.specs.Prelude.{[], ◌≡◌, ◌++◌, codes, IfOk, OnOk, string_bytes, true};
 ghost use Rattle.std.specs.Option.{option_map_or};
 ghost use Rattle.fractions.specs.Fits.{fits};
 ghost use Rattle.duality.specs.Certificate.{holds};
@@ -12,79 +12,57 @@ ghost use Rattle.certificates.specs.Told.{told_claim};
 ghost use Rattle.certificate_walk.specs.Reasons.{failed_text};
 ghost use Rattle.certificate_walk.specs.Outcomes.{cause_of, outcome_of};
 ghost use Rattle.command_parts.specs.CertificateTold.{HasFittingBound, is_held, objective_text, outcome_line, told_text};
-ghost use Rattle.command_parts.specs.Told.{number_text};
 
-use crate::told::{put, put_frac, put_index};
 use certificate_walk::{Cause, Outcome};
 use certificates::Claim;
 use exact_numbers::Frac;
 use linear_program::Number;
 use std::alloc::{AllocError, Global};
 
-// A number as it was given, in lowest terms.
-fn put_given(line: &mut Vec<u8>, number: &Number) -> Result<(), AllocError>
-    requires { fits (number_value number.now) ≡ true }
-    ensures { OnOk result (line.new.items
-        ≡ line.old.items ++ number_text (number_value number.now)) }
+// What is said of a value that is within a bound.
+fn put_within(line: &mut String, bound: &Number, value: Frac) -> Result<(), AllocError>
+    requires { fits (number_value bound.now) ≡ true }
+    ensures { OnOk result (string_bytes line.new ≡ string_bytes line.old
+        ++ told_text (within (number_value bound.now) (frac_value value))) }
 {
-    match number.fraction() {
-        Some(value) => put_frac(line, value),
+    match bound.fraction() {
+        Some(bound) => write!(line, "within {bound} {value}"),
         None => unreachable!(),
     }
 }
 
-fn put_within(line: &mut Vec<u8>, bound: &Number, value: Frac) -> Result<(), AllocError>
-    requires { fits (number_value bound.now) ≡ true }
-    ensures { OnOk result (line.new.items
-        ≡ line.old.items ++ told_text (within (number_value bound.now) (frac_value value))) }
-{
-    put(line, b"within ")?;
-    put_given(line, bound)?;
-    put(line, b" ")?;
-    put_frac(line, value)
-}
-
-// A word and a number.
-fn put_value(line: &mut Vec<u8>, word: &[u8], value: Frac) -> Result<(), AllocError>
-    ensures { OnOk result (line.new.items
-        ≡ line.old.items ++ (word.now ++ number_text (frac_value value))) }
-{
-    put(line, word)?;
-    put_frac(line, value)
-}
-
 // What is said where a claim holds with a value.
-fn put_valued(line: &mut Vec<u8>, claim: Claim, value: Frac) -> Result<(), AllocError>
+fn put_valued(line: &mut String, claim: Claim, value: Frac) -> Result<(), AllocError>
     requires { HasFittingBound claim }
-    ensures { OnOk result (line.new.items ≡ line.old.items
+    ensures { OnOk result (string_bytes line.new ≡ string_bytes line.old
         ++ option_map_or told_text (told_claim claim (value_found (Some value))) []) }
 {
     match claim {
-        Claim::Optimal(_) => put_value(line, b"optimal ", value),
+        Claim::Optimal(_) => write!(line, "optimal {value}"),
         Claim::Within(_, bound) => put_within(line, &bound, value),
-        Claim::Bound(_, _) => put_value(line, b"bound ", value),
-        Claim::Feasible(_) => put_value(line, b"feasible ", value),
+        Claim::Bound(_, _) => write!(line, "bound {value}"),
+        Claim::Feasible(_) => write!(line, "feasible {value}"),
         Claim::Infeasible | Claim::Unbounded(_) => Ok(()),
     }
 }
 
 // What is said where a claim holds without a value.
-fn put_bare(line: &mut Vec<u8>, claim: Claim) -> Result<(), AllocError>
-    ensures { OnOk result (line.new.items ≡ line.old.items
+fn put_bare(line: &mut String, claim: Claim) -> Result<(), AllocError>
+    ensures { OnOk result (string_bytes line.new ≡ string_bytes line.old
         ++ option_map_or told_text (told_claim claim None) []) }
 {
     match claim {
-        Claim::Infeasible => put(line, b"infeasible"),
-        Claim::Unbounded(_) => put(line, b"unbounded"),
+        Claim::Infeasible => write!(line, "infeasible"),
+        Claim::Unbounded(_) => write!(line, "unbounded"),
         Claim::Optimal(_) | Claim::Within(_, _) | Claim::Bound(_, _) => Ok(()),
         Claim::Feasible(_) => Ok(()),
     }
 }
 
 // What is said where a claim holds with this value, if any.
-fn put_told(line: &mut Vec<u8>, claim: Claim, value: Option<Frac>) -> Result<(), AllocError>
+fn put_told(line: &mut String, claim: Claim, value: Option<Frac>) -> Result<(), AllocError>
     requires { HasFittingBound claim }
-    ensures { OnOk result (line.new.items ≡ line.old.items
+    ensures { OnOk result (string_bytes line.new ≡ string_bytes line.old
         ++ option_map_or told_text (told_claim claim (value_found value)) []) }
 {
     match value {
@@ -108,21 +86,14 @@ pub fn claim_objective(claim: Claim) -> u32
 }
 
 // The objective, where it is not that of number 0.
-fn put_objective(line: &mut Vec<u8>, objective: u32) -> Result<(), AllocError>
-    ensures { OnOk result (line.new.items ≡ line.old.items ++ objective_text objective) }
+fn put_objective(line: &mut String, objective: u32) -> Result<(), AllocError>
+    ensures { OnOk result (string_bytes line.new
+        ≡ string_bytes line.old ++ objective_text objective) }
 {
     if objective == 0 {
         return Ok(());
     }
-    put_index(line, b" of objective ", objective, b"")
-}
-
-// The objective of a claim, where it is not that of number 0.
-fn put_objective_of(line: &mut Vec<u8>, claim: Claim) -> Result<(), AllocError>
-    ensures { OnOk result (line.new.items
-        ≡ line.old.items ++ objective_text (claim_objective claim)) }
-{
-    put_objective(line, claim_objective(claim))
+    write!(line, " of objective {objective}")
 }
 
 // The line of a claim that holds with this value, if any.
@@ -130,12 +101,12 @@ fn held_line(alloc: Global, claim: Claim, value: Option<Frac>) -> Result<Vec<u8>
     requires { HasFittingBound claim }
     ensures { IfOk result (λ line. line.items ≡ outcome_line claim (holds (value_found value))) }
 {
-    let mut line = Vec::new(alloc);
+    let mut line = String::new(alloc);
     let kept = claim;
     put_told(&mut line, claim, value)?;
-    put_objective_of(&mut line, kept)?;
-    put(&mut line, b"\n")?;
-    Ok(line)
+    put_objective(&mut line, claim_objective(kept))?;
+    line.push('\n')?;
+    Ok(line.into_bytes())
 }
 
 /// The line of a certificate that shows nothing.
