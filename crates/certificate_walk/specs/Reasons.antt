@@ -1,8 +1,10 @@
--- What is said of a ray and of a leaf that show nothing.
+-- What is said of a certificate that shows nothing: of its point, its ray or a leaf.
 use Rattle.std.specs.Prelude.{ℕ, List, ◌++◌, codes}
 use Rattle.std.specs.Fmt.{decimal}
 use Rattle.duality.specs.Branch.{LeafFault, row_side, bound_side, wide, open_gap}
+use Rattle.duality.specs.Certificate.{Cause, at_point, not_whole, objective_wide, at_ray, at_leaf}
 use Rattle.duality.specs.Ray.{RayFault, ray_row_wide, ray_row_broken, ray_bound_broken, ray_objective_wide, ray_no_better}
+use Rattle.dual_bounds.specs.Reasons.{cause_text as point_text}
 use Rattle.exact_numbers.specs.Written.{frac_text}
 
 -- ---- a ray
@@ -22,3 +24,23 @@ open_text (row_side leaf row) = codes "row " ++ decimal row ++ codes " has no si
 open_text (bound_side leaf variable) = codes "bound " ++ decimal variable ++ codes " has no side"
 open_text (wide leaf) = codes "too wide"
 open_text (open_gap leaf bound) = codes "gap " ++ frac_text bound.top bound.bottom
+
+-- its number from 0
+abbrev pub leaf_number : LeafFault → ℕ
+leaf_number (row_side leaf row) = leaf
+leaf_number (bound_side leaf variable) = leaf
+leaf_number (wide leaf) = leaf
+leaf_number (open_gap leaf bound) = leaf
+
+abbrev pub leaf_fault_text : LeafFault → List ℕ
+leaf_fault_text g = codes "leaf " ++ decimal (leaf_number g) ++ codes " " ++ open_text g
+
+-- ---- a certificate
+
+-- why it shows nothing
+abbrev pub failed_text : Cause → List ℕ
+failed_text (at_point g) = point_text g
+failed_text (not_whole j) = codes "variable " ++ decimal j ++ codes " not whole"
+failed_text objective_wide = codes "too wide at objective"
+failed_text (at_ray g) = ray_text g
+failed_text (at_leaf g) = leaf_fault_text g

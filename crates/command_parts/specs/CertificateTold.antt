@@ -3,7 +3,7 @@ use Rattle.std.specs.Prelude.{◌≡◌, ℕ, Bool, true, false, nat_lt, if◌th
 use Rattle.std.specs.Option.{option_map_or}
 use Rattle.std.specs.Fmt.{decimal}
 use Rattle.fractions.specs.Fits.{fits}
-use Rattle.duality.specs.Certificate.{Cause, at_point, not_whole, objective_wide, at_ray, at_leaf, ClaimOutcome, holds, fails}
+use Rattle.duality.specs.Certificate.{ClaimOutcome, holds, fails}
 use Rattle.duality.specs.Told.{Told, optimal, within, bound, feasible, infeasible, unbounded}
 use Rattle.texts.specs.declared.fault.TextFault.{TextFault}
 use Rattle.linear_program.specs.Numbers.{number_value}
@@ -13,9 +13,7 @@ use Rattle.certificates.specs.declared.certificate.Claim.{Claim}
 use Rattle.certificates.specs.declared.certificate.Claim.TheVariants.{Optimal, Within, Bound, Feasible, Infeasible, Unbounded}
 use Rattle.certificate_text.specs.declared.fault.CertificateReason.{CertificateReason}
 use Rattle.certificate_text.specs.Reasons.{certificate_reason_text}
-use Rattle.dual_bounds.specs.Reasons.{cause_text as point_text}
-use Rattle.certificate_walk.specs.Reasons.{ray_text}
-use Rattle.command_parts.specs.LeafTold.{leaf_fault_text}
+use Rattle.certificate_walk.specs.Reasons.{failed_text}
 use Rattle.command_parts.specs.Told.{number_text, refusal}
 
 -- the line of a fault of a certificate's text, which is this file of its command
@@ -41,14 +39,6 @@ objective_text k = if nat_lt 0 k then codes " of objective " ++ decimal k else [
 -- the line where the claim holds
 abbrev pub told_line : Claim → Told → List ℕ
 told_line claim told = told_text told ++ objective_text (claim_objective claim) ++ codes "\n"
-
--- why a certificate shows nothing
-abbrev pub failed_text : Cause → List ℕ
-failed_text (at_point g) = point_text g
-failed_text (not_whole j) = codes "variable " ++ decimal j ++ codes " not whole"
-failed_text objective_wide = codes "too wide at objective"
-failed_text (at_ray g) = ray_text g
-failed_text (at_leaf g) = leaf_fault_text g
 
 abbrev pub outcome_text : Claim → ClaimOutcome → List ℕ
 outcome_text claim (holds value) = option_map_or told_text (told_claim claim value) []

@@ -2,7 +2,6 @@ pub mod Told
 pub mod Transfer
 pub mod Outcome
 pub mod Promise
-pub mod LeafTold
 pub mod VerdictTold
 pub mod AnswerTold
 pub mod CertificateTold

@@ -10,7 +10,6 @@ mod certificate_told;
 mod import_told;
 mod input;
 pub mod laws;
-mod leaf_told;
 mod mps_input;
 mod name_input;
 mod nl_input;

@@ -1,24 +1,24 @@
 // The lines of verdicts on proofs.
-ghost use Rattle.std.specs.Prelude.{◌≡◌, ◌++◌, codes, IfOk, OnOk};
+ghost use Rattle.std.specs.Prelude.{◌≡◌, IfOk};
+ghost use Rattle.certificate_walk.specs.Outcomes.{fault_found};
 ghost use Rattle.branch_check.specs.Leaves.{fault_of};
 ghost use Rattle.command_parts.specs.ProofTold.{leaf_line};
 
-use crate::leaf_told::{put_gap, put_side, put_wide};
-use crate::told::put;
+use crate::certificate_told::failed_line;
 use branch_check::ProofVerdict;
+use certificate_walk::{Cause, LeafFault};
 use std::alloc::{AllocError, Global};
 
-// What is told of a verdict on a proof, but for the end of its line.
-fn put_verdict(line: &mut Vec<u8>, verdict: ProofVerdict) -> Result<(), AllocError>
-    ensures { OnOk result (line.new.items ++ codes "\n"
-        ≡ line.old.items ++ leaf_line (fault_of verdict)) }
+// The first leaf that does not close, and why.
+fn open_leaf(verdict: ProofVerdict) -> Option<(u32, LeafFault)>
+    ensures { fault_found result ≡ fault_of verdict }
 {
     match verdict {
-        ProofVerdict::Yes => put(line, b"proved"),
-        ProofVerdict::RowSide(leaf, row) => put_side(line, leaf, b" row ", row),
-        ProofVerdict::BoundSide(leaf, variable) => put_side(line, leaf, b" bound ", variable),
-        ProofVerdict::TooWide(leaf) => put_wide(line, leaf),
-        ProofVerdict::Gap(leaf, bound) => put_gap(line, leaf, bound),
+        ProofVerdict::Yes => None,
+        ProofVerdict::RowSide(leaf, row) => Some((leaf, LeafFault::RowSide(row))),
+        ProofVerdict::BoundSide(leaf, variable) => Some((leaf, LeafFault::BoundSide(variable))),
+        ProofVerdict::TooWide(leaf) => Some((leaf, LeafFault::TooWide)),
+        ProofVerdict::Gap(leaf, bound) => Some((leaf, LeafFault::Gap(bound))),
     }
 }
 
@@ -26,8 +26,8 @@ fn put_verdict(line: &mut Vec<u8>, verdict: ProofVerdict) -> Result<(), AllocErr
 pub fn leaf_line(alloc: Global, verdict: ProofVerdict) -> Result<Vec<u8>, AllocError>
     ensures { IfOk result (λ line. line.items ≡ leaf_line (fault_of verdict)) }
 {
-    let mut line = Vec::new(alloc);
-    put_verdict(&mut line, verdict)?;
-    put(&mut line, b"\n")?;
-    Ok(line)
+    match open_leaf(verdict) {
+        Some((leaf, fault)) => failed_line(alloc, Cause::Leaf(leaf, fault)),
+        None => Ok(format!(in alloc; "proved\n")?.into_bytes()),
+    }
 }

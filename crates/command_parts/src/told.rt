@@ -2,10 +2,8 @@
 // its front, and needs no memory.
 ghost use Rattle.std.specs.Prelude.{◌≡◌, ◌+◌, ◌≤◌, ◌++◌, length, OnOk};
 ghost use Rattle.std.specs.Fmt.{decimal, signed_decimal};
-ghost use Rattle.exact_numbers.specs.Values.{frac_value};
-ghost use Rattle.command_parts.specs.Told.{file_text, number_text, refusal, refused_at};
+ghost use Rattle.command_parts.specs.Told.{file_text, refusal, refused_at};
 
-use exact_numbers::{Frac, NumText};
 use itoa::Buffer;
 use std::alloc::AllocError;
 use written_texts::LineText;
@@ -16,39 +14,6 @@ pub fn put(line: &mut Vec<u8>, text: &[u8]) -> Result<(), AllocError>
 {
     line.extend_from_slice(text)?;
     Ok(())
-}
-
-/// Appends a number in lowest terms.
-pub fn put_frac(line: &mut Vec<u8>, value: Frac) -> Result<(), AllocError>
-    ensures { OnOk result (line.new.items ≡ line.old.items ++ number_text (frac_value value)) }
-{
-    let mut text = NumText::new();
-    value.write_to(&mut text);
-    put(line, text.bytes())
-}
-
-/// Appends a whole number.
-pub fn put_decimal(line: &mut Vec<u8>, number: u32) -> Result<(), AllocError>
-    ensures { OnOk result (line.new.items ≡ line.old.items ++ decimal number) }
-{
-    let mut digits = Buffer::new();
-    put(line, digits.format(number).as_bytes())
-}
-
-/// Appends a word, an index and a word after it.
-pub fn put_index(
-    line: &mut Vec<u8>,
-    front: &[u8],
-    index: u32,
-    back: &[u8],
-) -> Result<(), AllocError>
-    ensures { OnOk result (line.new.items ≡ line.old.items
-        ++ (front.now ++ decimal index ++ back.now)) }
-{
-    let mut digits = Buffer::new();
-    put(line, front)?;
-    put(line, digits.format(index).as_bytes())?;
-    put(line, back)
 }
 
 /// Puts a whole number in front.

@@ -1,70 +1,39 @@
 // The lines of verdicts, and of faults of solutions that do not fit their file.
-ghost use Rattle.std.specs.Prelude.{◌≡◌, ◌++◌, IfOk, OnOk};
-ghost use Rattle.dual_bounds.specs.Answers.{answer_of, place_of};
-ghost use Rattle.dual_bounds.specs.declared.verdict.Verdict.TheVariants.{Gap, TooWide, Yes};
-ghost use Rattle.dual_bounds.specs.Reasons.{place_text};
+ghost use Rattle.std.specs.Prelude.{◌≡◌, ◌++◌, IfOk, OnOk, string_bytes};
+ghost use Rattle.dual_bounds.specs.Answers.{answer_of};
+ghost use Rattle.dual_bounds.specs.declared.verdict.Verdict.TheVariants.{TooWide};
 ghost use Rattle.command_parts.specs.VerdictTold.{fit_line, is_yes, negative_line, verdict_line, verdict_text};
 
-use crate::told::{fixed, put, put_frac, put_index, put_signed};
+use crate::told::{fixed, put_signed};
 use dual_bounds::{Spot, Verdict};
-use exact_numbers::Frac;
 use solution_fit::FitFault;
 use std::alloc::{AllocError, Global};
 use written_texts::LineText;
 
 // Where a number does not fit.
-fn put_place(line: &mut Vec<u8>, place: Spot) -> Result<(), AllocError>
-    ensures { OnOk result (line.new.items ≡ line.old.items ++ place_text (place_of place)) }
+fn put_too_wide(line: &mut String, place: Spot) -> Result<(), AllocError>
+    ensures { OnOk result (string_bytes line.new ≡ string_bytes line.old
+        ++ verdict_text (answer_of (TooWide place))) }
 {
     match place {
-        Spot::Row(row) => put_index(line, b"row ", row, b""),
-        Spot::Cost(variable) => put_index(line, b"cost ", variable, b""),
-        Spot::Objective => put(line, b"objective"),
-        Spot::Total => put(line, b"total"),
+        Spot::Row(row) => write!(line, "too wide at row {row}"),
+        Spot::Cost(variable) => write!(line, "too wide at cost {variable}"),
+        Spot::Objective => write!(line, "too wide at objective"),
+        Spot::Total => write!(line, "too wide at total"),
     }
 }
 
-fn put_too_wide(line: &mut Vec<u8>, place: Spot) -> Result<(), AllocError>
-    ensures { OnOk result (line.new.items ≡ line.old.items
-        ++ verdict_text (answer_of (TooWide place))) }
-{
-    put(line, b"too wide at ")?;
-    put_place(line, place)
-}
-
-fn put_yes(line: &mut Vec<u8>, value: Frac) -> Result<(), AllocError>
-    ensures { OnOk result (line.new.items ≡ line.old.items
-        ++ verdict_text (answer_of (Yes value))) }
-{
-    put(line, b"yes ")?;
-    put_frac(line, value)
-}
-
-fn put_gap(line: &mut Vec<u8>, value: Frac, bound: Frac) -> Result<(), AllocError>
-    ensures { OnOk result (line.new.items ≡ line.old.items
-        ++ verdict_text (answer_of (Gap value bound))) }
-{
-    put(line, b"gap ")?;
-    put_frac(line, value)?;
-    put(line, b" ")?;
-    put_frac(line, bound)
-}
-
-fn put_verdict(line: &mut Vec<u8>, verdict: Verdict) -> Result<(), AllocError>
-    ensures { OnOk result (line.new.items ≡ line.old.items ++ verdict_text (answer_of verdict)) }
+fn put_verdict(line: &mut String, verdict: Verdict) -> Result<(), AllocError>
+    ensures { OnOk result (string_bytes line.new ≡ string_bytes line.old
+        ++ verdict_text (answer_of verdict)) }
 {
     match verdict {
-        Verdict::Yes(value) => put_yes(line, value),
-        Verdict::RowBroken(row) => put_index(line, b"row ", row, b" broken"),
-        Verdict::BoundBroken(variable) => put_index(line, b"bound ", variable, b" broken"),
-        Verdict::RowSideMissing(row) => put_index(line, b"row ", row, b" has no side"),
-        Verdict::BoundSideMissing(variable) => put_index(
-            line,
-            b"bound ",
-            variable,
-            b" has no side",
-        ),
-        Verdict::Gap(value, bound) => put_gap(line, value, bound),
+        Verdict::Yes(value) => write!(line, "yes {value}"),
+        Verdict::RowBroken(row) => write!(line, "row {row} broken"),
+        Verdict::BoundBroken(variable) => write!(line, "bound {variable} broken"),
+        Verdict::RowSideMissing(row) => write!(line, "row {row} has no side"),
+        Verdict::BoundSideMissing(variable) => write!(line, "bound {variable} has no side"),
+        Verdict::Gap(value, bound) => write!(line, "gap {value} {bound}"),
         Verdict::TooWide(place) => put_too_wide(line, place),
     }
 }
@@ -73,10 +42,10 @@ fn put_verdict(line: &mut Vec<u8>, verdict: Verdict) -> Result<(), AllocError>
 pub fn verdict_line(alloc: Global, verdict: Verdict) -> Result<Vec<u8>, AllocError>
     ensures { IfOk result (λ line. line.items ≡ verdict_line (answer_of verdict)) }
 {
-    let mut line = Vec::new(alloc);
+    let mut line = String::new(alloc);
     put_verdict(&mut line, verdict)?;
-    put(&mut line, b"\n")?;
-    Ok(line)
+    line.push('\n')?;
+    Ok(line.into_bytes())
 }
 
 /// Whether a verdict is yes.
