@@ -1,16 +1,28 @@
 -- Short names as numbers.
-use Rattle.std.specs.Prelude.{◌≡◌, ◌≢◌, true, ℕ, ◌+◌, ◌*◌, ◌<◌, ◌≤◌, ◌^◌, nat_le, List, [], ◌∷◌, length, map, All, AllPairs, if◌then◌else◌}
+use Rattle.std.specs.Prelude.{◌≡◌, ◌≢◌, true, zero, suc, ℕ, ◌+◌, ◌*◌, ◌/◌, ◌%◌, ◌<◌, ◌≤◌, ◌^◌, nat_le, List, [], ◌∷◌, ◌++◌, length, map, drop, fold, All, AllPairs, if◌then◌else◌, Option, Some, None}
 use Rattle.texts.specs.Names.{is_name}
 
--- the bytes as digits of base 256, the first the lowest, with a 1 above the last: other bytes have
--- another number
+-- a number with one more digit of base 256
+abbrev pub with_byte : ℕ → ℕ → ℕ
+with_byte code byte = code * 256 + byte
+
+-- the bytes as digits of base 256, with a 1 above the first: other bytes have another number
 abbrev pub bytes_code : List ℕ → ℕ
-bytes_code [] = 1
-bytes_code (b ∷ bytes) = bytes_code bytes * 256 + b
+bytes_code bytes = fold with_byte 1 bytes
 
 -- that of at most seven bytes; 0 of more
 unfoldable pub code_of : List ℕ → ℕ
 code_of name = if nat_le (length name) 7 then bytes_code name else 0
+
+-- the digits of a number of base 256 without the first, the last n at most
+unfoldable pub last_bytes : ℕ → ℕ → List ℕ
+last_bytes zero code = []
+last_bytes (suc n) code =
+    if nat_le code 255 then [] else last_bytes n (code / 256) ++ code % 256 ∷ []
+
+-- the short name of this code
+unfoldable pub name_of : ℕ → List ℕ
+name_of code = last_bytes 7 code
 
 -- each is a byte
 abbrev pub AreBytes : List ℕ → Type 0
@@ -23,3 +35,17 @@ pub record HaveCodes (names : List (List ℕ)) (codes : List ℕ) : Type 0 where
   pub named : All (λ n. is_name n ≡ true) names
   pub apart : AllPairs (λ m n. m ≢ n) names
   pub coded : codes ≡ map code_of names
+
+-- behind the first, each code is above those before it
+abbrev pub AreRising : List ℕ → Type 0
+AreRising codes = AllPairs ◌<◌ (drop 1 codes)
+
+-- the names: those of the set where there is one, else those that have the codes
+abbrev pub kept_names : Option (List (List ℕ)) → List ℕ → List (List ℕ)
+kept_names (Some names) codes = names
+kept_names None codes = map name_of codes
+
+-- names that are kept in a set, or as codes that rise
+pub record AreKept (set : Option (List (List ℕ))) (codes : List ℕ) : Type 0 where
+  pub coded : HaveCodes (kept_names set codes) codes
+  pub rising : set ≡ None → AreRising codes

@@ -59,7 +59,7 @@ pub(crate) fn first_name(text: &[u8], end: u8) -> Option<(&[u8], &[u8])>
 pub(crate) fn is_marker_word(word: &[u8]) -> bool
     ensures { result ≡ bytes_eq word.now marker_word }
 {
-    word == b"'MARKER'".as_slice()
+    word.len() == 8 && word == b"'MARKER'".as_slice()
 }
 
 /// A number at the end of a line, and what follows the LF.

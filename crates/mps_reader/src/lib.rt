@@ -13,6 +13,7 @@ mod front_words;
 mod grammar;
 mod keyword;
 pub mod laws;
+mod name_sets;
 mod names;
 mod pairs;
 mod reader;

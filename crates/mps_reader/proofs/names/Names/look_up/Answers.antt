@@ -1,14 +1,19 @@
-use Rattle.std.proofs.Common.{arith, List, ℕ, ap, sym, ◌∙◌}
-use Rattle.std.proofs.lemmas.Grind.{common_steps}
+use Rattle.std.proofs.Common.{◌≡◌, ◌∙◌, List, ℕ, ap, sym, map, option_map}
+use Rattle.mps_reader.specs.InsideCodes.{name_of}
 use Rattle.mps_reader.specs.Saying.{place_of}
-use Rattle.texts.proofs.NamePlaces.{place_of-texts}
+use Rattle.texts.proofs.NamePlaces.{texts_of, place_of-texts}
+use Rattle.mps_reader.proofs.CodeLemmas.{are_bytes, found_place}
+use Rattle.mps_reader.proofs.KeptNames.{codes_kept, codes_seen, set_seen}
 use Rattle.mps_reader.proofs.names.Names.look_up.Goals as goal
 
-pub returns-in-Some : goal.returns-in-Some
-returns-in-Some c = sym c.in-Some.is ∙ c.get_index_of.ensures.index ∙ sym (place_of-texts c.self.inside.names.keys c.args.name.now) ∙ ap (λ (names : List (List ℕ)). place_of names c.args.name.now) c.self.view_is
+pub returns-in-Some-clause-place : goal.returns-in-Some-clause-place
+returns-in-Some-clause-place c =
+    let seen : texts_of c.in-Some.names.keys ≡ c.args.self.now = set_seen _ c.self.inside.codes _ _ (ap (option_map (λ s. texts_of s.keys)) c.in-Some.is) c.self.view_is in
+    c.get_index_of.ensures.index ∙ sym (place_of-texts c.in-Some.names.keys c.args.name.now) ∙ ap (λ (names : List (List ℕ)). place_of names c.args.name.now) seen
 
-pub returns-in-None : goal.returns-in-None
-returns-in-None c = sym c.in-None.is ∙ c.get_index_of.ensures.index ∙ sym (place_of-texts c.self.inside.names.keys c.args.name.now) ∙ ap (λ (names : List (List ℕ)). place_of names c.args.name.now) c.self.view_is
-
-pub overflow_cast-result : goal.overflow_cast-result
-overflow_cast-result c = grind (arith, common_steps)
+pub returns-in-None-clause-place : goal.returns-in-None-clause-place
+returns-in-None-clause-place c =
+    let none = ap (option_map (λ s. texts_of s.keys)) c.in-None.is in
+    let seen : map name_of c.self.inside.codes ≡ c.args.self.now = codes_seen _ c.self.inside.codes _ none c.self.view_is in
+    found_place c.self.inside.codes c.args.name.now c.args.key.code c.search.result c.requires (codes_kept _ c.self.inside.codes none c.self.invariant) (are_bytes c.args.name.now c.type_inv.name) c.search.ensures.within c.search.ensures.found c.search.ensures.absent
+    ∙ ap (λ (names : List (List ℕ)). place_of names c.args.name.now) seen
