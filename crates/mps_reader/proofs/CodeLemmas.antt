@@ -1,24 +1,27 @@
 -- Names by their codes.
-use Rattle.std.proofs.Common.{◌≡◌, ◌≢◌, ◌∙◌, ℕ, zero, suc, ◌+◌, ◌-◌, ◌*◌, ◌/◌, ◌%◌, ◌<◌, ◌≤◌, ◌^◌, List, [], ◌∷◌, ◌++◌, Bool, true, false, length, map, take, drop, set, get_or, nat_cmp, Option, Some, None, Result, Err, MatchResult, refl, sym, ap, arith, subst, Fits, w8, not, ◌&&◌, ◌==◌, ◌⊎◌, inl, inr}
+use Rattle.std.proofs.Common.{◌≡◌, ◌≢◌, ◌∙◌, ℕ, zero, suc, ◌+◌, ◌-◌, ◌*◌, ◌/◌, ◌%◌, ◌<◌, ◌≤◌, ◌^◌, List, [], ◌∷◌, ◌++◌, Bool, true, false, length, map, take, drop, set, get_or, nat_eq, Option, Some, None, refl, sym, ap, arith, subst, Fits, w8, not, ◌&&◌, ◌==◌, ◌⊎◌, inl, inr}
 use Rattle.std.specs.Prelude.{All, AllPairs, IfSome, nat_le, fold, slice_get, option_map, unwrap_or}
-use Rattle.std.specs.List.Sorted.{IsBinarySearchResult}
+use Rattle.std.specs.List.{position, list_any}
+use Rattle.indexmap.specs.IndexSet.{insert_key}
 use Rattle.std.specs.Str.{bytes_eq}
 use Rattle.std.proofs.Math.Nat.{pow-le-pow_right}
 use Rattle.std.proofs.lemmas.Bool.Decides.{nat_tests}
 use Rattle.std.proofs.lemmas.Nat.{div-mul-add, mod-mul-add}
 use Rattle.std.proofs.lemmas.Grind.{pow_more, get_or_default_zero}
-use Rattle.std.proofs.lemmas.List.{length-map, map-append, get_or-map, length-append, length-take-le, take_more, take_all, take-map, get_or-take, get_or_default, drop-set, append_assoc, take-append-drop}
+use Rattle.std.proofs.lemmas.List.{length-map, map-append, get_or-map, length-append, length-take-le, take_more, take_all, take-map, get_or-take, get_or_default, drop-set, append_assoc, append-nil, take-append-drop}
 use Rattle.std.proofs.lemmas.List.Elements.{All-head, All-tail, All-push, All-take, All-get_or}
-use Rattle.std.proofs.lemmas.List.Sums.{fold_push, fold_more}
-use Rattle.std.proofs.lemmas.Option.{slice_get-map}
-use Rattle.std.proofs.lemmas.List.Sorted.{searched}
+use Rattle.std.proofs.lemmas.List.Sums.{fold_push, fold_more, fails_before_first}
+use Rattle.std.proofs.lemmas.Option.{slice_get-map, slice_get-get_or}
+use Rattle.std.proofs.lemmas.List.Folds.{list_any_none}
+use Rattle.std.proofs.Math.ListN.{get_or-append}
+use Rattle.std.proofs.Math.Seq.{get_or-append_seam}
 use Rattle.texts.specs.Names.{IsName, is_name, has_name_bytes}
-use Rattle.mps_reader.specs.InsideCodes.{with_byte, bytes_code, code_of, last_bytes, name_of, AreBytes, HaveCodes, AreRising}
+use Rattle.mps_reader.specs.InsideCodes.{with_byte, bytes_code, code_of, last_bytes, name_of, AreBytes, HaveCodes, NoneOrLong}
 use Rattle.mps_reader.specs.Saying.{place_of, last_name}
 use Rattle.mps_reader.proofs.LastLemmas.{last_name-slice}
-use Rattle.texts.proofs.NamePlaces.{place_at, place_none, place_some, bytes_differ, bytes_same}
-use Rattle.std.proofs.lemmas.List.Quantifiers.{all_pairs_push}
-use Rattle.std.proofs.lemmas.Bool.{and_parts, leb-true, lt-leb, le-leb, eq-eqb, ne_eqb, cases_Bool, cases_lt}
+use Rattle.texts.proofs.NamePlaces.{past_all, place_at, place_none, place_some, bytes_differ, bytes_same}
+use Rattle.std.proofs.lemmas.List.Quantifiers.{all_pairs_push, position-Some}
+use Rattle.std.proofs.lemmas.Bool.{and_parts, leb-true, lt-leb, le-leb, eq-eqb, ne_eqb, cases_Bool}
 
 -- ---- sizes
 
@@ -248,48 +251,56 @@ same_test name code hx hy e = by (bytes_eq name (name_of code)) refl
     by true is = eq-eqb (code_of name) code (ap code_of (bytes_same name (name_of code) is) ∙ e) ∙ sym is
     by false is = ne_eqb (code_of name) code (λ same. bytes_differ name (name_of code) is (same_name name (name_of code) hx hy (same ∙ sym e) (some_named code))) ∙ sym is
 
--- ---- codes that rise
+-- ---- codes of short names before others
 
-pub rising_one : (codes : List ℕ) (code : ℕ) → length codes ≤ 1 → AreRising (codes ++ code ∷ [])
-rising_one [] code few = λ i j d lt within. absurd (omega (arith, lt, within))
-rising_one (c ∷ []) code few = λ i j d lt within. absurd (omega (arith, lt, within))
-rising_one (c ∷ e ∷ codes) code few = absurd (omega (arith, few))
+-- where all codes are those of short names, there are none behind
+pub none_behind : (short behind : List ℕ) → All (λ c. 0 < c) (short ++ behind) → NoneOrLong behind → short ≡ short ++ behind
+none_behind short [] h first = sym (append-nil short)
+none_behind short (c ∷ behind) h first =
+    let some : 0 < get_or (short ++ c ∷ behind) (length short) 0 = h (length short) 0 (omega (arith, length-append short (c ∷ behind))) in
+    absurd (omega (arith, some, first, get_or-append_seam short c behind 0))
 
--- none of codes that rise is above the last
-pub last_highest : (codes : List ℕ) (k d : ℕ) → AllPairs (λ x y. x < y) codes → k < length codes → get_or codes k d ≤ get_or codes (length codes - 1) d
-last_highest codes k d h lt = by (cases_Bool (nat_le (length codes) (k + 1)))
-  where
-    by : (nat_le (length codes) (k + 1) ≡ true) ⊎ (nat_le (length codes) (k + 1) ≡ false) → get_or codes k d ≤ get_or codes (length codes - 1) d
-    by (inl e) = let same : k ≡ length codes - 1 = grind (arith, nat_tests, e, lt) in omega (arith, ap (λ (n : ℕ). get_or codes n d) same)
-    by (inr e) = let below : k < length codes - 1 = grind (arith, nat_tests, e, lt) in omega (arith, h k (length codes - 1) d below (omega (arith, lt)))
+pub get_before : (short behind : List ℕ) (place : ℕ) → place < length short → Some (get_or short place 0) ≡ slice_get (short ++ behind) place
+get_before short behind place lt =
+    ap Some (sym (get_or-append short behind 0 place lt)) ∙ sym (slice_get-get_or (short ++ behind) place 0 (omega (arith, lt, length-append short behind)))
 
-pub above_last : (codes : List ℕ) (code : ℕ) → AllPairs (λ x y. x < y) codes → get_or codes (length codes - 1) 0 < code → All (λ c. c ≢ code) codes
-above_last codes code h above = λ k d lt same.
-    let highest = last_highest codes k 0 h lt in
-    omega (arith, highest, above, same, get_or_default codes k d 0 lt)
+pub get_behind : (short behind : List ℕ) (place : ℕ) → length short ≤ place → slice_get behind (place - length short) ≡ slice_get (short ++ behind) place
+get_behind [] behind place le = ap (slice_get behind) (omega arith)
+get_behind (c ∷ short) behind zero le = absurd (omega (arith, le))
+get_behind (c ∷ short) behind (suc place) le = ap (slice_get behind) (omega arith) ∙ get_behind short behind place (omega (arith, le))
 
-pub rising_more : (codes : List ℕ) (code : ℕ) → AreRising codes → 2 ≤ length codes → get_or codes (length codes - 1) 0 < code → AreRising (codes ++ code ∷ [])
-rising_more [] code h some above = absurd (omega (arith, some))
-rising_more (c ∷ []) code h some above = absurd (omega (arith, some))
-rising_more (c ∷ e ∷ codes) code h some above =
-    let last : length (c ∷ e ∷ codes) - 1 ≡ suc (length (e ∷ codes) - 1) = omega arith in
-    let high : get_or (e ∷ codes) (length (e ∷ codes) - 1) 0 < code = subst (λ (n : ℕ). get_or (c ∷ e ∷ codes) n 0 < code) last above in
-    all_pairs_push (λ x y. x < y) (e ∷ codes) code h
-    (λ k d lt. let highest = last_highest (e ∷ codes) k 0 h lt in omega (arith, highest, high, get_or_default (e ∷ codes) k d 0 lt))
+-- what the place of a code says
+pub code_absent : (codes : List ℕ) (code : ℕ) → position (nat_eq code) codes ≡ None → All (λ c. c ≢ code) codes
+code_absent codes code none = λ k d lt same.
+    let other : (code == get_or codes k d) ≡ false = fails_before_first (nat_eq code) codes k d (omega (arith, lt, past_all (nat_eq code) codes none)) in
+    let here : (code == get_or codes k d) ≡ true = eq-eqb code (get_or codes k d) (sym same) in
+    absurd cc
 
--- what a search among codes that rise says where it finds none
-pub not_found : (codes : List ℕ) (code : ℕ) (r : Result ℕ ℕ) (i : ℕ) → IsBinarySearchResult (λ y. nat_cmp y code) codes r → AllPairs (λ x y. x < y) codes → r ≡ Err i → All (λ c. c ≢ code) codes
-not_found codes code r i found h is = λ k d lt same.
-    let up : (a b : ℕ) → a ≤ b → b < length codes → get_or codes a 0 ≤ get_or codes b 0 = λ a b le within. rise a b le within in
-    let parts = subst (λ (s : Result ℕ ℕ). MatchResult s (λ p. (p < length codes) × (get_or codes p 0 ≡ code)) (λ p. (p ≤ length codes) × ((n : ℕ) → n < p → get_or codes n 0 < code) × ((n : ℕ) → p ≤ n → n < length codes → code < get_or codes n 0))) is (searched codes code r found up) in
-    let at : get_or codes k 0 ≡ code = get_or_default codes k 0 d lt ∙ same in
-    elim (cases_lt k i) [
-      | inl below ↦ omega (arith, parts.1 k below, at)
-      | inr above ↦ omega (arith, parts.2 k above lt, at)
-    ]
-  where
-    rise : (a b : ℕ) → a ≤ b → b < length codes → get_or codes a 0 ≤ get_or codes b 0
-    rise a b le within = elim (cases_lt a b) [
-      | inl lt ↦ let less : get_or codes a 0 < get_or codes b 0 = h a b 0 lt within in omega arith
-      | inr ge ↦ let same : a ≡ b = omega arith in omega (arith, ap (λ (n : ℕ). get_or codes n 0) same)
-    ]
+pub code_found : (codes : List ℕ) (code : ℕ) (r : Option ℕ) → r ≡ position (nat_eq code) codes → IfSome r (λ p. get_or codes p 0 ≡ code)
+code_found codes code None is = tt
+code_found codes code (Some p) is = let at = position-Some (nat_eq code) codes p 0 (sym is) in sym (grind (arith, nat_tests, at.1))
+
+-- a code that is absent goes last
+pub code_pushed : (codes : List ℕ) (code : ℕ) → All (λ c. c ≢ code) codes → insert_key nat_eq codes code ≡ codes ++ code ∷ []
+code_pushed codes code h =
+    let absent : list_any (nat_eq code) codes ≡ false = list_any_none (nat_eq code) codes (λ k d lt. ne_eqb code (get_or codes k d) (λ same. h k d lt (sym same))) in
+    rw absent refl
+
+pub pushed_short : (short behind codes more : List ℕ) (code : ℕ) → short ++ behind ≡ codes → length behind ≡ 0 → All (λ c. c ≢ code) codes → more ≡ insert_key nat_eq short code → more ++ behind ≡ codes ++ code ∷ []
+pushed_short short [] codes more code same none h is =
+    let all : short ≡ codes = sym (append-nil short) ∙ same in
+    append-nil more ∙ is ∙ ap (λ (cs : List ℕ). insert_key nat_eq cs code) all ∙ code_pushed codes code h
+pushed_short short (c ∷ behind) codes more code same none h is = absurd (omega (arith, none))
+
+-- a short name that is new has a new code
+pub fresh_code : (names : List (List ℕ)) (codes name : List ℕ) (code : ℕ) → HaveCodes names codes → code ≡ code_of name → AreBytes name → place_of names name ≡ None → 0 < code → All (λ c. c ≢ code) codes
+fresh_code names codes name code h is bytes new some = λ k d lt same.
+    let within : k < length names = omega (arith, lt, ap length h.coded, length-map names code_of) in
+    let own : code_of (get_or names k []) ≡ code_of name =
+    sym (get_or-map code_of names k [] d within) ∙ sym (ap (λ (cs : List ℕ). get_or cs k d) h.coded) ∙ same ∙ is in
+    let equal : get_or names k [] ≡ name = same_name (get_or names k []) name (h.bytes k [] within) bytes own (omega (arith, is, some)) in
+    absurd (bytes_differ name (get_or names k []) (place_none names name new k [] within) (sym equal))
+
+-- codes of short names are not 0
+pub all_some : (codes : List ℕ) → HaveCodes (map name_of codes) codes → All (λ c. 0 < c) codes
+all_some codes h = λ k d lt. omega (arith, code_at codes k h lt, some_named (get_or codes k 0), get_or_default codes k d 0 lt)

@@ -6,28 +6,28 @@ use Rattle.std.proofs.lemmas.List.{length-map, map_push, get_or-map}
 use Rattle.std.proofs.lemmas.Option.{slice_get_within}
 use Rattle.texts.specs.Names.{IsName}
 use Rattle.texts.proofs.NamePlaces.{texts_of}
-use Rattle.mps_reader.specs.InsideCodes.{code_of, name_of, AreBytes, HaveCodes, AreRising, AreKept, kept_names}
+use Rattle.mps_reader.specs.InsideCodes.{code_of, name_of, AreBytes, HaveCodes, kept_names}
 use Rattle.mps_reader.specs.Saying.{place_of, last_name}
 use Rattle.mps_reader.proofs.CodeLemmas.{one_more_code, name_back, code_at, last_named, named}
 
 -- ---- what is held
 
-pub codes_kept : (set : Option (List (List ℕ))) (codes : List ℕ) → set ≡ None → AreKept set codes → HaveCodes (map name_of codes) codes
-codes_kept None codes is h = h.coded
+pub codes_kept : (set : Option (List (List ℕ))) (codes : List ℕ) → set ≡ None → HaveCodes (kept_names set codes) codes → HaveCodes (map name_of codes) codes
+codes_kept None codes is h = h
 codes_kept (Some names) codes is h = absurd cc
 
 pub codes_seen : (set : Option (List (List ℕ))) (codes : List ℕ) (names : List (List ℕ)) → set ≡ None → kept_names set codes ≡ names → map name_of codes ≡ names
 codes_seen None codes names is e = e
 codes_seen (Some set) codes names is e = absurd cc
 
-pub set_kept : (set : Option (List (List ℕ))) (codes : List ℕ) (names : List (List ℕ)) → set ≡ Some names → AreKept set codes → HaveCodes names codes
-set_kept set codes names is h = subst (λ (s : Option (List (List ℕ))). HaveCodes (kept_names s codes) codes) is h.coded
+pub set_kept : (set : Option (List (List ℕ))) (codes : List ℕ) (names : List (List ℕ)) → set ≡ Some names → HaveCodes (kept_names set codes) codes → HaveCodes names codes
+set_kept set codes names is h = subst (λ (s : Option (List (List ℕ))). HaveCodes (kept_names s codes) codes) is h
 
 pub set_seen : (set : Option (List (List ℕ))) (codes : List ℕ) (keys names : List (List ℕ)) → set ≡ Some keys → kept_names set codes ≡ names → keys ≡ names
 set_seen set codes keys names is e = sym (ap (λ (s : Option (List (List ℕ))). kept_names s codes) is) ∙ e
 
-pub as_seen : (set : Option (List (List ℕ))) (codes : List ℕ) (names : List (List ℕ)) → AreKept set codes → kept_names set codes ≡ names → HaveCodes names codes
-as_seen set codes names h e = subst (λ (ns : List (List ℕ)). HaveCodes ns codes) e h.coded
+pub as_seen : (kept : List (List ℕ)) (codes : List ℕ) (names : List (List ℕ)) → HaveCodes kept codes → kept ≡ names → HaveCodes names codes
+as_seen kept codes names h e = subst (λ (ns : List (List ℕ)). HaveCodes ns codes) e h
 
 -- ---- the last name
 
@@ -77,35 +77,23 @@ pub one_more : (names : List (List ℕ)) (codes name : List ℕ) (code : ℕ) �
 one_more names codes name code h new =
     subst (λ (n : ℕ). HaveCodes (names ++ name ∷ []) (codes ++ n ∷ [])) (sym new.is) (one_more_code names codes name h new.bytes new.own new.new new.room)
 
-pub set_more : {A E : Type 0} (r : Result A E) (keys keys2 : List (Vec ℕ)) (codes codes2 name : List ℕ) (code : ℕ) → HaveCodes (texts_of keys) codes → IsNew (texts_of keys) name code → OnOk r (texts_of keys2 ≡ texts_of keys ++ name ∷ []) → OnOk r (codes2 ≡ codes ++ code ∷ []) → OnErr r (keys2 ≡ keys) → OnErr r (codes2 ≡ codes) → AreKept (Some (texts_of keys2)) codes2
-set_more (Ok u) keys keys2 codes codes2 name code h new names more same still = record {
-  coded = rw (names, more) (one_more (texts_of keys) codes name code h new);
-  rising = λ e. absurd cc;
-}
-set_more (Err f) keys keys2 codes codes2 name code h new names more same still = record {
-  coded = rw (same, still) h;
-  rising = λ e. absurd cc;
-}
+pub set_more : {A E : Type 0} (r : Result A E) (keys keys2 : List (Vec ℕ)) (codes codes2 name : List ℕ) (code : ℕ) → HaveCodes (texts_of keys) codes → IsNew (texts_of keys) name code → OnOk r (texts_of keys2 ≡ texts_of keys ++ name ∷ []) → OnOk r (codes2 ≡ codes ++ code ∷ []) → OnErr r (keys2 ≡ keys) → OnErr r (codes2 ≡ codes) → HaveCodes (texts_of keys2) codes2
+set_more (Ok u) keys keys2 codes codes2 name code h new names more same still = rw (names, more) (one_more (texts_of keys) codes name code h new)
+set_more (Err f) keys keys2 codes codes2 name code h new names more same still = rw (same, still) h
 
 -- the set that is made of the codes
-pub begun : (keys : List (Vec ℕ)) (codes codes2 name : List ℕ) (code : ℕ) → HaveCodes (map name_of codes) codes → IsNew (map name_of codes) name code → texts_of keys ≡ map name_of codes ++ name ∷ [] → codes2 ≡ codes ++ code ∷ [] → AreKept (Some (texts_of keys)) codes2
-begun keys codes codes2 name code h new names more = record {
-  coded = rw (names, more) (one_more (map name_of codes) codes name code h new);
-  rising = λ e. absurd cc;
-}
+pub begun : (keys : List (Vec ℕ)) (codes codes2 name : List ℕ) (code : ℕ) → HaveCodes (map name_of codes) codes → IsNew (map name_of codes) name code → texts_of keys ≡ map name_of codes ++ name ∷ [] → codes2 ≡ codes ++ code ∷ [] → HaveCodes (texts_of keys) codes2
+begun keys codes codes2 name code h new names more = rw (names, more) (one_more (map name_of codes) codes name code h new)
 
 pub named_more : (codes name : List ℕ) (code : ℕ) → code ≡ code_of name → AreBytes name → 0 < code → map name_of (codes ++ code ∷ []) ≡ map name_of codes ++ name ∷ []
 named_more codes name code is bytes some =
     let back : name_of code ≡ name = ap name_of is ∙ name_back name bytes (omega (arith, is, some)) in
     map_push name_of codes code ∙ ap (λ (n : List ℕ). map name_of codes ++ n ∷ []) back
 
-pub codes_more : {A E : Type 0} (r : Result A E) (set : Option (List (List ℕ))) (codes codes2 name : List ℕ) (code : ℕ) → set ≡ None → AreKept set codes → IsNew (map name_of codes) name code → AreRising (codes ++ code ∷ []) → 0 < code → OnOk r (codes2 ≡ codes ++ code ∷ []) → OnErr r (codes2 ≡ codes) → AreKept set codes2
-codes_more r (Some names) codes codes2 name code is h new rising some more still = absurd cc
-codes_more (Ok u) None codes codes2 name code is h new rising some more still = record {
-  coded = rw (more, named_more codes name code new.is new.bytes some) (one_more (map name_of codes) codes name code h.coded new);
-  rising = λ e. subst AreRising (sym more) rising;
-}
-codes_more (Err f) None codes codes2 name code is h new rising some more still = subst (AreKept None) (sym still) h
+pub codes_more : {A E : Type 0} (r : Result A E) (set : Option (List (List ℕ))) (codes codes2 name : List ℕ) (code : ℕ) → set ≡ None → HaveCodes (kept_names set codes) codes → IsNew (map name_of codes) name code → 0 < code → OnOk r (codes2 ≡ codes ++ code ∷ []) → OnErr r (codes2 ≡ codes) → HaveCodes (kept_names set codes2) codes2
+codes_more r (Some names) codes codes2 name code is h new some more still = absurd cc
+codes_more (Ok u) None codes codes2 name code is h new some more still = rw (more, named_more codes name code new.is new.bytes some) (one_more (map name_of codes) codes name code h new)
+codes_more (Err f) None codes codes2 name code is h new some more still = rw still h
 
 pub seen_more : {A E : Type 0} (r : Result A E) (set : Option (List (List ℕ))) (codes codes2 name : List ℕ) (code : ℕ) (names : List (List ℕ)) → set ≡ None → kept_names set codes ≡ names → code ≡ code_of name → AreBytes name → 0 < code → OnOk r (codes2 ≡ codes ++ code ∷ []) → OnOk r (kept_names set codes2 ≡ names ++ name ∷ [])
 seen_more r (Some set) codes codes2 name code names is e own bytes some more = absurd cc

@@ -1,5 +1,5 @@
 -- Short names as numbers.
-use Rattle.std.specs.Prelude.{◌≡◌, ◌≢◌, true, zero, suc, ℕ, ◌+◌, ◌*◌, ◌/◌, ◌%◌, ◌<◌, ◌≤◌, ◌^◌, nat_le, List, [], ◌∷◌, ◌++◌, length, map, drop, fold, All, AllPairs, if◌then◌else◌, Option, Some, None}
+use Rattle.std.specs.Prelude.{◌≡◌, ◌≢◌, true, zero, suc, ℕ, ◌+◌, ◌*◌, ◌/◌, ◌%◌, ◌<◌, ◌≤◌, ◌^◌, nat_le, List, [], ◌∷◌, ◌++◌, length, map, get_or, fold, All, AllPairs, if◌then◌else◌, Option, Some, None}
 use Rattle.texts.specs.Names.{is_name}
 
 -- a number with one more digit of base 256
@@ -36,16 +36,11 @@ pub record HaveCodes (names : List (List ℕ)) (codes : List ℕ) : Type 0 where
   pub apart : AllPairs (λ m n. m ≢ n) names
   pub coded : codes ≡ map code_of names
 
--- behind the first, each code is above those before it
-abbrev pub AreRising : List ℕ → Type 0
-AreRising codes = AllPairs ◌<◌ (drop 1 codes)
+-- no codes, or first that of a long name
+abbrev pub NoneOrLong : List ℕ → Type 0
+NoneOrLong codes = get_or codes 0 0 ≡ 0
 
 -- the names: those of the set where there is one, else those that have the codes
 abbrev pub kept_names : Option (List (List ℕ)) → List ℕ → List (List ℕ)
 kept_names (Some names) codes = names
 kept_names None codes = map name_of codes
-
--- names that are kept in a set, or as codes that rise
-pub record AreKept (set : Option (List (List ℕ))) (codes : List ℕ) : Type 0 where
-  pub coded : HaveCodes (kept_names set codes) codes
-  pub rising : set ≡ None → AreRising codes

@@ -1,7 +1,8 @@
 // Short names as numbers, so that a name is found without its hash or a look at other names' bytes.
-ghost use Rattle.std.specs.Prelude.{◌≡◌, ◌≢◌, ◌-◌, ◌<◌, ◌≤◌, ◌^◌, ◌++◌, ◌∷◌, [], true, None, All, AllPairs, OnOk, OnErr, IfOk, IfSome, length, get_or, slice_get};
-ghost use Rattle.mps_reader.specs.InsideCodes.{bytes_code, code_of, name_of, AreRising};
+ghost use Rattle.std.specs.Prelude.{◌≡◌, ◌≢◌, ◌-◌, ◌<◌, ◌≤◌, ◌^◌, ◌++◌, ◌∷◌, [], None, All, OnOk, OnErr, IfOk, IfSome, length, get_or, slice_get};
+ghost use Rattle.mps_reader.specs.InsideCodes.{bytes_code, code_of, name_of};
 
+use indexmap::IndexSet;
 use std::alloc::{AllocError, Global};
 use std::marker::Model;
 
@@ -19,17 +20,23 @@ pub struct Key {
 /// The codes of names, in the order of the names.
 #[derive(Drop)]
 pub struct Codes {
-    codes: Vec<u64>,
+    // those before the first long name
+    short: IndexSet<u64>,
+    // those from it on
+    behind: Vec<u64>,
     // how far places lie above the numbers at the ends of names, modulo 2^64; any is right
     shift: usize,
 }
 
 impl Model for Codes {
-    ghost use Rattle.std.specs.Prelude.{List, ℕ};
+    ghost use Rattle.std.specs.Prelude.{List, ℕ, ◌++◌};
+    ghost use Rattle.mps_reader.specs.InsideCodes.{NoneOrLong};
 
     ghost Value = { List ℕ };
 
-    ghost view = { λ c. c.codes.items };
+    ghost view = { λ c. c.short.keys ++ c.behind.items };
+
+    ghost invariant = { λ c. NoneOrLong c.behind.items };
 }
 
 // The number at the end of a name, one byte on; 0 behind a byte that is no digit.
@@ -99,31 +106,14 @@ pub(crate) fn after_code(text: &[u8], code: u64) -> Option<&[u8]>
     Some(text.split_at(passed).1)
 }
 
-// The place of a code among codes that rise.
-fn place_among(codes: &[u64], code: u64) -> Option<usize>
-    requires { AllPairs ◌<◌ codes.now }
-    ensures within { IfSome result (λ p. p < length codes.now) }
-    ensures found { IfSome result (λ p. get_or codes.now p 0 ≡ code) }
-    ensures absent { result ≡ None → All (λ c. c ≢ code) codes.now }
-{
-    if let [.., last] = codes
-        && *last < code
-    {
-        return None;
-    }
-    match codes.binary_search(&code) {
-        Ok(place) => Some(place),
-        Err(_) => None,
-    }
-}
-
 impl Codes {
     /// No codes.
     pub(crate) fn new(alloc: Global) -> Codes
         ensures { result ≡ [] }
     {
         Codes {
-            codes: Vec::new(alloc),
+            short: IndexSet::new(alloc),
+            behind: Vec::new(alloc),
             shift: 0,
         }
     }
@@ -132,21 +122,33 @@ impl Codes {
     pub(crate) fn len(&self) -> usize
         ensures { result ≡ length self.now }
     {
-        self.codes.len()
+        self.short.len() + self.behind.len()
     }
 
-    /// All codes.
-    pub(crate) fn all(&self) -> &[u64]
+    // The code at a place.
+    fn get(&self, place: usize) -> Option<u64>
+        ensures { result ≡ slice_get self.now place }
+    {
+        let short = self.short.as_slice();
+        if place < short.len() {
+            return Some(short[place]);
+        }
+        self.behind.get(place - short.len()).copied()
+    }
+
+    /// All codes, where each is that of a short name.
+    pub(crate) fn all_short(&self) -> &[u64]
+        requires { All (λ c. 0 < c) self.now }
         ensures { result.now ≡ self.now }
     {
-        self.codes.as_slice()
+        self.short.as_slice()
     }
 
     /// The last code.
     pub(crate) fn last(&self) -> Option<u64>
         ensures { result ≡ slice_get self.now (length self.now - 1) }
     {
-        self.codes.last().copied()
+        self.get(self.len().saturating_sub(1))
     }
 
     /// The place of a short name's code, where the number at the end of the name leads to it.
@@ -159,52 +161,37 @@ impl Codes {
             return None;
         }
         let place = key.number.wrapping_add(self.shift);
-        if place < self.codes.len() && self.codes[place] == key.code {
-            return Some(place);
+        let code = self.get(place)?;
+        if code != key.code {
+            return None;
         }
-        None
+        Some(place)
     }
 
-    /// The place of a code.
-    pub(crate) fn search(&self, code: u64) -> Option<usize>
-        requires { AreRising self.now }
+    /// The place of a code, where each is that of a short name.
+    pub(crate) fn look_up(&self, code: u64) -> Option<usize>
+        requires { All (λ c. 0 < c) self.now }
         ensures within { IfSome result (λ p. p < length self.now) }
         ensures found { IfSome result (λ p. get_or self.now p 0 ≡ code) }
         ensures absent { result ≡ None → All (λ c. c ≢ code) self.now }
     {
-        let [first, rest @ ..] = self.codes.as_slice() else {
-            return None;
-        };
-        if *first == code {
-            return Some(0);
-        }
-        match place_among(rest, code) {
-            Some(place) => Some(place + 1),
-            None => None,
-        }
+        self.short.get_index_of(&code)
     }
 
-    /// Whether this is the code of a short name, and the codes rise with it, too.
-    pub(crate) fn rise_with(&self, code: u64) -> bool
-        requires { AreRising self.now }
-        ensures rising { result ≡ true → AreRising (self.now ++ code ∷ []) }
-        ensures short { result ≡ true → 0 < code }
-    {
-        match self.codes.as_slice() {
-            [_, .., last] => code > *last,
-            _ => code > 0,
-        }
-    }
-
-    /// Adds the code of a name. Want of memory changes no code.
+    /// Adds the code of a new name. Want of memory changes no code.
     pub(crate) fn add(&mut self, key: Key) -> Result<(), AllocError>
+        requires { 0 < key.code → All (λ c. c ≢ key.code) self.old }
         ensures more { OnOk result (self.new ≡ self.old ++ key.code ∷ []) }
         ensures same { OnErr result (self.new ≡ self.old) }
     {
         if key.number > 0 {
-            self.shift = self.codes.len().wrapping_sub(key.number);
+            self.shift = self.len().wrapping_sub(key.number);
         }
-        self.codes.push(key.code)?;
+        if key.code > 0 && self.behind.is_empty() {
+            self.short.insert(key.code)?;
+            return Ok(());
+        }
+        self.behind.push(key.code)?;
         Ok(())
     }
 }

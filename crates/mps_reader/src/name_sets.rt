@@ -1,5 +1,5 @@
 // Names as keys of a set, which finds them by their hashes.
-ghost use Rattle.std.specs.Prelude.{◌≡◌, ◌≢◌, ◌+◌, ◌<◌, ◌≤◌, ◌++◌, ◌∷◌, [], None, AllPairs, IfOk, IfSome, OnErr, OnOk, length, map};
+ghost use Rattle.std.specs.Prelude.{◌≡◌, ◌≢◌, ◌+◌, ◌<◌, ◌≤◌, ◌++◌, ◌∷◌, [], None, All, AllPairs, IfOk, IfSome, OnErr, OnOk, length, map};
 ghost use Rattle.std.specs.Str.{bytes_eq};
 ghost use Rattle.indexmap.specs.IndexSet.{spare};
 ghost use Rattle.mps_reader.specs.InsideCodes.{name_of};
@@ -72,7 +72,8 @@ pub(crate) fn add_to(
     key: Key,
     name: &[u8],
 ) -> Result<(), AllocError>
-    requires { place_of (map (λ k. k.items) names.old.keys) name.now ≡ None }
+    requires new { place_of (map (λ k. k.items) names.old.keys) name.now ≡ None }
+    requires fresh { 0 < key.code → All (λ c. c ≢ key.code) codes.old }
     ensures names { OnOk result (map (λ k. k.items) names.new.keys
         ≡ map (λ k. k.items) names.old.keys ++ name.now ∷ []) }
     ensures codes { OnOk result (codes.new ≡ codes.old ++ key.code ∷ []) }
@@ -105,14 +106,16 @@ pub(crate) fn begun_with(
     key: Key,
     name: &[u8],
 ) -> Result<IndexSet<Vec<u8>>, AllocError>
+    requires short { All (λ c. 0 < c) codes.old }
     requires apart { AllPairs (λ m n. m ≢ n) (map name_of codes.old) }
     requires new { place_of (map name_of codes.old) name.now ≡ None }
+    requires fresh { 0 < key.code → All (λ c. c ≢ key.code) codes.old }
     ensures names { IfOk result (λ s. map (λ k. k.items) s.keys
         ≡ map name_of codes.old ++ name.now ∷ []) }
     ensures codes { OnOk result (codes.new ≡ codes.old ++ key.code ∷ []) }
     ensures same { OnErr result (codes.new ≡ codes.old) }
 {
-    let mut names = set_of(alloc, codes.all())?;
+    let mut names = set_of(alloc, codes.all_short())?;
     add_to(&mut names, codes, alloc, key, name)?;
     Ok(names)
 }
