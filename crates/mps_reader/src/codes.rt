@@ -126,6 +126,7 @@ impl Codes {
     }
 
     // The code at a place.
+    #[inline(always)]
     fn get(&self, place: usize) -> Option<u64>
         ensures { result ≡ slice_get self.now place }
     {

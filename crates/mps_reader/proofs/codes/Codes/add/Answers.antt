@@ -1,4 +1,4 @@
-use Rattle.std.proofs.Common.{◌≡◌, ◌∙◌, ◌++◌, ◌<◌, List, ℕ, arith, rules, ap, sym, length}
+use Rattle.std.proofs.Common.{◌≡◌, ◌∙◌, ◌++◌, arith, rules, ap, length}
 use Rattle.mps_reader.proofs.CodeLemmas.{pushed_short}
 use Rattle.mps_reader.proofs.codes.Codes.add.Goals as goal
 use Rattle.mps_reader.proofs.codes.Codes.add.Goals.{then-key-gt0, else-key-gt0}

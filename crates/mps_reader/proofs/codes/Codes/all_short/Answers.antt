@@ -1,4 +1,4 @@
-use Rattle.std.proofs.Common.{◌≡◌, ◌∙◌, ◌<◌, List, ℕ, All, subst, sym}
+use Rattle.std.proofs.Common.{◌∙◌, ◌<◌, List, ℕ, All, subst, sym}
 use Rattle.mps_reader.proofs.CodeLemmas.{none_behind}
 use Rattle.mps_reader.proofs.codes.Codes.all_short.Goals as goal
 

@@ -1,4 +1,4 @@
-use Rattle.std.proofs.Common.{◌≡◌, ◌∙◌, ◌<◌, List, ℕ, All, ap, sym, map, option_map}
+use Rattle.std.proofs.Common.{◌≡◌, ◌∙◌, List, ℕ, ap, sym, map, option_map}
 use Rattle.mps_reader.specs.InsideCodes.{name_of}
 use Rattle.mps_reader.specs.Saying.{place_of}
 use Rattle.texts.proofs.NamePlaces.{texts_of, place_of-texts}
