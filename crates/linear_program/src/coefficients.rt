@@ -6,7 +6,7 @@ ghost use Rattle.linear_program.specs.Coefs.{AreAscending, AreDecimalsOf};
 ghost use Rattle.linear_program.specs.Decimals.{AreDecimals, fraction_terms};
 ghost use Rattle.linear_program.specs.Forms.{terms_left};
 
-use crate::decimal_terms::DecimalTerms;
+use crate::decimal_terms::{DecimalTerms, fractions_of};
 use crate::form_terms::{FormTerms, TermSource};
 use crate::fraction_terms::FractionTerms;
 use crate::terms::Terms;
@@ -90,6 +90,17 @@ impl Coefficients {
         match self.list {
             TermList::Fractions(terms) => Err(Coefficients::of_fractions(terms)),
             TermList::Decimals(terms) => Ok(terms.into_terms()),
+        }
+    }
+
+    // The terms with fractions, which are not copied where they are kept so.
+    pub(crate) fn into_fractions(self, alloc: Global) -> Result<Vec<(u32, Frac)>, AllocError>
+        ensures terms { IfOk result (λ v. v.items ≡ self) }
+        ensures ascending { IfOk result (λ v. AreAscending 0 v.items) }
+    {
+        match self.list {
+            TermList::Fractions(terms) => Ok(terms.into_items()),
+            TermList::Decimals(terms) => fractions_of(alloc, terms.items()),
         }
     }
 

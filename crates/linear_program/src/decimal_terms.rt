@@ -1,5 +1,6 @@
 // Terms with decimals.
 ghost use Rattle.std.specs.Prelude.{◌≡◌, ◌<◌, IfOk, get_or, length};
+ghost use Rattle.linear_program.specs.Coefs.{AreAscending};
 ghost use Rattle.linear_program.specs.Decimals.{AreDecimals, fraction_terms};
 
 use crate::few::Few;
@@ -25,6 +26,26 @@ impl Model for DecimalTerms {
     ghost view = { λ c. few_items c.items };
 
     ghost invariant = { λ c. AreDecimals 0 (few_items c.items) };
+}
+
+// The same terms with fractions.
+pub(crate) fn fractions_of(
+    alloc: Global,
+    terms: &[(u32, Dec)],
+) -> Result<Vec<(u32, Frac)>, AllocError>
+    requires { AreDecimals 0 terms.now }
+    ensures terms { IfOk result (λ v. v.items ≡ fraction_terms terms.now) }
+    ensures ascending { IfOk result (λ v. AreAscending 0 v.items) }
+{
+    let mut items = Vec::with_capacity(alloc, terms.len())?;
+    for i in 0..terms.len() {
+        let term = terms[i];
+        let Some(fraction) = Frac::of_dec(term.1) else {
+            unreachable!();
+        };
+        items.push((term.0, fraction))?;
+    }
+    Ok(items)
 }
 
 impl DecimalTerms {

@@ -9,6 +9,7 @@ ghost use Rattle.linear_program.specs.Decimals.{AreDecimals, fraction_terms};
 ghost use Rattle.linear_program.specs.Forms.{AddsScaled, HasRoom, IsWithin, Multiplies, form_line, form_terms, is_open, pad_places, terms_left};
 
 use crate::coefficients::Coefficients;
+use crate::decimal_terms::fractions_of;
 use crate::form_terms::FormTerms;
 use crate::merged::add_to_closed;
 use crate::pad::Pad;
@@ -127,6 +128,24 @@ impl Form {
         Form::of_parts(constant, Coefficients::of_terms(terms))
     }
 
+    /// The closed form of a constant and of decimals, which are kept as fractions.
+    pub fn in_fractions(
+        alloc: Global,
+        constant: Frac,
+        terms: &[(u32, Dec)],
+    ) -> Result<Form, AllocError>
+        requires { AreDecimals 0 terms.now }
+        ensures line { IfOk result (λ f. form_line f ≡ record {
+          constant = frac_value constant;
+          coef = coef_in (fraction_terms terms.now);
+        }) }
+        ensures terms { IfOk result (λ f. form_terms f ≡ fraction_terms terms.now) }
+        ensures closed { IfOk result (λ f. is_open f ≡ false) }
+    {
+        let items = fractions_of(alloc, terms)?;
+        Ok(Form::of_parts(constant, Coefficients::of_items(items)))
+    }
+
     // The closed form of a constant and of coefficients.
     pub(crate) fn of_parts(constant: Frac, coefficients: Coefficients) -> Form
         ensures line { form_line result
@@ -214,6 +233,17 @@ impl Form {
             Kept::Open(sum) => Err(Form {
                 kept: Kept::Open(sum),
             }),
+        }
+    }
+
+    /// The terms with fractions, which are not copied where they are kept so.
+    pub fn into_fractions(self, alloc: Global) -> Result<Vec<(u32, Frac)>, AllocError>
+        ensures terms { IfOk result (λ v. v.items ≡ form_terms self) }
+        ensures ascending { IfOk result (λ v. AreAscending 0 v.items) }
+    {
+        match self.kept {
+            Kept::Closed(coefficients, _) => coefficients.into_fractions(alloc),
+            Kept::Open(sum) => list_of(alloc, sum.terms()),
         }
     }
 
