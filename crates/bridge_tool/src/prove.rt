@@ -38,9 +38,7 @@ fn verdict_of(alloc: Global, linear: Linear, proof: &Proof) -> Result<ProofVerdi
     ensures exact { IfOk result (λ v. IsVerdictOn (linear_value linear) proof.now v) }
     ensures proved { IfOk result (λ v. IsProved (linear_value linear) proof.now.claim v) }
 {
-    let made = Program::of(alloc, &linear);
-    drop(linear);
-    let program = made?;
+    let program = Program::from_linear(alloc, linear)?;
     let verdict = check_proof_by_rows(alloc, &program, proof)?;
     Ok(verdict)
 }

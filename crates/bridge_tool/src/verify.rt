@@ -35,9 +35,7 @@ pub(crate) fn outcome_on(
     ensures { IfOk result (λ o. (h : IsCertificateOf (linear_value linear) certificate.now)
         → outcome_of o ≡ claim_outcome (linear_value linear) certificate.now.claim h.given) }
 {
-    let made = Program::of(alloc, &linear);
-    drop(linear);
-    let program = made?;
+    let program = Program::from_linear(alloc, linear)?;
     let outcome = check_certificate(alloc, &program, certificate)?;
     Ok(outcome)
 }

@@ -1,9 +1,9 @@
 -- Rows that are copies of bodies and sides, and the program that they are.
-use Rattle.std.proofs.Common.{◌≡◌, ℕ, zero, suc, ◌+◌, ◌<◌, ◌≤◌, ◌∙◌, sym, ap, ap₂, subst, refl, arith, List, [], ◌∷◌, ◌++◌, length, drop, map, get_or, All, Option, Some, None, option_map, append_assoc, append-nil, subst₂}
+use Rattle.std.proofs.Common.{◌≡◌, ℕ, zero, suc, ◌+◌, ◌<◌, ◌≤◌, ◌∙◌, sym, ap, ap₂, subst, refl, arith, List, [], ◌∷◌, ◌++◌, length, length-drop, drop, map, get_or, All, Option, Some, None, option_map, append_assoc, append-nil, subst₂}
 use Rattle.std.specs.Prelude.{slice_get}
 use Rattle.std.specs.Option.{option_map_or}
 use Rattle.std.proofs.lemmas.Option.{get_or_from_slice_get, same_Some, slice_get-map}
-use Rattle.std.proofs.lemmas.List.{drop_all}
+use Rattle.std.proofs.lemmas.List.{drop-drop, drop_all, get_or-drop}
 use Rattle.std.proofs.lemmas.List.Elements.{All-tail}
 use Rattle.program_meaning.specs.Linear.{Row as LinearRow, Variable, unbounded}
 use Rattle.program_meaning.specs.Linear.{zero_form}
@@ -68,6 +68,26 @@ row_copied bodies sides rows new i b s r so l is m at copy side pushed more all 
 pub rows_copied : (bodies : List Form) (sides : List Interval) (rows : List Row) (i : ℕ) → AreRowsSoFar bodies sides rows i → length bodies ≤ i → AreRowsOf bodies sides rows
 rows_copied bodies sides rows i so l =
     subst (AreRowsOf bodies sides) (append-nil rows) (so [] (subst (λ bs. AreRowsOf bs (drop i sides) []) (sym (drop_all i bodies l)) tt))
+
+-- the body that comes next
+pub record IsNextBody (bodies more : List Form) (i : ℕ) (b : Form) : Type 0 where
+  pub there : i < length bodies
+  pub is : b ≡ get_or bodies i b
+  pub left : more ≡ drop (i + 1) bodies
+
+pub next_body : (bodies rest more : List Form) (i : ℕ) (b : Form) → rest ≡ drop i bodies → rest ≡ b ∷ more → IsNextBody bodies more i b
+next_body bodies rest more i b left some =
+    let now : drop i bodies ≡ b ∷ more = sym left ∙ some in
+    let same : i + 0 ≡ i = omega arith in
+    record {
+      there = omega (arith, length-drop i bodies, ap length now);
+      is = sym (ap (λ bs. get_or bs 0 b) now) ∙ get_or-drop i bodies 0 b ∙ ap (λ k. get_or bodies k b) same;
+      left = ap (drop 1) (sym now) ∙ drop-drop 1 i bodies;
+    }
+
+-- no body is left
+pub rows_at_end : (bodies rest : List Form) (sides : List Interval) (rows : List Row) → AreRowsSoFar bodies sides rows (length rows) → rest ≡ drop (length rows) bodies → length rest ≡ 0 → AreRowsOf bodies sides rows
+rows_at_end bodies rest sides rows so left none = rows_copied bodies sides rows (length rows) so (omega (arith, length-drop (length rows) bodies, ap length left, none))
 
 pub rows_count : (bodies : List Form) (sides : List Interval) (rows : List Row) → AreRowsOf bodies sides rows → length rows ≡ length bodies
 rows_count [] sides [] h = refl

@@ -1,7 +1,7 @@
 // Copies of the parts of a linear program.
-ghost use Rattle.std.specs.Prelude.{◌≡◌, length, map, IfOk};
+ghost use Rattle.std.specs.Prelude.{◌≡◌, length, map, All, IfOk};
 ghost use Rattle.linear_program.specs.Coefs.{AreAscending};
-ghost use Rattle.linear_program.specs.Programs.{IsLinear};
+ghost use Rattle.linear_program.specs.Programs.{IsFormOver, IsLinear};
 ghost use Rattle.dual_bounds.specs.Built.{AreRowsOf, AreWithin, IsCopy};
 
 use crate::form::{Body, Row};
@@ -22,6 +22,37 @@ pub(crate) fn body_of(alloc: Global, form: &Form) -> Result<Body, AllocError>
         constant: form.constant(),
         terms,
     })
+}
+
+// The same of a form that is let go.
+pub(crate) fn body_from(alloc: Global, form: Form) -> Result<Body, AllocError>
+    ensures copy { IfOk result (λ b. IsCopy form b) }
+    ensures ascending { IfOk result (λ b. AreAscending 0 b.terms.items) }
+{
+    let constant = form.constant();
+    let terms = form.into_fractions(alloc)?;
+    Ok(Body { constant, terms })
+}
+
+// The rows of these forms, which are let go one by one, and sides.
+pub(crate) fn rows_from(
+    alloc: Global,
+    bodies: Vec<Form>,
+    sides: &[Interval],
+    _bounds: &[Interval],
+) -> Result<Vec<Row>, AllocError>
+    requires sides { length sides.now ≡ length bodies.items }
+    requires within { All (IsFormOver (length _bounds.now)) bodies.items }
+    ensures rows { IfOk result (λ v. AreRowsOf bodies.items sides.now v.items) }
+    ensures within { IfOk result (λ v. AreWithin (length _bounds.now) v.items) }
+{
+    let mut rows = Vec::with_capacity(alloc, bodies.len())?;
+    for form in bodies {
+        let side = sides[rows.len()];
+        let body = body_from(alloc, form)?;
+        rows.push(Row { body, side })?;
+    }
+    Ok(rows)
 }
 
 // The rows of a linear program.

@@ -8,7 +8,9 @@ ghost use Rattle.linear_program.specs.Programs.{linear_value};
 ghost use Rattle.dual_bounds.specs.Programs.{linear_of, program_of};
 
 use crate::columns::Columns;
-use crate::copies::{body_of, copied_kinds, lower_sides, rows_of, upper_sides};
+use crate::copies::{
+    body_from, body_of, copied_kinds, lower_sides, rows_from, rows_of, upper_sides,
+};
 use crate::form::{Body, Row};
 use crate::program::Program;
 use crate::sides::interval_at;
@@ -45,6 +47,26 @@ impl Program {
             kinds,
             objective,
             maximise: linear.maximise(),
+        })
+    }
+
+    /// The linear program, by rows, where it is let go: what it keeps as fractions is not copied.
+    #[tactic(auto, using(crate::proofs::Assembled::assembled), unfolding(crate::specs::Programs::linear_of))]
+    pub fn from_linear(alloc: Global, linear: Linear) -> Result<Program, AllocError>
+        ensures { IfOk result (λ p. linear_of p ≡ linear_value linear) }
+    {
+        let parts = linear.into_parts();
+        let objective = body_from(alloc, parts.objective)?;
+        let rows = rows_from(alloc, parts.bodies, &parts.sides, &parts.bounds)?;
+        let lower = lower_sides(alloc, &parts.bounds)?;
+        let upper = upper_sides(alloc, &parts.bounds)?;
+        Ok(Program {
+            rows,
+            lower,
+            upper,
+            kinds: parts.kinds,
+            objective,
+            maximise: parts.maximise,
         })
     }
 
