@@ -1,7 +1,7 @@
 use Rattle.std.proofs.Common.{◌≡◌, ◌≢◌, ℕ, zero, suc, ◌+◌, ◌<◌, ◌≤◌, ◌^◌, ◌∙◌, sym, ap, refl, arith, subst, Bool, List, [], ◌∷◌, length, drop, get_or, All, map, length-drop, ap₂, cond, nat_eq, true, false, ⊎_elim, ◌++◌, append_assoc, append-nil, Option, Some, None, length-append, add-one, ◌-◌, IsTrue, IfSome}
 use Rattle.std.specs.Prelude.{is_some, ◌||◌}
 use Rattle.std.specs.List.{AllPairs}
-use Rattle.std.proofs.lemmas.List.{drop-drop, get_or-drop, get_or-map, length-map, map-append, drop_all, get_or_default}
+use Rattle.std.proofs.lemmas.List.{get_or-map, length-map, map-append, drop_all, get_or_default}
 use Rattle.std.proofs.lemmas.List.Elements.{All-cons, All-map, All-nil, All-push, All-append}
 use Rattle.mps_model.specs.Mps.{Entry, Mps, MpsRow, entry_with, Bound, bound_with, Column, column_with, with_values, no_mps_row, objective_row}
 use Rattle.mps_model.specs.Built.{CanAddEntries, entry_of, CanAddRow, CanAddColumn}
@@ -88,12 +88,6 @@ can_add old ts us z e some h few =
     }
 
 -- ---- the columns that are left
-pub first_left : {A : Type 0} (xs : List A) (j : ℕ) (x : A) (rest : List A) → drop j xs ≡ x ∷ rest → x ≡ get_or xs j x
-first_left xs j x rest e = sym (ap (λ ys. get_or ys 0 x) e) ∙ get_or-drop j xs 0 x ∙ ap (λ k. get_or xs k x) (omega arith)
-
-pub others_left : {A : Type 0} (xs : List A) (j : ℕ) (x : A) (rest : List A) → drop j xs ≡ x ∷ rest → rest ≡ drop (j + 1) xs
-others_left xs j x rest e = ap (drop 1) (sym e) ∙ drop-drop 1 j xs
-
 pub some_left : {A : Type 0} (xs rest : List A) (j : ℕ) → j < length xs → rest ≡ drop j xs → length rest ≡ 0 → ⊥
 some_left xs rest j h e none = omega (arith, ap length e, length-drop j xs, none, h)
 

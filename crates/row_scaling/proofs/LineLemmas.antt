@@ -17,7 +17,8 @@ use Rattle.scaling.specs.Scaled.{ScaledValue, IsScaled}
 use Rattle.scaling.specs.Exported.{scaled_as, program_objective, program_rows, exported_from, program_variables, tied_rows}
 use Rattle.row_scaling.specs.InsideSections.{all_ranges, all_rows, all_sides, first_lines, last_lines, range_lines, row_lines, side_lines, value_lines, all_bounds, all_columns, lines_from, named_bound, bound_by}
 use Rattle.row_scaling.specs.InsideSides.{range_in, right_side_of}
-use Rattle.row_scaling.proofs.AddLemmas.{others_left, column_rising, columns_more, column_sides, all_kinds, all_variables, bounds_left, bounds_more, bounds_none, variables_end, left_variables, variable_at, variable_of}
+use Rattle.row_scaling.proofs.AddLemmas.{column_rising, columns_more, column_sides, all_kinds, all_variables, bounds_left, bounds_more, bounds_none, variables_end, left_variables, variable_at, variable_of}
+use Rattle.term_batches.proofs.PickLemmas.{others_left}
 use Rattle.row_scaling.proofs.ColumnLemmas.{entries_more, entries_none, Rows, left, left_some}
 use Rattle.std.proofs.Math.ListN.{get_or-append}
 use Rattle.program_meaning.specs.Names.{row_name}
@@ -34,7 +35,7 @@ use Rattle.scaling.specs.Rows.{side_value}
 use Rattle.scaling.specs.Parts.{column_count, row_named, rows_in}
 use Rattle.scaling.proofs.SharedLemmas.{rest_of}
 use Rattle.row_scaling.specs.InsideColumns.{AreColumns, column_in, entries_in_column, entry_value}
-use Rattle.row_scaling.specs.InsideBatches.{AreLater, ArePart}
+use Rattle.term_batches.specs.Parts.{ArePart}
 use Rattle.scaling.specs.declared.row.FactoredRow.{FactoredRow}
 
 pub same_text : (d : Dec) → text_of d ≡ value_text (dec_value d)
@@ -327,9 +328,6 @@ module _ (s : ScaledValue) (heads : Heads) (h : AreHeads s heads) (j : ℕ) (wit
   name_is name is = is ∙ ap (λ n. column_in n j) h.variables ∙ sym (ap (λ (v : Variable). v.name) variable_is)
 
 -- ---- a part of the columns
-pub part_later : {V : Type 0} (items : V → List TermOf) (first m : ℕ) (old now : List (List TermOf)) (columns : List V) → AreLater first old now → first + m ≤ length old → ArePart items first m now columns → ArePart items first m old columns
-part_later items first m old now columns later within p = record { count = p.count; terms = λ k d l. p.terms k d l ∙ later.same (first + k) (omega arith) (omega (arith, l, within)) }
-
 pub part_columns : {V : Type 0} (items : V → List TermOf) (s : ScaledValue) (n first m : ℕ) (all : List (List TermOf)) (columns : List V) → ArePart items first m all columns → AreColumns (λ c. c) n (entries_in_column s) all → first + m ≤ n →
     AreColumns items (length columns) (λ k. entries_in_column s (first + k)) columns
 part_columns items s n first m all columns p a within =

@@ -11,14 +11,13 @@ ghost use Rattle.row_scaling.specs.InsideColumns.{AreColumns, entries_in_column}
 ghost use Rattle.row_scaling.specs.InsideHeads.{AreHeads};
 ghost use Rattle.row_scaling.specs.InsideSections.{all_columns, all_rows, lines_from};
 
-use crate::batches::{Batches, part_end};
 use crate::entry_lines::put_column;
 use crate::heads::Heads;
 use crate::names::{ShortName, column_name};
-use crate::part_columns::PartColumns;
 use crate::pieces::{Pieces, put_change, put_line};
 use crate::program_columns::is_whole;
 use std::alloc::{AllocError, Global};
+use term_batches::{Batches, PartLists, part_end};
 use written_texts::LineText;
 
 // Where a column stands: whether the one before it is marked, and how many marker lines are before.
@@ -51,7 +50,7 @@ fn put_part(
     out: &mut Pieces,
     heads: &Heads,
     first: u32,
-    columns: &PartColumns,
+    columns: &PartLists,
     from: Place,
 ) -> Result<Place, AllocError>
     requires within { first + length columns.now ≤ length heads.now.kinds.items }
@@ -72,7 +71,7 @@ fn put_part(
         markers = put_change(out, marked, now, markers)?;
         marked = now;
         let name = name_of_column(heads, j);
-        put_column(out, &mut lines, &heads.numbers, &name, columns.column(k))?;
+        put_column(out, &mut lines, &heads.numbers, &name, columns.list(k))?;
     }
     Ok(Place { marked, markers })
 }
@@ -96,7 +95,7 @@ fn put_parts(
         marked: false,
         markers: 0,
     };
-    let mut columns = PartColumns::new(alloc);
+    let mut columns = PartLists::new(alloc);
     let total = heads.kinds.len();
     let mut done = 0usize;
     'parts: while done < total {

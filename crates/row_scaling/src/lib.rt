@@ -1,10 +1,8 @@
 // Rows and an objective times their factors, the program that they are exported as, and its text.
 #![tactic(auto)]
 
-mod batches;
 mod bound_lines;
 mod bounds;
-mod chunks;
 mod column_lines;
 mod columns;
 mod entry_lines;
@@ -13,12 +11,10 @@ mod heads;
 mod heads_of;
 mod names;
 mod numbers;
-mod part_columns;
 mod pieces;
 mod program_columns;
 mod row_lines;
 mod rows;
-mod sent;
 mod side_lines;
 mod sides;
 mod written;

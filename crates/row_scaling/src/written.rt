@@ -12,7 +12,6 @@ ghost use Rattle.row_scaling.specs.InsideColumns.{AreColumns, entries_in_column}
 ghost use Rattle.row_scaling.specs.InsideHeads.{AreHeads};
 ghost use Rattle.row_scaling.specs.InsideSections.{first_lines, last_lines};
 
-use crate::batches::Batches;
 use crate::bound_lines::put_bounds;
 use crate::column_lines::put_columns;
 use crate::columns::{in_batches, moved_batches};
@@ -23,6 +22,7 @@ use crate::row_lines::put_rows;
 use crate::side_lines::{put_ranges, put_sides};
 use scaling::Scaled;
 use std::alloc::{AllocError, Global};
+use term_batches::Batches;
 
 // The sections before that of the columns.
 fn first_sections(alloc: Global, scaled: &Scaled) -> Result<Pieces, AllocError>

@@ -2,7 +2,8 @@ use Rattle.std.proofs.Common.{◌≡◌, ◌+◌, ◌-◌, ◌≤◌, ◌++◌, 
 use Rattle.scaling.specs.Parts.{column_count}
 use Rattle.texts.specs.WordLines.{lines_text}
 use Rattle.row_scaling.specs.InsideSections.{lines_from}
-use Rattle.row_scaling.proofs.LineLemmas.{part_columns, part_later}
+use Rattle.row_scaling.proofs.LineLemmas.{part_columns}
+use Rattle.term_batches.proofs.BatchLemmas.{part_later}
 use Rattle.row_scaling.proofs.column_lines.put_parts.Goals as goal
 
 pub parts-preserved : goal.parts-preserved

@@ -1,6 +1,6 @@
 use Rattle.std.proofs.Common.{◌≡◌, ◌≤◌, ◌<◌, ◌%◌, ◌-◌, ◌++◌, false}
 use Rattle.texts.specs.WordLines.{lines_text}
-use Rattle.row_scaling.specs.InsideBatches.{AreLater}
+use Rattle.term_batches.specs.Parts.{AreLater}
 use Rattle.scaling.specs.Parts.{column_count}
 use Rattle.scaling.specs.Scaled.{ScaledValue}
 use Rattle.row_scaling.specs.InsideColumns.{AreColumns, entries_in_column}

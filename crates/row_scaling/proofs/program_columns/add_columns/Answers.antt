@@ -4,7 +4,8 @@ use Rattle.linear_program.specs.Intervals.{is_whole_kind}
 use Rattle.linear_program.specs.declared.kind.Kind.TheVariants.{Continuous}
 use Rattle.scaling.specs.Parts.{column_count}
 use Rattle.row_scaling.specs.InsideColumns.{column_in, entry_value, entries_in_column}
-use Rattle.row_scaling.proofs.AddLemmas.{variable_left, column_put, rising_enough, first_left, others_left}
+use Rattle.row_scaling.proofs.AddLemmas.{variable_left, column_put, rising_enough}
+use Rattle.term_batches.proofs.PickLemmas.{first_left, others_left}
 use Rattle.row_scaling.proofs.program_columns.add_columns.Goals as goal
 
 pub add_column-requires-clause-rising : goal.add_column-requires-clause-rising
