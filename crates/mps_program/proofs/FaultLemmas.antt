@@ -26,10 +26,6 @@ use Rattle.mps_program.proofs.LoopLemmas.{drop_is}
 use Rattle.mps_program.proofs.SideLemmas.{sides_back, column_fits}
 
 -- ---- the first fault
-left_some : (o w : Option ℕ) (f : MpsFault) → option_map TooWide o ≡ Some f → option_map TooWide (option_or o w) ≡ Some f
-left_some None w f e = let r = e in cc
-left_some (Some x) w f e = e
-
 module _ (m : Mps Dec) where
   abbrev numbers : Option ℕ
   numbers = option_or (first_wide_body m) (wide_objective m)
@@ -53,17 +49,8 @@ module _ (m : Mps Dec) where
         unfolding mps_fault
         numbers_fault = λ p. if large p then Some TooLarge else option_or (option_map TooWide (wide p)) (option_or (option_map EmptyInterval (empty p)) (option_map TooWide numbers))
 
-        pub body_fault : (f : MpsFault) → option_map TooWide (first_wide_body m) ≡ Some f → mps_fault m ≡ Some f
-        body_fault f h = numbers_fault ∙ left_some (first_wide_body m) (wide_objective m) f h
-
-        pub objective_fault : first_wide_body m ≡ None → (f : MpsFault) → option_map TooWide (wide_objective m) ≡ Some f → mps_fault m ≡ Some f
-        objective_fault body f h = numbers_fault ∙ ap (λ o. option_map TooWide (option_or o (wide_objective m))) body ∙ h
-
         pub no_fault : first_wide_body m ≡ None → is_objective_wide m ≡ false → mps_fault m ≡ None
         no_fault body objective = numbers_fault ∙ ap₂ (λ o b. option_map TooWide (option_or o (if b then Some (objective_row m.rows) else None))) body objective
-
-  pub objective_is_wide : is_objective_wide m ≡ true → option_map TooWide (wide_objective m) ≡ Some (TooWide (objective_row m.rows))
-  objective_is_wide e = ap (λ b. option_map TooWide (if b then Some (objective_row m.rows) else None)) e
 
 -- a stop tells the first fault, where what it tells is that
 pub stopped : {A : Type 0} (P Q : MpsFault → Type 0) (r : Result A (Stop MpsFault)) (stop : Stop MpsFault) → ((f : MpsFault) → P f → Q f) → IfFault stop P → IsErrAnd r (λ y. y ≡ stop) → IfErr r (λ s. IfFault s Q)

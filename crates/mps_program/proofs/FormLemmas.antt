@@ -1,77 +1,38 @@
 -- The forms of rows, and the linear program that they are of.
-use Rattle.std.proofs.Common.{◌≡◌, ◌≢◌, ℕ, suc, ◌+◌, ◌<◌, ◌≤◌, ◌∙◌, sym, ap, ap₂, refl, subst, subst₂, arith, Bool, true, false, not, ◌&&◌, ◌||◌, Some, append-nil, List, [], ◌∷◌, ◌++◌, length, get_or, map, All, ⊎_elim}
-use Rattle.std.proofs.lemmas.Bool.{cases_lt}
+use Rattle.std.proofs.Common.{◌≡◌, ℕ, suc, ◌+◌, ◌<◌, ◌≤◌, ◌∙◌, sym, ap, ap₂, refl, subst, subst₂, arith, Bool, true, false, not, ◌&&◌, ◌||◌, Some, append-nil, List, [], ◌∷◌, ◌++◌, length, get_or, map, All}
 use Rattle.std.proofs.lemmas.List.{length-map, get_or_default}
-use Rattle.std.specs.Option.{option_map}
 use Rattle.fractions.specs.Fits.{fits}
 use Rattle.std.proofs.lemmas.List.Elements.{All-nil, All-cons, All-head, All-tail}
 use Rattle.std.proofs.lemmas.List.Sums.{sum_by-cons}
 use Rattle.std.specs.List.{sum_by}
 use Rattle.fractions.specs.Rational.{ℚ, zero_ℚ, neg_ℚ}
 use Rattle.exact_numbers.specs.declared.dec.Dec.{Dec}
-use Rattle.exact_numbers.specs.Values.{dec_value, frac_value}
+use Rattle.exact_numbers.specs.Values.{dec_value}
 use Rattle.program_meaning.specs.Linear.{Row}
 use Rattle.program_meaning.specs.Lines.{Line, form_of_line}
-use Rattle.linear_program.specs.Coefs.{Term, AreAscending, coef_in, value_or_zero}
-use Rattle.linear_program.specs.Decimals.{DecimalTerm, fraction_term, fraction_terms}
+use Rattle.linear_program.specs.Coefs.{AreAscending, coef_in}
+use Rattle.linear_program.specs.Decimals.{DecimalTerm, fraction_term}
 use Rattle.linear_program.specs.Forms.{form_terms}
 use Rattle.linear_program.specs.Intervals.{interval_of}
 use Rattle.linear_program.specs.Programs.{IsFormOver, form_of, rows_from}
 use Rattle.linear_program.specs.declared.form.Form.{Form}
 use Rattle.linear_program.specs.declared.interval.Interval.{Interval as Sides}
-use Rattle.linear_program.proofs.CoefLemmas.{found_same, found_apart, found_before}
 use Rattle.linear_program.proofs.DecimalLemmas.{fractions_ascend}
 use Rattle.linear_program.proofs.Scaled.{terms_below}
 use Rattle.mps_model.specs.declared.kinds.RowKind.{RowKind}
 use Rattle.mps_model.specs.Mps.{Mps, MpsRow, no_mps_row, with_values, column_with, row_interval, objective_row, rhs_at}
 use Rattle.mps_program.specs.Places.{places, listed}
-use Rattle.mps_program.specs.Faults.{is_body_wide, first_wide_body, is_objective_wide, wide_objective}
-use Rattle.mps_program.specs.declared.mps_fault.MpsFault.TheVariants.{TooWide}
-use Rattle.mps_program.proofs.FaultLemmas.{objective_is_wide}
+use Rattle.mps_program.specs.Faults.{is_body_wide, first_wide_body, is_objective_wide}
 use Rattle.mps_program.proofs.FirstLemmas.{listed_at, listed_length, none_more, first_here}
 use Rattle.mps_program.proofs.PlaceLemmas.{one_where, places_more}
 use Rattle.mps_program.specs.Program.{values_of, is_bounded_kind, is_constraint, constraints, coefficient_at, linear_row, linear_rows}
 use Rattle.mps_program.specs.Terms.{row_terms, has_wide_term}
 use Rattle.mps_program.specs.Decimals.{sides_from}
-use Rattle.mps_program.specs.InsideForms.{IsFormOf, AreBodiesOf}
+use Rattle.mps_program.specs.InsideForms.{IsFormOf, AreBodiesOf, AreTermsFrom}
 use Rattle.mps_program.proofs.LawLemmas.{past_columns}
 use Rattle.mps_program.proofs.TermLemmas.{AreApart, row_decimals, row_coefs}
-
--- ---- terms that ascend and give the same coefficients are as many
-abbrev SameCoefs : List Term → List Term → Type 0
-SameCoefs xs ys = (j : ℕ) → coef_in xs j ≡ coef_in ys j
-
-first_coef : (x : Term) (xs : List Term) → coef_in (x ∷ xs) x.0 ≡ frac_value x.1
-first_coef x xs = ap value_or_zero (found_same x xs x.0 refl)
-
-before_coef : (low : ℕ) (xs : List Term) (j : ℕ) → AreAscending low xs → j < low → coef_in xs j ≡ zero_ℚ
-before_coef low xs j a lt = ap value_or_zero (found_before low xs j a lt)
-
--- where the first variable of one is before those of the other, the coefficients differ
-not_before : (x : Term) (xs ys : List Term) (low : ℕ) → frac_value x.1 ≢ zero_ℚ → AreAscending low ys → x.0 < low → SameCoefs (x ∷ xs) ys → ⊥
-not_before x xs ys low some a lt same = some (sym (first_coef x xs) ∙ same x.0 ∙ before_coef low ys x.0 a lt)
-
-tails_same : (v : ℕ) (x y : Term) (xs ys : List Term) → x.0 ≡ v → y.0 ≡ v → AreAscending (suc v) xs → AreAscending (suc v) ys → SameCoefs (x ∷ xs) (y ∷ ys) → SameCoefs xs ys
-tails_same v x y xs ys e f a b same j =
-    ⊎_elim
-    (λ (lt : j < suc v). before_coef (suc v) xs j a lt ∙ sym (before_coef (suc v) ys j b lt))
-    (λ (ge : suc v ≤ j). sym (ap value_or_zero (found_apart x xs j (λ h. omega (arith, h, e, ge)))) ∙ same j ∙ ap value_or_zero (found_apart y ys j (λ h. omega (arith, h, f, ge))))
-    (cases_lt j (suc v))
-
-pub as_many : (n m : ℕ) (xs ys : List Term) → AreAscending n xs → AreAscending m ys → SameCoefs xs ys → length xs ≡ length ys
-as_many n m [] [] a b same = refl
-as_many n m [] (y ∷ ys) a b same = absurd (b.1 (sym (first_coef y ys) ∙ sym (same y.0)))
-as_many n m (x ∷ xs) [] a b same = absurd (a.1 (sym (first_coef x xs) ∙ same x.0))
-as_many n m (x ∷ xs) (y ∷ ys) a b same =
-    ⊎_elim
-    (λ (lt : x.0 < y.0). absurd (not_before x xs (y ∷ ys) y.0 a.1 (omega arith, b.1, b.2) lt same))
-    (λ (ge : y.0 ≤ x.0). ⊎_elim
-    (λ (lt : y.0 < x.0). absurd (not_before y ys (x ∷ xs) x.0 b.1 (omega arith, a.1, a.2) lt (λ j. sym (same j))))
-    (λ (le : x.0 ≤ y.0). let e : y.0 ≡ x.0 = omega (arith, ge, le) in
-    let b_tail : AreAscending (suc x.0) ys = subst (λ v. AreAscending (suc v) ys) e b.2 in
-    ap suc (as_many (suc x.0) (suc x.0) xs ys a.2 b_tail (tails_same x.0 x y xs ys refl e a.2 b_tail same)))
-    (cases_lt y.0 x.0))
-    (cases_lt x.0 y.0)
+use Rattle.term_batches.specs.Parts.{AreLater, ArePart}
+use Rattle.term_batches.proofs.BatchLemmas.{part_later}
 
 -- ---- one form
 module _ (m : Mps Dec) (apart : AreApart (length m.rows) m.columns) (i : ℕ) (fit : has_wide_term (row_terms m i) ≡ false) (k : ℚ) (f : Form) (is : IsFormOf k (row_terms m i) f) where
@@ -81,14 +42,15 @@ module _ (m : Mps Dec) (apart : AreApart (length m.rows) m.columns) (i : ℕ) (f
   pub form_lem : form_of f ≡ record { constant = k; coefficient = coefficient_at (values_of m) i }
   form_lem = ap form_of_line is.line ∙ (λ p. record { constant = k; coefficient = λ j. row_coefs m apart i fit j p })
 
+  ascending : AreAscending 0 (form_terms f)
+  ascending = subst (AreAscending 0) (sym is.terms) (fractions_ascend 0 (row_terms m i) (row_decimals m apart i fit))
+
   pub form_over : (n : ℕ) → n ≡ length m.columns → IsFormOver n f
   unfolding with_values
-  form_over n e = terms_below n 0 (form_terms f) is.ascending (λ j h. coef_lem j ∙ past_columns (values_of m) i j (omega (arith, h, e, length-map m.columns (column_with dec_value))))
+  form_over n e = terms_below n 0 (form_terms f) ascending (λ j h. coef_lem j ∙ past_columns (values_of m) i j (omega (arith, h, e, length-map m.columns (column_with dec_value))))
 
   pub form_size : length (form_terms f) ≡ length (row_terms m i)
-  form_size =
-      as_many 0 0 (form_terms f) (fraction_terms (row_terms m i)) is.ascending (fractions_ascend 0 (row_terms m i) (row_decimals m apart i fit)) (λ j. ap (λ (l : Line). l.coef j) is.line)
-      ∙ length-map (row_terms m i) fraction_term
+  form_size = ap length is.terms ∙ length-map (row_terms m i) fraction_term
 
 -- ---- the bodies
 pub body_more : (t : ℕ → List DecimalTerm) (i : ℕ) (is : List ℕ) (fs : List Form) (f : Form) → AreBodiesOf t is fs → IsFormOf zero_ℚ (t i) f → AreBodiesOf t (is ++ i ∷ []) (fs ++ f ∷ [])
@@ -142,29 +104,38 @@ module _ (m : Mps Dec) (ts : List (List DecimalTerm)) (are : ts ≡ listed (row_
   pub terms_count : length ts ≡ length m.rows
   terms_count = ap length are ∙ listed_length (row_terms m) (length m.rows)
 
-  pub own_terms : (i : ℕ) (own read : List DecimalTerm) → i < length m.rows → read ≡ get_or ts i read → own ≡ read → own ≡ row_terms m i
-  own_terms i own read lt is e = e ∙ is ∙ ap (λ us. get_or us i read) are ∙ listed_at (row_terms m) (length m.rows) i read lt
+  -- a part of them, while the rows from row i on are left
+  pub part_terms : (i n : ℕ) (now part : List (List DecimalTerm)) → i + n ≤ length m.rows → AreLater i ts now → ArePart (λ us. us) i n now part → AreTermsFrom (row_terms m) i part
+  part_terms i n now part within later part_is =
+      let own = part_later (λ us. us) i n ts now part later (omega (arith, within, terms_count)) part_is in
+      record {
+        each = λ k lt.
+            let inside : k < n = omega (arith, lt, own.count) in
+            own.terms k [] inside ∙ ap (λ us. get_or us (i + k) []) are ∙ listed_at (row_terms m) (length m.rows) (i + k) [] (omega (arith, inside, within));
+      }
 
 pub row_test : (rows read : List MpsRow) (i : ℕ) (row : MpsRow) (kind : RowKind) (b : Bool) → i < length read → read ≡ rows → row ≡ get_or read i row → kind ≡ row.kind → b ≡ is_bounded_kind kind → b ≡ is_constraint rows i
 row_test rows read i row kind b lt e is k h = h ∙ ap is_bounded_kind (k ∙ ap (λ (r : MpsRow). r.kind) (is ∙ get_or_default read i row no_mps_row lt)) ∙ ap (λ rs. is_constraint rs i) e
 
 -- the loop over the rows, with one row more
-module _ (m : Mps Dec) (i : ℕ) (fs new : List Form) (before : AreBodiesOf (row_terms m) (places (is_constraint m.rows) i) fs) (none : places (is_body_wide m) i ≡ []) where
-  abbrev Next : Type 0
-  Next = AreBodiesOf (row_terms m) (places (is_constraint m.rows) (i + 1)) new × (places (is_body_wide m) (i + 1) ≡ [])
+module _ (m : Mps Dec) (i next : ℕ) (step : i + 1 ≡ next) (fs new : List Form) (before : AreBodiesOf (row_terms m) (places (is_constraint m.rows) i) fs) (none : places (is_body_wide m) i ≡ []) where
+  abbrev IsNext : ℕ → Type 0
+  IsNext n = AreBodiesOf (row_terms m) (places (is_constraint m.rows) n) new × (places (is_body_wide m) n ≡ [])
 
-  pub next_body : (f : Form) (k : ℚ) (own : List DecimalTerm) (b w : Bool) → b ≡ is_constraint m.rows i → b ≡ true → own ≡ row_terms m i → w ≡ has_wide_term own → w ≡ false → k ≡ zero_ℚ → IsFormOf k own f → new ≡ fs ++ f ∷ [] → Next
+  pub next_body : (f : Form) (k : ℚ) (own : List DecimalTerm) (b w : Bool) → b ≡ is_constraint m.rows i → b ≡ true → own ≡ row_terms m i → w ≡ has_wide_term own → w ≡ false → k ≡ zero_ℚ → IsFormOf k own f → new ≡ fs ++ f ∷ [] → IsNext next
   next_body f k own b w t yes_here o h e z form n =
       let here : is_constraint m.rows i ≡ true = sym t ∙ yes_here in
-      let fit : has_wide_term (row_terms m i) ≡ false = ap has_wide_term (sym o) ∙ sym h ∙ e in (
+      let fit : has_wide_term (row_terms m i) ≡ false = ap has_wide_term (sym o) ∙ sym h ∙ e in
+      subst IsNext step (
         subst₂ (λ is gs. AreBodiesOf (row_terms m) is gs) (ap (λ b. places (is_constraint m.rows) i ++ one_where b i) (sym here) ∙ sym (places_more (is_constraint m.rows) i)) (sym n)
             (body_more (row_terms m) i (places (is_constraint m.rows) i) fs f before (subst₂ (λ c us. IsFormOf c us f) z o form)),
         none_more (is_body_wide m) i none (ap₂ ◌&&◌ here fit),
       )
 
-  pub next_other : (b : Bool) → b ≡ is_constraint m.rows i → b ≡ false → new ≡ fs → Next
+  pub next_other : (b : Bool) → b ≡ is_constraint m.rows i → b ≡ false → new ≡ fs → IsNext next
   next_other b t no_here n =
-      let here : is_constraint m.rows i ≡ false = sym t ∙ no_here in (
+      let here : is_constraint m.rows i ≡ false = sym t ∙ no_here in
+      subst IsNext step (
         subst₂ (λ is gs. AreBodiesOf (row_terms m) is gs) (sym (append-nil (places (is_constraint m.rows) i)) ∙ ap (λ b. places (is_constraint m.rows) i ++ one_where b i) (sym here) ∙ sym (places_more (is_constraint m.rows) i)) (sym n) before,
         none_more (is_body_wide m) i none (ap (λ b. b && has_wide_term (row_terms m i)) here),
       )
@@ -178,22 +149,14 @@ bodies_end m i fs e h = subst (λ n. AreBodiesOf (row_terms m) (places (is_const
 
 -- ---- the objective
 module _ (m : Mps Dec) (place : ℕ) (rhs : Dec) (at : place ≡ objective_row m.rows) (value : dec_value rhs ≡ rhs_at (values_of m) (objective_row m.rows)) where
-  pub objective_wide_side : fits (dec_value rhs) ≡ false → option_map TooWide (wide_objective m) ≡ Some (TooWide place)
-  objective_wide_side e =
-      objective_is_wide m (ap (λ b. not b || has_wide_term (row_terms m (objective_row m.rows))) (ap fits (sym value) ∙ e))
-      ∙ ap (λ p. Some (TooWide p)) (sym at)
+  pub objective_wide_side : fits (dec_value rhs) ≡ false → is_objective_wide m ≡ true
+  objective_wide_side e = ap (λ b. not b || has_wide_term (row_terms m (objective_row m.rows))) (ap fits (sym value) ∙ e)
 
   module _ (own : List DecimalTerm) (w : Bool) (o : own ≡ row_terms m place) (h : w ≡ has_wide_term own) (side : fits (dec_value rhs) ≡ true) where
-    objective_is : is_objective_wide m ≡ w
+    pub objective_is : is_objective_wide m ≡ w
     objective_is =
         ap (λ b. not b || has_wide_term (row_terms m (objective_row m.rows))) (ap fits (sym value) ∙ side)
         ∙ ap (λ p. has_wide_term (row_terms m p)) (sym at) ∙ ap has_wide_term (sym o) ∙ sym h
-
-    pub objective_wide_terms : w ≡ true → option_map TooWide (wide_objective m) ≡ Some (TooWide place)
-    objective_wide_terms e = objective_is_wide m (objective_is ∙ e) ∙ ap (λ p. Some (TooWide p)) (sym at)
-
-    pub objective_clean : w ≡ false → is_objective_wide m ≡ false
-    objective_clean e = objective_is ∙ e
 
   pub objective_form_is : (f : Form) (k s : ℚ) (own : List DecimalTerm) → own ≡ row_terms m place → s ≡ dec_value rhs → k ≡ neg_ℚ s → IsFormOf k own f → IsFormOf (neg_ℚ (rhs_at (values_of m) (objective_row m.rows))) (row_terms m (objective_row m.rows)) f
   objective_form_is f k s own o e n form = subst₂ (λ c us. IsFormOf c us f) (n ∙ ap neg_ℚ (e ∙ value)) (o ∙ ap (row_terms m) at) form

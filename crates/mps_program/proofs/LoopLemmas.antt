@@ -30,7 +30,7 @@ module _ {A : Type 0} (xs : List A) (k : ℕ) (t : A) (lt : k < length xs) (is :
 pub drop_all : {A : Type 0} (xs : List A) (k : ℕ) → length xs ≤ k → drop k xs ≡ []
 drop_all xs k h = drop_of_length-le xs h
 
-not_eq : (a b : ℕ) → nat_eq a b ≡ false → b ≢ a
+pub not_eq : (a b : ℕ) → nat_eq a b ≡ false → b ≢ a
 not_eq a b e same = grind (arith, nat_tests)
 
 -- ---- the number of a row

@@ -1,7 +1,7 @@
 -- The terms of rows: how they are put together, their order and their coefficients, and how many there are.
-use Rattle.std.proofs.Common.{◌≡◌, ◌≢◌, ℕ, zero, suc, ◌+◌, ◌<◌, ◌≤◌, ◌∙◌, sym, ap, ap₂, refl, subst, arith, Bool, true, false, cond, not, nat_eq, ◌&&◌, ◌||◌, if◌then◌else◌, List, [], ◌∷◌, ◌++◌, length, get_or, map, drop, replicate, Some, None, All, AllPairs, ⊎_elim, ◌⊎◌, inl, inr, add-one, append-nil}
+use Rattle.std.proofs.Common.{◌≡◌, ◌≢◌, ℕ, zero, suc, ◌+◌, ◌<◌, ◌≤◌, ◌∙◌, sym, ap, ap₂, refl, subst, arith, Bool, true, false, cond, not, nat_eq, ◌&&◌, ◌||◌, if◌then◌else◌, List, [], ◌∷◌, ◌++◌, length, get_or, get_or-set_same, get_or-set_other, set, map, drop, Some, None, All, AllPairs, ⊎_elim, ◌⊎◌, inl, inr, add-one, append-nil, append_assoc}
 use Rattle.std.proofs.lemmas.Bool.{eqb-true, ne_eqb, or_parts, not-false}
-use Rattle.std.proofs.lemmas.List.{length-append, ext_get_or, get_or-replicate, length-replicate}
+use Rattle.std.proofs.lemmas.List.{length-append, ext_get_or}
 use Rattle.std.proofs.lemmas.List.Elements.{All-head, All-tail}
 use Rattle.std.proofs.lemmas.List.Sums.{sum_by-cons}
 use Rattle.std.proofs.Math.ListN.{get_or-map as get_or-map-any}
@@ -25,7 +25,7 @@ use Rattle.mps_program.specs.Terms.{is_zero_dec, term_of, terms_from, row_terms,
 use Rattle.mps_program.specs.InsideForms.{AreInOrder}
 use Rattle.mps_program.proofs.FirstLemmas.{listed_at, listed_length}
 use Rattle.mps_program.proofs.OnceLemmas.{sum_more, sum_none, term_more, once_or_not}
-use Rattle.mps_program.proofs.LoopLemmas.{drop_is, drop_all, fact_is, objective_free}
+use Rattle.mps_program.proofs.LoopLemmas.{drop_is, drop_all, fact_is, not_eq, objective_free}
 use Rattle.mps_program.proofs.PartLemmas.{zero_value}
 use Rattle.mps_program.proofs.PlaceLemmas.{not_both_ways}
 
@@ -194,12 +194,25 @@ module _ (m : Mps Dec) (apart : AreApart (length m.rows) m.columns) (i : ℕ) wh
       ∙ ap (λ (c : Column ℚ). part_of_row i c.entries one_ℚ) (sym (get_or-map-any (column_with dec_value) m.columns j no_column))
 
 -- ---- the loops over entries and columns
-pub replicate_more : {A : Type 0} (n : ℕ) (x : A) (xs : List A) → xs ≡ replicate n x → xs ++ x ∷ [] ≡ replicate (n + 1) x
-replicate_more n x xs e = ap (λ ys. ys ++ x ∷ []) e ∙ pushed n ∙ ap (λ k. replicate k x) (sym (add-one n))
+-- one term more in its row
+pub term_sent : (all : List (List DecimalTerm)) (r j : ℕ) (d : Dec) → r < length all → is_zero_dec d ≡ false → (i : ℕ) (rest : List (Entry Dec)) (after : List DecimalTerm) → i < length all →
+    get_or (set all r (get_or all r [] ++ (j, d) ∷ [])) i [] ++ (filter_map (term_of i j) rest ++ after) ≡ get_or all i [] ++ (filter_map (term_of i j) (record { row = r; value = d } ∷ rest) ++ after)
+term_sent all r j d lt some i rest after within = by (nat_eq r i) refl
   where
-    pushed : (n : ℕ) → replicate n x ++ x ∷ [] ≡ replicate (suc n) x
-    pushed zero = refl
-    pushed (suc n) = ap (λ ys. x ∷ ys) (pushed n)
+    more : List DecimalTerm
+    more = filter_map (term_of i j) rest ++ after
+
+    by : (b : Bool) → nat_eq r i ≡ b → get_or (set all r (get_or all r [] ++ (j, d) ∷ [])) i [] ++ more ≡ get_or all i [] ++ (filter_map (term_of i j) (record { row = r; value = d } ∷ rest) ++ after)
+    by true e =
+        let same = eqb-true r i e in
+        ap (λ k. get_or (set all r (get_or all r [] ++ (j, d) ∷ [])) k [] ++ more) (sym same)
+        ∙ ap (λ ts. ts ++ more) (get_or-set_same all r (get_or all r [] ++ (j, d) ∷ []) [] lt)
+        ∙ append_assoc (get_or all r []) ((j, d) ∷ []) more
+        ∙ ap (λ k. get_or all k [] ++ ((j, d) ∷ more)) same
+        ∙ ap (λ ts. get_or all i [] ++ (ts ++ after)) (sym (first_term i j (record { row = r; value = d }) rest true false e some))
+    by false e =
+        ap (λ ts. ts ++ more) (get_or-set_other all r i (get_or all r [] ++ (j, d) ∷ []) [] (not_eq r i e))
+        ∙ ap (λ ts. get_or all i [] ++ (ts ++ after)) (sym (first_term i j (record { row = r; value = d }) rest false false e some))
 
 -- the terms so far, and those of the columns that are left, are all
 pub record AreOnTheirWay (m : Mps Dec) (j : ℕ) (all : List (List DecimalTerm)) : Type 0 where
@@ -207,12 +220,12 @@ pub record AreOnTheirWay (m : Mps Dec) (j : ℕ) (all : List (List DecimalTerm))
   pub left : (i : ℕ) → i < length m.rows → get_or all i [] ++ terms_from i j (drop j m.columns) ≡ row_terms m i
 
 module _ (m : Mps Dec) where
-  pub way_begun : (all : List (List DecimalTerm)) (n : ℕ) → n ≡ length m.rows → all ≡ replicate n [] → AreOnTheirWay m 0 all
+  pub way_begun : (all : List (List DecimalTerm)) → length all ≡ length m.rows → All (λ ts. ts ≡ []) all → AreOnTheirWay m 0 all
   unfolding row_terms
-  way_begun all n size e =
+  way_begun all size empty =
       record {
-        count = ap length e ∙ length-replicate n [] ∙ size;
-        left = λ i lt. ap (λ xs. get_or xs i [] ++ terms_from i 0 m.columns) e ∙ ap (λ ts. ts ++ terms_from i 0 m.columns) (get_or-replicate n i [] [] (omega (arith, lt, size)));
+        count = size;
+        left = λ i lt. ap (λ ts. ts ++ terms_from i 0 m.columns) (empty i [] (omega (arith, lt, size)));
       }
 
   -- these are the entries of column j

@@ -13,7 +13,7 @@ ghost use Rattle.mps_program.specs.Program.{constraints, linear_of, values_of};
 ghost use Rattle.mps_program.specs.declared.mps_fault.MpsFault.TheVariants.{TooWide as TooWideFault};
 
 use crate::columns::sides_and_kinds;
-use crate::forms::{bodies_of, objective_of};
+use crate::forms::forms_of;
 use crate::mps_fault::MpsFault;
 use crate::rows::{constraint_sides, count_constraints};
 use crate::terms::terms_by_row;
@@ -94,11 +94,10 @@ pub fn linear_of(alloc: Global, mps: &Mps) -> Result<Linear, Stop<MpsFault>>
         return Err(Stop::Fault(MpsFault::EmptyInterval(column)));
     }
     let terms = terms_by_row(alloc, mps)?;
-    let bodies = bodies_of(alloc, mps, &terms)?;
-    let objective = objective_of(alloc, mps, &terms)?;
+    let forms = forms_of(alloc, mps, sides.len(), terms)?;
     Ok(Linear::of_parts(
-        bodies,
-        objective,
+        forms.bodies,
+        forms.objective,
         0,
         mps.maximise(),
         sides,

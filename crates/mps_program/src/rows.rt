@@ -120,7 +120,7 @@ pub fn constraint_sides(alloc: Global, mps: &Mps) -> Result<Vec<Interval>, Stop<
     let rows = mps.rows();
     let rhs = by_row(alloc, rows.len(), mps.rhs())?;
     let ranges = by_row(alloc, rows.len(), mps.ranges())?;
-    let mut sides = Vec::new(alloc);
+    let mut sides = Vec::with_capacity(alloc, rows.len())?;
     'rows: for i in 0..rows.len() {
         let row = &rows[i];
         let kind = row.kind;
