@@ -82,7 +82,7 @@ joined_is (word ∷ next ∷ words) rest some =
     ap (λ bs. 32 ∷ word ++ bs) (joined_is (next ∷ words) rest (omega arith)) ∙ ap (λ bs. 32 ∷ bs) (sym (append_assoc word (32 ∷ spaced (next ∷ words)) rest))
 
 module _ (k : Keyword) (h g : Held) (text rest : List ℕ) (e : IsNext k h g text rest) where
-  abbrev line : List ℕ
+  abbrev pub line : List ℕ
   line = spaced (indented e.words)
 
   plain : IsPlain (indented e.words)
@@ -91,7 +91,7 @@ module _ (k : Keyword) (h g : Held) (text rest : List ℕ) (e : IsNext k h g tex
   is_line : IsTextLine line
   is_line = text-line (indented e.words) (plain_lines (indented e.words ∷ []) (plain, tt)).0
 
-  parted : text ≡ (line ++ 10 ∷ []) ++ rest
+  pub parted : text ≡ (line ++ 10 ∷ []) ++ rest
   parted = e.line.parts ∙ joined_is e.words (10 ∷ rest) e.some ∙ sym (append_assoc line (10 ∷ []) rest)
 
   size : length text ≡ length (line ++ 10 ∷ []) + length rest

@@ -6,7 +6,7 @@ ghost use Rattle.mps_reader.specs.InsideLines.{IsAfterHead, IsNext, MayGive, Tak
 ghost use Rattle.mps_reader.specs.InsidePairs.{CanGive};
 ghost use Rattle.mps_reader.specs.Sections.{last_of};
 
-use crate::front_words::{after_space, first_name, first_pair, is_marker_word};
+use crate::front_words::{after_space, first_name, first_number, first_pair, is_marker_word};
 use crate::keyword::{Keyword, last_of};
 use crate::state::State;
 use exact_numbers::Dec;
@@ -153,6 +153,68 @@ impl State {
             },
             Err(_) => Front { len: 0, lines: 0 },
         }
+    }
+
+    // The entry of the last column that a text begins with, where its row has a short name.
+    #[inline(always)]
+    fn next_entry<'a>(&self, text: &'a [u8]) -> Option<NextPair<'a>>
+        requires kept { IsKept self.now }
+        requires begun { last_of self.now.standing.begun ≡ Some Keyword.Columns }
+        requires current { self.now.standing.draft.current ≡ true }
+        ensures next { IfSome result (λ e. IsNext Keyword.Columns self.now
+            (with_held_entry Keyword.Columns self.now (record { row = e.row; value = e.value }))
+            text.now e.rest.now) }
+        ensures may { OnSome result (MayPair Keyword.Columns self.now) }
+        ensures can { IfSome result (λ e. CanGive Keyword.Columns (program self.now) e.row) }
+    {
+        if self.is_full(Keyword::Columns) {
+            return None;
+        }
+        let Some(line) = after_space(text) else {
+            return None;
+        };
+        let Some(behind) = self.columns.after_last_word(line) else {
+            return None;
+        };
+        let Some((row, rest)) = self.rows.find_front(behind, b' ') else {
+            return None;
+        };
+        if self.marks.is_marked(row) {
+            return None;
+        }
+        let Some(number) = first_number(rest) else {
+            return None;
+        };
+        Some(NextPair {
+            row,
+            value: number.value,
+            rest: number.rest,
+        })
+    }
+
+    // Takes entries of the last column, one after the other.
+    #[inline(always)]
+    fn take_entries(&mut self, text: &[u8]) -> Front
+        requires sound { IsSound self.old }
+        requires current { last_of self.old.standing.begun ≡ Some Keyword.Columns }
+        requires few { length text.now ≤ 2 ^ 31 + 1 }
+        ensures lines { TakesLines self.old text.now result self.new }
+        ensures sound { IsSound self.new }
+        ensures same { self.new.standing.begun ≡ self.old.standing.begun }
+    {
+        if !self.is_current {
+            return Front { len: 0, lines: 0 };
+        }
+        let mut rest = text;
+        let mut lines = 0;
+        'entries: while let Some(entry) = self.next_entry(rest) {
+            let Ok(()) = self.give_pair(Keyword::Columns, entry.row, entry.value) else {
+                return Front { len: text.len() - rest.len(), lines };
+            };
+            rest = entry.rest;
+            lines += 1;
+        }
+        Front { len: text.len() - rest.len(), lines }
     }
 
     // Takes a line of the columns, where a text begins with one.
