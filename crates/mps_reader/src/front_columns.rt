@@ -136,6 +136,7 @@ impl State {
         requires current { last_of self.old.standing.begun ≡ Some Keyword.Columns }
         ensures lines { TakesLines self.old text.now result.front self.new }
         ensures sound { result.is_broken ≡ false → IsSound self.new }
+        ensures same { self.new.standing.begun ≡ self.old.standing.begun }
     {
         let Some(column) = self.next_column(text) else {
             return FrontTaken {

@@ -135,24 +135,26 @@ impl State {
         })
     }
 
-    // Takes the line of a pair, where a text begins with one.
-    fn take_pair_front(&mut self, keyword: Keyword, text: &[u8]) -> Front
+    // Takes lines of pairs, one after the other.
+    fn take_pairs_front(&mut self, keyword: Keyword, text: &[u8]) -> Front
         requires sound { IsSound self.old }
         requires current { last_of self.old.standing.begun ≡ Some keyword }
         requires pairs { HasPairs keyword }
+        requires few { length text.now ≤ 2 ^ 31 + 1 }
         ensures lines { TakesLines self.old text.now result self.new }
         ensures sound { IsSound self.new }
+        ensures same { self.new.standing.begun ≡ self.old.standing.begun }
     {
-        let Some(pair) = self.next_pair(keyword, text) else {
-            return Front { len: 0, lines: 0 };
-        };
-        match self.give_pair(keyword, pair.row, pair.value) {
-            Ok(()) => Front {
-                len: text.len() - pair.rest.len(),
-                lines: 1,
-            },
-            Err(_) => Front { len: 0, lines: 0 },
+        let mut rest = text;
+        let mut lines = 0;
+        'pairs: while let Some(pair) = self.next_pair(keyword, rest) {
+            let Ok(()) = self.give_pair(keyword, pair.row, pair.value) else {
+                return Front { len: text.len() - rest.len(), lines };
+            };
+            rest = pair.rest;
+            lines += 1;
         }
+        Front { len: text.len() - rest.len(), lines }
     }
 
     // The entry of the last column that a text begins with, where its row has a short name.
@@ -217,14 +219,16 @@ impl State {
         Front { len: text.len() - rest.len(), lines }
     }
 
-    // Takes a line of the columns, where a text begins with one.
+    // Takes further entries of the last column, or the first line of the next one.
     fn take_entry_front(&mut self, text: &[u8]) -> FrontTaken
         requires sound { IsSound self.old }
         requires current { last_of self.old.standing.begun ≡ Some Keyword.Columns }
+        requires few { length text.now ≤ 2 ^ 31 + 1 }
         ensures lines { TakesLines self.old text.now result.front self.new }
         ensures sound { result.is_broken ≡ false → IsSound self.new }
+        ensures same { self.new.standing.begun ≡ self.old.standing.begun }
     {
-        let front = self.take_pair_front(Keyword::Columns, text);
+        let front = self.take_pairs_front(Keyword::Columns, text);
         if front.len > 0 {
             return FrontTaken {
                 front,
@@ -234,26 +238,73 @@ impl State {
         self.take_column_front(text)
     }
 
-    // Takes a line of pairs or of bounds, where a text begins with one.
+    // Takes entries of the last column, and what comes behind them.
+    #[inline(always)]
+    fn take_column_lines(&mut self, text: &[u8]) -> FrontTaken
+        requires sound { IsSound self.old }
+        requires current { last_of self.old.standing.begun ≡ Some Keyword.Columns }
+        requires few { length text.now ≤ 2 ^ 31 + 1 }
+        ensures lines { TakesLines self.old text.now result.front self.new }
+        ensures sound { result.is_broken ≡ false → IsSound self.new }
+        ensures same { self.new.standing.begun ≡ self.old.standing.begun }
+    {
+        let front = self.take_entries(text);
+        let next = self.take_entry_front(text.split_at(front.len).1);
+        FrontTaken {
+            front: Front {
+                len: front.len + next.front.len,
+                lines: front.lines + next.front.lines,
+            },
+            is_broken: next.is_broken,
+        }
+    }
+
+    // Takes lines of columns, one after the other.
+    fn take_columns_front(&mut self, text: &[u8]) -> FrontTaken
+        requires sound { IsSound self.old }
+        requires current { last_of self.old.standing.begun ≡ Some Keyword.Columns }
+        requires few { length text.now ≤ 2 ^ 31 + 1 }
+        ensures lines { TakesLines self.old text.now result.front self.new }
+        ensures sound { result.is_broken ≡ false → IsSound self.new }
+    {
+        let mut front = Front { len: 0, lines: 0 };
+        'columns: loop {
+            let next = self.take_column_lines(text.split_at(front.len).1);
+            front = Front {
+                len: front.len + next.front.len,
+                lines: front.lines + next.front.lines,
+            };
+            if next.is_broken || next.front.len == 0 {
+                return FrontTaken {
+                    front,
+                    is_broken: next.is_broken,
+                };
+            }
+        }
+    }
+
+    // Takes lines of right sides, ranges or bounds, one after the other.
     fn take_late_front(&mut self, keyword: Keyword, text: &[u8]) -> Front
         requires sound { IsSound self.old }
         requires current { last_of self.old.standing.begun ≡ Some keyword }
+        requires few { length text.now ≤ 2 ^ 31 + 1 }
         ensures lines { TakesLines self.old text.now result self.new }
         ensures sound { IsSound self.new }
     {
         if has_pairs(keyword) {
-            return self.take_pair_front(keyword, text);
+            return self.take_pairs_front(keyword, text);
         }
         match keyword {
-            Keyword::Bounds => self.take_bound_front(text),
+            Keyword::Bounds => self.take_bounds_front(text),
             _ => Front { len: 0, lines: 0 },
         }
     }
 
-    // Takes the line that a text begins with, where it is of the plain form and without a fault.
-    fn take_front_line(&mut self, text: &[u8]) -> FrontTaken
-        requires { IsSound self.old }
-        ensures lines { TakesLines self.old text.now result.front self.new }
+    /// Takes lines at the front of a piece, all of the section that was begun last.
+    pub(crate) fn take_front(&mut self, piece: &[u8]) -> FrontTaken
+        requires sound { IsSound self.old }
+        requires few { length piece.now ≤ 2 ^ 31 + 1 }
+        ensures lines { TakesLines self.old piece.now result.front self.new }
         ensures sound { result.is_broken ≡ false → IsSound self.new }
     {
         let Some(keyword) = last_of(&self.begun) else {
@@ -263,35 +314,12 @@ impl State {
             };
         };
         match keyword {
-            Keyword::Columns => self.take_entry_front(text),
-            Keyword::Rows => self.take_row_front(text),
+            Keyword::Columns => self.take_columns_front(piece),
+            Keyword::Rows => self.take_rows_front(piece),
             _ => FrontTaken {
-                front: self.take_late_front(keyword, text),
+                front: self.take_late_front(keyword, piece),
                 is_broken: false,
             },
-        }
-    }
-
-    /// Takes lines at the front of a piece.
-    pub(crate) fn take_front(&mut self, piece: &[u8]) -> FrontTaken
-        requires sound { IsSound self.old }
-        requires few { length piece.now ≤ 2 ^ 31 + 1 }
-        ensures lines { TakesLines self.old piece.now result.front self.new }
-        ensures sound { result.is_broken ≡ false → IsSound self.new }
-    {
-        let mut front = Front { len: 0, lines: 0 };
-        'lines: loop {
-            let line = self.take_front_line(piece.split_at(front.len).1);
-            front = Front {
-                len: front.len + line.front.len,
-                lines: front.lines + line.front.lines,
-            };
-            if line.is_broken || line.front.len == 0 {
-                return FrontTaken {
-                    front,
-                    is_broken: line.is_broken,
-                };
-            }
         }
     }
 }
