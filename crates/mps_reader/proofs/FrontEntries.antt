@@ -7,53 +7,29 @@ use Rattle.texts.proofs.NamePlaces.{bytes_other}
 use Rattle.exact_numbers.specs.declared.dec.Dec.{Dec}
 use Rattle.mps_model.specs.Valid.{marker_word}
 use Rattle.mps_reader.specs.declared.keyword.Keyword.{Keyword}
-use Rattle.mps_reader.specs.declared.keyword.Keyword.TheVariants.{Columns}
 use Rattle.mps_reader.specs.InsideCodes.{IsFound}
-use Rattle.mps_reader.specs.InsideFronts.{IsNumberText, IsPairText}
-use Rattle.mps_reader.specs.InsideHeld.{Held, IsKept, IsSound, MayPair, program}
-use Rattle.mps_reader.specs.InsideHeldSteps.{with_held_entry}
-use Rattle.mps_reader.specs.InsideLines.{IsAfterHead, IsNext, MayGive, TakesLines}
-use Rattle.mps_reader.specs.Saying.{last_name, place_of}
-use Rattle.mps_reader.specs.Sections.{last_of}
-use Rattle.mps_reader.specs.Tests.{is_full}
-use Rattle.mps_reader.proofs.FrontLines.{goes_on, line, may_give, next_is_pair, next_taken, none_taken, of_column, parted}
-use Rattle.mps_reader.proofs.SideLemmas.{column_may}
+use Rattle.mps_reader.specs.InsideFronts.{IsNumberText}
+use Rattle.mps_reader.specs.InsideHeld.{Held, IsKept, IsSound, program}
+use Rattle.mps_reader.specs.InsideLines.{IsNext, IsRowPair, TakesLines}
+use Rattle.mps_reader.specs.Saying.{place_of}
+use Rattle.mps_reader.proofs.FrontLines.{goes_on, line, next_taken, none_taken, parted, row_there}
 
 -- a short name is not the word of a marker line
 pub short_other : (name : List ℕ) → length name ≤ 7 → bytes_eq name marker_word ≡ false
 short_other name short = bytes_other name marker_word (λ e. omega (arith, short, ap (length {A = ℕ}) e))
 
 -- a short name, a space, and a number
-pub found_pair : (names : List (List ℕ)) (text rest left : List ℕ) (place : ℕ) (value : Dec) (f : IsFound names text 32 place rest) → IsNumberText rest value left → IsPairText text f.name value left
-found_pair names text rest left place value f n = record { number = rest; parts = f.parts; is_name = f.is_name; of_number = n }
+pub found_pair : (names : List (List ℕ)) (text behind rest : List ℕ) (place : ℕ) (value : Dec) → IsFound names text 32 place behind → IsNumberText behind value rest → IsRowPair names text place value rest
+found_pair names text behind rest place value f n = record {
+  name = f.name;
+  pair = record { number = behind; parts = f.parts; is_name = f.is_name; of_number = n };
+  other = short_other f.name f.short;
+  at = f.at;
+}
 
--- what the line of an entry of the last column says
-pub record IsEntry (h : Held) (text behind rest : List ℕ) (row : ℕ) : Type 0 where
-  pub line : List ℕ
-  pub first : text ≡ 32 ∷ line
-  pub head : IsAfterHead Columns h line behind
-  pub found : IsFound h.rows behind 32 row rest
-  pub may : MayPair Columns h
-  pub give : MayGive Columns (program h) found.name row
-
-pub entry_is : (h : Held) (columns : List (List ℕ)) (text line behind rest : List ℕ) (row : ℕ) → IsKept h → last_of h.standing.begun ≡ Some Columns → h.standing.draft.current ≡ true → columns ≡ h.columns → text ≡ 32 ∷ line
-    → line ≡ last_name columns ++ 32 ∷ behind → IsName (last_name columns) → IsFound h.rows behind 32 row rest → get_or h.marks row false ≡ false → is_full Columns (program h) ≡ false → IsEntry h text behind rest row
-entry_is h columns text line behind rest row kept last current held first parts named found unmarked full =
-    let head = of_column h columns line (32 ∷ behind) behind kept held current parts refl named in
-    let may : MayPair Columns h = column_may h h head.name kept last head.is_name.some head.head refl in
-    record {
-      line = line;
-      first = first;
-      head = head;
-      found = found;
-      may = may;
-      give = may_give Columns h found.name row may found.at unmarked full refl (short_other found.name found.short);
-    }
-
-pub entry_next : (h : Held) (text behind rest left : List ℕ) (row : ℕ) (value : Dec) → IsEntry h text behind rest row → IsNumberText rest value left
-    → IsNext Columns h (with_held_entry Columns h (record { row = row; value = value })) text left
-entry_next h text behind rest left row value e n =
-    next_is_pair Columns h text e.line behind e.found.name left row value tt e.may.current e.first e.head (found_pair h.rows behind rest left row value e.found n) e.give
+-- it is a row of the program
+pub pair_there : (h : Held) (behind rest : List ℕ) (row : ℕ) (value : Dec) → IsKept h → IsRowPair h.rows behind row value rest → row < length (program h).rows
+pair_there h behind rest row value kept p = row_there h p.name row kept p.at
 
 -- ---- one after the other
 

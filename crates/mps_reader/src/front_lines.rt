@@ -2,14 +2,15 @@
 ghost use Rattle.std.specs.Prelude.{◌≡◌, ◌≤◌, ◌+◌, ◌^◌, true, false, Some, IfSome, OnSome, length};
 ghost use Rattle.mps_reader.specs.InsideHeld.{HasPairs, IsKept, IsSound, MayPair, program};
 ghost use Rattle.mps_reader.specs.InsideHeldSteps.{with_held_entry};
-ghost use Rattle.mps_reader.specs.InsideLines.{IsAfterHead, IsNext, MayGive, TakesLines};
+ghost use Rattle.mps_reader.specs.InsideLines.{IsAfterHead, IsNext, TakesLines};
 ghost use Rattle.mps_reader.specs.InsidePairs.{CanGive};
 ghost use Rattle.mps_reader.specs.Sections.{last_of};
 
-use crate::front_words::{after_space, first_name, first_number, first_pair, is_marker_word};
+use crate::front_pairs::NextPair;
+use crate::front_words::after_space;
 use crate::keyword::{Keyword, last_of};
+use crate::name_sets::after_bytes;
 use crate::state::State;
-use exact_numbers::Dec;
 use texts::Front;
 
 // Whether the lines of a section are pairs behind a name.
@@ -29,14 +30,6 @@ pub struct FrontTaken {
     pub is_broken: bool,
 }
 
-/// A pair, and what follows its line.
-#[derive(Clone, Copy)]
-struct NextPair<'a> {
-    row: u32,
-    value: Dec,
-    rest: &'a [u8],
-}
-
 impl State {
     // What follows the name of the last column and a space, where a text begins with that and the
     // column may go on.
@@ -54,19 +47,21 @@ impl State {
     }
 
     /// What follows the section's set name and a space, where a text begins with that.
+    #[inline]
     pub(crate) fn after_set<'a>(&self, text: &'a [u8]) -> Option<&'a [u8]>
         ensures { IfSome result (λ rest. IsAfterHead Keyword.Bounds self.now text.now rest.now) }
     {
         let Some(set) = &self.set_name else {
             return None;
         };
-        let Some((name, rest)) = first_name(text, b' ') else {
-            return None;
-        };
-        if name != set.as_slice() {
+        let name = set.bytes();
+        if name.is_empty() {
             return None;
         }
-        Some(rest)
+        let Some(rest) = after_bytes(text, name) else {
+            return None;
+        };
+        after_space(rest)
     }
 
     // What follows the first word of a line of pairs, where that is the one that is awaited.
@@ -80,29 +75,6 @@ impl State {
             Keyword::Ranges => self.after_set(text),
             _ => None,
         }
-    }
-
-    // The row of this name, where it may have a pair more.
-    fn free_row(&self, keyword: Keyword, name: &[u8]) -> Option<u32>
-        requires { MayPair keyword self.now }
-        ensures { IfSome result (λ row. MayGive keyword (program self.now) name.now row) }
-    {
-        let Some(row) = self.rows.find(name) else {
-            return None;
-        };
-        if self.marks.is_marked(row) {
-            return None;
-        }
-        if self.is_full(keyword) {
-            return None;
-        }
-        if self.is_refused_row(keyword, row) {
-            return None;
-        }
-        if is_marker_word(name) {
-            return None;
-        }
-        Some(row)
     }
 
     // The pair that a text begins with, where the section may have it.
@@ -122,17 +94,13 @@ impl State {
         let Some(rest) = self.after_head(keyword, line) else {
             return None;
         };
-        let Some(pair) = first_pair(rest) else {
+        let Some(pair) = self.row_pair(rest) else {
             return None;
         };
-        let Some(row) = self.free_row(keyword, pair.name) else {
+        if !self.is_free_row(keyword, pair.row) {
             return None;
-        };
-        Some(NextPair {
-            row,
-            value: pair.value,
-            rest: pair.rest,
-        })
+        }
+        Some(pair)
     }
 
     // Takes lines of pairs, one after the other.
@@ -169,29 +137,19 @@ impl State {
         ensures may { OnSome result (MayPair Keyword.Columns self.now) }
         ensures can { IfSome result (λ e. CanGive Keyword.Columns (program self.now) e.row) }
     {
-        if self.is_full(Keyword::Columns) {
-            return None;
-        }
         let Some(line) = after_space(text) else {
             return None;
         };
-        let Some(behind) = self.columns.after_last_word(line) else {
+        let Some(rest) = self.columns.after_last_word(line) else {
             return None;
         };
-        let Some((row, rest)) = self.rows.find_front(behind, b' ') else {
+        let Some(pair) = self.short_pair(rest) else {
             return None;
         };
-        if self.marks.is_marked(row) {
+        if !self.is_free_row(Keyword::Columns, pair.row) {
             return None;
         }
-        let Some(number) = first_number(rest) else {
-            return None;
-        };
-        Some(NextPair {
-            row,
-            value: number.value,
-            rest: number.rest,
-        })
+        Some(pair)
     }
 
     // Takes entries of the last column, one after the other.
