@@ -21,12 +21,12 @@ use Rattle.mps_reader.specs.declared.keyword.Keyword.TheVariants.{Columns, Rows}
 use Rattle.mps_reader.specs.declared.sides.Sides.{Sides}
 use Rattle.mps_reader.specs.InsideHeld.{Held, IsKept, MayPair, no_sides, program}
 use Rattle.mps_reader.specs.InsideHeldSteps.{if_row, with_first_entry, with_held_column, with_held_column_line, with_held_entries, with_new_column, with_row}
-use Rattle.mps_reader.specs.InsideLines.{GoesOn, IsColumnText, IsNext, IsRowText, MayGive, TakesLines}
+use Rattle.mps_reader.specs.InsideLines.{GoesOn, IsFreeRow, IsNext, IsRowPair, IsRowText, MayBegin, TakesLines}
 use Rattle.mps_reader.specs.Saying.{Draft, column_names, is_current, is_row_name, last_name, place_of, row_in, row_kind_of, row_names}
 use Rattle.mps_reader.specs.Sections.{last_of}
 use Rattle.mps_reader.specs.Tests.{Standing, column_name_tests, column_tests, entry_line_tests, is_full, most_entries, row_tests}
 use Rattle.mps_reader.proofs.CodeLemmas.{name_is}
-use Rattle.mps_reader.proofs.FrontLines.{and_false, below, may_give, pair_taken, row_there}
+use Rattle.mps_reader.proofs.FrontLines.{MayGive, and_false, below, may_give, pair_taken, row_there}
 use Rattle.mps_reader.proofs.KeptLemmas.{can_add_column, can_add_row, entry_may, row_kept}
 use Rattle.mps_reader.proofs.SideLemmas.{entries_taken, new_column_may}
 
@@ -90,14 +90,6 @@ column_fine : (d : Draft) (name : List ℕ) → IsName name → is_current d nam
 unfolding column_name_tests
 column_fine d name named current new few = rw (name_is name named, current, new, not_full (length d.mps.columns) (2 ^ 21) few) refl
 
--- what the first line of a column asks
-pub record MayBegin (h : Held) (name row : List ℕ) (place : ℕ) : Type 0 where
-  pub new : place_of h.columns name ≡ None
-  pub few : length h.columns < 2 ^ 21
-  pub at : place_of h.rows row ≡ Some place
-  pub full : is_full Columns (program h) ≡ false
-  pub other : bytes_eq row marker_word ≡ false
-
 abbrev begun : Held → List ℕ → Held
 begun h name = with_new_column h name
 
@@ -107,58 +99,66 @@ fresh h name = record { name = name; marked = h.standing.draft.marked; entries =
 begun_count : (h : Held) (name : List ℕ) → entry_count (program (begun h name)).columns ≡ entry_count (program h).columns
 begun_count h name = omega (arith, sum_by-append (λ (c : Column Dec). length c.entries) (program h).columns (fresh h name ∷ []))
 
-begun_may : (h : Held) (name row : List ℕ) (place : ℕ) → IsKept h → last_of h.standing.begun ≡ Some Columns → MayBegin h name row place → MayPair Columns (begun h name)
-begun_may h name row place kept last b = new_column_may h (begun h name) name kept last (few_columns h kept b.few) refl
+module _ (h : Held) (name behind rest : List ℕ) (place : ℕ) (value : Dec) (kept : IsKept h) (last : last_of h.standing.begun ≡ Some Columns) (b : MayBegin h name) (p : IsRowPair h.rows behind place value rest) where
+  begun_may : MayPair Columns (begun h name)
+  begun_may = new_column_may h (begun h name) name kept last (few_columns h kept b.few) refl
 
-pub entry_within : (h : Held) (name row : List ℕ) (place : ℕ) → IsKept h → last_of h.standing.begun ≡ Some Columns → MayBegin h name row place → place < length h.marks
-entry_within h name row place kept last b = omega (arith, row_there h row place kept b.at, (kept.marks Columns last tt).room)
+  there : place < length (program h).rows
+  there = row_there h p.name place kept p.at
 
-first_may : (h : Held) (name row : List ℕ) (place : ℕ) → IsKept h → last_of h.standing.begun ≡ Some Columns → MayBegin h name row place → MayGive Columns (program (begun h name)) row place
-first_may h name row place kept last b =
-    let may = begun_may h name row place kept last b in
-    let marks = entry_within h name row place kept last b in
-    may_give Columns (begun h name) row place may b.at (get_or-replicate (length h.marks) place false false marks) (ap (nat_le most_entries) (begun_count h name) ∙ b.full) refl b.other
+  pub entry_within : place < length h.marks
+  entry_within = omega (arith, there, (kept.marks Columns last tt).room)
 
-column_taken : (h : Held) (name row word : List ℕ) (place : ℕ) (value : Dec) → IsKept h → last_of h.standing.begun ≡ Some Columns → IsName name → MayBegin h name row place → dec_of word ≡ Some value
-    → Takes (column_tests h.standing.draft (name ∷ row ∷ word ∷ [])) (with_held_column_line h (name ∷ row ∷ word ∷ [])) (Ok tt) (with_first_entry h name (record { row = place; value = value }))
-unfolding column_tests
-column_taken h name row word place value kept last named b says =
-    let ws : List (List ℕ) = name ∷ row ∷ word ∷ [] in
-    let new = with_first_entry h name (record { row = place; value = value }) in
-    let other = not_current h name kept named b.new in
-    let none : place_of (column_names (program h)) name ≡ None = ap (λ (ns : List (List ℕ)). place_of ns name) (sym kept.columns) ∙ b.new in
-    let same : begun h name ≡ with_held_column h name = rw other refl in
-    let entries : Takes (entry_line_tests h.standing.draft ws) (with_held_entries h ws) (Ok tt) new =
-    entries_taken h (begun h name) ws (row ∷ word ∷ []) name (Ok tt) new refl refl refl (column_fine h.standing.draft name named other none (few_columns h kept b.few), same) (pair_taken Columns (begun h name) row word place value (first_may h name row place kept last b) says) in
-    rw b.other entries
+  first_free : IsFreeRow Columns (begun h name) place
+  first_free = record {
+    new = get_or-replicate (length h.marks) place false false entry_within;
+    room = ap (nat_le most_entries) (begun_count h name) ∙ b.room;
+    bounded = refl;
+  }
 
-pub next_is_column : (h : Held) (text name row rest : List ℕ) (place : ℕ) (value : Dec) → IsKept h → last_of h.standing.begun ≡ Some Columns → IsColumnText text name row value rest → MayBegin h name row place
-    → IsNext Columns h (with_first_entry h name (record { row = place; value = value })) text rest
-next_is_column h text name row rest place value kept last c b =
-    let pair = c.of_pair in
-    let n = pair.of_number in
-    let t = column_taken h name row n.word place value kept last c.is_name b n.says in
-    record {
-      words = name ∷ row ∷ n.word ∷ [];
-      some = omega arith;
-      few = omega arith;
-      line = record { parts = c.parts ∙ ap (λ bs. 32 ∷ name ++ 32 ∷ bs) (pair.parts ∙ ap (λ bs. row ++ 32 ∷ bs) n.parts); each = (c.is_name, (pair.is_name, (n.is_word, tt))) };
-      current = last;
-      none = t.0;
-      is = t.1;
-    }
+  first_may : MayGive Columns (program (begun h name)) p.name place
+  first_may = may_give Columns (begun h name) p.name place begun_may p.at first_free p.other
 
-pub column_can : (h : Held) (name row : List ℕ) (place : ℕ) → IsKept h → MayBegin h name row place → CanAddColumn (program h) name
-column_can h name row place kept b = can_add_column h name kept b.new (few_columns h kept b.few)
+  column_taken : IsName name → Takes (column_tests h.standing.draft (name ∷ p.name ∷ p.pair.of_number.word ∷ [])) (with_held_column_line h (name ∷ p.name ∷ p.pair.of_number.word ∷ [])) (Ok tt) (with_first_entry h name (record { row = place; value = value }))
+  unfolding column_tests
+  column_taken named =
+      let word : List ℕ = p.pair.of_number.word in
+      let ws : List (List ℕ) = name ∷ p.name ∷ word ∷ [] in
+      let new = with_first_entry h name (record { row = place; value = value }) in
+      let other = not_current h name kept named b.new in
+      let none : place_of (column_names (program h)) name ≡ None = ap (λ (ns : List (List ℕ)). place_of ns name) (sym kept.columns) ∙ b.new in
+      let same : begun h name ≡ with_held_column h name = rw other refl in
+      let entries : Takes (entry_line_tests h.standing.draft ws) (with_held_entries h ws) (Ok tt) new =
+      entries_taken h (begun h name) ws (p.name ∷ word ∷ []) name (Ok tt) new refl refl refl (column_fine h.standing.draft name named other none (few_columns h kept b.few), same) (pair_taken Columns (begun h name) p.name word place value first_may p.pair.of_number.says) in
+      rw p.other entries
 
-pub entries_can : (h : Held) (name row : List ℕ) (place : ℕ) (value : Dec) → IsKept h → MayBegin h name row place → CanAddEntries (program h) ((place, value) ∷ [])
-entries_can h name row place value kept b =
-    let less = below (entry_count (program h).columns) (2 ^ 24) b.full in
-    let there : place < length (program h).rows = row_there h row place kept b.at in
-    record {
-      few = omega (arith, less);
-      rows = record { within = All-cons (λ (e : Entry Dec). e.row < length (program h).rows) (record { row = place; value = value }) [] there (λ k d lt. absurd (omega arith)); apart = λ i j d lt within. absurd (omega (arith, lt, within)) };
-    }
+  pub next_is_column : (text : List ℕ) → IsName name → text ≡ 32 ∷ name ++ 32 ∷ behind → IsNext Columns h (with_first_entry h name (record { row = place; value = value })) text rest
+  next_is_column text named parts =
+      let n = p.pair.of_number in
+      let t = column_taken named in
+      record {
+        words = name ∷ p.name ∷ n.word ∷ [];
+        some = omega arith;
+        few = omega arith;
+        line = record { parts = parts ∙ ap (λ bs. 32 ∷ name ++ 32 ∷ bs) (p.pair.parts ∙ ap (λ bs. p.name ++ 32 ∷ bs) n.parts); each = (named, (p.pair.is_name, (n.is_word, tt))) };
+        current = last;
+        none = t.0;
+        is = t.1;
+      }
+
+  pub column_can : CanAddColumn (program h) name
+  column_can = can_add_column h name kept b.new (few_columns h kept b.few)
+
+  pub entries_can : CanAddEntries (program h) ((place, value) ∷ [])
+  entries_can =
+      let less = below (entry_count (program h).columns) (2 ^ 24) b.room in
+      record {
+        few = omega (arith, less);
+        rows = record { within = All-cons (λ (e : Entry Dec). e.row < length (program h).rows) (record { row = place; value = value }) [] there (λ k d lt. absurd (omega arith)); apart = λ i j d lt within. absurd (omega (arith, lt, within)) };
+      }
+
+  pub column_added : IsKept (with_first_entry h name (record { row = place; value = value }))
+  column_added = (entry_may Columns (begun h name) (with_first_entry h name (record { row = place; value = value })) (record { row = place; value = value }) begun_may first_may.can refl).kept
 
 -- a new column with one entry is a new one that then has the entry
 pub first_entry : (e : Entry Dec) (name : List ℕ) (marked : Bool) (cs : List (Column Dec)) → with_entry_last e (cs ++ record { name = name; marked = marked; entries = [] } ∷ []) ≡ cs ++ record { name = name; marked = marked; entries = e ∷ [] } ∷ []
@@ -177,10 +177,6 @@ first_added h g new name e m columns sides marks same is mps_is columns_are side
     let made : record g { standing = record g.standing { draft = record { mps = m; marked = g.standing.draft.marked; current = true } }; columns = columns; sides = sides; marks = marks; entries = g.entries + 1 } ≡ with_first_entry g name e =
     λ i. record g { standing = record g.standing { draft = record { mps = all i; marked = g.standing.draft.marked; current = true } }; columns = columns_are i; sides = sides_are i; marks = marks_are i; entries = g.entries + 1 } in
     subst (λ (x : Held). new ≡ with_first_entry x name e) same (is ∙ made)
-
-pub column_added : (h new : Held) (name row : List ℕ) (place : ℕ) (value : Dec) → IsKept h → last_of h.standing.begun ≡ Some Columns → MayBegin h name row place → new ≡ with_first_entry h name (record { row = place; value = value }) → IsKept new
-column_added h new name row place value kept last b is =
-    (entry_may Columns (begun h name) new (record { row = place; value = value }) (begun_may h name row place kept last b) (first_may h name row place kept last b).can is).kept
 
 -- ---- one after the other
 

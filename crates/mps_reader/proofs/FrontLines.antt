@@ -30,7 +30,7 @@ use Rattle.mps_reader.specs.declared.keyword.Keyword.{Keyword}
 use Rattle.mps_reader.specs.declared.keyword.Keyword.TheVariants.{Name, Sense, Rows, Columns, Rhs, Ranges, Bounds, End}
 use Rattle.mps_reader.specs.Grammar.{line_tests, mps_rules, standing}
 use Rattle.mps_reader.specs.InsideFronts.{IsNumberText, IsPairText, joined}
-use Rattle.mps_reader.specs.InsideLines.{GoesOn, IsAfterHead, IsBoundText, IsHeadWord, IsKindText, IsNext, MayGive, SaysBound, TakesLines, held_after}
+use Rattle.mps_reader.specs.InsideLines.{GoesOn, IsAfterHead, IsBoundText, IsFreeRow, IsHeadWord, IsKindText, IsNext, IsRowPair, SaysBound, TakesLines, held_after}
 use Rattle.mps_reader.specs.InsideHeld.{HasPairs, Held, IsKept, IsSound, MayPair, TakesSoundly, program}
 use Rattle.mps_reader.specs.InsideHeldSteps.{if_held_entry, with_bound, with_held_bound_line, with_held_column, with_held_column_line, with_held_entries, with_held_entry, with_held_pairs, with_held_sides, with_set}
 use Rattle.mps_reader.specs.InsidePairs.{CanGive}
@@ -82,7 +82,7 @@ joined_is (word ∷ next ∷ words) rest some =
     ap (λ bs. 32 ∷ word ++ bs) (joined_is (next ∷ words) rest (omega arith)) ∙ ap (λ bs. 32 ∷ bs) (sym (append_assoc word (32 ∷ spaced (next ∷ words)) rest))
 
 module _ (k : Keyword) (h g : Held) (text rest : List ℕ) (e : IsNext k h g text rest) where
-  abbrev line : List ℕ
+  abbrev pub line : List ℕ
   line = spaced (indented e.words)
 
   plain : IsPlain (indented e.words)
@@ -91,7 +91,7 @@ module _ (k : Keyword) (h g : Held) (text rest : List ℕ) (e : IsNext k h g tex
   is_line : IsTextLine line
   is_line = text-line (indented e.words) (plain_lines (indented e.words ∷ []) (plain, tt)).0
 
-  parted : text ≡ (line ++ 10 ∷ []) ++ rest
+  pub parted : text ≡ (line ++ 10 ∷ []) ++ rest
   parted = e.line.parts ∙ joined_is e.words (10 ∷ rest) e.some ∙ sym (append_assoc line (10 ∷ []) rest)
 
   size : length text ≡ length (line ++ 10 ∷ []) + length rest
@@ -188,18 +188,24 @@ can_give Rhs h row may within unmarked full bounded = record { within = within; 
 can_give Ranges h row may within unmarked full bounded = record { within = within; bounded = not_free (program h).rows row bounded; new = others (program h).ranges row (none_there Ranges h row may within unmarked) }
 can_give k h row may within unmarked full bounded = absurd may.pairs
 
-pub may_give : (k : Keyword) (h : Held) (name : List ℕ) (row : ℕ) → MayPair k h → place_of h.rows name ≡ Some row → get_or h.marks row false ≡ false → is_full k (program h) ≡ false → is_refused_row k (program h) row ≡ false → bytes_eq name marker_word ≡ false
-    → MayGive k (program h) name row
+-- the row of this name may have a pair more, whatever number it is
+pub record MayGive (k : Keyword) (m : Mps Dec) (name : List ℕ) (row : ℕ) : Type 0 where
+  pub other : bytes_eq name marker_word ≡ false
+  pub can : CanGive k m row
+  pub fine : (word : List ℕ) (value : Dec) → dec_of word ≡ Some value → first_reason (pair_tests k m name word) ≡ None
+  pub entry : (word : List ℕ) (value : Dec) → dec_of word ≡ Some value → entry_in m name word ≡ Some (record { row = row; value = value })
+
+pub may_give : (k : Keyword) (h : Held) (name : List ℕ) (row : ℕ) → MayPair k h → place_of h.rows name ≡ Some row → IsFreeRow k h row → bytes_eq name marker_word ≡ false → MayGive k (program h) name row
 unfolding pair_tests entry_in
-may_give k h name row may at unmarked full bounded other =
+may_give k h name row may at free other =
     let m : Mps Dec = program h in
     let place : place_of (row_names m) name ≡ Some row = ap (λ (ns : List (List ℕ)). place_of ns name) (sym may.kept.rows) ∙ at in
     let within = row_there h name row may.kept at in
-    let new = none_there k h row may within unmarked in
+    let new = none_there k h row may within free.new in
     record {
       other = other;
-      can = can_give k h row may within unmarked full bounded;
-      fine = λ word value says. rw (place, bounded, says, new, full) refl;
+      can = can_give k h row may within free.new free.room free.bounded;
+      fine = λ word value says. rw (place, free.bounded, says, new, free.room) refl;
       entry = λ word value says. rw (place, says) refl;
     }
 
@@ -220,9 +226,6 @@ of_column h columns text more rest kept held current parts second named =
     }
 
 -- a line of the set
-pub of_set : (h : Held) (set name text rest : List ℕ) → h.standing.set ≡ Some set → text ≡ name ++ 32 ∷ rest → IsName name → bytes_eq name set ≡ true → IsAfterHead Bounds h text rest
-of_set h set name text rest held parts named same = record { name = name; parts = parts; is_name = named; head = held ∙ ap Some (sym (bytes_same name set same)) }
-
 pub set_of_sides : (h : Held) (text rest : List ℕ) → IsAfterHead Bounds h text rest → IsAfterHead Rhs h text rest × IsAfterHead Ranges h text rest
 set_of_sides h text rest o = (record { name = o.name; parts = o.parts; is_name = o.is_name; head = o.head }, record { name = o.name; parts = o.parts; is_name = o.is_name; head = o.head })
 
@@ -291,20 +294,24 @@ pair_says Rhs h head row word place value pairs named is may says = side_taken R
 pair_says Ranges h head row word place value pairs named is may says = side_taken Ranges h head row word place value named is may says
 pair_says k h head row word place value pairs named is may says = absurd pairs
 
-pub next_is_pair : (k : Keyword) (h : Held) (text line behind name rest : List ℕ) (row : ℕ) (value : Dec) → HasPairs k → last_of h.standing.begun ≡ Some k → text ≡ 32 ∷ line → IsAfterHead k h line behind → IsPairText behind name value rest → MayGive k (program h) name row
+pub next_is_pair : (k : Keyword) (h : Held) (text line behind rest : List ℕ) (row : ℕ) (value : Dec) → MayPair k h → text ≡ 32 ∷ line → IsAfterHead k h line behind → IsRowPair h.rows behind row value rest → IsFreeRow k h row
     → IsNext k h (given k h row value) text rest
-next_is_pair k h text line behind name rest row value pairs last first o pair may =
-    let n = pair.of_number in
-    let t = pair_says k h o.name name n.word row value pairs o.is_name o.head may n.says in
+next_is_pair k h text line behind rest row value may first o p free =
+    let n = p.pair.of_number in
+    let give = may_give k h p.name row may p.at free p.other in
+    let t = pair_says k h o.name p.name n.word row value may.pairs o.is_name o.head give n.says in
     record {
-      words = o.name ∷ name ∷ n.word ∷ [];
+      words = o.name ∷ p.name ∷ n.word ∷ [];
       some = omega arith;
       few = omega arith;
-      line = record { parts = first ∙ ap (λ bs. 32 ∷ bs) (o.parts ∙ ap (λ bs. o.name ++ 32 ∷ bs) (pair.parts ∙ ap (λ bs. name ++ 32 ∷ bs) n.parts)); each = (o.is_name, (pair.is_name, (n.is_word, tt))) };
-      current = last;
+      line = record { parts = first ∙ ap (λ bs. 32 ∷ bs) (o.parts ∙ ap (λ bs. o.name ++ 32 ∷ bs) (p.pair.parts ∙ ap (λ bs. p.name ++ 32 ∷ bs) n.parts)); each = (o.is_name, (p.pair.is_name, (n.is_word, tt))) };
+      current = may.current;
       none = t.0;
       is = t.1;
     }
+
+pub pair_can : (k : Keyword) (h : Held) (behind rest : List ℕ) (row : ℕ) (value : Dec) → MayPair k h → IsRowPair h.rows behind row value rest → IsFreeRow k h row → CanGive k (program h) row
+pair_can k h behind rest row value may p free = (may_give k h p.name row may p.at free p.other).can
 
 pub pair_may : (k : Keyword) (h new : Held) (row : ℕ) (value : Dec) → MayPair k h → CanGive k (program h) row → new ≡ given k h row value → IsKept new
 pair_may k h new row value may can is = (entry_may k h new (record { row = row; value = value }) may can is).kept

@@ -1,5 +1,5 @@
 -- Lines at the front of a piece, which are taken at once.
-use Rattle.std.specs.Prelude.{◌≡◌, ℕ, ◌<◌, ◌≤◌, true, false, List, [], ◌∷◌, ◌++◌, length, Some, None}
+use Rattle.std.specs.Prelude.{◌≡◌, ℕ, ◌<◌, ◌≤◌, ◌^◌, true, false, List, [], ◌∷◌, ◌++◌, length, get_or, Some, None}
 use Rattle.std.specs.List.{AllByRecursion}
 use Rattle.std.specs.Str.{bytes_eq}
 use Rattle.texts.specs.Fronts.{IsFront}
@@ -11,19 +11,17 @@ use Rattle.exact_numbers.specs.Numbers.{dec_of}
 use Rattle.exact_numbers.specs.declared.dec.Dec.{Dec}
 use Rattle.mps_model.specs.declared.kinds.BoundKind.{BoundKind}
 use Rattle.mps_model.specs.declared.kinds.RowKind.{RowKind}
-use Rattle.mps_model.specs.Mps.{Mps}
 use Rattle.mps_model.specs.Valid.{marker_word}
 use Rattle.mps_reader.specs.declared.keyword.Keyword.{Keyword}
 use Rattle.mps_reader.specs.declared.keyword.Keyword.TheVariants.{Name, Sense, Rows, Columns, Rhs, Ranges, Bounds, End}
 use Rattle.mps_reader.specs.Grammar.{line_reason}
 use Rattle.mps_reader.specs.InsideFronts.{IsLineOf, IsPairText, joined}
-use Rattle.mps_reader.specs.InsideHeld.{Held}
+use Rattle.mps_reader.specs.InsideHeld.{Held, program}
 use Rattle.mps_reader.specs.InsideHeldSteps.{with_sense_word, with_sensed, if_row, with_held_sides, with_held_column_line, with_held_bound_line}
-use Rattle.mps_reader.specs.InsidePairs.{CanGive}
-use Rattle.mps_reader.specs.Saying.{bound_kind_of, entry_in, is_current, needs_number, no_number, row_in, row_kind_of}
+use Rattle.mps_reader.specs.Saying.{bound_kind_of, is_current, needs_number, no_number, place_of, row_in, row_kind_of}
 use Rattle.mps_reader.specs.Sections.{last_of}
 use Rattle.mps_reader.specs.Steps.{after}
-use Rattle.mps_reader.specs.Tests.{Standing, data_tests_in, pair_tests}
+use Rattle.mps_reader.specs.Tests.{Standing, data_tests_in, is_full, is_refused_row}
 
 -- nothing is wrong with these lines, one after the other, and they lead to this
 abbrev pub GoesOn : Standing → List (List ℕ) → Standing → Type 0
@@ -72,12 +70,26 @@ pub record IsRowText (text : List ℕ) (kind : RowKind) (name rest : List ℕ) :
 
 -- ---- the line of a pair
 
--- a space, a column's name, a space, and a pair
-pub record IsColumnText (text name row : List ℕ) (value : Dec) (rest : List ℕ) : Type 0 where
-  pub pair : List ℕ
-  pub parts : text ≡ 32 ∷ name ++ 32 ∷ pair
-  pub is_name : IsName name
-  pub of_pair : IsPairText pair row value rest
+-- the name of the row at a place, which is not the word of a marker line, a number, and what
+-- follows the line
+pub record IsRowPair (rows : List (List ℕ)) (text : List ℕ) (row : ℕ) (value : Dec) (rest : List ℕ)
+    : Type 0 where
+  pub name : List ℕ
+  pub pair : IsPairText text name value rest
+  pub other : bytes_eq name marker_word ≡ false
+  pub at : place_of rows name ≡ Some row
+
+-- the row may have a pair more
+pub record IsFreeRow (k : Keyword) (h : Held) (row : ℕ) : Type 0 where
+  pub new : get_or h.marks row false ≡ false
+  pub room : is_full k (program h) ≡ false
+  pub bounded : is_refused_row k (program h) row ≡ false
+
+-- a new column of this name may come, with an entry
+pub record MayBegin (h : Held) (name : List ℕ) : Type 0 where
+  pub new : place_of h.columns name ≡ None
+  pub few : length h.columns < 2 ^ 21
+  pub room : is_full Columns (program h) ≡ false
 
 -- its first word: the name of the last column, which may go on, or the set's name
 abbrev pub IsHeadWord : Keyword → Held → List ℕ → Type 0
@@ -90,15 +102,6 @@ pub record IsAfterHead (k : Keyword) (h : Held) (text rest : List ℕ) : Type 0 
   pub parts : text ≡ name ++ 32 ∷ rest
   pub is_name : IsName name
   pub head : IsHeadWord k h name
-
--- the row of this name is that of this place, and may have a pair more, whatever number it is
-pub record MayGive (k : Keyword) (m : Mps Dec) (name : List ℕ) (row : ℕ) : Type 0 where
-  pub other : bytes_eq name marker_word ≡ false
-  pub can : CanGive k m row
-  pub fine : (word : List ℕ) (value : Dec) → dec_of word ≡ Some value
-      → first_reason (pair_tests k m name word) ≡ None
-  pub entry : (word : List ℕ) (value : Dec) → dec_of word ≡ Some value
-      → entry_in m name word ≡ Some (record { row = row; value = value })
 
 -- ---- the line of a bound
 

@@ -1,5 +1,5 @@
 // Lines of bounds at the front of a piece.
-ghost use Rattle.std.specs.Prelude.{◌≡◌, false, Some, IfSome};
+ghost use Rattle.std.specs.Prelude.{◌≡◌, ◌≤◌, ◌+◌, ◌^◌, false, Some, IfSome, length};
 ghost use Rattle.mps_model.specs.Built.{CanAddBound};
 ghost use Rattle.mps_reader.specs.InsideHeld.{IsKept, IsSound, program};
 ghost use Rattle.mps_reader.specs.InsideHeldSteps.{with_bound};
@@ -106,22 +106,23 @@ impl State {
         })
     }
 
-    /// Takes the line of a bound, where a text begins with one.
-    pub(crate) fn take_bound_front(&mut self, text: &[u8]) -> Front
+    /// Takes lines of bounds, one after the other.
+    pub(crate) fn take_bounds_front(&mut self, text: &[u8]) -> Front
         requires sound { IsSound self.old }
         requires current { last_of self.old.standing.begun ≡ Some Keyword.Bounds }
+        requires few { length text.now ≤ 2 ^ 31 + 1 }
         ensures lines { TakesLines self.old text.now result self.new }
         ensures sound { IsSound self.new }
     {
-        let Some(bound) = self.next_bound(text) else {
-            return Front { len: 0, lines: 0 };
-        };
-        match self.add_bound(bound.kind, bound.column, bound.value) {
-            Ok(()) => Front {
-                len: text.len() - bound.rest.len(),
-                lines: 1,
-            },
-            Err(_) => Front { len: 0, lines: 0 },
+        let mut rest = text;
+        let mut lines = 0;
+        'bounds: while let Some(bound) = self.next_bound(rest) {
+            let Ok(()) = self.add_bound(bound.kind, bound.column, bound.value) else {
+                return Front { len: text.len() - rest.len(), lines };
+            };
+            rest = bound.rest;
+            lines += 1;
         }
+        Front { len: text.len() - rest.len(), lines }
     }
 }

@@ -1,18 +1,15 @@
 // The first lines of columns at the front of a piece.
-ghost use Rattle.std.specs.Prelude.{◌≡◌, ◌<◌, ◌^◌, ◌∷◌, [], false, None, Some, OnOk, OnErr, IfSome, length};
-ghost use Rattle.std.specs.Str.{bytes_eq};
+ghost use Rattle.std.specs.Prelude.{◌≡◌, ◌<◌, ◌^◌, ◌∷◌, ◌++◌, [], true, false, None, Some, OnOk, OnErr, IfSome, length};
 ghost use Rattle.texts.specs.Names.{IsName};
 ghost use Rattle.mps_model.specs.Built.{CanAddColumn, CanAddEntries};
-ghost use Rattle.mps_model.specs.Valid.{marker_word};
 ghost use Rattle.mps_reader.specs.InsideHeld.{IsKept, IsSound, program};
 ghost use Rattle.mps_reader.specs.InsideHeldSteps.{with_first_entry};
-ghost use Rattle.mps_reader.specs.InsideLines.{IsColumnText, IsNext, TakesLines};
+ghost use Rattle.mps_reader.specs.InsideLines.{IsNext, MayBegin, TakesLines};
 ghost use Rattle.mps_reader.specs.Saying.{place_of};
 ghost use Rattle.mps_reader.specs.Sections.{last_of};
-ghost use Rattle.mps_reader.specs.Tests.{is_full};
 
 use crate::front_lines::FrontTaken;
-use crate::front_words::{PairText, after_space, first_name, first_pair, is_marker_word};
+use crate::front_words::{after_space, first_name};
 use crate::keyword::Keyword;
 use crate::sides::Sides;
 use crate::state::State;
@@ -29,45 +26,30 @@ struct NextColumn<'a> {
     rest: &'a [u8],
 }
 
-// The name and the pair that a text begins with.
+// The name that a line begins with, and what follows it and a space.
 #[inline]
-fn first_column(text: &[u8]) -> Option<(&[u8], PairText<'_>)>
-    ensures { IfSome result (λ p. IsColumnText text.now p.0.now p.1.name.now p.1.value
-        p.1.rest.now) }
+fn column_name(text: &[u8]) -> Option<(&[u8], &[u8])>
+    ensures name { IfSome result (λ p. IsName p.0.now) }
+    ensures parts { IfSome result (λ p. text.now ≡ 32 ∷ p.0.now ++ 32 ∷ p.1.now) }
 {
     let Some(line) = after_space(text) else {
         return None;
     };
-    let Some((name, behind)) = first_name(line, b' ') else {
-        return None;
-    };
-    let Some(pair) = first_pair(behind) else {
-        return None;
-    };
-    Some((name, pair))
+    first_name(line, b' ')
 }
 
 impl State {
-    // The row of this name, where a new column may have an entry there.
-    fn first_free_row(&self, name: &[u8]) -> Option<u32>
+    // Whether a new column of this name may come, with an entry.
+    #[inline]
+    fn may_begin(&self, name: &[u8]) -> bool
         requires { IsKept self.now }
-        ensures place { IfSome result (λ row. place_of self.now.rows name.now ≡ Some row) }
-        ensures full { IfSome result (λ row. is_full Keyword.Columns (program self.now) ≡ false) }
-        ensures other { IfSome result (λ row. bytes_eq name.now marker_word ≡ false) }
+        ensures { result ≡ true → MayBegin self.now name.now }
     {
-        if self.is_full(Keyword::Columns) {
-            return None;
-        }
-        if is_marker_word(name) {
-            return None;
-        }
-        let Some(row) = self.rows.find(name) else {
-            return None;
-        };
-        Some(row)
+        !self.is_full(Keyword::Columns) && self.columns.takes(name)
     }
 
     // The column that a text begins with, where it may come.
+    #[inline]
     fn next_column<'a>(&self, text: &'a [u8]) -> Option<NextColumn<'a>>
         requires sound { IsSound self.now }
         requires current { last_of self.now.standing.begun ≡ Some Keyword.Columns }
@@ -83,18 +65,18 @@ impl State {
         ensures kept { IfSome result (λ c. IsKept
             (with_first_entry self.now c.name.now (record { row = c.row; value = c.value }))) }
     {
-        let Some((name, pair)) = first_column(text) else {
+        let Some((name, behind)) = column_name(text) else {
             return None;
         };
-        let Some(row) = self.first_free_row(pair.name) else {
+        let Some(pair) = self.row_pair(behind) else {
             return None;
         };
-        if !self.columns.takes(name) {
+        if !self.may_begin(name) {
             return None;
         }
         Some(NextColumn {
             name,
-            row,
+            row: pair.row,
             value: pair.value,
             rest: pair.rest,
         })
@@ -131,11 +113,13 @@ impl State {
     }
 
     /// Takes the first line of a column, where a text begins with one.
+    #[inline]
     pub(crate) fn take_column_front(&mut self, text: &[u8]) -> FrontTaken
         requires sound { IsSound self.old }
         requires current { last_of self.old.standing.begun ≡ Some Keyword.Columns }
         ensures lines { TakesLines self.old text.now result.front self.new }
         ensures sound { result.is_broken ≡ false → IsSound self.new }
+        ensures same { self.new.standing.begun ≡ self.old.standing.begun }
     {
         let Some(column) = self.next_column(text) else {
             return FrontTaken {

@@ -2,14 +2,15 @@
 ghost use Rattle.std.specs.Prelude.{◌≡◌, ◌≤◌, ◌+◌, ◌^◌, true, false, Some, IfSome, OnSome, length};
 ghost use Rattle.mps_reader.specs.InsideHeld.{HasPairs, IsKept, IsSound, MayPair, program};
 ghost use Rattle.mps_reader.specs.InsideHeldSteps.{with_held_entry};
-ghost use Rattle.mps_reader.specs.InsideLines.{IsAfterHead, IsNext, MayGive, TakesLines};
+ghost use Rattle.mps_reader.specs.InsideLines.{IsAfterHead, IsNext, TakesLines};
 ghost use Rattle.mps_reader.specs.InsidePairs.{CanGive};
 ghost use Rattle.mps_reader.specs.Sections.{last_of};
 
-use crate::front_words::{after_space, first_name, first_pair, is_marker_word};
+use crate::front_pairs::NextPair;
+use crate::front_words::after_space;
 use crate::keyword::{Keyword, last_of};
+use crate::name_sets::after_bytes;
 use crate::state::State;
-use exact_numbers::Dec;
 use texts::Front;
 
 // Whether the lines of a section are pairs behind a name.
@@ -29,14 +30,6 @@ pub struct FrontTaken {
     pub is_broken: bool,
 }
 
-/// A pair, and what follows its line.
-#[derive(Clone, Copy)]
-struct NextPair<'a> {
-    row: u32,
-    value: Dec,
-    rest: &'a [u8],
-}
-
 impl State {
     // What follows the name of the last column and a space, where a text begins with that and the
     // column may go on.
@@ -54,19 +47,21 @@ impl State {
     }
 
     /// What follows the section's set name and a space, where a text begins with that.
+    #[inline]
     pub(crate) fn after_set<'a>(&self, text: &'a [u8]) -> Option<&'a [u8]>
         ensures { IfSome result (λ rest. IsAfterHead Keyword.Bounds self.now text.now rest.now) }
     {
         let Some(set) = &self.set_name else {
             return None;
         };
-        let Some((name, rest)) = first_name(text, b' ') else {
-            return None;
-        };
-        if name != set.as_slice() {
+        let name = set.bytes();
+        if name.is_empty() {
             return None;
         }
-        Some(rest)
+        let Some(rest) = after_bytes(text, name) else {
+            return None;
+        };
+        after_space(rest)
     }
 
     // What follows the first word of a line of pairs, where that is the one that is awaited.
@@ -80,29 +75,6 @@ impl State {
             Keyword::Ranges => self.after_set(text),
             _ => None,
         }
-    }
-
-    // The row of this name, where it may have a pair more.
-    fn free_row(&self, keyword: Keyword, name: &[u8]) -> Option<u32>
-        requires { MayPair keyword self.now }
-        ensures { IfSome result (λ row. MayGive keyword (program self.now) name.now row) }
-    {
-        let Some(row) = self.rows.find(name) else {
-            return None;
-        };
-        if self.marks.is_marked(row) {
-            return None;
-        }
-        if self.is_full(keyword) {
-            return None;
-        }
-        if self.is_refused_row(keyword, row) {
-            return None;
-        }
-        if is_marker_word(name) {
-            return None;
-        }
-        Some(row)
     }
 
     // The pair that a text begins with, where the section may have it.
@@ -122,47 +94,99 @@ impl State {
         let Some(rest) = self.after_head(keyword, line) else {
             return None;
         };
-        let Some(pair) = first_pair(rest) else {
+        let Some(pair) = self.row_pair(rest) else {
             return None;
         };
-        let Some(row) = self.free_row(keyword, pair.name) else {
+        if !self.is_free_row(keyword, pair.row) {
             return None;
-        };
-        Some(NextPair {
-            row,
-            value: pair.value,
-            rest: pair.rest,
-        })
+        }
+        Some(pair)
     }
 
-    // Takes the line of a pair, where a text begins with one.
-    fn take_pair_front(&mut self, keyword: Keyword, text: &[u8]) -> Front
+    // Takes lines of pairs, one after the other.
+    fn take_pairs_front(&mut self, keyword: Keyword, text: &[u8]) -> Front
         requires sound { IsSound self.old }
         requires current { last_of self.old.standing.begun ≡ Some keyword }
         requires pairs { HasPairs keyword }
+        requires few { length text.now ≤ 2 ^ 31 + 1 }
         ensures lines { TakesLines self.old text.now result self.new }
         ensures sound { IsSound self.new }
+        ensures same { self.new.standing.begun ≡ self.old.standing.begun }
     {
-        let Some(pair) = self.next_pair(keyword, text) else {
-            return Front { len: 0, lines: 0 };
-        };
-        match self.give_pair(keyword, pair.row, pair.value) {
-            Ok(()) => Front {
-                len: text.len() - pair.rest.len(),
-                lines: 1,
-            },
-            Err(_) => Front { len: 0, lines: 0 },
+        let mut rest = text;
+        let mut lines = 0;
+        'pairs: while let Some(pair) = self.next_pair(keyword, rest) {
+            let Ok(()) = self.give_pair(keyword, pair.row, pair.value) else {
+                return Front { len: text.len() - rest.len(), lines };
+            };
+            rest = pair.rest;
+            lines += 1;
         }
+        Front { len: text.len() - rest.len(), lines }
     }
 
-    // Takes a line of the columns, where a text begins with one.
+    // The entry of the last column that a text begins with, where its row has a short name.
+    #[inline(always)]
+    fn next_entry<'a>(&self, text: &'a [u8]) -> Option<NextPair<'a>>
+        requires kept { IsKept self.now }
+        requires begun { last_of self.now.standing.begun ≡ Some Keyword.Columns }
+        requires current { self.now.standing.draft.current ≡ true }
+        ensures next { IfSome result (λ e. IsNext Keyword.Columns self.now
+            (with_held_entry Keyword.Columns self.now (record { row = e.row; value = e.value }))
+            text.now e.rest.now) }
+        ensures may { OnSome result (MayPair Keyword.Columns self.now) }
+        ensures can { IfSome result (λ e. CanGive Keyword.Columns (program self.now) e.row) }
+    {
+        let Some(line) = after_space(text) else {
+            return None;
+        };
+        let Some(rest) = self.columns.after_last_word(line) else {
+            return None;
+        };
+        let Some(pair) = self.short_pair(rest) else {
+            return None;
+        };
+        if !self.is_free_row(Keyword::Columns, pair.row) {
+            return None;
+        }
+        Some(pair)
+    }
+
+    // Takes entries of the last column, one after the other.
+    #[inline(always)]
+    fn take_entries(&mut self, text: &[u8]) -> Front
+        requires sound { IsSound self.old }
+        requires current { last_of self.old.standing.begun ≡ Some Keyword.Columns }
+        requires few { length text.now ≤ 2 ^ 31 + 1 }
+        ensures lines { TakesLines self.old text.now result self.new }
+        ensures sound { IsSound self.new }
+        ensures same { self.new.standing.begun ≡ self.old.standing.begun }
+    {
+        if !self.is_current {
+            return Front { len: 0, lines: 0 };
+        }
+        let mut rest = text;
+        let mut lines = 0;
+        'entries: while let Some(entry) = self.next_entry(rest) {
+            let Ok(()) = self.give_pair(Keyword::Columns, entry.row, entry.value) else {
+                return Front { len: text.len() - rest.len(), lines };
+            };
+            rest = entry.rest;
+            lines += 1;
+        }
+        Front { len: text.len() - rest.len(), lines }
+    }
+
+    // Takes further entries of the last column, or the first line of the next one.
     fn take_entry_front(&mut self, text: &[u8]) -> FrontTaken
         requires sound { IsSound self.old }
         requires current { last_of self.old.standing.begun ≡ Some Keyword.Columns }
+        requires few { length text.now ≤ 2 ^ 31 + 1 }
         ensures lines { TakesLines self.old text.now result.front self.new }
         ensures sound { result.is_broken ≡ false → IsSound self.new }
+        ensures same { self.new.standing.begun ≡ self.old.standing.begun }
     {
-        let front = self.take_pair_front(Keyword::Columns, text);
+        let front = self.take_pairs_front(Keyword::Columns, text);
         if front.len > 0 {
             return FrontTaken {
                 front,
@@ -172,26 +196,73 @@ impl State {
         self.take_column_front(text)
     }
 
-    // Takes a line of pairs or of bounds, where a text begins with one.
+    // Takes entries of the last column, and what comes behind them.
+    #[inline(always)]
+    fn take_column_lines(&mut self, text: &[u8]) -> FrontTaken
+        requires sound { IsSound self.old }
+        requires current { last_of self.old.standing.begun ≡ Some Keyword.Columns }
+        requires few { length text.now ≤ 2 ^ 31 + 1 }
+        ensures lines { TakesLines self.old text.now result.front self.new }
+        ensures sound { result.is_broken ≡ false → IsSound self.new }
+        ensures same { self.new.standing.begun ≡ self.old.standing.begun }
+    {
+        let front = self.take_entries(text);
+        let next = self.take_entry_front(text.split_at(front.len).1);
+        FrontTaken {
+            front: Front {
+                len: front.len + next.front.len,
+                lines: front.lines + next.front.lines,
+            },
+            is_broken: next.is_broken,
+        }
+    }
+
+    // Takes lines of columns, one after the other.
+    fn take_columns_front(&mut self, text: &[u8]) -> FrontTaken
+        requires sound { IsSound self.old }
+        requires current { last_of self.old.standing.begun ≡ Some Keyword.Columns }
+        requires few { length text.now ≤ 2 ^ 31 + 1 }
+        ensures lines { TakesLines self.old text.now result.front self.new }
+        ensures sound { result.is_broken ≡ false → IsSound self.new }
+    {
+        let mut front = Front { len: 0, lines: 0 };
+        'columns: loop {
+            let next = self.take_column_lines(text.split_at(front.len).1);
+            front = Front {
+                len: front.len + next.front.len,
+                lines: front.lines + next.front.lines,
+            };
+            if next.is_broken || next.front.len == 0 {
+                return FrontTaken {
+                    front,
+                    is_broken: next.is_broken,
+                };
+            }
+        }
+    }
+
+    // Takes lines of right sides, ranges or bounds, one after the other.
     fn take_late_front(&mut self, keyword: Keyword, text: &[u8]) -> Front
         requires sound { IsSound self.old }
         requires current { last_of self.old.standing.begun ≡ Some keyword }
+        requires few { length text.now ≤ 2 ^ 31 + 1 }
         ensures lines { TakesLines self.old text.now result self.new }
         ensures sound { IsSound self.new }
     {
         if has_pairs(keyword) {
-            return self.take_pair_front(keyword, text);
+            return self.take_pairs_front(keyword, text);
         }
         match keyword {
-            Keyword::Bounds => self.take_bound_front(text),
+            Keyword::Bounds => self.take_bounds_front(text),
             _ => Front { len: 0, lines: 0 },
         }
     }
 
-    // Takes the line that a text begins with, where it is of the plain form and without a fault.
-    fn take_front_line(&mut self, text: &[u8]) -> FrontTaken
-        requires { IsSound self.old }
-        ensures lines { TakesLines self.old text.now result.front self.new }
+    /// Takes lines at the front of a piece, all of the section that was begun last.
+    pub(crate) fn take_front(&mut self, piece: &[u8]) -> FrontTaken
+        requires sound { IsSound self.old }
+        requires few { length piece.now ≤ 2 ^ 31 + 1 }
+        ensures lines { TakesLines self.old piece.now result.front self.new }
         ensures sound { result.is_broken ≡ false → IsSound self.new }
     {
         let Some(keyword) = last_of(&self.begun) else {
@@ -201,35 +272,12 @@ impl State {
             };
         };
         match keyword {
-            Keyword::Columns => self.take_entry_front(text),
-            Keyword::Rows => self.take_row_front(text),
+            Keyword::Columns => self.take_columns_front(piece),
+            Keyword::Rows => self.take_rows_front(piece),
             _ => FrontTaken {
-                front: self.take_late_front(keyword, text),
+                front: self.take_late_front(keyword, piece),
                 is_broken: false,
             },
-        }
-    }
-
-    /// Takes lines at the front of a piece.
-    pub(crate) fn take_front(&mut self, piece: &[u8]) -> FrontTaken
-        requires sound { IsSound self.old }
-        requires few { length piece.now ≤ 2 ^ 31 + 1 }
-        ensures lines { TakesLines self.old piece.now result.front self.new }
-        ensures sound { result.is_broken ≡ false → IsSound self.new }
-    {
-        let mut front = Front { len: 0, lines: 0 };
-        'lines: loop {
-            let line = self.take_front_line(piece.split_at(front.len).1);
-            front = Front {
-                len: front.len + line.front.len,
-                lines: front.lines + line.front.lines,
-            };
-            if line.is_broken || line.front.len == 0 {
-                return FrontTaken {
-                    front,
-                    is_broken: line.is_broken,
-                };
-            }
         }
     }
 }

@@ -1,5 +1,5 @@
 // Lines of rows at the front of a piece.
-ghost use Rattle.std.specs.Prelude.{◌≡◌, false, None, Some, IfSome};
+ghost use Rattle.std.specs.Prelude.{◌≡◌, ◌≤◌, ◌+◌, ◌^◌, false, None, Some, IfSome, length};
 ghost use Rattle.texts.specs.Names.{IsName};
 ghost use Rattle.mps_model.specs.Built.{CanAddRow};
 ghost use Rattle.mps_reader.specs.InsideHeld.{IsSound, program};
@@ -68,31 +68,31 @@ impl State {
         Some(row)
     }
 
-    /// Takes the line of a row, where a text begins with one.
-    pub(crate) fn take_row_front(&mut self, text: &[u8]) -> FrontTaken
+    /// Takes lines of rows, one after the other.
+    pub(crate) fn take_rows_front(&mut self, text: &[u8]) -> FrontTaken
         requires sound { IsSound self.old }
         requires current { last_of self.old.standing.begun ≡ Some Keyword.Rows }
+        requires few { length text.now ≤ 2 ^ 31 + 1 }
         ensures lines { TakesLines self.old text.now result.front self.new }
         ensures sound { result.is_broken ≡ false → IsSound self.new }
     {
-        let Some(row) = self.next_row(text) else {
-            return FrontTaken {
-                front: Front { len: 0, lines: 0 },
-                is_broken: false,
+        let mut rest = text;
+        let mut lines = 0;
+        'rows: while let Some(row) = self.next_row(rest) {
+            let Ok(()) = self.add_row(row.name, row.kind) else {
+                let len = text.len() - rest.len();
+                return FrontTaken {
+                    front: Front { len, lines },
+                    is_broken: true,
+                };
             };
-        };
-        match self.add_row(row.name, row.kind) {
-            Ok(()) => FrontTaken {
-                front: Front {
-                    len: text.len() - row.rest.len(),
-                    lines: 1,
-                },
-                is_broken: false,
-            },
-            Err(_) => FrontTaken {
-                front: Front { len: 0, lines: 0 },
-                is_broken: true,
-            },
+            rest = row.rest;
+            lines += 1;
+        }
+        let len = text.len() - rest.len();
+        FrontTaken {
+            front: Front { len, lines },
+            is_broken: false,
         }
     }
 }

@@ -27,7 +27,7 @@ fn name_len(bytes: &[u8]) -> usize
 }
 
 /// What follows the space that a text begins with.
-#[inline]
+#[inline(always)]
 pub(crate) fn after_space(text: &[u8]) -> Option<&[u8]>
     ensures { IfSome result (λ rest. text.now ≡ 32 ∷ rest.now) }
 {
@@ -64,14 +64,14 @@ pub(crate) fn is_marker_word(word: &[u8]) -> bool
 
 /// A number at the end of a line, and what follows the LF.
 #[derive(Clone, Copy)]
-struct NumberText<'a> {
-    value: Dec,
-    rest: &'a [u8],
+pub struct NumberText<'a> {
+    pub value: Dec,
+    pub rest: &'a [u8],
 }
 
-// The number that a text begins with, where that has the common form and ends the line.
-#[inline]
-fn first_number(text: &[u8]) -> Option<NumberText<'_>>
+/// The number that a text begins with, where that has the common form and ends the line.
+#[inline(always)]
+pub(crate) fn first_number(text: &[u8]) -> Option<NumberText<'_>>
     ensures { IfSome result (λ n. IsNumberText text.now n.value n.rest.now) }
 {
     let Some(number) = front_dec(text) else {

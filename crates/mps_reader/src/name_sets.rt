@@ -9,8 +9,9 @@ use crate::codes::{Codes, Key, name_of};
 use indexmap::IndexSet;
 use std::alloc::{AllocError, Global};
 
-// What follows some bytes, where a text begins with them.
-fn after_bytes<'a>(text: &'a [u8], bytes: &[u8]) -> Option<&'a [u8]>
+/// What follows some bytes, where a text begins with them.
+#[inline]
+pub(crate) fn after_bytes<'a>(text: &'a [u8], bytes: &[u8]) -> Option<&'a [u8]>
     ensures { IfSome result (λ rest. text.now ≡ bytes.now ++ rest.now) }
 {
     let mut rest = text;

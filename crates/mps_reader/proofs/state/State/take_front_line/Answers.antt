@@ -1,6 +1,0 @@
-use Rattle.std.proofs.Common.{refl}
-use Rattle.mps_reader.proofs.FrontLines.{none_taken}
-use Rattle.mps_reader.proofs.state.State.take_front_line.Goals as goal
-
-pub returns-in_default-clause-lines : goal.returns-in_default-clause-lines
-returns-in_default-clause-lines c = none_taken c.args.self.now c.args.self.now c.args.text.now refl
