@@ -1,6 +1,7 @@
 -- Short names as numbers.
 use Rattle.std.specs.Prelude.{◌≡◌, ◌≢◌, true, zero, suc, ℕ, ◌+◌, ◌*◌, ◌/◌, ◌%◌, ◌<◌, ◌≤◌, ◌^◌, nat_le, List, [], ◌∷◌, ◌++◌, length, map, get_or, fold, All, AllPairs, if◌then◌else◌, Option, Some, None}
-use Rattle.texts.specs.Names.{is_name}
+use Rattle.texts.specs.Names.{IsName, is_name}
+use Rattle.mps_reader.specs.Saying.{place_of}
 
 -- a number with one more digit of base 256
 abbrev pub with_byte : ℕ → ℕ → ℕ
@@ -44,3 +45,19 @@ NoneOrLong codes = get_or codes 0 0 ≡ 0
 abbrev pub kept_names : Option (List (List ℕ)) → List ℕ → List (List ℕ)
 kept_names (Some names) codes = names
 kept_names None codes = map name_of codes
+
+-- a text begins with a name of at most seven bytes, which has this code, this byte, and what follows
+pub record IsShort (text : List ℕ) (end code : ℕ) (rest : List ℕ) : Type 0 where
+  pub name : List ℕ
+  pub parts : text ≡ name ++ end ∷ rest
+  pub short : length name ≤ 7
+  pub own : code ≡ code_of name
+
+-- a text begins with the name at a place, of at most seven bytes, this byte, and what follows
+pub record IsFound (names : List (List ℕ)) (text : List ℕ) (end place : ℕ) (rest : List ℕ)
+    : Type 0 where
+  pub name : List ℕ
+  pub parts : text ≡ name ++ end ∷ rest
+  pub is_name : IsName name
+  pub short : length name ≤ 7
+  pub at : place_of names name ≡ Some place
