@@ -116,7 +116,7 @@ after_found text passed code h few within e =
     let back : last_bytes 7 code ≡ take passed text = ap (last_bytes 7) e ∙ bytes_back 7 (take passed text) size (All-take (λ (c : ℕ). c < 256) passed text h) in
     sym (take-append-drop passed text) ∙ ap (λ (bs : List ℕ). bs ++ drop passed text) (sym back)
 
-short_code : (name : List ℕ) → nat_le (length name) 7 ≡ true → code_of name ≡ bytes_code name
+pub short_code : (name : List ℕ) → nat_le (length name) 7 ≡ true → code_of name ≡ bytes_code name
 unfolding code_of
 short_code name e = rw e refl
 

@@ -46,6 +46,13 @@ abbrev pub kept_names : Option (List (List ℕ)) → List ℕ → List (List ℕ
 kept_names (Some names) codes = names
 kept_names None codes = map name_of codes
 
+-- a text begins with a name of at most seven bytes, which has this code, this byte, and what follows
+pub record IsShort (text : List ℕ) (end code : ℕ) (rest : List ℕ) : Type 0 where
+  pub name : List ℕ
+  pub parts : text ≡ name ++ end ∷ rest
+  pub short : length name ≤ 7
+  pub own : code ≡ code_of name
+
 -- a text begins with the name at a place, of at most seven bytes, this byte, and what follows
 pub record IsFound (names : List (List ℕ)) (text : List ℕ) (end place : ℕ) (rest : List ℕ)
     : Type 0 where

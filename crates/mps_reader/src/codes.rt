@@ -1,6 +1,6 @@
 // Short names as numbers, so that a name is found without its hash or a look at other names' bytes.
-ghost use Rattle.std.specs.Prelude.{◌≡◌, ◌≢◌, ◌-◌, ◌<◌, ◌≤◌, ◌^◌, ◌++◌, ◌∷◌, [], None, All, OnOk, OnErr, IfOk, IfSome, length, get_or, slice_get};
-ghost use Rattle.mps_reader.specs.InsideCodes.{bytes_code, code_of, name_of};
+ghost use Rattle.std.specs.Prelude.{◌≡◌, ◌≢◌, ◌-◌, ◌<◌, ◌≤◌, ◌^◌, ◌++◌, ◌∷◌, [], None, All, OnOk, OnErr, IfOk, IfSome, fold, length, take, get_or, slice_get};
+ghost use Rattle.mps_reader.specs.InsideCodes.{IsShort, bytes_code, code_of, name_of, with_byte};
 
 use indexmap::IndexSet;
 use std::alloc::{AllocError, Global};
@@ -8,6 +8,12 @@ use std::marker::Model;
 
 /// A name of at most so many bytes is short.
 const SHORT: usize = 7;
+
+// Each byte is 1.
+const ONES: u64 = 0x0101_0101_0101_0101;
+
+// Every other byte, the last one too.
+const EVEN_BYTES: u64 = 0x00ff_00ff_00ff_00ff;
 
 /// What a name is found by.
 #[derive(Clone, Copy)]
@@ -39,13 +45,16 @@ impl Model for Codes {
     ghost invariant = { λ c. NoneOrLong c.behind.items };
 }
 
-// The number at the end of a name, one byte on; 0 behind a byte that is no digit.
-#[inline]
-fn with_digit(number: usize, byte: u8) -> usize {
-    if byte.is_ascii_digit() {
-        return number.wrapping_mul(10).wrapping_add((byte - b'0') as usize);
-    }
-    0
+// The number that the digits at the end of a short name spell; any is right.
+#[inline(always)]
+fn number_of(code: u64) -> usize {
+    let others = (code >> 6 | !(code >> 4)) & ONES;
+    let behind = (others & others.wrapping_neg()).wrapping_sub(1);
+    let digits = code & behind & (15 * ONES);
+    let pairs = (digits & EVEN_BYTES).wrapping_add((digits >> 8 & EVEN_BYTES).wrapping_mul(10));
+    let fours = (pairs & 0xffff_0000_ffff)
+        .wrapping_add((pairs >> 16 & 0xffff_0000_ffff).wrapping_mul(100));
+    (fours & 0xffff_ffff).wrapping_add((fours >> 32).wrapping_mul(10_000)) as usize
 }
 
 // The key of a short name.
@@ -54,12 +63,13 @@ fn short_key(name: &[u8]) -> Key
     ensures { result.code ≡ bytes_code name.now }
 {
     let mut code = 1;
-    let mut number = 0;
     'bytes: for byte in name {
         code = code * 256 + *byte as u64;
-        number = with_digit(number, *byte);
     }
-    Key { code, number }
+    Key {
+        code,
+        number: number_of(code),
+    }
 }
 
 impl Key {
@@ -106,6 +116,67 @@ pub(crate) fn after_code(text: &[u8], code: u64) -> Option<&[u8]>
     Some(text.split_at(passed).1)
 }
 
+// The first eight bytes of a text, the first one highest.
+#[inline(always)]
+fn head_of(text: &[u8]) -> Option<u64>
+    ensures value { IfSome result (λ h. h ≡ fold with_byte 0 (take 8 text.now)) }
+    ensures long { IfSome result (λ h. 8 ≤ length text.now) }
+{
+    match text {
+        [a, b, c, d, e, f, g, h, ..] => {
+            let high = ((*a as u64 * 256 + *b as u64) * 256 + *c as u64) * 256 + *d as u64;
+            let low = ((*e as u64 * 256 + *f as u64) * 256 + *g as u64) * 256 + *h as u64;
+            Some((high << 32) + low)
+        }
+        _ => None,
+    }
+}
+
+// How many of eight bytes come before the first that is this one; any number is right.
+#[inline(always)]
+fn size_before(head: u64, end: u8) -> u32 {
+    let others = head ^ (end as u64).wrapping_mul(ONES);
+    let low = (others & (127 * ONES)).wrapping_add(127 * ONES);
+    (!(others | low) & (128 * ONES)).leading_zeros() / 8
+}
+
+/// The key of the short name that a text begins with, before this byte, and what follows that.
+/// None of some texts.
+#[inline(always)]
+pub(crate) fn first_short(text: &[u8], end: u8) -> Option<(Key, &[u8])>
+    ensures { IfSome result (λ p. IsShort text.now end p.0.code p.1.now) }
+{
+    let Some(head) = head_of(text) else {
+        return None;
+    };
+    let size = size_before(head, end);
+    if size > 7 {
+        return None;
+    }
+    let both = head >> (56 - 8 * size);
+    if both % 256 != end as u64 {
+        return None;
+    }
+    let code = (1 << (8 * size)) + both / 256;
+    let number = number_of(code);
+    Some((Key { code, number }, text.split_at(size as usize + 1).1))
+}
+
+/// What follows a short name of this code and a space, where a text begins with them. None of some
+/// texts.
+#[inline(always)]
+pub(crate) fn after_code_word(text: &[u8], code: u64) -> Option<&[u8]>
+    ensures { IfSome result (λ rest. IsShort text.now 32 code rest.now) }
+{
+    let Some((key, rest)) = first_short(text, b' ') else {
+        return None;
+    };
+    if key.code != code {
+        return None;
+    }
+    Some(rest)
+}
+
 impl Codes {
     /// No codes.
     pub(crate) fn new(alloc: Global) -> Codes
@@ -119,6 +190,7 @@ impl Codes {
     }
 
     /// How many codes there are.
+    #[inline]
     pub(crate) fn len(&self) -> usize
         ensures { result ≡ length self.now }
     {
@@ -146,6 +218,7 @@ impl Codes {
     }
 
     /// The last code.
+    #[inline]
     pub(crate) fn last(&self) -> Option<u64>
         ensures { result ≡ slice_get self.now (length self.now - 1) }
     {
@@ -153,6 +226,7 @@ impl Codes {
     }
 
     /// The place of a short name's code, where the number at the end of the name leads to it.
+    #[inline(always)]
     pub(crate) fn guess(&self, key: Key) -> Option<usize>
         ensures within { IfSome result (λ p. p < length self.now) }
         ensures code { IfSome result (λ p. get_or self.now p 0 ≡ key.code) }

@@ -6,6 +6,7 @@ ghost use Rattle.mps_reader.specs.InsideCodes.{name_of};
 ghost use Rattle.mps_reader.specs.Saying.{place_of, last_name};
 
 use crate::codes::{Codes, Key, name_of};
+use crate::front_words::after_space;
 use indexmap::IndexSet;
 use std::alloc::{AllocError, Global};
 
@@ -49,6 +50,21 @@ pub(crate) fn after_last<'a>(names: &IndexSet<Vec<u8>>, text: &'a [u8]) -> Optio
         Some(last) => after_bytes(text, last.as_slice()),
         None => None,
     }
+}
+
+/// What follows the last name and a space, where a text begins with them.
+pub(crate) fn after_last_word<'a>(
+    names: &IndexSet<Vec<u8>>,
+    text: &'a [u8],
+) -> Option<&'a [u8]>
+    ensures parts { IfSome result (λ rest. text.now
+        ≡ last_name (map (λ k. k.items) names.now.keys) ++ 32 ∷ rest.now) }
+    ensures some { IfSome result (λ rest. 0 < length names.now.keys) }
+{
+    let Some(rest) = after_last(names, text) else {
+        return None;
+    };
+    after_space(rest)
 }
 
 // Adds a name that is new to a set with room for it.
