@@ -6,13 +6,14 @@ use Rattle.texts.specs.Names.{IsName}
 use Rattle.texts.proofs.NamePlaces.{bytes_other}
 use Rattle.exact_numbers.specs.declared.dec.Dec.{Dec}
 use Rattle.mps_model.specs.Valid.{marker_word}
+use Rattle.mps_model.specs.declared.kinds.BoundKind.{BoundKind}
 use Rattle.mps_reader.specs.declared.keyword.Keyword.{Keyword}
 use Rattle.mps_reader.specs.InsideCodes.{IsFound}
 use Rattle.mps_reader.specs.InsideFronts.{IsNumberText}
 use Rattle.mps_reader.specs.InsideHeld.{Held, IsKept, IsSound, program}
-use Rattle.mps_reader.specs.InsideLines.{IsNext, IsRowPair, TakesLines}
-use Rattle.mps_reader.specs.Saying.{place_of}
-use Rattle.mps_reader.proofs.FrontLines.{goes_on, line, next_taken, none_taken, parted, row_there}
+use Rattle.mps_reader.specs.InsideLines.{IsColumnBound, IsNext, IsRowPair, TakesLines}
+use Rattle.mps_reader.specs.Saying.{needs_number, no_number}
+use Rattle.mps_reader.proofs.FrontLines.{goes_on, line, next_taken, none_taken, parted, row_there, with_number, without_number}
 
 -- a short name is not the word of a marker line
 pub short_other : (name : List ℕ) → length name ≤ 7 → bytes_eq name marker_word ≡ false
@@ -26,6 +27,14 @@ found_pair names text behind rest place value f n = record {
   other = short_other f.name f.short;
   at = f.at;
 }
+
+-- a short name, and what stands behind it in a record
+pub found_number : (names : List (List ℕ)) (kind : BoundKind) (text behind rest : List ℕ) (place : ℕ) (value : Dec) → needs_number kind ≡ true → IsFound names text 32 place behind → IsNumberText behind value rest → IsColumnBound names kind text place value rest
+found_number names kind text behind rest place value needs f n =
+    record { name = f.name; bound = with_number kind text f.name value rest needs (record { number = behind; parts = f.parts; is_name = f.is_name; of_number = n }); at = f.at }
+
+pub found_none : (names : List (List ℕ)) (kind : BoundKind) (text rest : List ℕ) (place : ℕ) (value : Dec) → needs_number kind ≡ false → IsFound names text 10 place rest → no_number ≡ Some value → IsColumnBound names kind text place value rest
+found_none names kind text rest place value needs f none = record { name = f.name; bound = without_number kind text f.name value rest needs f.parts f.is_name none; at = f.at }
 
 -- it is a row of the program
 pub pair_there : (h : Held) (behind rest : List ℕ) (row : ℕ) (value : Dec) → IsKept h → IsRowPair h.rows behind row value rest → row < length (program h).rows
