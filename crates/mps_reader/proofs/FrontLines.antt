@@ -17,7 +17,7 @@ use Rattle.texts.specs.Names.{IsName, has_name_bytes}
 use Rattle.texts.specs.Words.{IsUnmarked, row_of, word_at}
 use Rattle.texts.proofs.FirstReasons.{takes_after}
 use Rattle.texts.proofs.JudgedLemmas.{clean_more}
-use Rattle.texts.proofs.NamePlaces.{bytes_same, bytes_self, place_some}
+use Rattle.texts.proofs.NamePlaces.{bytes_self, place_some}
 use Rattle.exact_numbers.specs.Numbers.{dec_of}
 use Rattle.exact_numbers.specs.declared.dec.Dec.{Dec}
 use Rattle.texts.specs.WordLines.{indented, spaced}
@@ -168,11 +168,6 @@ pub row_there : (h : Held) (name : List ℕ) (row : ℕ) → IsKept h → place_
 row_there h name row kept at =
     let lt : row < length h.rows = (place_some h.rows name row at).within in
     omega (arith, lt, ap (length {A = List ℕ}) kept.rows, length-map (program h).rows (λ (r : MpsRow). r.name))
-
--- there is a mark for it
-pub row_within : (k : Keyword) (h : Held) (marks : List Bool) (name : List ℕ) (row : ℕ) → MayPair k h → place_of h.rows name ≡ Some row → marks ≡ h.marks → row < length marks
-row_within k h marks name row may at same =
-    omega (arith, row_there h name row may.kept at, (may.kept.marks k may.current may.pairs).room, ap (length {A = Bool}) same)
 
 not_free : (rows : List MpsRow) (row : ℕ) → is_free (get_or rows row no_mps_row).kind ≡ false → IsBounded rows row
 not_free rows row e = λ same. absurd (cc (rw same at e))
