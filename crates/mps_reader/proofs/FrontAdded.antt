@@ -11,7 +11,6 @@ use Rattle.texts.specs.Names.{IsName}
 use Rattle.texts.specs.declared.grammar.Front.{Front}
 use Rattle.texts.proofs.FrontLemmas.{front_few}
 use Rattle.texts.proofs.NamePlaces.{bytes_other, place_none}
-use Rattle.exact_numbers.specs.Numbers.{dec_of}
 use Rattle.exact_numbers.specs.declared.dec.Dec.{Dec}
 use Rattle.mps_model.specs.declared.kinds.RowKind.{RowKind}
 use Rattle.mps_model.specs.Built.{CanAddColumn, CanAddEntries, CanAddRow, with_entry_last}
@@ -24,7 +23,7 @@ use Rattle.mps_reader.specs.InsideHeldSteps.{if_row, with_first_entry, with_held
 use Rattle.mps_reader.specs.InsideLines.{GoesOn, IsFreeRow, IsNext, IsRowPair, IsRowText, MayBegin, TakesLines}
 use Rattle.mps_reader.specs.Saying.{Draft, column_names, is_current, is_row_name, last_name, place_of, row_in, row_kind_of, row_names}
 use Rattle.mps_reader.specs.Sections.{last_of}
-use Rattle.mps_reader.specs.Tests.{Standing, column_name_tests, column_tests, entry_line_tests, is_full, most_entries, row_tests}
+use Rattle.mps_reader.specs.Tests.{Standing, column_name_tests, column_tests, entry_line_tests, most_entries, row_tests}
 use Rattle.mps_reader.proofs.CodeLemmas.{name_is}
 use Rattle.mps_reader.proofs.FrontLines.{MayGive, and_false, below, may_give, pair_taken, row_there}
 use Rattle.mps_reader.proofs.KeptLemmas.{can_add_column, can_add_row, entry_may, row_kept}

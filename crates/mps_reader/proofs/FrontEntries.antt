@@ -1,31 +1,20 @@
 -- Entries of the last column, one after the other.
-use Rattle.std.proofs.Common.{◌≡◌, ◌∙◌, ℕ, ◌+◌, ◌-◌, ◌<◌, ◌≤◌, Bool, true, false, List, [], ◌∷◌, ◌++◌, length, drop, get_or, Some, refl, sym, ap, arith, subst, append_assoc, length-append}
+use Rattle.std.proofs.Common.{◌≡◌, ◌∙◌, ℕ, ◌+◌, ◌<◌, ◌≤◌, true, List, [], ◌∷◌, ◌++◌, length, drop, refl, sym, ap, arith, subst, append_assoc, length-append}
 use Rattle.std.proofs.lemmas.List.{drop_at}
-use Rattle.std.specs.Str.{bytes_eq}
-use Rattle.texts.specs.Names.{IsName}
-use Rattle.texts.proofs.NamePlaces.{bytes_other}
 use Rattle.exact_numbers.specs.declared.dec.Dec.{Dec}
-use Rattle.mps_model.specs.Valid.{marker_word}
+use Rattle.mps_model.specs.declared.kinds.BoundKind.{BoundKind}
 use Rattle.mps_reader.specs.declared.keyword.Keyword.{Keyword}
 use Rattle.mps_reader.specs.InsideCodes.{IsFound}
 use Rattle.mps_reader.specs.InsideFronts.{IsNumberText}
 use Rattle.mps_reader.specs.InsideHeld.{Held, IsKept, IsSound, program}
-use Rattle.mps_reader.specs.InsideLines.{IsNext, IsRowPair, TakesLines}
-use Rattle.mps_reader.specs.Saying.{place_of}
-use Rattle.mps_reader.proofs.FrontLines.{goes_on, line, next_taken, none_taken, parted, row_there}
+use Rattle.mps_reader.specs.InsideLines.{IsColumnBound, IsNext, IsRowPair, TakesLines}
+use Rattle.mps_reader.specs.Saying.{needs_number}
+use Rattle.mps_reader.proofs.FrontLines.{goes_on, line, next_taken, parted, row_there, with_number}
 
--- a short name is not the word of a marker line
-pub short_other : (name : List ℕ) → length name ≤ 7 → bytes_eq name marker_word ≡ false
-short_other name short = bytes_other name marker_word (λ e. omega (arith, short, ap (length {A = ℕ}) e))
-
--- a short name, a space, and a number
-pub found_pair : (names : List (List ℕ)) (text behind rest : List ℕ) (place : ℕ) (value : Dec) → IsFound names text 32 place behind → IsNumberText behind value rest → IsRowPair names text place value rest
-found_pair names text behind rest place value f n = record {
-  name = f.name;
-  pair = record { number = behind; parts = f.parts; is_name = f.is_name; of_number = n };
-  other = short_other f.name f.short;
-  at = f.at;
-}
+-- a short name, and what stands behind it in a record
+pub found_number : (names : List (List ℕ)) (kind : BoundKind) (text behind rest : List ℕ) (place : ℕ) (value : Dec) → needs_number kind ≡ true → IsFound names text 32 place behind → IsNumberText behind value rest → IsColumnBound names kind text place value rest
+found_number names kind text behind rest place value needs f n =
+    record { name = f.name; bound = with_number kind text f.name value rest needs (record { number = behind; parts = f.parts; is_name = f.is_name; of_number = n }); at = f.at }
 
 -- it is a row of the program
 pub pair_there : (h : Held) (behind rest : List ℕ) (row : ℕ) (value : Dec) → IsKept h → IsRowPair h.rows behind row value rest → row < length (program h).rows
@@ -40,9 +29,6 @@ pub record HasTaken (old : Held) (text rest : List ℕ) (lines : ℕ) (new : Hel
   pub few : lines ≤ length before
   pub takes : TakesLines old text (record { len = length before; lines = lines }) new
   pub sound : IsSound new
-
-pub none_before : (h : Held) (text : List ℕ) → IsSound h → HasTaken h text text 0 h
-none_before h text sound = record { before = []; parts = refl; few = omega arith; takes = none_taken h h text refl; sound = sound }
 
 module _ (k : Keyword) (old mid g new : Held) (text rest left : List ℕ) (lines : ℕ) (t : HasTaken old text rest lines mid) (e : IsNext k mid g rest left) where
   abbrev whole : List ℕ
@@ -72,10 +58,3 @@ module _ (k : Keyword) (old mid g new : Held) (text rest left : List ℕ) (lines
             (goes_on old mid new text rest (record { len = length t.before; lines = lines }) (record { len = length whole; lines = 1 }) t.takes behind_is next.0);
         sound = next.1;
       }
-
-module _ (old new : Held) (text rest : List ℕ) (lines : ℕ) (t : HasTaken old text rest lines new) where
-  pub all_size : length text ≡ length t.before + length rest
-  all_size = ap length t.parts ∙ length-append t.before rest
-
-  pub all_taken : (len : ℕ) → len ≡ length text - length rest → TakesLines old text (record { len = len; lines = lines }) new
-  all_taken len is = subst (λ (n : ℕ). TakesLines old text (record { len = n; lines = lines }) new) (omega (arith, all_size, is)) t.takes

@@ -17,20 +17,20 @@ use Rattle.texts.specs.Names.{IsName, has_name_bytes}
 use Rattle.texts.specs.Words.{IsUnmarked, row_of, word_at}
 use Rattle.texts.proofs.FirstReasons.{takes_after}
 use Rattle.texts.proofs.JudgedLemmas.{clean_more}
-use Rattle.texts.proofs.NamePlaces.{bytes_same, bytes_self, place_some}
+use Rattle.texts.proofs.NamePlaces.{bytes_self, place_some}
 use Rattle.exact_numbers.specs.Numbers.{dec_of}
 use Rattle.exact_numbers.specs.declared.dec.Dec.{Dec}
 use Rattle.texts.specs.WordLines.{indented, spaced}
 use Rattle.written_texts.proofs.LineLemmas.{text-line}
 use Rattle.mps_model.specs.declared.kinds.BoundKind.{BoundKind}
 use Rattle.mps_model.specs.Built.{CanAddBound, last_entries}
-use Rattle.mps_model.specs.Mps.{Entry, Mps, MpsRow, no_mps_row}
+use Rattle.mps_model.specs.Mps.{Column, Entry, Mps, MpsRow, no_mps_row}
 use Rattle.mps_model.specs.Valid.{IsBounded, IsOtherEntry, entry_count, marker_word}
 use Rattle.mps_reader.specs.declared.keyword.Keyword.{Keyword}
 use Rattle.mps_reader.specs.declared.keyword.Keyword.TheVariants.{Name, Sense, Rows, Columns, Rhs, Ranges, Bounds, End}
 use Rattle.mps_reader.specs.Grammar.{line_tests, mps_rules, standing}
 use Rattle.mps_reader.specs.InsideFronts.{IsNumberText, IsPairText, joined}
-use Rattle.mps_reader.specs.InsideLines.{GoesOn, IsAfterHead, IsBoundText, IsFreeRow, IsHeadWord, IsKindText, IsNext, IsRowPair, SaysBound, TakesLines, held_after}
+use Rattle.mps_reader.specs.InsideLines.{GoesOn, IsAfterHead, IsBoundText, IsColumnBound, IsFreeRow, IsHeadWord, IsKindText, IsNext, IsRowPair, SaysBound, TakesLines, held_after}
 use Rattle.mps_reader.specs.InsideHeld.{HasPairs, Held, IsKept, IsSound, MayPair, TakesSoundly, program}
 use Rattle.mps_reader.specs.InsideHeldSteps.{if_held_entry, with_bound, with_held_bound_line, with_held_column, with_held_column_line, with_held_entries, with_held_entry, with_held_pairs, with_held_sides, with_set}
 use Rattle.mps_reader.specs.InsidePairs.{CanGive}
@@ -168,11 +168,6 @@ pub row_there : (h : Held) (name : List ℕ) (row : ℕ) → IsKept h → place_
 row_there h name row kept at =
     let lt : row < length h.rows = (place_some h.rows name row at).within in
     omega (arith, lt, ap (length {A = List ℕ}) kept.rows, length-map (program h).rows (λ (r : MpsRow). r.name))
-
--- there is a mark for it
-pub row_within : (k : Keyword) (h : Held) (marks : List Bool) (name : List ℕ) (row : ℕ) → MayPair k h → place_of h.rows name ≡ Some row → marks ≡ h.marks → row < length marks
-row_within k h marks name row may at same =
-    omega (arith, row_there h name row may.kept at, (may.kept.marks k may.current may.pairs).room, ap (length {A = Bool}) same)
 
 not_free : (rows : List MpsRow) (row : ℕ) → is_free (get_or rows row no_mps_row).kind ≡ false → IsBounded rows row
 not_free rows row e = λ same. absurd (cc (rw same at e))
@@ -342,28 +337,36 @@ record_says h kind kw set name (word ∷ []) j d is good first says place free =
     record { none = rw (is, says.0, good, first, place, says.1, free) refl; is = rw (is, says.0, place, says.1) refl; value = rw says.0 says.1; few = omega arith }
 record_says h kind kw set name (word ∷ other ∷ more) j d is good first says place free = absurd says
 
-module _ (h : Held) (kind : BoundKind) (text behind rest name left : List ℕ) (j : ℕ) (d : Dec) (kt : IsKindText text kind behind) (st : IsAfterHead Bounds h behind rest) (bt : IsBoundText kind rest name d left)
-    (place : place_of (column_names (program h)) name ≡ Some j) (free : sets_again (program h).bounds kind j ≡ false) where
-  abbrev record_words : List (List ℕ)
-  record_words = kt.word ∷ st.name ∷ name ∷ bt.words
+module _ (h : Held) (kind : BoundKind) (text behind rest left : List ℕ) (j : ℕ) (d : Dec) (kept : IsKept h) (p : IsColumnBound h.columns kind rest j d left) where
+  place : place_of (column_names (program h)) p.name ≡ Some j
+  place = ap (λ (ns : List (List ℕ)). place_of ns p.name) (sym kept.columns) ∙ p.at
 
-  said : SaysRecord h record_words kind j d
-  said = record_says h kind kt.word st.name name bt.words j d kt.says (good_set st.name st.is_name) (first_set h.standing.set st.name st.head) bt.says place free
+  pub bound_there : j < length (program h).columns
+  bound_there =
+      let lt : j < length h.columns = (place_some h.columns p.name j p.at).within in
+      omega (arith, lt, ap (length {A = List ℕ}) kept.columns, length-map (program h).columns (λ (c : Column Dec). c.name))
 
-  pub next_is_bound : last_of h.standing.begun ≡ Some Bounds → IsNext Bounds h (with_bound h (record { kind = kind; column = j; value = d })) text left
-  next_is_bound last =
-      record {
-        words = record_words;
-        some = omega arith;
-        few = said.few;
-        line = record { parts = kt.parts ∙ ap (λ bs. 32 ∷ kt.word ++ 32 ∷ bs) (st.parts ∙ ap (λ bs. st.name ++ 32 ∷ bs) bt.parts); each = (kt.is_word, (st.is_name, (bt.is_name, bt.each))) };
-        current = last;
-        none = said.none;
-        is = ap (λ g. with_bound g (record { kind = kind; column = j; value = d })) (sym (same_set h st.name st.head)) ∙ said.is;
-      }
+  module _ (kt : IsKindText text kind behind) (st : IsAfterHead Bounds h behind rest) (free : sets_again (program h).bounds kind j ≡ false) where
+    abbrev record_words : List (List ℕ)
+    record_words = kt.word ∷ st.name ∷ p.name ∷ p.bound.words
 
-  pub bound_can : CanAddBound (program h) kind j d
-  bound_can = can_add_bound (program h) kind record_words name j d place said.value free
+    said : SaysRecord h record_words kind j d
+    said = record_says h kind kt.word st.name p.name p.bound.words j d kt.says (good_set st.name st.is_name) (first_set h.standing.set st.name st.head) p.bound.says place free
+
+    pub next_is_bound : last_of h.standing.begun ≡ Some Bounds → IsNext Bounds h (with_bound h (record { kind = kind; column = j; value = d })) text left
+    next_is_bound last =
+        record {
+          words = record_words;
+          some = omega arith;
+          few = said.few;
+          line = record { parts = kt.parts ∙ ap (λ bs. 32 ∷ kt.word ++ 32 ∷ bs) (st.parts ∙ ap (λ bs. st.name ++ 32 ∷ bs) p.bound.parts); each = (kt.is_word, (st.is_name, (p.bound.is_name, p.bound.each))) };
+          current = last;
+          none = said.none;
+          is = ap (λ g. with_bound g (record { kind = kind; column = j; value = d })) (sym (same_set h st.name st.head)) ∙ said.is;
+        }
+
+    pub bound_can : CanAddBound (program h) kind j d
+    bound_can = can_add_bound (program h) kind record_words p.name j d place said.value free
 
 -- ---- lines after one another
 

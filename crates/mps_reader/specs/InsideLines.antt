@@ -126,3 +126,10 @@ pub record IsBoundText (kind : BoundKind) (text name : List ℕ) (value : Dec) (
   pub is_name : IsName name
   pub each : AllByRecursion IsName words
   pub says : SaysBound kind words value
+
+-- the name of the column at a place, and that
+pub record IsColumnBound (columns : List (List ℕ)) (kind : BoundKind) (text : List ℕ) (column : ℕ)
+    (value : Dec) (rest : List ℕ) : Type 0 where
+  pub name : List ℕ
+  pub bound : IsBoundText kind text name value rest
+  pub at : place_of columns name ≡ Some column

@@ -1,15 +1,13 @@
 // Lines of bounds at the front of a piece.
-ghost use Rattle.std.specs.Prelude.{◌≡◌, ◌≤◌, ◌+◌, ◌^◌, false, Some, IfSome, length};
+ghost use Rattle.std.specs.Prelude.{◌≡◌, ◌≤◌, ◌+◌, ◌^◌, Some, IfSome, length};
 ghost use Rattle.mps_model.specs.Built.{CanAddBound};
-ghost use Rattle.mps_reader.specs.InsideHeld.{IsKept, IsSound, program};
+ghost use Rattle.mps_reader.specs.InsideHeld.{IsSound, program};
 ghost use Rattle.mps_reader.specs.InsideHeldSteps.{with_bound};
-ghost use Rattle.mps_reader.specs.InsideLines.{IsBoundText, IsKindText, IsNext, TakesLines};
-ghost use Rattle.mps_reader.specs.Saying.{column_names, place_of};
+ghost use Rattle.mps_reader.specs.InsideLines.{IsBoundText, IsColumnBound, IsKindText, IsNext, TakesLines};
 ghost use Rattle.mps_reader.specs.Sections.{last_of};
-ghost use Rattle.mps_reader.specs.Tests.{sets_again};
 
-use crate::bounds::{bound_kind_of, needs_number, no_number};
-use crate::front_words::{PairText, after_space, first_name, first_pair};
+use crate::bounds::{bound_kind_of_two, needs_number, no_number};
+use crate::front_words::{PairText, first_name, first_number, first_pair};
 use crate::keyword::Keyword;
 use crate::state::State;
 use exact_numbers::Dec;
@@ -21,13 +19,13 @@ use texts::Front;
 fn first_kind(text: &[u8]) -> Option<(BoundKind, &[u8])>
     ensures { IfSome result (λ p. IsKindText text.now p.0 p.1.now) }
 {
-    let Some(line) = after_space(text) else {
+    let [space, first, second, other, rest @ ..] = text else {
         return None;
     };
-    let Some((word, rest)) = first_name(line, b' ') else {
+    if *space != b' ' || *other != b' ' {
         return None;
-    };
-    let Some(kind) = bound_kind_of(word) else {
+    }
+    let Some(kind) = bound_kind_of_two(*first, *second) else {
         return None;
     };
     Some((kind, rest))
@@ -51,40 +49,80 @@ fn first_bound(kind: BoundKind, text: &[u8]) -> Option<PairText<'_>>
     })
 }
 
-/// A record, and what follows its line.
+/// The column and the number of a record, and what follows its line.
 #[derive(Clone, Copy)]
 struct NextBound<'a> {
-    kind: BoundKind,
     column: u32,
     value: Dec,
     rest: &'a [u8],
 }
 
 impl State {
-    // The column of this name, where a record of this kind sets no side again.
-    fn free_column(&self, kind: BoundKind, name: &[u8]) -> Option<u32>
-        requires { IsKept self.now }
-        ensures place { IfSome result (λ j. place_of (column_names (program self.now)) name.now
-            ≡ Some j) }
-        ensures free { IfSome result (λ j. sets_again (program self.now).bounds kind j ≡ false) }
+    // The column of a short name and the number of a record that a text begins with.
+    #[inline]
+    fn short_bound<'a>(&self, kind: BoundKind, text: &'a [u8]) -> Option<NextBound<'a>>
+        ensures { IfSome result (λ b. IsColumnBound self.now.columns kind text.now b.column b.value
+            b.rest.now) }
     {
-        let Some(column) = self.columns.find(name) else {
+        if !needs_number(kind) {
+            let Some((column, rest)) = self.columns.find_front(text, b'\n') else {
+                return None;
+            };
+            let value = no_number();
+            return Some(NextBound { column, value, rest });
+        }
+        let Some((column, behind)) = self.columns.find_front(text, b' ') else {
             return None;
         };
-        if self.sets_again(kind, column) {
+        let Some(number) = first_number(behind) else {
             return None;
+        };
+        Some(NextBound {
+            column,
+            value: number.value,
+            rest: number.rest,
+        })
+    }
+
+    // The column of any name and the number of a record that a text begins with.
+    fn long_bound<'a>(&self, kind: BoundKind, text: &'a [u8]) -> Option<NextBound<'a>>
+        ensures { IfSome result (λ b. IsColumnBound self.now.columns kind text.now b.column b.value
+            b.rest.now) }
+    {
+        let Some(bound) = first_bound(kind, text) else {
+            return None;
+        };
+        let Some(column) = self.columns.find(bound.name) else {
+            return None;
+        };
+        Some(NextBound {
+            column,
+            value: bound.value,
+            rest: bound.rest,
+        })
+    }
+
+    // The column and the number of a record that a text begins with.
+    #[inline]
+    fn column_bound<'a>(&self, kind: BoundKind, text: &'a [u8]) -> Option<NextBound<'a>>
+        ensures { IfSome result (λ b. IsColumnBound self.now.columns kind text.now b.column b.value
+            b.rest.now) }
+    {
+        match self.short_bound(kind, text) {
+            Some(bound) => Some(bound),
+            None => self.long_bound(kind, text),
         }
-        Some(column)
     }
 
     // The record that a text begins with, where it may come.
-    fn next_bound<'a>(&self, text: &'a [u8]) -> Option<NextBound<'a>>
+    #[inline]
+    fn next_bound<'a>(&self, text: &'a [u8]) -> Option<(BoundKind, NextBound<'a>)>
         requires sound { IsSound self.now }
         requires current { last_of self.now.standing.begun ≡ Some Keyword.Bounds }
-        ensures next { IfSome result (λ b. IsNext Keyword.Bounds self.now
-            (with_bound self.now (record { kind = b.kind; column = b.column; value = b.value }))
-            text.now b.rest.now) }
-        ensures can { IfSome result (λ b. CanAddBound (program self.now) b.kind b.column b.value) }
+        ensures next { IfSome result (λ p. IsNext Keyword.Bounds self.now
+            (with_bound self.now (record { kind = p.0; column = p.1.column; value = p.1.value }))
+            text.now p.1.rest.now) }
+        ensures can { IfSome result (λ p. CanAddBound (program self.now) p.0 p.1.column p.1.value) }
     {
         let Some((kind, behind)) = first_kind(text) else {
             return None;
@@ -92,18 +130,13 @@ impl State {
         let Some(rest) = self.after_set(behind) else {
             return None;
         };
-        let Some(bound) = first_bound(kind, rest) else {
+        let Some(bound) = self.column_bound(kind, rest) else {
             return None;
         };
-        let Some(column) = self.free_column(kind, bound.name) else {
+        if self.sets_again(kind, bound.column) {
             return None;
-        };
-        Some(NextBound {
-            kind,
-            column,
-            value: bound.value,
-            rest: bound.rest,
-        })
+        }
+        Some((kind, bound))
     }
 
     /// Takes lines of bounds, one after the other.
@@ -116,8 +149,8 @@ impl State {
     {
         let mut rest = text;
         let mut lines = 0;
-        'bounds: while let Some(bound) = self.next_bound(rest) {
-            let Ok(()) = self.add_bound(bound.kind, bound.column, bound.value) else {
+        'bounds: while let Some((kind, bound)) = self.next_bound(rest) {
+            let Ok(()) = self.add_bound(kind, bound.column, bound.value) else {
                 return Front { len: text.len() - rest.len(), lines };
             };
             rest = bound.rest;

@@ -1,5 +1,5 @@
 // The first lines of columns at the front of a piece.
-ghost use Rattle.std.specs.Prelude.{◌≡◌, ◌<◌, ◌^◌, ◌∷◌, ◌++◌, [], true, false, None, Some, OnOk, OnErr, IfSome, length};
+ghost use Rattle.std.specs.Prelude.{◌≡◌, ◌<◌, ◌≤◌, ◌^◌, ◌∷◌, ◌++◌, [], true, false, None, Some, OnOk, OnErr, IfSome, length};
 ghost use Rattle.texts.specs.Names.{IsName};
 ghost use Rattle.mps_model.specs.Built.{CanAddColumn, CanAddEntries};
 ghost use Rattle.mps_reader.specs.InsideHeld.{IsKept, IsSound, program};
@@ -16,6 +16,9 @@ use crate::state::State;
 use exact_numbers::Dec;
 use std::alloc::AllocError;
 use texts::{Front, Name};
+
+/// A new column gets room for at most so many entries.
+const MOST_ROOM: u32 = 16;
 
 /// A column and its first entry, and what follows its line.
 #[derive(Clone, Copy)]
@@ -82,6 +85,15 @@ impl State {
         })
     }
 
+    // For how many entries a new column gets room: as many as the last one has, but few.
+    #[inline]
+    fn entry_room(&self) -> usize
+        ensures { result ≤ 16 }
+    {
+        let entries = self.entries.wrapping_sub(self.entries_before);
+        entries.min(MOST_ROOM) as usize
+    }
+
     // Adds a column with its first entry. Want of memory may leave its name, but adds nothing to
     // the program.
     fn add_first(&mut self, word: &[u8], row: u32, value: Dec) -> Result<(), AllocError>
@@ -97,7 +109,7 @@ impl State {
         ensures err { OnErr result (self.new.standing ≡ self.old.standing) }
     {
         let name = Name::tested(self.alloc, word)?;
-        let mut entries = Vec::new(self.alloc);
+        let mut entries = Vec::with_capacity(self.alloc, self.entry_room())?;
         entries.push((row, value))?;
         self.columns.add(self.alloc, word)?;
         self.sides.push(Sides {
@@ -108,6 +120,7 @@ impl State {
         self.marks.clear();
         self.marks.mark(row);
         self.is_current = true;
+        self.entries_before = self.entries;
         self.entries += 1;
         Ok(())
     }

@@ -14,6 +14,7 @@ use crate::state::State;
 use texts::Front;
 
 // Whether the lines of a section are pairs behind a name.
+#[inline]
 fn has_pairs(keyword: Keyword) -> bool
     ensures { result ≡ true → HasPairs keyword }
 {
@@ -33,6 +34,7 @@ pub struct FrontTaken {
 impl State {
     // What follows the name of the last column and a space, where a text begins with that and the
     // column may go on.
+    #[inline]
     fn after_column<'a>(&self, text: &'a [u8]) -> Option<&'a [u8]>
         requires { IsKept self.now }
         ensures { IfSome result (λ rest. IsAfterHead Keyword.Columns self.now text.now rest.now) }
@@ -65,6 +67,7 @@ impl State {
     }
 
     // What follows the first word of a line of pairs, where that is the one that is awaited.
+    #[inline]
     fn after_head<'a>(&self, keyword: Keyword, text: &'a [u8]) -> Option<&'a [u8]>
         requires { IsKept self.now }
         ensures { IfSome result (λ rest. IsAfterHead keyword self.now text.now rest.now) }
@@ -78,6 +81,7 @@ impl State {
     }
 
     // The pair that a text begins with, where the section may have it.
+    #[inline]
     fn next_pair<'a>(&self, keyword: Keyword, text: &'a [u8]) -> Option<NextPair<'a>>
         requires sound { IsSound self.now }
         requires current { last_of self.now.standing.begun ≡ Some keyword }

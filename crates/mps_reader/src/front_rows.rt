@@ -9,9 +9,9 @@ ghost use Rattle.mps_reader.specs.Saying.{place_of};
 ghost use Rattle.mps_reader.specs.Sections.{last_of};
 
 use crate::front_lines::FrontTaken;
-use crate::front_words::{after_space, first_name, is_marker_word};
+use crate::front_words::{first_name, is_marker_word};
 use crate::keyword::Keyword;
-use crate::rows::row_kind_of;
+use crate::rows::row_kind_of_one;
 use crate::state::State;
 use mps_model::RowKind;
 use texts::Front;
@@ -29,13 +29,13 @@ pub struct RowText<'a> {
 fn first_row(text: &[u8]) -> Option<RowText<'_>>
     ensures { IfSome result (λ r. IsRowText text.now r.kind r.name.now r.rest.now) }
 {
-    let Some(line) = after_space(text) else {
+    let [space, letter, other, behind @ ..] = text else {
         return None;
     };
-    let Some((word, behind)) = first_name(line, b' ') else {
+    if *space != b' ' || *other != b' ' {
         return None;
-    };
-    let Some(kind) = row_kind_of(word) else {
+    }
+    let Some(kind) = row_kind_of_one(*letter) else {
         return None;
     };
     let Some((name, rest)) = first_name(behind, b'\n') else {
@@ -46,6 +46,7 @@ fn first_row(text: &[u8]) -> Option<RowText<'_>>
 
 impl State {
     // The row that a text begins with, where it may come.
+    #[inline]
     fn next_row<'a>(&self, text: &'a [u8]) -> Option<RowText<'a>>
         requires sound { IsSound self.now }
         requires current { last_of self.now.standing.begun ≡ Some Keyword.Rows }

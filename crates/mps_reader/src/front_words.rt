@@ -56,6 +56,7 @@ pub(crate) fn first_name(text: &[u8], end: u8) -> Option<(&[u8], &[u8])>
 }
 
 /// Whether a word is that of a marker line.
+#[inline]
 pub(crate) fn is_marker_word(word: &[u8]) -> bool
     ensures { result ≡ bytes_eq word.now marker_word }
 {

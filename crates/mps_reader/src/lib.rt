@@ -18,6 +18,7 @@ mod name_sets;
 mod names;
 mod pairs;
 mod reader;
+mod row_marks;
 mod rows;
 mod sections;
 mod set_name;

@@ -1,4 +1,3 @@
-use Rattle.std.proofs.Common.{◌≡◌, true}
 use Rattle.mps_reader.proofs.FrontEntries.{pair_there}
 use Rattle.mps_reader.proofs.FrontLines.{may_next, next_is_pair, pair_can}
 use Rattle.mps_reader.proofs.state.State.next_pair.Goals as goal
