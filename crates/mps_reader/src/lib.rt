@@ -18,6 +18,7 @@ mod names;
 mod pairs;
 mod reader;
 mod rows;
+mod runs;
 mod sections;
 mod side_lines;
 mod sides;
