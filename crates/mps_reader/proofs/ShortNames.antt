@@ -1,6 +1,6 @@
 -- Short names that a text begins with.
 use Rattle.std.proofs.Common.{◌≡◌, ◌∙◌, ℕ, zero, suc, ◌+◌, ◌-◌, ◌*◌, ◌/◌, ◌%◌, ◌<◌, ◌≤◌, ◌^◌, List, [], ◌∷◌, ◌++◌, length, take, drop, get_or, true, refl, sym, ap, ap₂, arith, subst, Option, Some, None, mul-le-mul_right}
-use Rattle.std.specs.Prelude.{All, IfSome, fold, nat_le}
+use Rattle.std.specs.Prelude.{IfSome, fold, nat_le}
 use Rattle.std.proofs.lemmas.Nat.{div-mul-add, mod-mul-add, pow-add, one_shl}
 use Rattle.std.proofs.lemmas.Grind.{pow_more}
 use Rattle.std.proofs.lemmas.List.{length-take-le, length-drop, take-append-drop, drop_more, take_at}

@@ -2,6 +2,7 @@
 ghost use Rattle.std.specs.Prelude.{◌≡◌, ◌≢◌, ◌-◌, ◌<◌, ◌≤◌, ◌^◌, ◌++◌, ◌∷◌, [], None, All, OnOk, OnErr, IfOk, IfSome, fold, length, take, get_or, slice_get};
 ghost use Rattle.mps_reader.specs.InsideCodes.{IsShort, bytes_code, code_of, name_of, with_byte};
 
+use crate::runs::Run;
 use indexmap::IndexSet;
 use std::alloc::{AllocError, Global};
 use std::marker::Model;
@@ -9,8 +10,8 @@ use std::marker::Model;
 /// A name of at most so many bytes is short.
 const SHORT: usize = 7;
 
-// Each byte is 1.
-const ONES: u64 = 0x0101_0101_0101_0101;
+/// Each byte is 1.
+pub(crate) const ONES: u64 = 0x0101_0101_0101_0101;
 
 // Every other byte, the last one too.
 const EVEN_BYTES: u64 = 0x00ff_00ff_00ff_00ff;
@@ -32,17 +33,20 @@ pub struct Codes {
     behind: Vec<u64>,
     // how far places lie above the numbers at the ends of names, modulo 2^64; any is right
     shift: usize,
+    // some of them, which are found without a look at them
+    run: Run,
 }
 
 impl Model for Codes {
     ghost use Rattle.std.specs.Prelude.{List, ℕ, ◌++◌};
-    ghost use Rattle.mps_reader.specs.InsideCodes.{NoneOrLong};
+    ghost use Rattle.mps_reader.specs.InsideRuns.{AreKept};
 
     ghost Value = { List ℕ };
 
     ghost view = { λ c. c.short.keys ++ c.behind.items };
 
-    ghost invariant = { λ c. NoneOrLong c.behind.items };
+    ghost invariant = { λ c.
+        AreKept c.run c.behind.items (c.short.keys ++ c.behind.items) };
 }
 
 // The number that the digits at the end of a short name spell; any is right.
@@ -52,8 +56,9 @@ fn number_of(code: u64) -> usize {
     let behind = (others & others.wrapping_neg()).wrapping_sub(1);
     let digits = code & behind & (15 * ONES);
     let pairs = (digits & EVEN_BYTES).wrapping_add((digits >> 8 & EVEN_BYTES).wrapping_mul(10));
-    let fours = (pairs & 0xffff_0000_ffff)
-        .wrapping_add((pairs >> 16 & 0xffff_0000_ffff).wrapping_mul(100));
+    let fours = (pairs & 0xffff_0000_ffff).wrapping_add(
+        (pairs >> 16 & 0xffff_0000_ffff).wrapping_mul(100),
+    );
     (fours & 0xffff_ffff).wrapping_add((fours >> 32).wrapping_mul(10_000)) as usize
 }
 
@@ -186,6 +191,7 @@ impl Codes {
             short: IndexSet::new(alloc),
             behind: Vec::new(alloc),
             shift: 0,
+            run: Run::none(),
         }
     }
 
@@ -225,6 +231,20 @@ impl Codes {
         self.get(self.len().saturating_sub(1))
     }
 
+    // The place of a code, where the number at the end of the name leads to it.
+    #[inline(always)]
+    fn at_number(&self, key: Key) -> Option<usize>
+        ensures within { IfSome result (λ p. p < length self.now) }
+        ensures code { IfSome result (λ p. get_or self.now p 0 ≡ key.code) }
+    {
+        let place = key.number.wrapping_add(self.shift);
+        let code = self.get(place)?;
+        if code != key.code {
+            return None;
+        }
+        Some(place)
+    }
+
     /// The place of a short name's code, where the number at the end of the name leads to it.
     #[inline(always)]
     pub(crate) fn guess(&self, key: Key) -> Option<usize>
@@ -235,12 +255,12 @@ impl Codes {
         if key.code == 0 {
             return None;
         }
-        let place = key.number.wrapping_add(self.shift);
-        let code = self.get(place)?;
-        if code != key.code {
-            return None;
+        // the codes are few enough for the places of the run
+        let _len = self.len();
+        match self.run.find(key.code, key.number) {
+            Some(place) => Some(place),
+            None => self.at_number(key),
         }
-        Some(place)
     }
 
     /// The place of a code, where each is that of a short name.
@@ -253,20 +273,33 @@ impl Codes {
         self.short.get_index_of(&code)
     }
 
+    // Puts a code behind the others. Want of memory changes no code.
+    fn push(&mut self, code: u64) -> Result<(), AllocError>
+        requires { 0 < code → All (λ c. c ≢ code) self.old }
+        ensures more { OnOk result (self.new ≡ self.old ++ code ∷ []) }
+        ensures same { OnErr result (self.new ≡ self.old) }
+    {
+        if code > 0 && self.behind.is_empty() {
+            self.short.insert(code)?;
+            return Ok(());
+        }
+        self.behind.push(code)?;
+        Ok(())
+    }
+
     /// Adds the code of a new name. Want of memory changes no code.
     pub(crate) fn add(&mut self, key: Key) -> Result<(), AllocError>
         requires { 0 < key.code → All (λ c. c ≢ key.code) self.old }
         ensures more { OnOk result (self.new ≡ self.old ++ key.code ∷ []) }
         ensures same { OnErr result (self.new ≡ self.old) }
     {
+        let place = self.len();
+        let run = self.run.with_name(key.code, key.number, place);
+        self.push(key.code)?;
+        self.run = run;
         if key.number > 0 {
-            self.shift = self.len().wrapping_sub(key.number);
+            self.shift = place.wrapping_sub(key.number);
         }
-        if key.code > 0 && self.behind.is_empty() {
-            self.short.insert(key.code)?;
-            return Ok(());
-        }
-        self.behind.push(key.code)?;
         Ok(())
     }
 }

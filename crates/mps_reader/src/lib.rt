@@ -20,6 +20,7 @@ mod pairs;
 mod reader;
 mod row_marks;
 mod rows;
+mod runs;
 mod sections;
 mod set_name;
 mod side_lines;

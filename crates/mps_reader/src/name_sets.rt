@@ -53,10 +53,7 @@ pub(crate) fn after_last<'a>(names: &IndexSet<Vec<u8>>, text: &'a [u8]) -> Optio
 }
 
 /// What follows the last name and a space, where a text begins with them.
-pub(crate) fn after_last_word<'a>(
-    names: &IndexSet<Vec<u8>>,
-    text: &'a [u8],
-) -> Option<&'a [u8]>
+pub(crate) fn after_last_word<'a>(names: &IndexSet<Vec<u8>>, text: &'a [u8]) -> Option<&'a [u8]>
     ensures parts { IfSome result (λ rest. text.now
         ≡ last_name (map (λ k. k.items) names.now.keys) ++ 32 ∷ rest.now) }
     ensures some { IfSome result (λ rest. 0 < length names.now.keys) }

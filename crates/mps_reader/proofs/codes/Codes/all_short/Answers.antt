@@ -5,4 +5,4 @@ use Rattle.mps_reader.proofs.codes.Codes.all_short.Goals as goal
 pub returns : goal.returns
 returns c =
     let all = subst (λ (codes : List ℕ). All (λ n. 0 < n) codes) (sym c.self.view_is) c.requires in
-    c.as_slice.ensures.keys ∙ none_behind c.self.inside.short.keys c.self.inside.behind.items all c.self.invariant ∙ c.self.view_is
+    c.as_slice.ensures.keys ∙ none_behind c.self.inside.short.keys c.self.inside.behind.items all c.self.invariant.long_first ∙ c.self.view_is
