@@ -46,7 +46,7 @@ abbrev pub kept_names : Option (List (List ℕ)) → List ℕ → List (List ℕ
 kept_names (Some names) codes = names
 kept_names None codes = map name_of codes
 
--- a text begins with a name of at most seven bytes, which has this code, this byte, and what follows
+-- a text begins with a name of at most seven bytes and of this code, this byte, and what follows
 pub record IsShort (text : List ℕ) (end code : ℕ) (rest : List ℕ) : Type 0 where
   pub name : List ℕ
   pub parts : text ≡ name ++ end ∷ rest

@@ -139,10 +139,10 @@ fn head_of(text: &[u8]) -> Option<u64>
 
 // How many of eight bytes come before the first that is this one; any number is right.
 #[inline(always)]
-fn size_before(head: u64, end: u8) -> u32 {
+fn size_before(head: u64, end: u8) -> usize {
     let others = head ^ (end as u64).wrapping_mul(ONES);
     let low = (others & (127 * ONES)).wrapping_add(127 * ONES);
-    (!(others | low) & (128 * ONES)).leading_zeros() / 8
+    (!(others | low) & (128 * ONES)).leading_zeros() as usize / 8
 }
 
 /// The key of the short name that a text begins with, before this byte, and what follows that.
@@ -155,7 +155,7 @@ pub(crate) fn first_short(text: &[u8], end: u8) -> Option<(Key, &[u8])>
         return None;
     };
     let size = size_before(head, end);
-    if size > 7 {
+    if size > SHORT {
         return None;
     }
     let both = head >> (56 - 8 * size);
@@ -164,7 +164,7 @@ pub(crate) fn first_short(text: &[u8], end: u8) -> Option<(Key, &[u8])>
     }
     let code = (1 << (8 * size)) + both / 256;
     let number = number_of(code);
-    Some((Key { code, number }, text.split_at(size as usize + 1).1))
+    Some((Key { code, number }, text.split_at(size + 1).1))
 }
 
 /// What follows a short name of this code and a space, where a text begins with them. None of some
