@@ -69,7 +69,11 @@ impl State {
                 return None;
             };
             let value = no_number();
-            return Some(NextBound { column, value, rest });
+            return Some(NextBound {
+                column,
+                value,
+                rest,
+            });
         }
         let Some((column, behind)) = self.columns.find_front(text, b' ') else {
             return None;
@@ -151,11 +155,17 @@ impl State {
         let mut lines = 0;
         'bounds: while let Some((kind, bound)) = self.next_bound(rest) {
             let Ok(()) = self.add_bound(kind, bound.column, bound.value) else {
-                return Front { len: text.len() - rest.len(), lines };
+                return Front {
+                    len: text.len() - rest.len(),
+                    lines,
+                };
             };
             rest = bound.rest;
             lines += 1;
         }
-        Front { len: text.len() - rest.len(), lines }
+        Front {
+            len: text.len() - rest.len(),
+            lines,
+        }
     }
 }

@@ -121,12 +121,18 @@ impl State {
         let mut lines = 0;
         'pairs: while let Some(pair) = self.next_pair(keyword, rest) {
             let Ok(()) = self.give_pair(keyword, pair.row, pair.value) else {
-                return Front { len: text.len() - rest.len(), lines };
+                return Front {
+                    len: text.len() - rest.len(),
+                    lines,
+                };
             };
             rest = pair.rest;
             lines += 1;
         }
-        Front { len: text.len() - rest.len(), lines }
+        Front {
+            len: text.len() - rest.len(),
+            lines,
+        }
     }
 
     // The entry of the last column that a text begins with, where its row has a short name.
@@ -173,12 +179,18 @@ impl State {
         let mut lines = 0;
         'entries: while let Some(entry) = self.next_entry(rest) {
             let Ok(()) = self.give_pair(Keyword::Columns, entry.row, entry.value) else {
-                return Front { len: text.len() - rest.len(), lines };
+                return Front {
+                    len: text.len() - rest.len(),
+                    lines,
+                };
             };
             rest = entry.rest;
             lines += 1;
         }
-        Front { len: text.len() - rest.len(), lines }
+        Front {
+            len: text.len() - rest.len(),
+            lines,
+        }
     }
 
     // Takes further entries of the last column, or the first line of the next one.
