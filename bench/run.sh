@@ -9,7 +9,8 @@
 #
 # PROGRAM is the built `bridge`, BASELINE an asl2mps that is built already. Each time is the processor time, user and
 # system, of the best of RUNS runs, commands in turn; a ratio is printed beside asl2mps and clp alone. The floor (floor.c)
-# is a program in C of one pass that writes the same bytes without checks: no converter is much faster. The first number of
+# is a program in C of one pass that writes the same bytes without checks: no converter is much faster. That of `verify_mps`
+# (rows.c) reads both texts to the terms of their rows, and its ratio stands beside. The first number of
 # TERMS is also that of lists in C and of defined variables, which asl2mps refuses: they stand beside J terms.
 set -eu
 here=$(cd "$(dirname "$0")" && pwd)
@@ -30,6 +31,7 @@ else
 fi
 floor=$work/floor
 cc -O2 -w "$here/floor.c" -o "$floor"
+cc -O2 -w "$here/rows.c" -o "$work/rows"
 clp=$(command -v clp || true)
 [ -n "$clp" ] || echo "no clp (Debian's coinor-clp): no ratio of mps is printed"
 
@@ -116,15 +118,17 @@ done
 
 echo
 echo "verify_mps beside verify of the same program as .nl: that the point 0 is feasible"
-printf '%9s %10s %8s %6s %14s\n' terms verify_mps verify ratio "bytes an entry"
+printf '%9s %10s %8s %6s %8s %14s %13s\n' terms verify_mps verify ratio "floor's" "bytes an entry" "verify: bytes"
 printf 'certificate 1\nfeasible 0\npoint 0\n' >"$work/feasible.certificate"
 for size in "${sizes[@]}"; do
     text=$(nl_text "$size" linear)
     "$program" export "$text" >"$work/$size.mps"
     words=(0 "$program" verify_mps "$work/$size.mps" "$work/feasible.certificate")
     words+=(::: 0 "$program" verify "$text" "$work/feasible.certificate")
-    read -r seconds peak beside _ <<<"$(measure "${words[@]}")"
-    printf '%9s %10s %8s %6s %14s\n' "$size" "$seconds" "$beside" "$(ratio "$seconds" "$beside")" "$(bytes_each "$peak" "$size")"
+    words+=(::: 0 "$work/rows" "$work/$size.mps" ::: 0 "$work/rows" "$text")
+    read -r seconds peak beside other least _ bottom _ <<<"$(measure "${words[@]}")"
+    printf '%9s %10s %8s %6s %8s %14s %13s\n' "$size" "$seconds" "$beside" "$(ratio "$seconds" "$beside")" \
+        "$(ratio "$least" "$bottom")" "$(bytes_each "$peak" "$size")" "$(bytes_each "$other" "$size")"
 done
 
 echo
