@@ -22,7 +22,8 @@ from bridge_drivers.bridge import Bridge  # noqa: E402
 from bridge_drivers.certify.clp import NoClp  # noqa: E402
 from bridge_drivers.certify.leaves import Closed, Closer, Multipliers  # noqa: E402
 from bridge_drivers.certify.model import Box, Model, factors  # noqa: E402
-from bridge_drivers.certify.search import Better, Goal, Search  # noqa: E402
+from bridge_drivers.certify.parts import Better  # noqa: E402
+from bridge_drivers.certify.search import Goal, Search  # noqa: E402
 from bridge_drivers.certify.tree import Leaf, Split, Spool, Tree  # noqa: E402
 from bridge_drivers.certify.watch import Stopped, Watch  # noqa: E402
 from bridge_drivers.nl import header  # noqa: E402

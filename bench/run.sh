@@ -1,9 +1,9 @@
 #!/usr/bin/env bash
 # Times the built program: `export` beside a plain converter on AMPL's own library (asl2mps.c, which is built here where
-# Debian's libamplsolver-dev is there), `mps`, which reads and writes, beside clp, which reads alone (coinor-clp),
-# `verify_mps` beside `verify` of the same program as .nl, `verify` of large certificates, and `prove` beside `verify` on
-# one tree of an integer program (coinor-libcoinutils-dev has it, coinor-libclp1 serves the search for the tree, which
-# takes about half a minute).
+# Debian's libamplsolver-dev is there) and of nested trees beside smaller ones, `mps`, which reads and writes, beside clp,
+# which reads alone (coinor-clp), `verify_mps` beside `verify` of the same program as .nl, `verify` of large certificates,
+# and `prove` beside `verify` on one tree of an integer program (coinor-libcoinutils-dev has it, coinor-libclp1 serves the
+# search for the tree, which takes about half a minute).
 #
 #     [TERMS="1000000 2000000 4000000"] [RUNS=5] bench/run.sh PROGRAM [BASELINE]
 #
@@ -99,6 +99,18 @@ for form in list defined; do
     times=$(measure 0 "$program" export "$text" ::: 2 "$program" export "$text" 1 ::: 0 "$program" export "$plain")
     read -r seconds peak reading _ beside _ <<<"$times"
     printf '%9s %8s %8s %8s %8s %8s %6s %6s %13s   %s times our own J terms\n' "${sizes[0]}" "$form" "$seconds" "$reading" - - - - "$(bytes_each "$peak" "${sizes[0]}")" "$(ratio "$seconds" "$beside")"
+done
+
+echo
+echo "export of one row that is a nested tree (nested.py), beside a quarter of its size: more than 4.5 times is a defect, but for"
+echo "spine, whose sides are large"
+printf '%9s %12s %8s %8s %6s %17s\n' variables shape export quarter times "bytes a variable"
+for shape in right left products differences negations lists balanced spine; do
+    python3 "$here/nested.py" "$shape" 160000 "$work/nested.nl"
+    python3 "$here/nested.py" "$shape" 40000 "$work/quarter.nl"
+    times=$(measure 0 "$program" export "$work/nested.nl" ::: 0 "$program" export "$work/quarter.nl")
+    read -r seconds peak quarter _ <<<"$times"
+    printf '%9s %12s %8s %8s %6s %17s\n' 160000 "$shape" "$seconds" "$quarter" "$(ratio "$seconds" "$quarter")" "$(bytes_each "$peak" 160000)"
 done
 
 echo

@@ -23,7 +23,7 @@ STAGES = [
     ("reading", r"(nl_segments|nl_lines|nl_header)::"),
     ("fold", r"linear_fold::(fold|owners|bodies|program|ascending|definitions|expression)|linear_program::accumulator"),
     ("scaling", r"scaling::"),
-    ("program", r"row_scaling::"),
+    ("program", r"mps_export::"),
     ("writing", r"mps_writer::"),
 ]
 

@@ -66,6 +66,9 @@ def watched() -> int:
 
 
 if __name__ == "__main__":
+    if {"-h", "--help"} & set(sys.argv[1:]):
+        print(__doc__)
+        sys.exit()
     if len(sys.argv) > 1:
         sys.exit(__doc__)
     sys.exit(watched())

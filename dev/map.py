@@ -22,13 +22,13 @@ DESIGN = TOP / "docs" / "dev" / "design.md"
 PICTURES = TOP / "docs" / "pictures"
 BEGIN, END = "<!-- the crates: dev/map.py --write -->", "<!-- end of the crates -->"
 
-# The colours of a picture: ground, ink, faint lines, a box and its edge.
+# The colours of a picture: ground, ink, faint ink, a box and its edge, which arrows have, too.
 SCHEMES = {
-    "light": ("#ffffff", "#1f2328", "#b8c0ca", "#eef3fb", "#7d95b8"),
-    "dark": ("#0d1117", "#e6edf3", "#3d4754", "#16202e", "#4f6a92"),
+    "light": ("#ffffff", "#1f2328", "#59636e", "#eef3fb", "#7d95b8"),
+    "dark": ("#0d1117", "#e6edf3", "#9198a1", "#16202e", "#6f8fbf"),
 }
-WIDTH, LEFT, BOX, GAP, BAND, ROW = 1120, 150, 22, 8, 20, 34
-LETTER = 6.7                # the width of one letter of a name, as boxes reckon it
+WIDTH, GAP, BAND, EDGE = 1120, 24, 46, 10   # of the picture, between boxes of a row, between rows, within a box
+LINE, LETTER = 16, 6.4      # the height of a line of names, the width of a letter, as boxes reckon it
 
 
 @dataclass
@@ -123,54 +123,109 @@ def chains(uses: dict[str, list[str]]) -> list[str]:
     return told
 
 
-def places(found: list[Room]) -> tuple[dict[str, tuple[float, float, float]], list[tuple[Room, float]], float]:
-    """The box of each crate (left, top, width), the height of each room, and of the whole."""
-    boxes: dict[str, tuple[float, float, float]] = {}
-    heads = []
+def arrows(found: list[Room], uses: dict[str, list[str]]) -> tuple[dict[str, list[str]], list[tuple[str, str]]]:
+    """The rooms that each room stands on, those left out that another one of these stands on; and the pairs that lead
+    the other way, to a room that comes later in crates.txt. The tests are left out: they stand on nearly all."""
+    room = {crate: it.name for it in found for crate in it.crates}
+    order = {it.name: place for place, it in enumerate(found)}
+    steps = {(room[crate], room[other]) for crate, used in reduced(uses).items() for other in used}
+    steps = {(one, other) for one, other in steps if one != other and one != "tests"}
+    down = {it.name: [other for one, other in sorted(steps) if one == it.name and order[other] < order[one]]
+            for it in found}
+    return reduced(down), sorted((one, other) for one, other in steps if order[other] > order[one])
+
+
+def wrapped(names: list[str], width: float) -> list[str]:
+    """Names in lines of a width."""
+    lines = [""]
+    for name in names:
+        longer = f"{lines[-1]}, {name}" if lines[-1] else name
+        if len(longer) * LETTER > width and lines[-1]:
+            lines.append(name)
+        else:
+            lines[-1] = longer
+    return lines
+
+
+@dataclass
+class Box:
+    """A room at its place, with its lines."""
+
+    room: Room
+    x: float
+    y: float
+    width: float
+    height: float
+    lines: list[str]
+
+
+def placed(found: list[Room], down: dict[str, list[str]]) -> tuple[dict[str, Box], float]:
+    """The boxes by room, a row for each step of the longest chain below, the longest on top; and the height of all."""
+
+    @lru_cache(maxsize=None)
+    def rank(name: str) -> int:
+        return 1 + max(map(rank, down[name]), default=0)
+
+    boxes: dict[str, Box] = {}
     y = 14.0
-    for room in reversed(found):
-        heads.append((room, y))
-        widths = [len(crate) * LETTER + 14 for crate in room.crates]
-        x = LEFT + max(0.0, (WIDTH - LEFT - sum(widths) - GAP * len(widths)) / 2)
-        for crate, width in zip(room.crates, widths):
-            if x + width > WIDTH - 10:
-                x, y = float(LEFT), y + ROW
-            boxes[crate] = (x, y, width)
+    for level in sorted({rank(room.name) for room in found if down[room.name] or room is found[0]}, reverse=True):
+        row = [room for room in found if rank(room.name) == level and room.name != "tests"]
+        width = min((WIDTH - 2 * GAP - GAP * (len(row) - 1)) / len(row), 620.0)
+        x = (WIDTH - width * len(row) - GAP * (len(row) - 1)) / 2
+        texts = [wrapped(room.crates, width - 2 * EDGE) for room in row]
+        height = 46 + LINE * max(map(len, texts))
+        for room, lines in zip(row, texts):
+            boxes[room.name] = Box(room, x, y, width, height, lines)
             x += width + GAP
-        y += ROW + BAND
-    return boxes, heads, y
+        y += height + BAND
+    return boxes, y - BAND + 14
+
+
+def path(start: Box, end: Box, stroke: str) -> str:
+    """An arrow from the lower side of one box to the upper side of another."""
+    lean = (end.x + end.width / 2 - start.x - start.width / 2) / 6
+    a, b = start.x + start.width / 2 + lean, end.x + end.width / 2 - lean
+    top, bottom = start.y + start.height, end.y
+    middle = (top + bottom) / 2
+    return arrow(start, end, stroke, f"M{a:.0f} {top:.0f} C{a:.0f} {middle:.0f} {b:.0f} {middle:.0f} {b:.0f} {bottom:.0f}")
+
+
+def upward(start: Box, end: Box, stroke: str, place: int) -> str:
+    """A dashed one from the left side of a box to that of one above it, beside both."""
+    lane, a, b = max(8.0, min(start.x, end.x) - 14 - 10 * place), start.y + 20 + 12 * place, end.y + end.height / 2
+    way = f"M{start.x:.0f} {a:.0f} H{lane:.0f} V{b:.0f} H{end.x:.0f}"
+    return arrow(start, end, stroke, way).replace("<path ", '<path stroke-dasharray="5 4" ')
+
+
+def arrow(start: Box, end: Box, stroke: str, way: str) -> str:
+    return (f'<path d="{way}" fill="none" stroke="{stroke}" stroke-width="1.5" marker-end="url(#tip)">'
+            f"<title>{start.room.name} stands on {end.room.name}</title></path>")
+
+
+def drawn(box: Box, ink: str, faint: str, fill: str, edge: str) -> str:
+    left = box.x + EDGE
+    lines = "".join(f'<text x="{left:.0f}" y="{box.y + 54 + LINE * place:.0f}" font-size="12" fill="{ink}">{line}</text>'
+                    for place, line in enumerate(box.lines))
+    return (f'<rect x="{box.x:.0f}" y="{box.y:.0f}" width="{box.width:.0f}" height="{box.height:.0f}" rx="6" fill="{fill}" '
+            f'stroke="{edge}"/><text x="{left:.0f}" y="{box.y + 20:.0f}" font-size="14" font-weight="bold" fill="{ink}">'
+            f'{escape(box.room.name)}</text><text x="{left:.0f}" y="{box.y + 36:.0f}" font-size="11.5" fill="{faint}">'
+            f"{escape(box.room.what)}</text>{lines}")
 
 
 def picture(found: list[Room], uses: dict[str, list[str]], scheme: str) -> str:
-    """The graph: rooms as bands, the program above what it stands on, a line for each crate that another one stands on
-    and that is not below a further one of these. The tests have no lines: they stand on nearly all."""
+    """A box a room, arrows between rooms."""
     ground, ink, faint, fill, edge = SCHEMES[scheme]
-    boxes, heads, height = places(found)
+    down, up = arrows(found, uses)
+    boxes, height = placed(found, down)
+    said = "The rooms, with their crates: each stands on those that arrows lead to; dashed: some of its crates do"
     out = [f'<svg xmlns="http://www.w3.org/2000/svg" viewBox="0 0 {WIDTH} {height:.0f}" font-family="sans-serif">',
-           "<title>The crates, by room: each stands on those that lines lead down to</title>",
+           f"<title>{said}</title>",
+           f'<defs><marker id="tip" viewBox="0 0 8 8" refX="7" refY="4" markerWidth="7" markerHeight="7" orient="auto">'
+           f'<path d="M0 0L8 4L0 8Z" fill="{edge}"/></marker></defs>',
            f'<rect width="{WIDTH}" height="{height:.0f}" fill="{ground}"/>']
-    tests = {crate for room in found if room.name == "tests" for crate in room.crates}
-    for name, used in reduced(uses).items():
-        if name in tests:
-            continue
-        x, y, width = boxes[name]
-        for other in used:
-            to_x, to_y, to_width = boxes[other]
-            start, end = (y + BOX, to_y) if to_y > y else (y, to_y + BOX)
-            middle = (start + end) / 2
-            a, b = x + width / 2, to_x + to_width / 2
-            if to_y == y:
-                start = end = y + BOX
-                middle = y + BOX + 12
-            out.append(f'<path d="M{a:.0f} {start:.0f} C{a:.0f} {middle:.0f} {b:.0f} {middle:.0f} {b:.0f} {end:.0f}" '
-                       f'fill="none" stroke="{faint}"><title>{name} stands on {other}</title></path>')
-    for room, y in heads:
-        out.append(f'<text x="10" y="{y + 15:.0f}" font-size="13" font-weight="bold" fill="{ink}">{escape(room.name)}'
-                   f"<title>{escape(room.what)}</title></text>")
-    for name, (x, y, width) in boxes.items():
-        out.append(f'<g><title>{escape(first_words(name))}</title><rect x="{x:.0f}" y="{y:.0f}" width="{width:.0f}" '
-                   f'height="{BOX}" rx="4" fill="{fill}" stroke="{edge}"/><text x="{x + width / 2:.0f}" y="{y + 15:.0f}" '
-                   f'font-size="12" text-anchor="middle" fill="{ink}">{name}</text></g>')
+    out += [path(boxes[one], boxes[other], edge) for one, used in down.items() if one in boxes for other in used]
+    out += [upward(boxes[one], boxes[other], edge, place) for place, (one, other) in enumerate(up)]
+    out += [drawn(box, ink, faint, fill, edge) for box in boxes.values()]
     return "\n".join([*out, "</svg>", ""])
 
 
@@ -204,6 +259,9 @@ def main(word: str) -> int:
 
 
 if __name__ == "__main__":
+    if {"-h", "--help"} & set(sys.argv[1:]):
+        print(__doc__)
+        sys.exit()
     if sys.argv[1:] not in (["--write"], ["--check"], ["--chain"], ["--chains"]):
         sys.exit(__doc__)
     sys.exit(main(sys.argv[1]))

@@ -2,10 +2,11 @@
 """Prints the definitions on which a clause rests: what has to be read to believe a theorem.
 
     dev/statement.py CRATE/FILE:NAME ..   the definitions, by file, from the ground up, with their texts
-    dev/statement.py --all                the definitions of every theorem (the packages hold this text)
+    dev/statement.py --all                the definitions of every theorem, names and texts (the packages hold this text)
+    dev/statement.py --lists              their names by theorem and file
     dev/statement.py --sizes              how large the statement of each theorem is
     dev/statement.py --senses             the names that have two senses in the statement of a theorem
-    dev/statement.py --write              writes docs/verify/reading.md: the statement of each theorem, by file
+    dev/statement.py --write              writes docs/verify/reading.md: what says each theorem, and how much that is
     dev/statement.py --check              says whether docs/verify/reading.md is as --write makes it, and what a statement may
                                           not rest on; status 1 where something is wrong
 
@@ -18,12 +19,15 @@ statement. Files named `Inside..` have what only contracts of private code cite:
 """
 from __future__ import annotations
 
+import os
 import re
 import sys
 from dataclasses import dataclass, field
 from graphlib import TopologicalSorter
 from pathlib import Path
 from typing import Any, TypeVar
+
+from theorems import ARITHMETIC, CLOSING, COMMANDS, DOUBTS, LEGEND, OPENING, THEOREMS
 
 TOP = Path(__file__).resolve().parent.parent
 READING = TOP / "docs" / "verify" / "reading.md"
@@ -169,6 +173,10 @@ class Statement:
                 file = SpecFile.read(path)
                 self.files[file.crate, file.name] = file
 
+    def has(self, key: Key) -> bool:
+        file = self.files.get(key[:2])
+        return file is not None and key[2] in file.definitions
+
     def __getitem__(self, key: Key) -> Definition:
         return self.files[key[:2]].definitions[key[2]]
 
@@ -248,104 +256,6 @@ def is_arithmetic(file: tuple[str, str]) -> bool:
 def upwards(below: dict[T, set[T]]) -> list[T]:
     """Each after those that it rests on."""
     return list(TopologicalSorter({it: sorted(others) for it, others in sorted(below.items())}).static_order())
-
-
-@dataclass(frozen=True)
-class Theorem:
-    """What is promised, the definitions that say it, and where to begin."""
-
-    name: str
-    roots: tuple[str, ...]
-    sentence: str
-    two_senses: int = 0         # names that stand for two things in it: never more
-
-
-HEADLINE = "command_parts/Promise:Answers"
-
-# What numbers are: it stands last, since few doubt it.
-ARITHMETIC = ("fractions", "exact_numbers/Fraction", "exact_numbers/Values")
-DOUBTS = "Arithmetic: for who doubts the rational numbers"
-
-THEOREMS = (
-    Theorem("export", (HEADLINE, "bridge_tool/Export:export_promise"),
-            "What `export` answers, writes and tells, and what its program means. `nl_model/File` is the value of an .nl "
-            "text, `nl_segments/Reader` (`IsNl`) says which texts are .nl texts and what they say, `file_meaning/Meaning` "
-            "which assignments satisfy a file, `nl_meaning/Faults` and `file_meaning/FoldFaults` what does not fold, "
-            "`scaled_program` what its linear program is scaled to, `exported_program` that as MPS, `mps_model/Mps` what "
-            "an MPS program means, `mps_model/Text` its text, `bridge_tool/Export` and `command_parts/Promise` what is promised of all that."),
-    Theorem("what an export means", ("bridge_tool/Export:MeansTheFile",),
-            "The program that is written means what the file means: this much has to be read to believe only that."),
-    Theorem("what an export is read as",
-            ("nl_segments/Reader:IsNl", "bridge_tool/Export:IsExported", "export_round_trip/ReadAs:IsReadAs"),
-            "Each text that a file is exported as is read, as an MPS text, as the program that was exported (the law "
-            "`exports_are_read_back`; with names, `named_exports_are_read_back`).", 19),
-    Theorem("export with names", (HEADLINE, "bridge_tool/NamedExport:named_promise"),
-            "The same with two lists: `name_files/Names` says which texts are lists, `Renamed` what names change.", 5),
-    Theorem("return", (HEADLINE, "bridge_tool/Return:return_promise"),
-            "What `return` writes: `answer_file` says which texts are answers, `sol_files/Sol` and `Written` what a .sol "
-            "value and its text are, `dual_return/Return` what the answer is returned as.", 16),
-    Theorem("verify", (HEADLINE, "bridge_tool/Verify:verify_promise"),
-            "What `verify` answers: `certificate_text` says which texts are certificates, `duality/Parts`, `Branch`, `Ray` "
-            "and `Certificate` when one holds, `duality/Problem` what is then true of the problem that the file states."),
-    Theorem("which texts are certificates", ("certificate_text/Written:IsWrittenFor",),
-            "What the lines of a certificate are, by the value that they say: the readable definition (law of `certificate_text` "
-            "that exactly these texts are read as the value)."),
-    Theorem("what a verified claim means", ("duality/Told:IsTrueOf", "file_certificates/FileProblem:problem_of"),
-            "What is true of the file where `verify` says yes: this much has to be read to believe only that."),
-    Theorem("what a denied claim means", ("duality/ProblemSays:Denies", "file_certificates/FileProblem:problem_of"),
-            "What is true of the file, or of a leaf's part of its program, where `verify` says no, by the cause that is told."),
-    Theorem("check", (HEADLINE, "bridge_tool/Check:check_promise"),
-            "What `check` answers on a point and duals: `duality/Verdict` has the phases of a verdict in their order.", 20),
-    Theorem("prove", (HEADLINE, "bridge_tool/Prove:prove_promise"),
-            "What `prove` answers: `proof_text` says which texts are proofs, `certificates/Proofs` what tree each is."),
-    Theorem("what proved means", ("bridge_tool/Prove:IsProvedOf",),
-            "What is true of the file where `prove` says yes."),
-    Theorem("all commands", (HEADLINE, "bridge_tool/Commands:promise_of"),
-            "What `bridge` answers to any words."),
-)
-
-LEGEND = (
-    "How to read them: `Type 0` is read \"proposition\" or \"kind of thing\". `(x : A) → P x` is for all x, `(x : A) × P",
-    "x` there is an x, `A × B` and, `A ⊎ B` or, `A ↔ B` exactly where, `A → ⊥` and `¬ A` not, `≡` equal, `Unit` true. A",
-    "`record` is all of its fields: each of them holds, or each is a part; `data` lists the forms of a value. `abbrev` and",
-    "`unfoldable` begin a definition (they differ for the prover alone); of several equations the first that fits holds.",
-    "`[]`, `∷`, `++` make lists, `get_or xs j d` is element j, or d; `None` and `Some x` an `Option`, whose missing value",
-    "`option_map` and `option_and_then` pass on; `t.0`, `t.1` are the parts of a pair, `λ x.` begins a function; `◌` is the",
-    "place of an operand; `suc n` is n + 1, `pos n` is n and `negsuc n` is -(n + 1); `-` on ℕ stops at 0, `∣` divides. A text",
-    "is a list of bytes, `List ℕ`. Types that code declares (`specs.declared`) have their parts in `crates/CRATE/src`: those",
-    "of its `ghost Value` where it has one.",
-)
-
-OPENING = (
-    "# What to read to believe each theorem",
-    "",
-    "Written by `dev/statement.py --write`. A proof is checked by the machine; what it says is for people to read. Each",
-    "theorem rests on the definitions below, from the ground up, but for arithmetic, which comes last: what rational numbers",
-    "are, their sums, products and order. `dev/statement.py CRATE/FILE:NAME` prints their texts.",
-    "Paths are `crates/CRATE/specs/FILE.antt`, the number before a name is its line; in a package all texts stand, in this",
-    "order, in `definitions.txt` beside this page. Who finds that they say what the words mean, and trusts the toolchain,",
-    "believes the theorem: no code and no proof need be read.",
-    "",
-    *LEGEND,
-    "",
-    "A value that holds a proof, as a fraction that it is in lowest terms, is made by a lemma. Lemmas stand in files named",
-    "`..Lemmas` and are not to be read, since the value's type says all that they give: the last column counts them, and the",
-    "column before it leaves them out.",
-)
-
-CLOSING = (
-    "",
-    "## What no definition says",
-    "",
-    "That the files a desk names are those of the machine (`HostDesk` is trusted), that the compilers and the prover are",
-    "right, how long a run takes and how much memory it needs.",
-    "",
-    "That points need be rational only: a point is a list of rational numbers. Of a file that folds each claim holds of real",
-    "points, too. For its numbers are rational and its bodies linear; and a system of linear inequalities with rational",
-    "numbers, strict ones among them (`better than V`) and some variables fixed at whole numbers, that has a real solution",
-    "has a rational one: Fourier and Motzkin's elimination decides both alike. So a real point that is better than a bound,",
-    "or that is feasible where there is none, would give a rational one. No law here states it.",
-)
 
 
 def declaration(file: str, name: str) -> list[str]:
@@ -434,49 +344,51 @@ def printed(statement: Statement, roots: list[Key]) -> str:
     return "\n".join([*lines, f"{whole_size(statement, keys)}; {type_size(statement, keys)}", cited])
 
 
-def all_texts() -> str:
-    """The texts of the definitions of every theorem."""
-    return printed(Statement(), [key_of(root) for it in THEOREMS for root in it.roots]) + "\n"
-
-
-def section(statement: Statement, keys: list[Key], known: set[Key]) -> list[str]:
-    """The lines on these definitions: the files of those that are known, and the others by file."""
-    files = statement.by_file(keys)
+def lists(statement: Statement) -> list[str]:
+    """The definitions of each theorem by file, with the line at which each stands."""
     lines = []
-    if shared := [it for it in files if known.issuperset(one.key for one in files[it])]:
-        names = ", ".join(f"`{crate}/{file}`" for crate, file in shared)
-        lines.append(f"- as for `{THEOREMS[0].name}` or in part: {names}")
-    own = [it for it in files if it not in shared]
-    arithmetic = [it for it in own if is_arithmetic(it)]
-    for crate, file in own:
-        found = files[crate, file]
-        if arithmetic and (crate, file) == arithmetic[0]:
-            lines += ["", f"{DOUBTS} ({size_of([one for it in arithmetic for one in files[it]])}).", ""]
-        names = ", ".join(f"{one.line} `{one.key[2]}`" for one in found)
-        lines.append(f"- **{crate}/{file}** ({size_of(found)}): {names}")
+    for it in THEOREMS[:-1]:
+        keys = statement.closure([key_of(root) for root in it.roots])
+        lines += [f"==== {it.name}: {whole_size(statement, keys)}", ""]
+        for (crate, file), found in statement.by_file(keys).items():
+            names = ", ".join(f"{one.line} {one.key[2]}" for one in found)
+            lines.append(f"crates/{crate}/specs/{file}.antt ({size_of(found)}): {names}")
+        lines.append("")
     return lines
+
+
+def all_texts() -> str:
+    """The definitions of each theorem by name, and the texts of all."""
+    statement = Statement()
+    texts = printed(statement, [key_of(root) for it in THEOREMS for root in it.roots])
+    return "\n".join([*lists(statement), texts]) + "\n"
 
 
 def reading(statement: Statement) -> str:
     """The text of docs/verify/reading.md."""
-    found = {it.name: statement.closure([key_of(root) for root in it.roots]) for it in THEOREMS}
-    lines = [*OPENING, "", "| theorem | definitions that say it | its statement | types of code | lemmas |",
-             "|---|---|---|---|---|"]
+    lines = [*OPENING, "", "| theorem | definitions that say it | what they are | definitions, lines; files, crates; types of code |",
+             "|---|---|---|---|"]
     for it in THEOREMS:
         roots = ", ".join(f"`{root}`" for root in it.roots)
-        keys = found[it.name]
-        sizes = f"{whole_size(statement, keys)} | {type_size(statement, keys)} | {lemma_size(statement, keys)}"
-        lines.append(f"| {it.name} | {roots} | {sizes} |")
-    known: set[Key] = set()
-    for it in THEOREMS[:-1]:
-        lines += ["", f"## {it.name}", "", it.sentence, "", *section(statement, found[it.name], known)]
-        known = known or set(found[it.name])
+        keys = statement.closure([key_of(root) for root in it.roots])
+        files, crates = len({key[:2] for key in keys}), len({key[0] for key in keys})
+        count = f"{len(keys)}, {sum(len(statement[key].own_lines) for key in keys)}; {files}, {crates}; {len(types_of(statement, keys))}"
+        lines.append(f"| {it.name} | {roots} | {it.sentence} | {count} |")
     return "\n".join([*lines, *CLOSING]) + "\n"
+
+
+def without_row(statement: Statement) -> list[str]:
+    """The commands whose promise is said by no theorem."""
+    rows = {root for it in THEOREMS for root in it.roots}
+    named = {it for table in COMMANDS for it in statement.rests_on(table)}
+    promised = {it for it in named if it[2].endswith(("_promise", "_row"))}
+    return [f"no theorem of dev/theorems.py has {crate}/{file}:{name}" for crate, file, name in sorted(promised)
+            if f"{crate}/{file}:{name}" not in rows]
 
 
 def complaints(statement: Statement) -> list[str]:
     """What statements rest on and may not: what is inside, and a lemma whose type is no proposition."""
-    found = set()
+    found = set(without_row(statement))
     for it in THEOREMS:
         for key in statement.closure([key_of(root) for root in it.roots]):
             if key[1].startswith("Inside"):
@@ -497,6 +409,8 @@ def main(words: list[str]) -> int:
     statement = Statement()
     if words == ["--all"]:
         print(all_texts(), end="")
+    elif words == ["--lists"]:
+        print("\n".join(lists(statement)))
     elif words == ["--sizes"]:
         for it in THEOREMS:
             keys = statement.closure([key_of(root) for root in it.roots])
@@ -517,12 +431,16 @@ def main(words: list[str]) -> int:
             found.append(f"{READING.relative_to(TOP)} is not as the definitions are: dev/statement.py --write")
         print("\n".join(found), end="\n" if found else "")
         return 1 if found else 0
-    elif any(word.startswith("-") or ":" not in word for word in words):
-        sys.exit(__doc__)
+    elif unknown := next((word for word in words if not statement.has(key_of(word))), None):
+        sys.exit(f"dev/statement.py: {unknown}: no definition CRATE/FILE:NAME and no option (dev/statement.py without words lists them)")
     else:
         print(printed(statement, [key_of(word) for word in words]))
     return 0
 
 
 if __name__ == "__main__":
-    sys.exit(main(sys.argv[1:]))
+    try:
+        sys.exit(main(sys.argv[1:]))
+    except BrokenPipeError:
+        os.dup2(os.open(os.devnull, os.O_WRONLY), sys.stdout.fileno())
+        sys.exit(1)

@@ -54,6 +54,9 @@ def main(crate: str, lines: int) -> int:
 
 
 if __name__ == "__main__":
+    if {"-h", "--help"} & set(sys.argv[1:]):
+        print(__doc__)
+        sys.exit()
     if len(sys.argv) not in (2, 3):
         sys.exit(__doc__)
     sys.exit(main(sys.argv[1], int(sys.argv[2]) if len(sys.argv) == 3 else MOST))

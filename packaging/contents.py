@@ -15,11 +15,13 @@ try:
 except ImportError:
     raise SystemExit("packaging/build: needs Python 3.11 or later") from None
 
-from sources import BUILT, TOP, noted, said_by
+from sources import BUILT, TOP, TRIED, noted, said_by, tried
 
 sys.path += [os.path.join(TOP, "dev"), os.path.join(TOP, "drivers")]
+import calls                                            # noqa: E402
+import manual                                           # noqa: E402
 import statement                                        # noqa: E402
-from bridge_drivers.front import completion             # noqa: E402
+from bridge_drivers.completion import Completion, place     # noqa: E402
 
 PACKAGE = "bridge_drivers"
 FOLDERS = ("user", "verify", "dev")         # of documents
@@ -63,18 +65,27 @@ def dead_links(documents: Sequence[File]) -> list[str]:
     return dead
 
 
+def program_of(other: str | None) -> tuple[str, bool, str]:
+    """The program, whether the gate proved it, and its toolchain: the one that is named, that of
+    the gate, else that which dev/try built of these sources."""
+    if other:
+        return other, False, said_by("rt", "--version")
+    facts, why = noted() if os.path.isfile(BUILT) else ({}, "it is not built")
+    if not why:
+        return BUILT, True, facts["toolchain"]
+    told, no_trial = tried()
+    if no_trial:
+        raise Unfit(f"{os.path.relpath(BUILT, TOP)}: {why}: .ci/run builds and proves it; "
+                    f"{os.path.relpath(TRIED, TOP)}: {no_trial}: dev/try builds it without proofs")
+    return TRIED, False, told["toolchain"]
+
+
 class Project:
     """A clone with a program: that which its gate built and proved from the sources that are
     there, or another one, which may not be proved."""
 
     def __init__(self, other: str | None) -> None:
-        program = other or BUILT
-        self.proved, self.toolchain = not other, said_by("rt", "--version")
-        if self.proved:
-            facts, why = noted()
-            if why:
-                raise Unfit(f"{os.path.relpath(BUILT, TOP)}: {why}. Run .ci/run first")
-            self.toolchain = facts["toolchain"]
+        program, self.proved, self.toolchain = program_of(other)
         with open(program, "rb") as f:
             self.program = f.read()
         if self.program[:4] != b"\x7fELF" or self.program[18:20] != X86_64:
@@ -88,6 +99,11 @@ class Project:
         if found is None:
             raise Unfit("bridge_drivers has no VERSION")
         self.version = found.group(1)
+
+    def description(self) -> str:
+        """One line, which says so where the program is not proved."""
+        text = str(self.table["description"])
+        return text if self.proved else text.replace("proved", "UNPROVED", 1)
 
     def maintainer(self) -> str:
         """The project's, or that of whoever builds packages for others, as Debian's tools ask."""
@@ -115,7 +131,7 @@ class Project:
         for folder, inner, names in os.walk(top):
             inner[:] = sorted(name for name in inner if name != "__pycache__")
             for name in sorted(names):
-                if name.endswith(".py"):
+                if name.endswith(".py") or name == "py.typed":
                     path = os.path.join(folder, name)
                     yield File(os.path.relpath(path, os.path.dirname(top)), read(path))
         yield File(f"{PACKAGE}/built.json", self.built())
@@ -133,7 +149,7 @@ class Project:
         """The man pages of the commands, with their words filled in."""
         drivers = [name for name, entry in self.scripts.items() if entry == DRIVER]
         words = {"@VERSION@": self.version, "@DRIVERS@": ", ".join(drivers).replace("-", "\\-"),
-                 "@DATE@": time.strftime("%Y-%m-%d", time.gmtime(self.epoch))}
+                 "@DATE@": time.strftime("%Y-%m-%d", time.gmtime(self.epoch)), **manual.parts()}
         for name in sorted(os.listdir(os.path.join(TOP, "packaging", "man"))):
             if name.removesuffix(".1") in self.scripts:
                 text = read("packaging", "man", name).decode()
@@ -153,8 +169,10 @@ class Project:
     def documents(self) -> Iterator[File]:
         """What users read. Unfit where a link leads to none of it."""
         found = [File("README.md", read("README.md")),
-                 File("drivers/README.md", read("drivers", "README.md")),
                  File("drivers/report.schema.json", read("drivers", "report.schema.json"))]
+        found += [File(f"drivers/{name}", read("drivers", name))
+                  for name in sorted(os.listdir(os.path.join(TOP, "drivers")))
+                  if name.endswith(".md")]
         for folder in FOLDERS:
             for name in sorted(os.listdir(os.path.join(TOP, "docs", folder))):
                 if name.endswith(".md"):
@@ -165,18 +183,22 @@ class Project:
             if os.path.isfile(os.path.join(TOP, "crates", crate, "README.md")):
                 found.append(File(f"crates/{crate}/README.md", read("crates", crate, "README.md")))
         found.append(File("docs/verify/definitions.txt", statement.all_texts().encode()))
+        found.append(File("docs/verify/calls.txt", calls.listed().encode()))
+        wrong = said_by(os.path.join(TOP, "dev", "wrong-bodies"), "--list")
+        found.append(File("docs/verify/wrong-bodies.txt", wrong.encode()))
         dead = dead_links(found)
         if dead:
             raise Unfit("links that lead nowhere: " + ", ".join(dead))
         yield from found
 
     def completions(self, zsh: str) -> Iterator[File]:
-        """Where shells look for them below PREFIX/share; `zsh` is zsh's folder. Those of bash are
-        one text under the name of each command."""
-        yield File(f"zsh/{zsh}/_{self.name}", completion("zsh").encode())
-        text = completion("bash").encode()
-        for name in self.scripts:
-            yield File(f"bash-completion/completions/{name}", text)
+        """Where shells look for them below PREFIX/share; `zsh` is zsh's folder. Those of bash and
+        fish are one text under the name of each command."""
+        made = Completion()
+        yield File(place("zsh", "", self.name, zsh), made.zsh().encode())
+        for shell, text in (("bash", made.bash().encode()), ("fish", made.fish().encode())):
+            for name in self.scripts:
+                yield File(place(shell, "", name), text)
 
     def examples(self) -> Iterator[File]:
         """What users can try. Not among the documents, which small systems leave out."""

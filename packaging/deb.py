@@ -29,6 +29,12 @@ DESCRIPTION = """ Reads text .nl files of AMPL, MiniZinc, Pyomo and JuMP and wri
  nl-bridge is proved; the drivers for cbc and other solvers, with
  configurations for MiniZinc and a class for PuLP, are Python around it.
 """
+OVERRIDES = """# The program is byte for byte the one that was built, tried and summed.
+nl-bridge: unstripped-binary-or-object [usr/libexec/nl-bridge/bridge]
+"""
+UNPROVED = """ .
+ This package was built for trials: no gate has proved the program in it.
+"""
 INSTALLED = """#!/bin/sh
 set -e
 if [ "$1" = configure ] && [ -z "$DPKG_ROOT" ] && command -v py3compile >/dev/null; then
@@ -83,12 +89,13 @@ def files(project: Project) -> list[File]:
         inside.append(File(f"usr/bin/{name}", text.encode(), 0o755))
     inside += [File(f"usr/share/minizinc/solvers/{f.path}", f.data)
                for f in project.configurations()]
-    inside += [File(f"usr/share/{f.path}", f.data)
+    inside += [File(f"usr/{f.path}", f.data)
                for f in project.completions("vendor-completions")]
     inside += [File(f"usr/share/man/man1/{f.path}.gz", zipped(f.data)) for f in project.pages()]
     inside += [File(f"{documents}/{f.path}", f.data) for f in project.documents()]
     inside += [File(f"usr/share/{project.name}/{f.path}", f.data) for f in project.examples()]
-    inside += [File(f"{documents}/copyright", copyright_of()),
+    inside += [File(f"usr/share/lintian/overrides/{project.name}", OVERRIDES.encode()),
+               File(f"{documents}/copyright", copyright_of()),
                File(f"{documents}/changelog.gz", changelog(project))]
     return sorted(inside)
 
@@ -102,9 +109,10 @@ def control(project: Project, inside: list[File]) -> list[File]:
               f"Installed-Size: {size}", f"Depends: libc6 (>= {major}.{minor}), python3 (>= 3.9), "
               "coinor-libclp1",
               "Recommends: coinor-cbc, python3-scipy", f"Suggests: {SOLVERS}", "Section: math",
-              "Priority: optional", f"Description: {project.table['description']}"]
+              "Priority: optional", f"Description: {project.description()}"]
     sums = [f"{hashlib.md5(f.data).hexdigest()}  {f.path}\n" for f in inside]
-    return [File("DEBIAN/control", ("\n".join(fields) + "\n" + DESCRIPTION).encode()),
+    said = DESCRIPTION + ("" if project.proved else UNPROVED)
+    return [File("DEBIAN/control", ("\n".join(fields) + "\n" + said).encode()),
             File("DEBIAN/md5sums", "".join(sums).encode()),
             File("DEBIAN/postinst", INSTALLED.format(name=project.name).encode(), 0o755),
             File("DEBIAN/prerm", REMOVED.format(name=project.name).encode(), 0o755)]

@@ -5,6 +5,7 @@
     packaging/sources.py --note SUM     notes beside the built program its sum, that of its sources,
                                         and the toolchain; SUM is that of the sources before the
                                         gate, and status 1 says that they have changed since
+    packaging/sources.py --unproved PROGRAM     notes beside a program that it is not proved
 """
 
 from __future__ import annotations
@@ -18,6 +19,7 @@ from typing import Iterator, Mapping
 
 TOP = os.path.dirname(os.path.dirname(os.path.realpath(__file__)))
 BUILT = os.path.join(TOP, "crates", "bridge", "out", "bridge")
+TRIED = os.path.join(TOP, "out", "try", "bridge")     # by dev/try, without proofs
 NOTE = BUILT + ".built"
 
 
@@ -53,9 +55,27 @@ def note(before: str) -> None:
     now = sources()
     if now != before:
         sys.exit("packaging/sources.py: the sources have changed while the gate ran")
-    facts = {"program": sum_of(BUILT), "sources": now, "toolchain": said_by("rt", "--version")}
-    with open(NOTE, "w", encoding="ascii") as f:
+    write_note(BUILT, now, "yes")
+
+
+def write_note(program: str, of: str, proved: str) -> None:
+    """Beside a program, where `nl-bridge version` and the packages find it."""
+    facts = {"program": sum_of(program), "sources": of, "toolchain": said_by("rt", "--version"),
+             "proved": proved}
+    with open(program + ".built", "w", encoding="ascii") as f:
         f.write(json.dumps(facts, indent=1) + "\n")
+
+
+def tried() -> tuple[Mapping[str, str], str]:
+    """The note of the program that dev/try built, and why it is not of these sources; nothing where
+    it is."""
+    try:
+        with open(TRIED + ".built", encoding="ascii") as f:
+            facts: dict[str, str] = json.load(f)
+        is_own = facts.get("program") == sum_of(TRIED)
+    except (OSError, ValueError):
+        return {}, "it is not built"
+    return facts, "" if is_own and facts.get("sources") == sources() else "it is of other sources"
 
 
 def noted() -> tuple[Mapping[str, str], str]:
@@ -76,6 +96,8 @@ def noted() -> tuple[Mapping[str, str], str]:
 if __name__ == "__main__":
     if sys.argv[1:2] == ["--note"] and len(sys.argv) == 3:
         note(sys.argv[2])
+    elif sys.argv[1:2] == ["--unproved"] and len(sys.argv) == 3:
+        write_note(os.path.abspath(sys.argv[2]), sources(), "no")
     elif len(sys.argv) == 1:
         print(sources())
     else:

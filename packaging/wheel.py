@@ -4,6 +4,7 @@ from __future__ import annotations
 
 import base64
 import hashlib
+import os
 import time
 import zipfile
 
@@ -11,6 +12,8 @@ from contents import PACKAGE, File, Project, read
 from sources import TOP
 
 LEVEL = 9
+# pip removes a folder with all below it where a file of ours stands in it itself
+SHARED = "What nl-bridge has in this folder goes by `pip uninstall nl-bridge`.\n"
 
 
 def tag(project: Project) -> str:
@@ -25,12 +28,14 @@ def files(project: Project) -> list[File]:
     data = f"{name_of(project)}.data/data/share"
     inside += [File(f"{data}/minizinc/solvers/{f.path}", f.data)
                for f in project.configurations()]
-    inside += [File(f"{data}/{f.path}", f.data) for f in project.completions("site-functions")]
+    inside += [File(f"{os.path.dirname(data)}/{f.path}", f.data)
+               for f in project.completions("site-functions")]
     pages = {f.path: f.data for f in project.pages()}
     pages.update({name: b".so man1/bridge-cbc.1\n" for name in project.linked_pages()})
     inside += [File(f"{data}/man/man1/{name}", page) for name, page in sorted(pages.items())]
     inside += [File(f"{data}/doc/{project.name}/{f.path}", f.data) for f in project.documents()]
     inside += [File(f"{data}/{project.name}/{f.path}", f.data) for f in project.examples()]
+    inside.append(File(f"{data}/{project.name}.txt", SHARED.encode()))
     return sorted(inside) + sorted(facts(project))
 
 
@@ -42,7 +47,7 @@ def facts(project: Project) -> list[File]:
     """The folder dist-info."""
     folder = name_of(project) + ".dist-info"
     metadata = ["Metadata-Version: 2.1", f"Name: {project.name}", f"Version: {project.version}",
-                f"Summary: {project.table['description']}", "License: MIT",
+                f"Summary: {project.description()}", "License: MIT",
                 f"Maintainer-email: {project.maintainer()}",
                 f"Requires-Python: {project.table['requires-python']}"]
     for extra, needs in project.table["optional-dependencies"].items():

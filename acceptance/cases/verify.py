@@ -77,6 +77,7 @@ def third_cases() -> Iterator[Case]:
     yield verdict("whole", WHOLE, "optimal 0 / point 1 / 0 1 / split 0 0 / weights 1 / 0 1 / duals 0", "optimal 1")
     yield verdict("a whole variable that is not whole", WHOLE, "optimal 0 / point 1 / 0 1/3 / split 0 0 / weights 1 / 0 1 / duals 0", "variable 0 not whole")
     yield verdict("weights that give 0", WHOLE, "optimal 0 / point 1 / 0 1 / split 0 0 / weights 0 / duals 0", "leaf 0 gap 0")
+    yield verdict("the gap of weights, which is no bound: 15 is reached", TWO, "bound 1 16 / weights 0", "leaf 0 gap 0")
     yield verdict("the second leaf", WHOLE, "optimal 0 / point 1 / 0 2 / split 0 0 / weights 1 / 0 1 / duals 0", "leaf 1 gap 1")
     yield verdict("a bound broken", row(bound="0 0 5"), "feasible 0 / point 1 / 0 6", "bound 0 broken")
     yield verdict("the second objective", TWO, "optimal 1 / point 1 / 0 5 / duals 0", "optimal 15 of objective 1")

@@ -5,13 +5,14 @@ from __future__ import annotations
 import copy
 from dataclasses import replace
 from fractions import Fraction
+from functools import cached_property
 from typing import Mapping, Sequence
 
 from .codes import Code
 from .options import Options
 from .program import Program
 from .solvers.base import Outcome
-from .values import Number, text_of
+from .values import Number, texts_of
 
 NEAR_WHOLE = 1e-5
 NEAR_DUAL = 1e-7
@@ -31,31 +32,34 @@ class Answer:
         self.costs: dict[str, str] | None = None
         self.whole = program.whole if options.round and not options.relax else set()
         if outcome.values is not None:
-            self.values = {c: self.value(outcome.values[c], c in self.whole)
-                           for c in program.columns}
-        loose = self.loose
+            self.values, self.loose = by_name(program.columns, self.rounded(outcome.values))
         if outcome.duals is not None:
-            self.duals = {r: self.number(outcome.duals[r]) for r in program.constraints}
-        self.loose_duals, self.loose = self.loose - loose, loose
-        if outcome.costs is not None:
-            self.costs = {c: self.number(outcome.costs[c]) for c in program.columns}
-            self.loose = loose          # reduced costs are checked by nothing
+            self.duals, self.loose_duals = by_name(program.constraints, outcome.duals)
+        if outcome.costs is not None:       # they are checked by nothing, exact or not
+            self.costs, _ = by_name(program.columns, outcome.costs)
         self.lines: list[str] | None = None
 
-    def number(self, value: Number) -> str:
-        text, exact = text_of(value)
-        self.loose += not exact
-        return text
+    @cached_property
+    def doubles(self) -> dict[str, float]:
+        """Of its values."""
+        return {name: float(text) for name, text in (self.values or {}).items()}
 
-    def value(self, value: Number, whole: bool) -> str:
-        if whole and abs(float(value)) < float("inf"):
-            near = round(value)
-            apart = abs(float(near - value))
-            if apart <= NEAR_WHOLE:
-                return str(near)
-            self.apart += 1
-            self.most_apart = max(self.most_apart, apart)
-        return self.number(value)
+    def rounded(self, values: Mapping[str, Number]) -> Mapping[str, Number]:
+        """Whole columns at the whole numbers that they are near."""
+        if not self.whole:
+            return values
+        return {c: self.near_whole(v) if c in self.whole else v for c, v in values.items()}
+
+    def near_whole(self, value: Number) -> Number:
+        if not abs(float(value)) < float("inf"):
+            return value
+        near = round(value)
+        apart = abs(float(near - value))
+        if apart <= NEAR_WHOLE:
+            return near
+        self.apart += 1
+        self.most_apart = max(self.most_apart, apart)
+        return value
 
     def notes(self) -> list[str]:
         notes = []
@@ -96,6 +100,12 @@ class Answer:
         other.outcome = replace(self.outcome, code=code)
         return other
 
+    def with_text(self, text: str) -> Answer:
+        """The code in other words."""
+        other = copy.copy(self)
+        other.outcome = replace(self.outcome, text=text)
+        return other
+
     def without_point(self, code: Code) -> Answer:
         """Nothing but the code."""
         return Answer(self.program, Outcome(code, self.outcome.text), self.options)
@@ -111,7 +121,7 @@ class Answer:
             if len(text) > 40:
                 text = f"{shown(figure)} (a fraction of {len(text)} digits)"
             return text
-        return f"{self.program.figure(self.values):.10g}"
+        return f"{self.program.figure(self.doubles):.10g}"
 
     def body(self) -> list[str]:
         if self.lines is None:
@@ -141,6 +151,12 @@ class Answer:
         lines = ["answer 1", f"status {int(self.outcome.code)}", f"objno {self.options.objno - 1}"]
         lines += [f"message {m}" for m in message]
         return ("\n".join(lines + self.body()) + "\n").encode()
+
+
+def by_name(names: Sequence[str], values: Mapping[str, Number]) -> tuple[dict[str, str], int]:
+    """Decimal texts, with how many are not exact."""
+    texts, loose = texts_of([values[name] for name in names])
+    return dict(zip(names, texts)), loose
 
 
 def shown(figure: Fraction) -> str:

@@ -18,7 +18,8 @@ HERE = os.path.dirname(PACKAGE)
 BESIDE = (os.path.join(PACKAGE, "bin", "bridge"),                               # a wheel
           os.path.join(HERE, "..", "..", "..", "libexec", "nl-bridge", "bridge"),   # Debian's
           os.path.join(HERE, "bin", "bridge"),                                  # drivers/install
-          os.path.join(HERE, "..", "crates", "bridge", "out", "bridge"))        # a clone
+          os.path.join(HERE, "..", "crates", "bridge", "out", "bridge"),        # a clone
+          os.path.join(HERE, "..", "out", "try", "bridge"))             # the same, not proved
 ENDED = {4: "a file could not be read", 5: "its output could not be written", 6: "want of memory"}
 BAD_WORDS, INPUT_FAULT = 3, 4
 

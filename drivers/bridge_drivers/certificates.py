@@ -16,6 +16,7 @@ from .bridge import Bridge, Refused
 from .certify import clp
 from .certify.claims import WITHOUT, Certifying, Given, Verdict, certified
 from .certify.points import Basis
+from .certify.pool import pool_of
 from .certify.text import answer_lines
 from .certify.watch import Watch
 from .codes import Code
@@ -51,9 +52,9 @@ class End(NamedTuple):
 
 class Certifier:
     """Asks `bridge` over the .nl file at `nl`. `stub` is where AMPL writes names beside it.
-    `checks` is what `checked` is about."""
+    `values_alone`: no .sol can be made."""
 
-    checks = "bridge check of the .sol: "
+    values_alone = False
 
     def __init__(self, bridge: Bridge, nl: str, job: Job, stub: str) -> None:
         self.bridge, self.nl, self.job, self.stub = bridge, nl, job, stub
@@ -61,6 +62,13 @@ class Certifier:
         self.relaxed = bool(job.program.whole) and bool(job.options.relax)
         self.linear = not job.program.whole or self.relaxed
         self.is_interrupted = False
+        self.pool_note = ""
+
+    @property
+    def checks(self) -> str:
+        """What `checked` is about: a .sol where one is written."""
+        is_sol = self.job.options.is_written and not self.values_alone
+        return f"bridge check of the {'.sol' if is_sol else 'values'}: "
 
     # calls -----------------------------------------------------------------------
 
@@ -89,29 +97,40 @@ class Certifier:
 
     # the verdict -----------------------------------------------------------------
 
-    def verdict(self, answer: Answer, sol: bytes) -> Verdict:
-        """By the certificate of a search, which has `timelim` with prove=1, and without a second or
-        more by the size of the program. Where a large one has none, the .sol as it stands."""
+    def verdict(self, answer: Answer) -> Verdict:
+        """By the certificate of a search, which has `timelim`, and without prove=1 a second of
+        it, or more by the size of the program. Where a large one has none, the answer as it is."""
         options = self.job.options
         proves, size = bool(options.prove) and not self.job.is_interrupted, len(self.program.text)
-        seconds = (options.timelim or SECONDS) if proves \
-            else min(max(size / LARGE, ONE_LEAF), SECONDS)
+        seconds = options.timelim or SECONDS
+        if not proves:
+            seconds = min(max(size / LARGE, ONE_LEAF), seconds)
         watch = Watch(seconds, self.job.clock.progress, not proves)
+        pool = pool_of(options.jobs, options.cluster) if proves else None
         work = Certifying(self.bridge, self.nl, self.job.folder, self.program, options.objno - 1,
-                          watch, proves, self.relaxed, bool(options.bound), bool(options.shorten))
+                          watch, proves, self.relaxed, bool(options.bound), bool(options.shorten),
+                          pool)
         claim = CLAIMS[answer.outcome.code]
-        verdict: Verdict = self.job.clock.timed("certify", certified, work, claim,
-                                                self.given(answer))
+        try:
+            verdict: Verdict = self.job.clock.timed("certify", certified, work, claim,
+                                                    self.given(answer))
+        finally:
+            if pool is not None:
+                pool.close()
+                self.pool_note = pool.note
+                if pool.fault:
+                    self.pool_note = "the search went on in one process: " + pool.fault
         self.is_interrupted = watch.is_stopped
         if claim == "point" and not self.relaxed and not verdict.is_proved() and size > LARGE:
-            return self.as_it_stands(work, sol)
+            return self.as_it_stands(work, answer)._replace(by_doubles=verdict.by_doubles,
+                                                         note=verdict.note)
         return verdict
 
-    def as_it_stands(self, work: Certifying, sol: bytes) -> Verdict:
+    def as_it_stands(self, work: Certifying, answer: Answer) -> Verdict:
         """A large program: the .sol's values and duals are the certificate, without duals that of
         a feasible point; where they do not pass, the same numbers in fewer digits."""
-        values, duals = self.numbers(sol)
         try:
+            values, duals = self.numbers(answer)
             verdict = work.judged(answer_lines(values, duals, work.objective))
             if verdict.is_proved():
                 return verdict
@@ -121,10 +140,13 @@ class Certifier:
                 return second._replace(point=[Fraction(text) for text in values])
             return verdict
         except Refused as fault:
+            if fault.told.endswith("dual too wide"):
+                return self.as_it_stands(work, answer.without_duals())
             return Verdict(WITHOUT + fault.line())
 
-    def numbers(self, sol: bytes) -> tuple[list[str], list[str]]:
+    def numbers(self, answer: Answer) -> tuple[list[str], list[str]]:
         """The values and duals of an answer as they are written."""
+        sol = self.returned(answer, [], "numbers")
         return values_of(sol), duals_of(sol) if self.linear else []
 
     def given(self, answer: Answer) -> Given:
@@ -136,7 +158,7 @@ class Certifier:
         if outcome.values is not None and answer.values is not None:
             values = [Fraction(answer.values[c]) if c in p.whole and not self.relaxed
                       else outcome.values[c] for c in columns]
-            values = [v if isinstance(v, Fraction) else float(v) for v in values]
+            values = [v if type(v) in (float, Fraction) else float(v) for v in values]
         if outcome.duals is not None:
             duals = {int(row[1:]): outcome.duals[row] for row in rows}
         if outcome.column_basis is not None and outcome.row_basis is not None:
@@ -148,7 +170,9 @@ class Certifier:
         """What is told of a verdict. A search that was asked for and cannot be made is told as
         `not proved`, with what is proved without it."""
         said = verdicts.read(verdict.line) if verdict.is_proved() else None
-        kept, last, lines = self.kept(verdict), verdict.line, self.words(said)
+        kept, last, lines = self.kept(verdict), verdict.line, self.words(said, verdict.note)
+        if self.pool_note:
+            lines.append(self.pool_note)
         if self.lacks_search(said):
             lines.append(NO_SEARCH)
             if said is not None:
@@ -172,13 +196,16 @@ class Certifier:
                 if count]
         return f"; the exact {' and '.join(what)} are rounded to decimals in it" if what else ""
 
-    def words(self, said: Said | None) -> list[str]:
-        """The claim in words, where it says more than its line."""
+    def words(self, said: Said | None, note: str = "") -> list[str]:
+        """The claim in words, where it says more than its line. `note` says why no more is proved,
+        where that is known."""
         if said is None or said.is_settled():
             return []
         steps = None if self.relaxed else verdicts.multiples(self.program)
         text = verdicts.in_words(said, self.program.maximise, steps)
-        if said.word == "feasible":
+        if said.word == "feasible" and self.linear:
+            text += "; no bound was found that says how good it is" if not note else ""
+        elif said.word == "feasible":
             text += "; whether one is better was not searched for: prove=1 goes on" \
                 if not self.job.options.prove else "; the search for a better one did not end"
         return ["in words: " + text]

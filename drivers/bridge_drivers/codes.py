@@ -28,24 +28,45 @@ class Code(enum.IntEnum):
 
 
 class Status(enum.IntEnum):
-    """Exit statuses of a driver that is not called with -AMPL (there 0 wherever a .sol stands)."""
+    """Exit statuses of all commands. A driver that is called with -AMPL has 0 wherever a .sol
+    stands."""
 
     DONE = 0
     FAILED = 1
     REFUSED = 2
     BAD_WORDS = 3
-    NO_FILE = 4
-    UNWRITTEN = 5               # bridge-certify: its certificate
-    NOT_PROVED = 6              # strict=1
+    UNREAD = 4
+    UNWRITTEN = 5
+    NO_MEMORY = 6
+    NOT_SETTLED = 7
+    NOT_THERE = 127
     INTERRUPTED = 130
     TERMINATED = 143
+
+
+STATUSES = {
+    Status.DONE: "done: a text, an answer, a verdict that is yes",
+    Status.FAILED: "another verdict; nothing is proved; no answer, or a fault",
+    Status.REFUSED: "the model, or another text, is refused",
+    Status.BAD_WORDS: "bad words or options",
+    Status.UNREAD: "a file could not be read",
+    Status.UNWRITTEN: "a file or standard output could not be written",
+    Status.NO_MEMORY: "want of memory",
+    Status.NOT_SETTLED: "strict=1 is not met",
+    Status.NOT_THERE: "the proved program or the solver is not there",
+    Status.INTERRUPTED: "interrupted (SIGINT)",
+    Status.TERMINATED: "ended (SIGTERM)",
+}
+# the status of a failure, by its code, where nothing else is said
+OF_CODES = {Code.REFUSED: Status.REFUSED, Code.BAD_OPTION: Status.BAD_WORDS,
+            Code.NOT_FOUND: Status.NOT_THERE, Code.TAKES_NO_INTEGERS: Status.REFUSED}
 
 
 class Failure(Exception):
     """The run ends without an outcome of the solver."""
 
-    def __init__(self, code: Code, text: str, status: Status = Status.FAILED) -> None:
+    def __init__(self, code: Code, text: str, status: Status | None = None) -> None:
         super().__init__(text)
         self.code = code
         self.text = " ".join(text.split("\n"))      # one line of a message
-        self.status = status
+        self.status = OF_CODES.get(code, Status.FAILED) if status is None else status

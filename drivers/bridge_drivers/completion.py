@@ -1,17 +1,15 @@
-"""Completion of all commands for bash and zsh, made of their own tables of words."""
+"""Completion of all commands for bash, fish and zsh, made of their tables of words."""
 
 from __future__ import annotations
 
 import os
-from typing import Iterable, Mapping
+from typing import Mapping
 
-from . import solvers
-from .options import COMMON, Option
+from . import commands, solvers
+from .certify.command import OPTIONS
+from .commands import SHELLS
+from .options import COMMON, FILE, FOLDER, Option, Options
 
-FILES = ("bridge", "certificate", "solver")     # options whose values are paths
-FOLDERS = ("keep",)
-VALUES = {"only": "mps", "format": "free fixed", "driver": " ".join(solvers.NAMES),
-          "outlev": "0 1 2", "wantsol": "1 2 4 6 7 8"}
 DASHED = {"-AMPL": "called by a modelling system", "-s": "write the .sol",
           "-e": "no echo of options", "-=": "list the options", "-v": "versions", "-h": "help"}
 BASH = """# bash completion of nl-bridge and its drivers; made by `nl-bridge completion bash`
@@ -30,7 +28,7 @@ _nl_bridge_options() {      # of a command
 
 _nl_bridge() {
     local command=${COMP_WORDS[0]##*/} cur=${COMP_WORDS[COMP_CWORD]}
-    local prev=${COMP_WORDS[COMP_CWORD-1]} name=
+    local prev=${COMP_WORDS[COMP_CWORD-1]} name= end=
     COMPREPLY=()
     if [[ $cur == = ]]; then
         name=$prev cur=
@@ -45,16 +43,14 @@ _nl_bridge() {
         COMPREPLY=($(compgen -W '%(commands)s' -- "$cur"))
     elif [[ $command == nl-bridge ]]; then
         case ${COMP_WORDS[1]} in
-        completion) COMPREPLY=($(compgen -W 'bash zsh' -- "$cur")) ;;
-        explain) COMPREPLY=($(compgen -W '--html --svg %(explained)s' -- "$cur")) ;;
-        verify|stats|version) COMPREPLY=($(compgen -W 'json=1' -- "$cur")) ;;
+%(behind)s
         esac
         compopt -o filenames 2>/dev/null
         COMPREPLY+=($(compgen -f -- "$cur"))
     elif [[ $COMP_CWORD -eq 1 && $cur != -* ]]; then
         compopt -o filenames 2>/dev/null
-        COMPREPLY=($(compgen -f -X '!*.nl' -- "$cur") $(compgen -f -X '!*.mps' -- "$cur"))
-        COMPREPLY+=($(compgen -f -X '!*.mps.gz' -- "$cur") $(compgen -d -- "$cur"))
+        for end in %(ends)s; do COMPREPLY+=($(compgen -f -X "!*$end" -- "$cur")); done
+        COMPREPLY+=($(compgen -d -- "$cur"))
     else
         compopt -o nospace 2>/dev/null
         COMPREPLY=($(compgen -W "$(_nl_bridge_options "$command")" -- "$cur"))
@@ -85,15 +81,13 @@ _nl_bridge() {
             return
         fi
         case $words[2] in
-            completion) compadd -- bash zsh; return ;;
-            explain) compadd -- --html --svg ;;
-            verify|stats|version) compadd -- json=1 ;;
+%(behind)s
         esac
         _files
         return
     fi
     if (( CURRENT == 2 )) && [[ $PREFIX != -* ]]; then
-        _files -g '*.(nl|mps|mps.gz)'
+        _files -g '*.(nl|mps)(|.gz|.bz2|.xz)'
         return
     fi
     case $service in
@@ -110,22 +104,32 @@ _nl_bridge "$@"
 """
 
 
-def tables(certify: Iterable[Option]) -> dict[str, dict[str, str]]:
-    """The options of each command, with what they mean."""
-    found = {f"bridge-{name}": {o.name: o.text for o in sorted(
-        COMMON + tuple(solvers.load(name).options), key=lambda o: o.name)}
-        for name in solvers.NAMES}
-    found["bridge-certify"] = {o.name: o.text for o in certify}
-    return found
+FISH = """# fish completion of nl-bridge and its drivers; made by `nl-bridge completion fish`
+
+for command in %(all)s
+    complete -c $command -e
+end
+complete -c nl-bridge -n __fish_use_subcommand -f
+%(commands)s
+%(behind)s
+%(options)s
+"""
+ENDS = [end + packed for end in (".nl", ".mps") for packed in ("", ".gz", ".bz2", ".xz")]
 
 
-def kind(name: str, switches: Mapping[str, bool]) -> str:
+def tables() -> dict[str, Mapping[str, Option]]:
+    """The options of each command."""
+    found = {f"bridge-{name}": Options(solvers.load(name).options).known for name in solvers.NAMES}
+    every = {o.name: o for known in found.values() for o in known.values()}
+    found["bridge-certify"] = {**every, **{o.name: o for o in OPTIONS}}
+    return {command: dict(sorted(known.items())) for command, known in found.items()}
+
+
+def values(option: Option) -> str:
     """What follows the sign =: `files`, `folders`, words, or nothing."""
-    if name in FILES:
-        return "files"
-    if name in FOLDERS:
-        return "folders"
-    return VALUES.get(name, "0 1" if switches.get(name) else "")
+    if option.kind in (FILE, FOLDER):
+        return "files" if option.kind is FILE else "folders"
+    return " ".join(option.kind.words())
 
 
 def quoted(text: str) -> str:
@@ -139,54 +143,91 @@ def described(words: Mapping[str, str], indent: str) -> str:
 
 
 class Completion:
-    """`commands` are those of nl-bridge, `certify` the options of bridge-certify."""
+    """Of the tables of this package."""
 
-    def __init__(self, commands: Mapping[str, str], certify: Iterable[Option]) -> None:
-        certify = tuple(certify)
-        self.commands, self.options = commands, tables(certify)
-        own = [o for name in solvers.NAMES for o in solvers.load(name).options]
-        known = (*COMMON, *own, *certify)
-        self.switches = {o.name: o.text.startswith("1:") for o in known}
-        self.names = sorted({o.name for o in known})
+    def __init__(self) -> None:
+        self.options = tables()
+        self.known = {name: o for known in self.options.values() for name, o in known.items()}
+        self.known = dict(sorted({**self.known, **{o.name: o for o in COMMON}}.items()))
         self.all = " ".join(["nl-bridge", *sorted(self.options)])
+        self.texts: dict[str, str] = {}
+        for row in (*commands.COMMANDS, *commands.OWN):
+            self.texts.setdefault(row.word, row.text)
+        self.behind = {word: commands.options_of(word) for word in self.texts}
+        self.behind["completion"] = list(SHELLS)
+        self.behind["help"] = sorted([*self.texts, *self.options])
+        self.behind["explain"] += sorted({row.word for row in commands.COMMANDS})
 
     def bash(self) -> str:
-        values, lists = [], []
-        for name in self.names:
-            what = kind(name, self.switches)
+        listed, lists, behind = [], [], []
+        for name, option in self.known.items():
+            what = values(option)
             make = {"files": "-f", "folders": "-d"}.get(what, f"-W '{what}'")
             if what:
                 files = "compopt -o filenames 2>/dev/null; " if make[1] in "fd" else ""
-                values.append(f'    {name}) {files}COMPREPLY=($(compgen {make} -- "$cur")) ;;')
+                listed.append(f'    {name}) {files}COMPREPLY=($(compgen {make} -- "$cur")) ;;')
         for command, options in sorted(self.options.items()):
             words = [f"{name}=" for name in options]
             words += list(DASHED) if command != "bridge-certify" else []
             lists.append(f"    {command}) echo '{' '.join(words)}' ;;")
-        plain = " ".join(sorted(set(self.commands) - {"explain"}))
-        return BASH % {"values": "\n".join(values), "options": "\n".join(lists), "all": self.all,
-                       "commands": " ".join(sorted(self.commands)), "explained": plain}
+        for word, after in self.behind.items():
+            if after:
+                behind.append(f"        {word}) COMPREPLY=($(compgen -W '{' '.join(after)}' "
+                              '-- "$cur")) ;;')
+        return BASH % {"values": "\n".join(listed), "options": "\n".join(lists), "all": self.all,
+                       "commands": " ".join(sorted(self.texts)), "behind": "\n".join(behind),
+                       "ends": " ".join(ENDS)}
 
     def zsh(self) -> str:
-        values, lists = [], []
-        for name in self.names:
-            what = kind(name, self.switches)
+        listed, lists = [], []
+        for name, option in self.known.items():
+            what = values(option)
             make = {"files": "_files", "folders": "_files -/"}.get(what, f"compadd -- {what}")
             if what:
-                values.append(f"            {name}) {make} ;;")
+                listed.append(f"            {name}) {make} ;;")
         for command, options in sorted(self.options.items()):
-            words = described(options, " " * 12)
+            words = described({name: o.text for name, o in options.items()}, " " * 12)
             lists.append(f"        {command}) words_of=(\n{words}\n            ) ;;")
-        return ZSH % {"values": "\n".join(values), "options": "\n".join(lists), "all": self.all,
-                      "commands": described(self.commands, " " * 16),
+        behind = [f"            {word}) compadd -- {' '.join(after)} ;;"
+                  for word, after in self.behind.items() if after]
+        return ZSH % {"values": "\n".join(listed), "options": "\n".join(lists), "all": self.all,
+                      "commands": described(self.texts, " " * 16), "behind": "\n".join(behind),
                       "dashed": described(DASHED, " " * 8)}
 
+    def fish(self) -> str:
+        words = [f"complete -c nl-bridge -n __fish_use_subcommand -f -a {word} -d {fished(text)}"
+                 for word, text in self.texts.items()]
+        behind = [f"complete -c nl-bridge -n '__fish_seen_subcommand_from {word}' -a "
+                  f"{fished(' '.join(after))}" for word, after in self.behind.items() if after]
+        lines = []
+        for command, options in sorted(self.options.items()):
+            for name, option in options.items():
+                what = values(option)
+                made = " ".join(f"{name}={word}" for word in what.split()) \
+                    if what not in ("", "files", "folders") else f"{name}="
+                lines.append(f"complete -c {command} -a {fished(made)} -d {fished(option.text)}")
+            if command != "bridge-certify":
+                lines += [f"complete -c {command} -a {fished(word)} -d {fished(text)}"
+                          for word, text in DASHED.items()]
+        return FISH % {"all": self.all, "commands": "\n".join(words), "behind": "\n".join(behind),
+                       "options": "\n".join(lines)}
+
     def text(self, shell: str) -> str:
-        """For `bash` or `zsh`."""
-        return self.bash() if shell == "bash" else self.zsh()
+        """For one of SHELLS."""
+        made: dict[str, str] = {"bash": self.bash(), "fish": self.fish(), "zsh": self.zsh()}
+        return made[shell]
+
+
+def fished(text: str) -> str:
+    """A word of fish: within single quotes, where they and the backslash are escaped."""
+    return "'" + text.replace("\\", "\\\\").replace("'", "\\'") + "'"
 
 
 def place(shell: str, prefix: str, command: str, folder: str = "") -> str:
-    """Where a shell looks for it below a prefix."""
+    """Where a shell looks for it below a prefix; `folder` is zsh's."""
+    share = os.path.join(prefix, "share")
     if shell == "bash":
-        return os.path.join(prefix, "share", "bash-completion", "completions", command)
-    return os.path.join(prefix, "share", "zsh", folder or "site-functions", "_" + command)
+        return os.path.join(share, "bash-completion", "completions", command)
+    if shell == "fish":
+        return os.path.join(share, "fish", "vendor_completions.d", command + ".fish")
+    return os.path.join(share, "zsh", folder or "site-functions", "_" + command)

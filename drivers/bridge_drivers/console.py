@@ -7,10 +7,10 @@ import os
 import sys
 from typing import Callable, NoReturn, TextIO, TypeVar, cast
 
+from .codes import Status
 from .interrupts import SIGNALS, Interrupted
 from .printable import printable
 
-BROKEN = 1                      # the exit status where standard output broke
 COLLECTED = (200_000, 20, 50)   # a run makes millions of objects, of which few go in circles
 Result = TypeVar("Result")
 
@@ -66,7 +66,7 @@ def own_name() -> str:
     return os.path.basename(sys.argv[0]).removesuffix(".exe")
 
 
-def run(name: str, command: Callable[[], int], broken: int = BROKEN) -> NoReturn:
+def run(name: str, command: Callable[[], int]) -> NoReturn:
     """Ends the process with the command's status. Bytes of paths that are not UTF-8 are printed
     as they are, controls of a terminal as `\\x1b`; a standard output that breaks or is closed is
     told in one line, and so is a signal."""
@@ -84,7 +84,7 @@ def run(name: str, command: Callable[[], int], broken: int = BROKEN) -> NoReturn
         sys.stdout.flush()
     except OutputBroken as fault:
         close(f"{name}: standard output: {fault}\n")
-        status = broken
+        status = Status.UNWRITTEN
     except Interrupted as signal:
         close(f"{name}: interrupted\n")
         status = signal.status()

@@ -1,67 +1,68 @@
-"""The driver: `bridge-NAME stub [-AMPL] [option=value ..]`."""
+"""The driver: `bridge-NAME MODEL [-AMPL] [option=value ..]`."""
 
 from __future__ import annotations
 
-import contextlib
 import os
 import shutil
 import sys
 import tempfile
-from typing import Sequence
+from typing import Sequence, TextIO
 
-from . import VERSION, colour, console, kinds, minizinc, report, solvers, words
-from .answer import Answer
+from . import VERSION, colour, console, kinds, minizinc, report, showing, solvers, words
 from .bridge import BESIDE, Bridge, Missing, find
 from .codes import Code, Failure, Status
+from .files import Places, own_folder
+from .inputs import Absent, Input, Inputs
 from .interrupts import SIGNALS, Interrupted
 from .job import Clock
+from .mps_file import Damaged
 from .mps_solving import MpsSolving
 from .names import Names
-from .options import BadOption, Options
+from .options import BadOption, Option, Options
 from .sol import bare, with_message
 from .solving import Result, Solving
 
 
-class Driver:
-    """One call of bridge-NAME. Tests put other things in the place of `bridge` and the solver."""
+class Run:
+    """One run of bridge-NAME, which prints nothing. Tests put other things in the place of `bridge`
+    and the solver."""
 
     make_solving = Solving
     make_mps_solving = MpsSolving
+    own_options: Sequence[Option] = ()
 
     def __init__(self, name: str) -> None:
         self.solver = solvers.load(name)
         self.name = "bridge-" + name
-        self.options = Options(self.solver.options)
+        self.options = Options((*self.solver.options, *self.own_options))
         self.words = words.Words()
         self.clock = Clock(self.name)
-        self.nl = self.sol = ""
+        self.inputs, self.model = Inputs(), Input("", "", "", False)
+        self.missing: Failure | None = None
+        self.nl = self.sol = self.kept_in = ""
         self.is_put = self.is_mps = False
+        self.message: list[str] = []
         self.result: Result | None = None
         self.fault: Failure | None = None
         self.bridge_words: Sequence[str] = ()
 
-    def main(self, argv: Sequence[str]) -> int:
+    def run(self, asked: words.Words) -> int:
         """The exit status."""
-        self.words = words.read(argv)
-        if self.words.ask is not None:
-            sys.stdout.write(self.told(self.words.ask))
-            return Status.DONE
-        if self.words.stub is None:
-            sys.stderr.write(words.usage(self.name, self.solver.title))
-            return Status.BAD_WORDS
-        base = self.words.stub[:-3] if self.words.stub.endswith(".nl") else self.words.stub
-        self.nl, self.sol = base + ".nl", base + ".sol"
-        self.is_mps = kinds.is_mps(self.words.stub)
-        if self.is_mps:
-            self.nl = self.words.stub
-            self.sol = kinds.stub_of(self.nl) + ".sol"
+        self.words = asked
         try:
+            with self.inputs:
+                return self.done()
+        except Interrupted as signal:
+            return self.failed(Failure(Code.STOPPED, "interrupted", Status(signal.status())))
+
+    def done(self) -> int:
+        """The same, before what was made for it is removed."""
+        try:
+            self.take_model()
             self.take_options()
             return self.deliver(self.shown())
         except Failure as fault:
             return self.failed(fault)
-        except Interrupted as signal:
-            return self.failed(Failure(Code.STOPPED, "interrupted", Status(signal.status())))
         except Exception as fault:      # a modelling system is told, whatever it was
             if self.options.outlev >= 2:
                 raise
@@ -70,57 +71,71 @@ class Driver:
             return self.failed(Failure(Code.FAULT, f"a fault of the driver: {fault!r} (outlev=2 "
                                                    "shows where)"))
 
-    def told(self, ask: str) -> str:
-        """What -v, -= and -? print."""
-        if ask == "-=":
-            return self.options.listing()
-        if ask == "-?":
-            listing = "".join(f"  {line}\n" for line in self.options.listing().splitlines())
-            return words.help_text(self.name, self.solver.title, listing)
-        place = self.solver.place() or "not found"
-        return f"{self.name} {VERSION} ({self.solver.title} {place})\n"
+    def take_model(self) -> None:
+        """Where there is none, `missing` says why, once options and an older .sol are seen to."""
+        word = self.words.stub or ""
+        try:
+            self.model = self.inputs.model(word)
+        except Absent as fault:
+            self.missing = Failure(Code.FILE, str(fault), Status.UNREAD)
+        except Damaged as fault:
+            self.missing = Failure(Code.REFUSED, str(fault))
+        except OSError as fault:
+            self.missing = Failure(Code.FILE, f"{word}: {fault.strerror}", Status.UNREAD)
+        if self.missing is not None:
+            self.model = Input(word, word.removesuffix(".nl") + ".nl", kinds.stub_of(word),
+                               kinds.end_of(word) == ".mps")
+        self.nl, self.is_mps = self.model.path, self.model.is_mps
+        self.sol = self.model.stub + ".sol"
 
     # before the run ----------------------------------------------------------------
 
     def take_options(self) -> None:
-        """An older .sol is removed before anything can go wrong: it must not pass for this
-        run's."""
+        """An older .sol goes once the model can be read, before anything else can go wrong: it
+        must not pass for this run's."""
         if (self.words.ampl or self.words.save) and not self.is_mps:
             self.remove_older()
         try:
             self.options.environment(self.name)
             self.options.take(self.words.options)
         except BadOption as fault:
-            raise Failure(Code.BAD_OPTION, str(fault), Status.BAD_WORDS) from None
-        if self.options.objno == 0:
-            raise Failure(Code.BAD_OPTION, "objno=0: solving without an objective is not offered",
-                          Status.BAD_WORDS)
+            raise Failure(Code.BAD_OPTION, str(fault)) from None
+        if (self.options.prove or self.options.strict) and not self.options.check:
+            raise Failure(Code.BAD_OPTION, "check=0 proves nothing: it does not go with prove=1 "
+                          "or strict=1")
+        if self.options.format and not self.is_mps and self.missing is None:
+            raise Failure(Code.BAD_OPTION, f"format={self.options.format} is for MPS files, and "
+                          f"{self.model.shown} is none")
         if self.is_mps:
             self.suit_mps()
         self.options.prove = int(bool(self.options.prove or self.options.strict))
         self.clock.tells = self.options.outlev >= 2
-        if self.options.given and self.words.echo and not self.options.failexit:
-            print(f"{self.name} {VERSION}: {' '.join(self.options.given)}", flush=True)
+        self.options.is_written = self.writes()
+        self.begin()
         if self.writes():
             self.remove_older()
+
+    def begin(self) -> None:
+        """Before anything is done."""
 
     def suit_mps(self) -> None:
         """An MPS file has no .sol, and is judged as it stands."""
         if self.writes():
             raise Failure(Code.BAD_OPTION, "a .sol is the answer to an .nl file: wantsol=2 prints "
-                          f"the values of {self.nl}, `nl-bridge import` makes an .nl of it",
-                          Status.BAD_WORDS)
+                          f"the values of {self.model.shown}, `nl-bridge import` makes an .nl of "
+                          "it")
         if self.options.shortest:
             raise Failure(Code.BAD_OPTION, "shortest=1 is for .nl files: an MPS file is read as it "
-                          "stands", Status.BAD_WORDS)
+                          "stands")
 
     def remove_older(self) -> None:
+        """Where the model is missing an answer stays: it is of no run that could be."""
+        if not os.path.isfile(self.nl) or not os.access(self.nl, os.R_OK):
+            return
         try:
-            os.unlink(self.sol)
-        except FileNotFoundError:
-            pass
+            Places([self.nl]).remove(self.sol)
         except OSError as fault:
-            raise Failure(Code.FILE, f"{self.sol}: {fault.strerror}") from None
+            raise Failure(Code.FILE, f"{self.sol}: {fault.strerror}", Status.UNWRITTEN) from None
 
     def writes(self) -> bool:
         return self.words.ampl or self.words.save or bool(self.options.wantsol & 1)
@@ -145,21 +160,17 @@ class Driver:
     # the run -----------------------------------------------------------------------
 
     def shown(self) -> Result:
-        """The work, and what goes on in it on standard error."""
-        progress = self.clock.progress
-        progress.start(sys.stderr, not self.options.outlev)
-        try:
-            return self.work()
-        finally:
-            progress.stop()
+        """The work, and what goes on in it."""
+        return self.work()
 
     def work(self) -> Result:
-        if not os.path.exists(self.nl) or os.path.isdir(self.nl):
-            raise Failure(Code.FILE, kinds.no_model(self.words.stub or ""), Status.NO_FILE)
+        if self.missing is not None:
+            raise self.missing
         bridge = self.find_bridge()
+        bridge.shown[self.nl] = self.model.shown
         solver_path = "" if self.options.only else self.find_solver()
         with SIGNALS.kept(True):
-            folder = self.options.keep or tempfile.mkdtemp(prefix=self.name + "-")
+            folder = self.folder()
             try:
                 with SIGNALS.kept(False):
                     return self.work_in(folder, bridge, solver_path)
@@ -167,39 +178,59 @@ class Driver:
                 if not self.options.keep:
                     shutil.rmtree(folder, ignore_errors=True)
 
+    def folder(self) -> str:
+        """For files in between. One that is kept is this run's alone."""
+        if not self.options.keep:
+            return tempfile.mkdtemp(prefix=self.name + "-")
+        try:
+            self.kept_in = own_folder(self.options.keep, self.name)
+            return self.kept_in
+        except OSError as fault:
+            raise Failure(Code.FILE, f"{fault.filename}: {fault.strerror}",
+                          Status.UNWRITTEN) from None
+
     def work_in(self, folder: str, bridge: Bridge, solver_path: str) -> Result:
         try:
-            os.makedirs(folder, exist_ok=True)
             make = self.make_mps_solving if self.is_mps else self.make_solving
-            return make(self.solver, self.options, bridge, self.clock, self.nl, solver_path,
+            return make(self.solver, self.options, bridge, self.clock, self.model, solver_path,
                         os.path.abspath(folder)).result()
         except Missing as fault:
             raise Failure(Code.NOT_FOUND, str(fault)) from None
         except OSError as fault:
-            raise Failure(Code.FILE, f"{fault.filename or folder}: {fault.strerror}") from None
+            raise Failure(Code.FILE, f"{fault.filename or folder}: {fault.strerror}",
+                          Status.UNWRITTEN) from None
 
     # after the run -----------------------------------------------------------------
 
-    def deliver(self, result: Result) -> Status:
-        """The .sol at once or not at all, the message, and what wantsol asks for."""
-        o, lines, self.result = self.options, result.lines, result
+    def lines(self, result: Result) -> list[str]:
+        """The message."""
         if result.sol is None:
-            lines = [f"{self.name}: {lines[0]}", *lines[1:]]
+            lines = [f"{self.name}: {result.lines[0]}", *result.lines[1:]]
+        else:
+            lines = result.lines
+        if self.kept_in not in ("", self.options.keep):
+            lines = [*lines[:1], f"the files in between are in {self.kept_in}", *lines[1:]]
+        return lines
+
+    def deliver(self, result: Result) -> Status:
+        """The .sol and the values at once or not at all."""
+        self.result, self.message = result, self.lines(result)
+        if self.options.solution:
+            self.message.insert(1, self.write_solution())
         if not self.is_mps:
-            self.deliver_sol(result, lines)
-        if (not self.words.ampl or o.failexit) and not o.wantsol & 8:
-            if result.end is None:              # no verdict
-                print("\n".join(lines), flush=True)
-            else:
-                colour.tell_all(lines, sys.stdout)
-        if o.failexit:
-            unsure = f"{lines[0]}; " if result.code == Code.UNSURE else ""
-            minizinc.tell(f"{self.name}: {unsure}{lines[-1]}")
-        if not self.words.ampl:
-            self.show(result)
-        if self.clock.tells:
-            print(self.clock.summary(), flush=True)
-        return Status.DONE if result.is_final or self.words.ampl else Status.NOT_PROVED
+            self.deliver_sol(result, self.message)
+        if self.words.ampl:
+            return Status.DONE
+        if result.end is not None and result.end.kept is not None and result.end.kept.failed:
+            return Status.UNWRITTEN
+        return Status.DONE if result.is_final else Status.NOT_SETTLED
+
+    @staticmethod
+    def satisfied(result: Result) -> str:
+        """What a proved point is where there is no objective."""
+        is_point = result.lines[-1] in ("optimal 0", "feasible 0")
+        answer = result.answer
+        return "satisfied" if is_point and answer and not answer.program.has_objective() else ""
 
     def deliver_sol(self, result: Result, lines: Sequence[str]) -> None:
         """Where it is asked for, and in a folder that is kept."""
@@ -208,54 +239,150 @@ class Driver:
             else with_message(result.sol, lines)
         if self.writes():
             self.put(sol)
-        if o.keep:
-            with open(os.path.join(o.keep, "bridge.sol"), "wb") as f:
+        if self.kept_in:
+            with open(os.path.join(self.kept_in, "bridge.sol"), "wb") as f:
                 f.write(sol)
 
-    def names(self, answer: Answer) -> Names:
-        """Those of the file, or beside the stub."""
-        return answer.program.names or Names(self.nl[:-3])
-
-    def show(self, result: Result) -> None:
-        """Values of variables and duals of constraints, one a line, by their names."""
-        answer = result.answer
+    def pairs(self, key: str) -> showing.Pairs:
+        """Values, duals or reduced costs by name: of the file, or beside it."""
+        answer = self.result.answer if self.result else None
         if answer is None:
-            return
-        names = self.names(answer)
-        for wanted, texts, of_list in ((2, answer.values, names.column),
-                                       (4, answer.duals, names.row)):
-            if self.options.wantsol & wanted and texts is not None:
-                for name, text in texts.items():
-                    if name[1:].isdigit():          # not those of a tied objective
-                        print(of_list(int(name[1:])) or name, text)
+            return []
+        names = answer.program.names or Names(self.model.stub)
+        return showing.named(getattr(answer, key), names.row if key == "duals" else names.column)
+
+    def write_solution(self) -> str:
+        """Where `solution` says; a line on it."""
+        path, values = self.options.solution, self.pairs("values")
+        if not values:
+            return f"{path} is not written: there are no values"
+        data = showing.solution(path, values, self.pairs("duals"))
+        try:
+            Places([self.nl, self.model.shown], bool(self.options.overwrite)).write(path, data)
+        except OSError as fault:
+            raise Failure(Code.FILE, f"{path}: {fault.strerror}", Status.UNWRITTEN) from None
+        return f"{path} is written"
 
     def put(self, sol: bytes) -> None:
-        part = self.sol + ".part"
         try:
             with SIGNALS.kept(True):
-                with open(part, "wb") as f:
-                    f.write(sol)
-                os.replace(part, self.sol)
+                Places([self.nl], overwrite=True).write(self.sol, sol)
                 self.is_put = True
         except OSError as fault:
-            with contextlib.suppress(OSError):
-                os.unlink(part)
-            raise Failure(Code.FILE, f"{self.sol}: {fault.strerror}") from None
+            raise Failure(Code.FILE, f"{self.sol}: {fault.strerror}", Status.UNWRITTEN) from None
 
     def failed(self, fault: Failure) -> int:
-        """Told on standard error; with -AMPL also a .sol with the code, and exit 0 with it."""
+        """With -AMPL a .sol with the code, and exit 0 with it."""
         self.fault = fault
-        line = f"{self.name}: {fault.text}"
-        sys.stderr.write(line + "\n")
-        minizinc.tell(line, is_error=True)
         if self.words.ampl and not self.is_mps and fault.code != Code.STOPPED \
                 and not self.options.failexit:
             try:
-                self.put(bare(self.nl, fault.code, max(self.options.objno, 1) - 1, [line]))
+                self.put(bare(self.nl, fault.code, self.options.objno - 1,
+                              [f"{self.name}: {fault.text}"]))
                 return Status.DONE
             except (Failure, OSError, ValueError, IndexError):
                 return fault.status
         return fault.status
+
+    def numbers(self) -> dict[str, dict[str, str]]:
+        """Values, duals and reduced costs by name, as `wantsol` asks for them."""
+        wanted = {"values": 2, "duals": 4, "costs": 4}
+        answer = self.result.answer if self.result else None
+        return {key: dict(self.pairs(key)) for key, bit in wanted.items()
+                if self.options.wantsol & bit and getattr(answer, key, None) is not None}
+
+
+class Driver(Run):
+    """The command: a run that is told."""
+
+    usage_text, example_text = words.USAGE, words.EXAMPLE
+
+    def main(self, argv: Sequence[str]) -> int:
+        """The exit status."""
+        asked = words.read(argv)
+        if asked.ask is not None:
+            sys.stdout.write(self.told(asked.ask, asked.topic))
+            return Status.DONE
+        if asked.stub is None:
+            sys.stderr.write(self.usage())
+            return Status.BAD_WORDS
+        return self.run(asked)
+
+    def usage(self) -> str:
+        variable = self.name.replace("-", "_") + "_options"
+        return self.usage_text.format(name=self.name, title=self.solver.title, model=words.MODEL,
+                                      variable=variable)
+
+    def out(self) -> TextIO:
+        """Where the message goes."""
+        return sys.stdout
+
+    def told(self, ask: str, topic: str = "") -> str:
+        """What -v, -= and -? print."""
+        if topic in self.options.known:
+            return self.options.known[topic].line() + "\n"
+        if ask == "-=":
+            return self.options.listing()
+        if ask == "-?":
+            listing = "".join(option.paragraph() for option in self.options.known.values())
+            return f"{self.usage()}\noptions:\n{listing}" + \
+                self.example_text.format(name=self.name)
+        place = self.solver.place() or "not found"
+        return f"{self.name} {VERSION} ({self.solver.title} {place})\n"
+
+    def begin(self) -> None:
+        if self.options.given and self.words.echo and not self.options.failexit:
+            print(f"{self.name} {VERSION}: {' '.join(self.options.given)}", flush=True)
+
+    def shown(self) -> Result:
+        """What goes on is told on standard error."""
+        progress = self.clock.progress
+        progress.start(sys.stderr, not self.options.outlev)
+        try:
+            return self.work()
+        finally:
+            progress.stop()
+
+    def deliver(self, result: Result) -> Status:
+        """The message, and what wantsol asks for."""
+        o, status = self.options, super().deliver(result)
+        lines = self.message
+        if (not self.words.ampl or o.failexit) and not o.wantsol & 8:
+            if result.end is None:              # no verdict
+                print("\n".join(lines), file=self.out(), flush=True)
+            else:
+                colour.tell_all(lines, self.out())
+        if o.failexit:
+            unsure = f"{lines[0]}; " if result.code == Code.UNSURE else ""
+            minizinc.tell(f"{self.name}: {unsure}{self.satisfied(result) or lines[-1]}")
+        if not self.words.ampl:
+            self.show()
+        if self.clock.tells:
+            print(self.clock.summary(), flush=True)
+        return status
+
+    def is_by_hand(self) -> bool:
+        """Whether values are shown that nobody asked for."""
+        o = self.options
+        is_asked = self.words.save or any(word.startswith("wantsol=") for word in o.given)
+        return not (is_asked or o.failexit or o.json)
+
+    def show(self) -> None:
+        """Values of variables and duals of constraints, one a line, by their names; a screen of
+        values without asking where it is called by hand."""
+        o, values, duals = self.options, self.pairs("values"), self.pairs("duals")
+        told = list(showing.lines(values)) if o.wantsol & 2 else \
+            list(showing.screen(values)) if self.is_by_hand() else []
+        if o.wantsol & 4 and duals:
+            told += ["duals", *showing.lines(duals)]
+        print("".join(f"{line}\n" for line in told), end="", file=self.out())
+
+    def failed(self, fault: Failure) -> int:
+        """Told on standard error."""
+        line = f"{self.name}: {fault.text}"
+        sys.stderr.write(line + "\n")
+        minizinc.tell(line, is_error=True)
+        return super().failed(fault)
 
 
 def main(name: str = "") -> None:

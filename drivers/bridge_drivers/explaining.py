@@ -261,7 +261,7 @@ class Refusal:
         self.parts = parsed(told)
         self.is_model = self.command in NL_FIRST and bool(self.files)
         stub = self.shown[0] if self.shown else ""
-        self.names = Names(stub[:-3] if stub.endswith(".nl") else stub,
+        self.names = Names(kinds.stub_of(stub),
                            *(counts_of(self.files[0]) if self.is_model else (None, None)))
         self.segment: Segment | None = None
 
@@ -353,3 +353,17 @@ def in_words(words: Sequence[str], told: str, shown: Mapping[str, str]) -> str:
     if not words:
         return without_files(told)
     return Refusal(words, told, shown).line()
+
+
+def object_of(words: Sequence[str], told: str,
+              shown: Mapping[str, str]) -> dict[str, object] | None:
+    """A refusal for programs; None where it is none."""
+    t = parsed(told)
+    if t is None or not words:
+        return None
+    refusal = Refusal(words, told, shown)
+    more = refusal.more()
+    return {"told": told, "reason": t.reason, "kind": t.kind or None,
+            "number": t.number if t.kind else None,
+            "file": refusal.shown[t.file - 1] if 1 <= t.file <= len(refusal.shown) else None,
+            "more": more}

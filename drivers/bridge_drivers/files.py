@@ -3,13 +3,15 @@
 from __future__ import annotations
 
 import contextlib
+import errno
 import io
+import itertools
 import os
 import re
 import shutil
 import stat
 import sys
-from typing import BinaryIO, Iterator
+from typing import BinaryIO, Iterator, Sequence
 
 from .interrupts import SIGNALS
 
@@ -67,10 +69,11 @@ def put_all(data: BinaryIO, target: str) -> None:
     mode = stat.S_IMODE(os.stat(place).st_mode) if os.path.exists(place) else None
     if mode is not None and not (mode & NO_ONE and os.access(place, os.W_OK)):
         raise PermissionError(13, "it may not be written", target)
-    part = f"{place}.{os.getpid()}.part"
     with SIGNALS.kept(True):
+        part = ""
         try:
-            with naming(target), open(part, "wb") as out:
+            with naming(target), beside(place) as out:
+                part = out.name
                 shutil.copyfileobj(data, out)
                 out.flush()
                 os.fsync(out.fileno())
@@ -82,3 +85,75 @@ def put_all(data: BinaryIO, target: str) -> None:
                 os.unlink(part)
             fault.filename, fault.filename2 = target, None
             raise
+
+
+def beside(place: str) -> BinaryIO:
+    """A new file beside it, which was not there."""
+    for number in itertools.count(os.getpid()):
+        with contextlib.suppress(FileExistsError):
+            return open(f"{place}.{number}.part", "xb")
+    raise AssertionError
+
+
+def own_folder(folder: str, name: str) -> str:
+    """A folder that a run has to itself: this one where nothing is in it, else a new one below."""
+    os.makedirs(folder, exist_ok=True)
+    if not os.listdir(folder):
+        return folder
+    for number in itertools.count(1):
+        own = os.path.join(folder, f"{name}-{number}")
+        with contextlib.suppress(FileExistsError):
+            os.mkdir(own)
+            return own
+    raise AssertionError
+
+
+class Places:
+    """What one run may write: no file that it did not make is replaced without `overwrite`, and
+    what it `reads` never, by whatever path. A fault is an OSError that says why."""
+
+    def __init__(self, reads: Sequence[str], overwrite: bool = False) -> None:
+        self.reads, self.overwrite = reads, overwrite
+
+    def stays(self, target: str, data: bytes | None = None) -> str:
+        """Why what stands there stays; nothing where it may be written. Nothing is lost where it
+        is empty, or has the data already."""
+        if not os.path.exists(target):
+            return ""
+        if any(os.path.exists(path) and os.path.samefile(path, target) for path in self.reads):
+            return "it is what this command reads"
+        if self.overwrite or not os.path.isfile(target) or is_special(target) \
+                or os.path.getsize(target) == 0 or data is not None and has(target, data):
+            return ""
+        return "it stands there, and this run did not make it; overwrite=1 replaces it"
+
+    def check(self, target: str, data: bytes | None = None) -> None:
+        why = self.stays(target, data)
+        if why:
+            raise FileExistsError(errno.EEXIST, why, target)
+
+    def write(self, target: str, data: bytes) -> None:
+        self.check(target, data)
+        write(target, data)
+
+    def put(self, source: str, target: str) -> None:
+        """A copy of a file."""
+        with open(source, "rb") as data:
+            self.check(target, data.read())
+        put(source, target)
+
+    def remove(self, target: str) -> None:
+        """An answer that is older than its model's reading; nothing where there is none."""
+        if any(os.path.exists(path) and os.path.exists(target) and os.path.samefile(path, target)
+               for path in self.reads):
+            raise FileExistsError(errno.EEXIST, "it is what this command reads", target)
+        with contextlib.suppress(FileNotFoundError):
+            os.unlink(target)
+
+
+def has(path: str, data: bytes) -> bool:
+    """Whether a file has these bytes."""
+    if os.path.getsize(path) != len(data):
+        return False
+    with open(path, "rb") as f:
+        return f.read() == data

@@ -1,377 +1,351 @@
 """nl-bridge: what people type. Help, version, explain and stats are here; every other command is
-the proved program's own, which takes this process's place."""
+the proved program's own, whose files may be what any command takes."""
 
 from __future__ import annotations
 
-import hashlib
-import json
+import contextlib
 import os
 import re
 import signal
 import subprocess
 import sys
-from typing import Callable, NamedTuple, Sequence
+from typing import Callable, Mapping, NamedTuple, Sequence
 
-from . import VERSION, colour, console, explaining, kinds
-from .bridge import BESIDE, PACKAGE, Bridge, Missing, Refused, find, is_plain
-from .explained import command as certificates
+from . import VERSION, colour, commands, console, explaining, interface, kinds
+from .bridge import BESIDE, PACKAGE, Missing, find, is_plain
+from .built import built, state
+from .codes import Status
+from .commands import COMMANDS, NAME, OWN, SHELLS, VERDICTS, WORDS
+from .errors import BridgeError
 from .importing import imported
-from .mps_file import Damaged
+from .inputs import Inputs, is_flow, named
+from .interrupts import with_child
+from .mps_file import Damaged, unpacked
 from .near import near
 from .report import Report, sum_of
-from .stats import Stats, stats
-from .subjects import subject
 
-NAME = "nl-bridge"
-DONE, REFUSED, BAD_WORDS, INPUT_FAULT, OUTPUT_FAULT, NOT_THERE = 0, 2, 3, 4, 5, 127
-VERDICTS = ("verify", "verify_mps", "verify_fixed", "check", "prove")
 NUMBERS = ("K", "SEED", "SIZE")             # words of the table that are no files
+MODELS = ("NL", "FILE")                     # those that may be a stub
 NUMBER, MOST = re.compile("0|[1-9][0-9]*"), 4294967295
+HELP = ("-h", "-?", "-=", "--help")
 
 
-class Command(NamedTuple):
-    """A row of the proved program's table of commands: its word, what follows, what it writes."""
+class BadWords(Exception):
+    """Words that no command takes."""
+
+
+class Call(NamedTuple):
+    """The words of a call: the command, its files and numbers in order, whether help or JSON is
+    wanted, where pages go, and whether what stands there is replaced."""
 
     word: str
-    rest: str
-    text: str
-
-    def forms(self) -> list[list[str]]:
-        """The words that follow, without and with those in brackets."""
-        return [re.sub(r"\[.*?\]", "", self.rest).split(), re.sub(r"[][]", "", self.rest).split()]
-
-
-COMMANDS = (
-    Command("export", "FILE [K]", "the MPS text of an .nl file, with objective K (from 0)"),
-    Command("export", "FILE K ROWS COLS", "the same with the names of two lists"),
-    Command("return", "NL ANSWER [ROWS COLS]", "the .sol text of a solver's answer"),
-    Command("check", "NL SOL", "one verdict on a point and duals"),
-    Command("prove", "NL PROOF", "one verdict on a proof by branches"),
-    Command("verify", "NL CERTIFICATE", "one verdict on a certificate"),
-    Command("verify_mps", "MPS CERTIFICATE", "the same over an MPS text in free form"),
-    Command("verify_fixed", "MPS CERTIFICATE", "the same over one in fixed columns"),
-    Command("nl", "FILE", "an .nl text in its one written form"),
-    Command("mps", "FILE", "an MPS text in its one written form"),
-    Command("fixed", "FILE", "an MPS text of fixed columns, in free ones"),
-    Command("sol", "FILE", "a .sol text in its one written form"),
-    Command("import", "FILE", "the .nl text of an MPS text"),
-    Command("make", "SEED SIZE", "one line on an instance that is made"),
-)
-OWN = (
-    Command("explain", "FILE [K]", "what a refusal is about: the expression, the lines, names"),
-    Command("explain", "MODEL CERTIFICATE", "what a certificate says, or where it fails; --html "
-                                            "FILE, --svg FILE"),
-    Command("explain", "COMMAND FILE ..", "the same for a call of another command"),
-    Command("import", "FILE NL", "the .nl text in NL, the names beside it in .row and .col"),
-    Command("stats", "FILE [K]", "sizes and kinds, numbers that are no doubles, scaled rows"),
-    Command("verify", "MPS CERTIFICATE", "one verdict, over an MPS file as it stands: either form, "
-                                         "also packed"),
-    Command("completion", "bash|zsh", "completion of all commands for a shell"),
-    Command("version", "", "the program with its sum, the toolchain, the drivers"),
-    Command("help", "", "this text"),
-)
-STATUSES = ("0 done, 1 another verdict, 2 refused, 3 bad words, 4 input fault, 5 output fault, "
-            "6 want of memory")
+    rest: Sequence[str]
+    helps: bool = False
+    json: bool = False
+    pages: Mapping[str, str] = {}
+    overwrite: bool = False
 
 
-def rows_of(commands: Sequence[Command]) -> str:
-    return "".join(f"  {f'{c.word} {c.rest}'.strip():30} {c.text}\n" for c in commands)
+def read(words: Sequence[str]) -> Call:
+    """Options may stand anywhere before `--`."""
+    left, plain = list(words)[::-1], []
+    helps, said = False, set[str]()
+    pages: dict[str, str] = {}
+    while left:
+        word = left.pop()
+        name, equal, value = word.partition("=")
+        if word == "--":
+            plain += left[::-1]
+            break
+        if word in HELP or word in ("-v", "--version"):
+            helps, plain = helps or word in HELP, plain or (["version"] if "v" in word else [])
+        elif word in ("json=1", "overwrite=1"):
+            said.add(word)
+        elif name in ("--html", "--svg"):
+            if not equal and not left:
+                raise BadWords(f"{name} takes a FILE")
+            pages[name[2:]] = value if equal else left.pop()
+        elif word.startswith("-") and not is_flow(word):
+            raise BadWords(f"unknown option {word};{near(word, ('--html', '--svg', '--help'))}")
+        else:
+            plain.append(word)
+    word = plain[0] if plain else ""
+    unfit = [*sorted(said), *(f"--{name}" for name in pages)]
+    unfit = [name for name in unfit if name not in commands.options_of(word)]
+    if unfit and not helps:
+        raise BadWords(f"{word or NAME} takes no {unfit[0]}")
+    return Call(word, plain[1:], helps, "json=1" in said, pages, "overwrite=1" in said)
 
 
-def usage() -> str:
-    return (f"usage: {NAME} COMMAND ..\n\nof the proved program:\n{rows_of(COMMANDS)}\n"
-            f"around it:\n{rows_of(OWN)}\nstatus: {STATUSES}\n"
-            "json=1 behind the words of verify, stats and version: one object of JSON\n"
-            f"example: {NAME} verify knap.nl knap.certificate\n"
-            f"Solvers are run by bridge-cbc and kin. More: man {NAME}\n")
-
-
-def built() -> dict[str, str]:
-    """What the package says of the program in it; nothing where there is no package."""
+def command(words: Sequence[str]) -> int:
+    """One call."""
     try:
-        with open(os.path.join(PACKAGE, "built.json"), encoding="utf-8") as f:
-            found = json.load(f)
-    except (OSError, ValueError):
-        return {}
-    return {str(key): str(value) for key, value in found.items()}
+        call = read(words)
+        if call.helps or call.word == "help":
+            return helped(call)
+        if not call.word:
+            sys.stderr.write(commands.usage())
+            return Status.BAD_WORDS
+        if call.word not in WORDS:
+            raise BadWords(f"unknown command {call.word};{near(call.word, WORDS)}".rstrip(";"))
+        return done(call)
+    except BadWords as fault:
+        end = "" if str(fault).endswith("?") else ";"
+        sys.stderr.write(f"{NAME}: {fault}{end} -h lists the commands\n")
+        return Status.BAD_WORDS
+    except Missing as fault:
+        sys.stderr.write(f"{NAME}: {fault}\n")
+        return Status.NOT_THERE
 
 
-def version(words: list[str]) -> str:
+def done(call: Call) -> int:
+    """The command itself, or the proved program's."""
+    own: dict[str, Callable[[Call], Report]] = {
+        "explain": explained, "stats": figures, "version": version}
+    if call.word == "completion":
+        return completed(call)
+    if call.word in own or call.word == "verify" and (call.json or is_model(call.rest)):
+        return shown(call, own.get(call.word, verified))
+    if call.word == "import" and len(call.rest) == 2:
+        return show_import(call)
+    return passed_on(find("", BESIDE), [call.word, *call.rest])
+
+
+def is_model(rest: Sequence[str]) -> bool:
+    """Whether `verify` is about what the proved program does not read itself: an MPS file, or a
+    binary .nl file."""
+    path = named(rest[0]) if len(rest) == 2 else ""
+    return is_flow(path) or os.path.isfile(path) and (
+        kinds.is_mps(path) or kinds.is_packed(path) or kinds.start_of(path)[:1] == b"b")
+
+
+def helped(call: Call) -> int:
+    """The help of a command, of an option of a driver, or of all."""
+    topic = call.rest[0] if call.word == "help" and call.rest else call.word
+    if topic in ("", "help"):
+        sys.stdout.write(commands.usage())
+        return Status.DONE
+    text = commands.help_of(topic) or helped_driver(topic)
+    if not text:
+        raise BadWords(f"no help on {topic};{near(topic, WORDS)}".rstrip(";"))
+    sys.stdout.write(text)
+    return Status.DONE
+
+
+def helped_driver(topic: str) -> str:
+    """Of a driver, or of an option that one has."""
+    from . import solvers
+    from .certify.command import Command
+    from .driver import Driver
+    name = topic.removeprefix("bridge-")
+    if topic == "bridge-certify":
+        return Command(solvers.NAMES[0]).told("-?")
+    if topic != name and name in solvers.NAMES:
+        return Driver(name).told("-?")
+    known = Command(solvers.NAMES[0]).options.known
+    return known[topic].line() + "\n" if topic in known else ""
+
+
+# what is here -------------------------------------------------------------------------
+
+
+def shown(call: Call, make: Callable[[Call], Report]) -> int:
+    """A report, as text or as JSON; a fault stands on standard error too."""
+    try:
+        report, fault = make(call), ""
+    except BridgeError as error:
+        report, fault = error.report, error.report.text
+    if call.json:
+        sys.stderr.write(f"{NAME}: {fault}\n" if fault else "")
+        return report.show()
+    if fault:
+        return show_fault(call, report)
+    if call.word == "verify":
+        sys.stderr.write("".join(f"{NAME}: {note}\n" for note in report.lines[:-1]))
+        colour.tell(report.text, sys.stdout)
+    elif call.word == "explain" and report.explained is not None:
+        colour.tell(report.lines[0], sys.stdout, report.text)
+        print("\n".join(report.lines[1:]))
+    else:
+        print("\n".join(report.lines))
+    return report.status
+
+
+def show_fault(call: Call, report: Report) -> int:
+    """What explain is about is its answer."""
+    if call.word != "explain" or report.status != Status.REFUSED:
+        sys.stderr.write(f"{NAME}: {report.text}\n")
+        return report.status
+    more = report.refusal["more"] if report.refusal else []
+    print("\n".join([report.text, *(f"  {line}" for line in more)]))
+    return report.status
+
+
+def explained(call: Call) -> Report:
+    """What a certificate says, where there are a model and one; else why a call is refused, that of
+    `export` where there is a model alone."""
+    rest = call.rest
+    if not rest:
+        raise BadWords("explain takes " + " or ".join(c.rest for c in OWN if c.word == "explain"))
+    if len(rest) > 1 and rest[0] in {command.word for command in COMMANDS}:
+        with Inputs() as inputs:
+            paths = [plain(inputs, *pair) for pair in zip(names_of(rest) or (), rest[1:])]
+            return interface.called([rest[0], *paths], rest)
+    if len(rest) == 1 or len(rest) == 2 and NUMBER.fullmatch(rest[1]):
+        return interface.explain(rest[0], objective=int((*rest, "0")[1]))
+    if len(rest) != 2:
+        raise BadWords("explain takes MODEL CERTIFICATE")
+    return interface.explain(rest[0], rest[1], html=call.pages.get("html", ""),
+                             svg=call.pages.get("svg", ""), overwrite=call.overwrite)
+
+
+def figures(call: Call) -> Report:
+    if not call.rest or len(call.rest) > 2 or not all(map(NUMBER.fullmatch, call.rest[1:])):
+        raise BadWords("stats takes MODEL [K]")
+    return interface.figures(call.rest[0], objective=int((*call.rest, "0")[1]))
+
+
+def verified(call: Call) -> Report:
+    if len(call.rest) != 2:
+        raise BadWords("verify takes MODEL CERTIFICATE")
+    return interface.verify(*call.rest)
+
+
+def version(call: Call) -> Report:
     """Program, sum, toolchain and drivers, one a line."""
-    digest = "cannot be read"
-    if len(words) == 1 and os.path.isfile(words[0]):
-        with open(words[0], "rb") as f:
-            digest = hashlib.sha256(f.read()).hexdigest()
-    package = built()
-    is_packaged = package.get("sha256") == digest
-    toolchain = package.get("toolchain", "") if is_packaged else ""
-    if is_packaged and package.get("proved") != "yes":
-        toolchain += " (a build for trials: it is not the one that the gate proved)"
-    return (f"{NAME} {VERSION}\nprogram    {' '.join(map(os.path.normpath, words))}\n"
-            f"sha256     {digest}\n"
-            f"toolchain  {toolchain or 'not told: the program is of no package'}\n"
-            f"drivers    {VERSION} {PACKAGE}\n")
+    if call.rest:
+        raise BadWords("version takes no more")
+    place = find("", BESIDE)
+    told = Report(NAME, program=place)
+    digest = sum_of(place[0]) if len(place) == 1 else None
+    facts = built(place[0]) if len(place) == 1 else {}
+    told.text = f"{NAME} {VERSION}"
+    told.lines = [told.text, f"program    {' '.join(map(os.path.normpath, place))}",
+                  f"sha256     {digest or 'cannot be read'}", f"toolchain  {state(facts)}",
+                  f"drivers    {VERSION} {PACKAGE}"]
+    told.more = {"program": list(place), "toolchain": facts.get("toolchain"),
+                 "proved": facts.get("proved") == "yes" if facts else None, "drivers": PACKAGE}
+    return told.end()
 
 
-def explain(bridge: Bridge, words: Sequence[str]) -> int:
-    """What a certificate says, where there are a model and one. Else the refusal of a call, of
-    `export` where there is a file alone; the status is the call's."""
-    known = {command.word for command in COMMANDS}
-    if len(words) > 1 and words[0] not in known and not NUMBER.fullmatch(words[1]):
-        try:
-            return certificates.explained(bridge, certificates.files_of(words))
-        except certificates.BadWords as fault:
-            return wrong(str(fault))
-        except (Refused, Damaged) as fault:
-            return told_fault(fault)
-    if len(words) == 1 and kinds.is_mps(words[0]):
-        return explain_mps(bridge, words[0])
-    call = list(words) if len(words) > 1 and words[0] in known else ["export", *words]
-    reply = bridge.call(*call)
-    if reply.status in (0, 1):
-        said = "is not refused" if reply.status == 0 else reply.out.decode().strip()
-        print(f"{explaining.files_of(call)[0] if len(call) > 1 else ''}: {said}")
-        return reply.status
-    print(Refused(call[0], reply, call).line())
-    if reply.status == REFUSED:
-        print("".join(f"  {line}\n" for line in explaining.Refusal(call, reply.told, {}).more()),
-              end="")
-    return reply.status
-
-
-def explain_mps(bridge: Bridge, path: str) -> int:
-    """Why an MPS file is refused."""
-    try:
-        with subject(bridge, path) as model:
-            print("\n".join([*model.notes, f"{path}: is not refused"]))
-            return DONE
-    except Damaged as fault:
-        print(fault)
-        return REFUSED
-    except Refused as fault:
-        print(fault.line())
-        if fault.status == REFUSED:
-            more = explaining.Refusal(fault.words, fault.told, fault.shown).more()
-            print("".join(f"  {line}\n" for line in more), end="")
-        return fault.status
-
-
-def show_import(bridge: Bridge, words: Sequence[str]) -> int:
+def show_import(call: Call) -> int:
     """An MPS text into a file, with its names beside it."""
+    told = Report(NAME, model=call.rest[0])
     try:
-        print(imported(bridge, *words))
-        return DONE
-    except Refused as fault:
-        sys.stderr.write(f"{NAME}: {fault.line()}\n")
+        with interface.asked(told, "") as (bridge, inputs):
+            path = plain(inputs, "MPS", call.rest[0])
+            bridge.shown[path] = call.rest[0]
+            try:
+                print(imported(bridge, path, call.rest[1], call.overwrite))
+                return Status.DONE
+            except OSError as fault:
+                sys.stderr.write(f"{NAME}: {fault.filename}: {fault.strerror}\n")
+                return Status.UNWRITTEN
+    except BridgeError as fault:
+        sys.stderr.write(f"{NAME}: {fault}\n")
         return fault.status
-    except OSError as fault:
-        sys.stderr.write(f"{NAME}: {fault.filename}: {fault.strerror}\n")
-        return OUTPUT_FAULT
 
 
-def told_fault(fault: Refused | Damaged) -> int:
-    """Tells why a model cannot be had; the status."""
-    line, status = (fault.line(), fault.status) if isinstance(fault, Refused) \
-        else (str(fault), REFUSED)
-    sys.stderr.write(f"{NAME}: {line}\n")
-    return status
+def completion(shell: str) -> str:
+    """Of all commands. The drivers are read for it alone."""
+    from .completion import Completion
+    return Completion().text(shell)
 
 
-def show_stats(bridge: Bridge, words: Sequence[str]) -> int:
-    try:
-        print("\n".join(stats(bridge, *words)))
-        return DONE
-    except (Refused, Damaged) as fault:
-        return told_fault(fault)
+def completed(call: Call) -> int:
+    if len(call.rest) != 1 or call.rest[0] not in SHELLS:
+        raise BadWords("completion takes " + ", ".join(SHELLS))
+    print(completion(call.rest[0]), end="")
+    return Status.DONE
 
 
-def verify_mps(bridge: Bridge, words: Sequence[str]) -> int:
-    """One verdict over an MPS file as it stands; what there is to say of how it was read goes to
-    standard error."""
-    try:
-        with subject(bridge, words[0]) as model:
-            sys.stderr.write("".join(f"{NAME}: {note}\n" for note in model.notes))
-            reply = bridge.call("verify", model.path, words[1])
-            if reply.status not in (0, 1):
-                raise bridge.refused(("verify", model.path, words[1]), reply)
-            colour.tell(reply.out.decode("utf-8", "replace").rstrip("\n"), sys.stdout)
-            return reply.status
-    except (Refused, Damaged) as fault:
-        return told_fault(fault)
+# the proved program's own -------------------------------------------------------------
 
 
 def wrong_words(words: Sequence[str]) -> str:
     """Why the proved program does not take these words, by its table; nothing where it does."""
     rows = [c for c in COMMANDS if c.word == words[0]]
-    named = [names for row in rows for names in row.forms() if len(names) == len(words) - 1]
-    if not all(map(is_plain, words)):
-        return "a word that is not UTF-8"
-    if not named:
+    names = names_of(words)
+    if names is None:
         rows += [c for c in OWN if c.word == words[0]]
         return f"{words[0]} takes " + " or ".join(row.rest for row in rows)
-    for name, word in zip(named[0], words[1:]):
+    for name, word in zip(names, words[1:]):
         if name in NUMBERS and not (NUMBER.fullmatch(word) and int(word) <= MOST):
             return f"{name} is a plain number up to {MOST}, not {word}"
     return ""
 
 
-def with_cause(place: Sequence[str], words: Sequence[str]) -> int | None:
-    """Runs the proved program where words or files are at fault, and adds to what it tells which,
-    and why; None where there is no fault."""
-    wrong = wrong_words(words)
-    files = explaining.files_of(words)
-    if not wrong and not any(map(explaining.fault_at, files)):
-        return None
-    ran = subprocess.run([*place, *words], stderr=subprocess.PIPE, check=False)
-    told = ran.stderr.decode("utf-8", "surrogateescape")
-    if ran.returncode == BAD_WORDS and wrong:
-        told = f"{NAME}: {told.strip()}: {wrong}; -h lists the commands\n"
-    elif ran.returncode == INPUT_FAULT:
-        told = f"{NAME}: {explaining.unreadable(files, {})}\n"
-    sys.stderr.write(told)
-    return ran.returncode if ran.returncode >= 0 else 128 - ran.returncode
+def names_of(words: Sequence[str]) -> list[str] | None:
+    """What its table calls the words behind the command; None where no row is as long."""
+    forms = [form for c in COMMANDS if c.word == words[0] for form in c.forms()]
+    return next((form for form in forms if len(form) == len(words) - 1), None)
 
 
-def coloured(place: Sequence[str], words: Sequence[str]) -> int:
-    """A verdict on a terminal."""
-    ran = subprocess.run([*place, *words], stdout=subprocess.PIPE, check=False)
-    line = ran.stdout.decode("utf-8", "replace").rstrip("\n")
-    if line:
-        colour.tell(line, sys.stdout)
-    return ran.returncode if ran.returncode >= 0 else 128 - ran.returncode
+def plain(inputs: Inputs, name: str, word: str) -> str:
+    """The path of a plain file with the text of a word, which its table calls so."""
+    if name in NUMBERS:
+        return word
+    found = named(word) if name in MODELS and not os.path.isfile(word) else word
+    path = inputs.plain(found)
+    packed = os.path.isfile(path) and kinds.is_packed(path)
+    path = unpacked(path, inputs.place()) if packed else path
+    return path if is_plain(path) else inputs.linked(path)
 
 
 def passed_on(place: Sequence[str], words: Sequence[str]) -> int:
-    """The proved program in this process's place, with the signals that it would have without
-    Python."""
+    """The proved program over these files, its texts as they are; what else there is to say of a
+    fault is added."""
+    wrong = wrong_words(words)
+    if wrong:
+        raise BadWords("bad words: " + wrong)
+    with Inputs() as inputs:
+        try:
+            paths = [plain(inputs, *pair) for pair in zip(names_of(words) or (), words[1:])]
+        except Damaged as fault:
+            sys.stderr.write(f"{NAME}: {fault}\n")
+            return Status.REFUSED
+        return ended(run(place, [words[0], *paths], words), words)
+
+
+def run(place: Sequence[str], call: Sequence[str], words: Sequence[str]) -> int:
+    """Its status. A verdict is in colour on a terminal, and a file that cannot be read is told with
+    its cause."""
+    faulty = any(map(explaining.fault_at, explaining.files_of(call)))
+    is_coloured = words[0] in VERDICTS and colour.is_wanted(sys.stdout)
+    out, err = (subprocess.PIPE if wanted else None for wanted in (is_coloured, faulty))
     try:
-        status = with_cause(place, words)
-        if status is None and words[0] in VERDICTS and colour.is_wanted(sys.stdout):
-            status = coloured(place, words)
+        said: list[bytes] = []
+        status = with_child(lambda child: ran(child, said), [*place, *call], stdout=out,
+                            stderr=err)
     except OSError as fault:
         raise Missing(f"{place[0]} could not be run: {fault.strerror}") from None
-    if status is not None:
-        return status
-    for name in ("SIGPIPE", "SIGXFSZ"):
-        if hasattr(signal, name):
-            signal.signal(getattr(signal, name), signal.SIG_DFL)
-    try:
-        os.execv(place[0], [*place, *words])
-    except OSError as fault:
-        raise Missing(f"{place[0]} could not be run: {fault.strerror}") from None
+    line, told = (part.decode("utf-8", "surrogateescape") for part in said)
+    if line.strip():
+        colour.tell(line.rstrip("\n"), sys.stdout)
+    if status == Status.UNREAD and faulty:
+        shown = dict(zip(explaining.files_of(call), explaining.files_of(words)))
+        told = f"{NAME}: {explaining.unreadable(explaining.files_of(call), shown)}\n"
+    sys.stderr.write(told)
+    return status
 
 
-def completion(shell: str) -> str:
-    """Of all commands. The drivers are read for it alone."""
-    from .certify.command import OPTIONS
-    from .completion import Completion
-    texts: dict[str, str] = {}
-    for row in (*COMMANDS, *OWN):
-        texts.setdefault(row.word, row.text)
-    return Completion(texts, OPTIONS).text(shell)
+def ran(child: subprocess.Popen[bytes], said: list[bytes]) -> int:
+    out, err = child.communicate()
+    said += [out or b"", err or b""]
+    return child.returncode
 
 
-def wrong(text: str) -> int:
-    end = "" if text.endswith("?") else ";"
-    sys.stderr.write(f"{NAME}: {text}{end} -h lists the commands\n")
-    return BAD_WORDS
-
-
-def reported(words: Sequence[str]) -> int:
-    """`verify`, `stats` and `version` with the word json=1."""
-    told = Report(NAME)
-    try:
-        told.program = place = find("", BESIDE)
-        told.status = REPORTED[words[0]](told, Bridge(place, lambda argv: None), words)
-    except Refused as fault:
-        told.status, told.text = fault.status, f"{NAME}: {fault.line()}"
-    except Damaged as fault:
-        told.status, told.text = REFUSED, f"{NAME}: {fault}"
-    except Missing as fault:
-        told.status, told.text = NOT_THERE, f"{NAME}: {fault}"
-    if told.status not in (0, 1):
-        sys.stderr.write(told.text + "\n")
-    told.lines = told.lines or [told.text]
-    return told.show()
-
-
-def report_verify(told: Report, bridge: Bridge, words: Sequence[str]) -> int:
-    told.model, told.certificate = words[1:]
-    with subject(bridge, words[1]) as model:
-        line = bridge.verdict("verify", model.path, words[2])
-        told.lines = [*model.notes, line]
-    told.take_line(line)
-    return 0 if told.said else 1
-
-
-def report_stats(told: Report, bridge: Bridge, words: Sequence[str]) -> int:
-    told.model = words[1]
-    figures = Stats(bridge, *words[1:])
-    told.lines, told.text = figures.lines(), "stats"
-    told.more["stats"] = figures.object()
-    return 0
-
-
-def report_version(told: Report, bridge: Bridge, words: Sequence[str]) -> int:
-    told.lines = version(list(bridge.words)).rstrip("\n").split("\n")
-    told.text, package = told.lines[0], built()
-    is_packaged = len(bridge.words) == 1 and package.get("sha256") == sum_of(bridge.words[0])
-    told.more["program"] = list(bridge.words)
-    told.more["toolchain"] = package.get("toolchain") if is_packaged else None
-    told.more["proved"] = package.get("proved") == "yes" if is_packaged else None
-    told.more["drivers"] = PACKAGE
-    return 0
-
-
-REPORTED: dict[str, Callable[[Report, Bridge, Sequence[str]], int]] = {
-    "verify": report_verify, "stats": report_stats, "version": report_version}
-COUNTS = {"verify": (3,), "stats": (2, 3), "version": (1,)}       # words of their calls
-
-
-def command(words: Sequence[str]) -> int:
-    """One call."""
-    if "json=1" in words and words[0] in REPORTED:
-        plain = [word for word in words if word != "json=1"]
-        if len(plain) not in COUNTS[words[0]]:
-            takes = {"verify": "MODEL CERTIFICATE", "stats": "FILE [K]"}.get(words[0], "no more")
-            return wrong(f"{words[0]} json=1 takes {takes}")
-        return reported(plain)
-    if not words:
-        sys.stderr.write(usage())
-        return BAD_WORDS
-    first, rest = words[0], words[1:]
-    if first in ("-h", "-?", "-=", "--help", "help"):
-        print(usage(), end="")
-        return DONE
-    own: dict[str, Callable[[Bridge, Sequence[str]], int]] = {"explain": explain,
-                                                              "stats": show_stats}
-    asks_version = first in ("-v", "--version", "version")
-    if not asks_version and first not in {c.word for c in (*COMMANDS, *OWN)}:
-        names = [c.word for c in (*COMMANDS, *OWN)]
-        return wrong(f"unknown command {first};{near(first, names)}".rstrip(";"))
-    if first == "completion":
-        if len(rest) != 1 or rest[0] not in ("bash", "zsh"):
-            return wrong("completion takes bash or zsh")
-        print(completion(rest[0]), end="")
-        return DONE
-    if first in own and not rest or first == "stats" and len(rest) > 2:
-        return wrong(f"{first} takes a FILE")
-    try:
-        place = find("", BESIDE)
-        if asks_version:
-            print(version(place), end="")
-            return DONE
-        if first == "import" and len(rest) == 2:
-            return show_import(Bridge(place, lambda argv: None), rest)
-        if first == "verify" and len(rest) == 2 and kinds.is_mps(rest[0]):
-            return verify_mps(Bridge(place, lambda argv: None), rest)
-        if first in own:
-            return own[first](Bridge(place, lambda argv: None), rest)
-        return passed_on(place, words)
-    except Missing as fault:
-        sys.stderr.write(f"{NAME}: {fault}\n")
-        return NOT_THERE
+def ended(status: int, words: Sequence[str]) -> int:
+    """A signal that ended the program ends this one; a refusal is told with what says more."""
+    if status < 0:
+        with contextlib.suppress(OSError):              # of SIGKILL
+            signal.signal(-status, signal.SIG_DFL)
+        os.kill(os.getpid(), -status)
+    if status == Status.REFUSED:
+        call = words[1:] if words[0] == "export" and len(words) < 4 else words
+        sys.stderr.write(f"{NAME}: `{NAME} explain {' '.join(call)}` says more\n")
+    return status
 
 
 def main() -> None:
-    console.run(NAME, lambda: command(sys.argv[1:]), OUTPUT_FAULT)
+    console.run(NAME, lambda: command(sys.argv[1:]))

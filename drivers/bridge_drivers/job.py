@@ -16,6 +16,7 @@ from .interrupts import SIGNALS, kill, send, with_child
 from .options import Options
 from .program import Program
 from .progress import Progress, detailed
+from .solvers.given import given
 
 LOG = "solver.log"
 T = TypeVar("T")
@@ -61,13 +62,16 @@ class Clock:
 class Job:
     """What a solver's module works with: `program`, `options`, `solver` (its path), `extra`
     (further words for it), and files in `folder`. `again`: it is asked once more, in another
-    way. `is_interrupted`: it was told to end. `read` tells what a line of its log says."""
+    way. `given` is the program as solvers get it, `status` how the last run ended.
+    `is_interrupted`: it was told to end. `read` tells what a line of its log says."""
 
     def __init__(self, program: Program, options: Options, folder: str, solver: str,
                  extra: Sequence[str], clock: Clock) -> None:
         self.program, self.options, self.folder = program, options, folder
         self.solver, self.extra, self.clock = solver, list(extra), clock
+        self.given = given(program, bool(options.relax))
         self.log = ""
+        self.status = 0
         self.again = self.is_interrupted = False
         self.read: Callable[[str], Mapping[str, float]] = lambda line: {}
         self.remove_answers()               # a kept folder may hold another run's
@@ -95,7 +99,7 @@ class Job:
         ran = self.clock.timed("solver", self.process, argv)
         self.write(log, ran.log.encode("utf-8", "replace"))
         if log == LOG:
-            self.log = ran.log
+            self.log, self.status = ran.log, ran.status
         return ran
 
     def process(self, argv: Sequence[str]) -> Ran:

@@ -10,10 +10,12 @@ import re
 import zlib
 from typing import Any, BinaryIO, Callable, NamedTuple, cast
 
+ELF = b"\x7fELF"
 READ = 4096                     # bytes of a file's start that tell what it is
 OPENERS: dict[bytes, Callable[..., Any]] = {
     b"\x1f\x8b": gzip.open, b"BZh": bz2.open, b"\xfd7zXZ": lzma.open}
 PACKED = (".gz", ".bz2", ".xz")
+MODELS = (".nl", ".mps")
 DAMAGED = (EOFError, ValueError, zlib.error, lzma.LZMAError)
 
 
@@ -28,8 +30,8 @@ class Kind(NamedTuple):
 MPS = Kind("an MPS file", "`bridge-certify {path}` and the drivers take it, "
                           "`nl-bridge import {path} {stub}.nl` makes {stub}.nl of it")
 LP = Kind("an LP file, which no command here reads",
-          "`glpsol --lp {path} --check --wfreemps {stub}.mps` (Debian: glpk-utils) writes MPS, "
-          "which `bridge-certify {stub}.mps` and the drivers take")
+          "save the model as .nl (AMPL `write g{stub}`, Pyomo, JuMP) or MPS (PuLP, JuMP, OR-Tools) "
+          "where it was made; what turns LP files into MPS may round numbers and lose the sense")
 AMPL = Kind("a text of AMPL", "in AMPL, `write g{stub};` writes {stub}.nl")
 MINIZINC = Kind("a text of MiniZinc", "`minizinc --solver bridge-cbc {path}`")
 ENDS = {
@@ -42,9 +44,10 @@ ENDS = {
     ".sol": Kind("the answer to a model", "a driver takes the model"),
     ".certificate": Kind("a certificate", "`nl-bridge verify MODEL.nl {path}` judges it"),
     ".py": Kind("a text of Python", "`python3 {path}` runs it"),
+    ".elf": Kind("a program (ELF)", "no command takes it for a model"),
 }
 STARTS = ((b"\x1f\x8b", ".gz"), (b"BZh", ".bz2"), (b"\xfd7zXZ", ".xz"), (b"PK\x03\x04", ".zip"),
-          (b"certificate 1", ".certificate"))
+          (b"certificate 1", ".certificate"), (ELF, ".elf"))
 IS_MPS = re.compile(rb"(?:(?:\*[^\n]*|[^\S\n]*)\n)*(?:NAME\b|OBJSENSE\b|ROWS\b)")
 IS_LP = re.compile(rb"(?:(?:\\[^\n]*|[^\S\n]*|//[^\n]*)\n|/\*.*?\*/[^\S\n]*)*"
                    rb"(?:min|max)(?:imi[sz]e|imum)?\s*(?::|\n|\s)", re.I | re.S)
@@ -66,24 +69,38 @@ def is_packed(path: str) -> bool:
     return any(start.startswith(mark) for mark in OPENERS)
 
 
+def start_of(path: str) -> bytes:
+    """What a file begins with, unpacked; nothing where it cannot be read."""
+    try:
+        with opened(path) as f:
+            return f.read(READ)
+    except (OSError, *DAMAGED):
+        return b""
+
+
 def is_mps(path: str) -> bool:
     """Whether it is an MPS file, packed or not: by what it starts with, or by its name's end."""
     if not os.path.isfile(path):
         return False
-    try:
-        with opened(path) as f:
-            start = f.read(READ)
-    except (OSError, *DAMAGED):
-        start = b""
-    return bool(IS_MPS.match(start)) or stub_of(path) != path
+    start = start_of(path)
+    return bool(IS_MPS.match(start)) or end_of(path) == ".mps" and not start.startswith(ELF)
 
 
-def stub_of(path: str) -> str:
-    """The path of an MPS file without its ends: `model` of `model.mps.gz`."""
+def split(path: str) -> tuple[str, str]:
+    """The path of a model without its ends, and the end that is not of its packing: `model` and
+    `.mps` of `model.mps.gz`; the path and nothing where it has none of a model."""
     stub, end = os.path.splitext(path)
     if end.lower() in PACKED:
         stub, end = os.path.splitext(stub)
-    return stub if end.lower() == ".mps" else path
+    return (stub, end.lower()) if end.lower() in MODELS else (path, "")
+
+
+def stub_of(path: str) -> str:
+    return split(path)[0]
+
+
+def end_of(path: str) -> str:
+    return split(path)[1]
 
 
 def kind_of(path: str) -> Kind | None:
@@ -106,16 +123,15 @@ def kind_of(path: str) -> Kind | None:
 def told(path: str, kind: Kind, shown: str = "") -> str:
     """`model.mps is an MPS file: ..`"""
     shown = shown or path
-    stub = os.path.splitext(shown)[0]
-    if stub.endswith(".nl"):
-        stub = stub[:-3]
+    stub = stub_of(shown) if end_of(shown) else os.path.splitext(shown)[0]
+    if kind is MPS and stub + ".nl" == shown:
+        stub += "-2"                    # a file is not written over itself
     return f"is {kind.text}: " + kind.help.format(path=shown, stub=stub)
 
 
 def no_model(word: str) -> str:
     """Why there is no model where the word of a call says that there is one."""
-    stub = word[:-3] if word.endswith(".nl") else word
-    nl = stub + ".nl"
+    stub, nl = stub_of(word), word if end_of(word) else word + ".nl"
     if os.path.isdir(nl) or os.path.isdir(word):
         return f"{nl if os.path.isdir(nl) else word} is a folder"
     if os.path.isfile(word):

@@ -8,7 +8,6 @@ from .program import Program
 
 MOST = 1e-6                 # of the largest term: what counts as satisfied
 ROUNDING = 1e-12            # the same where all columns are whole numbers
-INFINITE = float("inf")
 
 
 class Miss(NamedTuple):
@@ -31,102 +30,44 @@ def missing(share: float, name: str, is_whole: bool = False) -> Miss:
 
 
 class Activities:
-    """Sums and largest terms of rows at values."""
+    """Sums of rows at values, and what of rows and bounds they miss."""
 
     def __init__(self, program: Program, values: Mapping[str, str],
                  whole: Collection[str]) -> None:
-        self.x = {name.encode(): float(text) for name, text in values.items()}
-        self.whole = {name.encode() for name in whole if values[name].lstrip("-").isdigit()}
-        text = program.text
-        start = text.index(b"\nCOLUMNS\n") + 9
-        end = text.index(b"\nRHS\n", start)
-        self.sides: dict[bytes, tuple[float, float]] = {}
-        self.read_rows(text[text.index(b"\nROWS\n") + 6:start - 9])
-        self.sums = dict.fromkeys(self.sides, 0.0)
-        self.sizes = dict.fromkeys(self.sides, 0.0)
-        self.mixed: set[bytes] = set()          # rows with a column that is not whole
-        self.read_columns(text[start:end])
-        self.lo = dict.fromkeys(self.x, 0.0)
-        self.hi = dict.fromkeys(self.x, INFINITE)
-        self.read_rest(text[end + 1:])
-
-    def read_columns(self, text: bytes) -> None:
-        sums, sizes = self.sums, self.sizes
-        last, x, most, is_whole = b"", 0.0, 1.0, False
-        for line in text.split(b"\n"):
-            name, row, value = line.split()
-            if name != last:
-                if row == b"'MARKER'":
-                    continue
-                last, x, is_whole = name, self.x[name], name in self.whole
-                most = max(1.0, abs(x))
-            a = float(value)
-            sums[row] += a * x
-            size = abs(a) * most
-            if size > sizes[row]:
-                sizes[row] = size
-            if not is_whole:
-                self.mixed.add(row)
-
-    def read_rows(self, text: bytes) -> None:
-        for line in text.split(b"\n"):
-            kind, name = line.split()
-            self.sides[name] = (-INFINITE if kind in b"LN" else 0.0,
-                                INFINITE if kind in b"GN" else 0.0)
-
-    def read_rest(self, text: bytes) -> None:
-        part = b""
-        for line in text.split(b"\n"):
-            words = line.split()
-            if not line.startswith(b" "):
-                part = words[0] if words else b""
-            elif part == b"RHS":
-                lo, hi = self.sides[words[1]]
-                value = float(words[2])
-                self.sides[words[1]] = (value if lo > -INFINITE else lo,
-                                        value if hi < INFINITE else hi)
-            elif part == b"RANGES":
-                self.set_range(words[1], float(words[2]))
-            elif part == b"BOUNDS":
-                self.set_bound(words)
-
-    def set_range(self, name: bytes, width: float) -> None:
-        lo, hi = self.sides[name]
-        if hi == INFINITE or lo == hi and width >= 0:       # a row G, or E
-            self.sides[name] = lo, lo + abs(width)
-        else:
-            self.sides[name] = hi - abs(width), hi
-
-    def set_bound(self, words: list[bytes]) -> None:
-        kind, name = words[0], words[2]
-        if kind in (b"LO", b"FX"):
-            self.lo[name] = float(words[3])
-        if kind in (b"UP", b"FX"):
-            self.hi[name] = float(words[3])
-        if kind in (b"MI", b"FR"):
-            self.lo[name] = -INFINITE
-        if kind in (b"PL", b"FR"):
-            self.hi[name] = INFINITE
+        self.program, self.read = program, program.read
+        self.x = [float(values[name]) for name in program.columns]
+        self.whole = [name in whole and values[name].lstrip("-").isdigit()
+                      for name in program.columns] if whole else [False] * len(self.x)
+        self.terms = program.terms()
 
     def misses(self) -> Iterator[Miss]:
-        """Of all rows and bounds. A bound is its own largest term, and 0 is measured by 1."""
-        for name, (lo, hi) in self.sides.items():
-            if name != b"obj":
-                yield missed(name, self.sums[name], lo, hi, self.sizes[name],
-                             name not in self.mixed)
-        for name, x in self.x.items():
-            lo, hi = self.lo[name], self.hi[name]
+        """Of rows and bounds that are missed. A bound is its own largest term, and 0 is measured
+        by 1."""
+        los, his = self.program.sides()
+        broken = [(i, at, lo, hi) for i, (at, lo, hi)
+                  in enumerate(zip(self.terms.activities(self.x), los, his)) if not lo <= at <= hi]
+        sizes = self.terms.greatest([max(1.0, abs(x)) for x in self.x]) if broken else []
+        mixed = self.mixed() if broken else set()
+        for i, at, lo, hi in broken:
+            yield missed(self.program.constraints[i], at, lo, hi, sizes[i], i not in mixed)
+        for j, (x, lo, hi) in enumerate(zip(self.x, *self.program.bounds())):
             if not lo <= x <= hi:
                 size = abs(x) if (lo if x < lo else hi) else max(1.0, abs(x))
-                yield missed(name, x, lo, hi, size, name in self.whole)
+                yield missed(self.program.columns[j], x, lo, hi, size, self.whole[j])
+
+    def mixed(self) -> set[int]:
+        """Rows with a column that is not whole."""
+        if not any(self.whole):
+            return set(self.read.row)
+        return {i for i, j in zip(self.read.row, self.read.column) if not self.whole[j]}
 
 
-def missed(name: bytes, at: float, lo: float, hi: float, size: float, is_whole: bool) -> Miss:
+def missed(name: str, at: float, lo: float, hi: float, size: float, is_whole: bool) -> Miss:
     by = max(lo - at, at - hi, 0.0)
     if not by:
         return NONE
     size = max(size, abs(lo if at < lo else hi))
-    return missing(by / size, name.decode(), is_whole)
+    return missing(by / size, name, is_whole)
 
 
 def miss(program: Program, values: Mapping[str, str], whole: Collection[str] = ()) -> Miss:

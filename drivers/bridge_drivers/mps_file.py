@@ -13,6 +13,7 @@ from typing import Iterator, NamedTuple, Sequence
 from . import kinds
 from .bridge import Bridge, Refused, Reply
 from .files import naming
+from .mps_mended import mended
 from .mps_text import MpsProgram, program_of
 
 FREE, FIXED = "free", "fixed"
@@ -22,13 +23,6 @@ CALLED = {FREE: "in free form", FIXED: "in fixed columns"}
 PROBE = "certificate 1\nfeasible 0\npoint 0\n"      # one that any program can be asked about
 NAMES = ((4, 12), (14, 22), (39, 47))               # the fields of names in fixed columns
 DONE, ANOTHER, FAULT = 0, 1, 2
-
-
-class Unpacked(NamedTuple):
-    """The path of the plain file, and what a message has to say of it."""
-
-    path: str
-    notes: list[str]
 
 
 class Damaged(Exception):
@@ -63,10 +57,8 @@ class Reading(NamedTuple):
     notes: list[str]
 
 
-def unpacked(path: str, target: str) -> Unpacked:
-    """The file itself, or what is packed in it, in `target`."""
-    if not kinds.is_packed(path):
-        return Unpacked(path, [])
+def unpacked(path: str, target: str) -> str:
+    """What is packed in a file, in `target`."""
     try:
         with kinds.opened(path) as source, naming(target), open(target, "wb") as out:
             shutil.copyfileobj(source, out)
@@ -76,8 +68,18 @@ def unpacked(path: str, target: str) -> Unpacked:
         if fault.errno is None:                     # of gzip and bz2
             raise Damaged(f"{path}: the packed file is damaged ({fault})") from None
         raise
-    return Unpacked(target, ["what is judged is the text that "
-                             f"{os.path.basename(path)} unpacks to"])
+    return target
+
+
+def mended_file(path: str, target: str) -> tuple[str, list[str]]:
+    """The file itself, or what is read where it is mended, in `target`; what there is to say."""
+    with open(path, "rb") as f:
+        text, notes = mended(f.read())
+    if not notes:
+        return path, []
+    with naming(target), open(target, "wb") as out:
+        out.write(text)
+    return target, notes
 
 
 def reading(bridge: Bridge, path: str, form: str = "") -> Reading:
@@ -159,12 +161,9 @@ class Opened(NamedTuple):
 
 @contextlib.contextmanager
 def opened(bridge: Bridge, path: str) -> Iterator[Opened]:
-    """With `verify` of this bridge being that of the file. Refused, Damaged or OSError where it
-    cannot be had."""
+    """With `verify` of this bridge being that of the plain file. Refused or OSError where it cannot
+    be had."""
     with tempfile.TemporaryDirectory(prefix="nl-bridge-") as folder:
-        plain = unpacked(path, os.path.join(folder, "text.mps"))
-        bridge.shown[plain.path] = path
-        read = reading(bridge, plain.path)
-        program = judged(bridge, plain.path, folder, read)
-        yield Opened(plain.path, program,
-                     [*plain.notes, *read.notes, *program.notes])
+        read = reading(bridge, path)
+        program = judged(bridge, path, folder, read)
+        yield Opened(path, program, [*read.notes, *program.notes])

@@ -3,15 +3,14 @@ the file's own, and certificates are judged by `verify_mps` or `verify_fixed`.""
 
 from __future__ import annotations
 
-from . import kinds
 from .answer import Answer
 from .bridge import Refused
 from .certificates import Certifier
 from .certify.text import answer_lines
 from .codes import Code, Failure, Status
-from .mps_file import Damaged, Reading, judged, reading, unpacked
+from .mps_file import Reading, judged, reading
 from .mps_text import MpsProgram
-from .nl import BadFile, Prepared
+from .nl import Prepared
 from .program import Program
 from .solving import Solving
 
@@ -19,18 +18,16 @@ from .solving import Solving
 class MpsCertifier(Certifier):
     """Over an MPS file. Values are judged as the point of a certificate."""
 
-    checks = "bridge check of the values: "
-    answer: Answer | None = None
+    values_alone = True
 
     def returned(self, answer: Answer, message: list[str], name: str = "bridge") -> bytes:
         """No .sol is made."""
-        self.answer = answer
         return b""
 
-    def numbers(self, sol: bytes) -> tuple[list[str], list[str]]:
-        assert self.answer is not None and self.answer.values is not None
-        duals = self.answer.duals if self.linear else None
-        return list(self.answer.values.values()), list((duals or {}).values())
+    def numbers(self, answer: Answer) -> tuple[list[str], list[str]]:
+        assert answer.values is not None
+        duals = answer.duals if self.linear else None
+        return list(answer.values.values()), list((duals or {}).values())
 
     def checked(self, answer: Answer) -> str:
         assert answer.values is not None
@@ -55,21 +52,14 @@ class MpsSolving(Solving):
     kept_name = "text.mps"
     notes: list[str]                    # on the file, as far as it was read
 
-    def stub(self) -> str:
-        return kinds.stub_of(self.nl)
-
     def prepared(self, target: str) -> Prepared:
-        """Unpacked, in the form that it has."""
+        """As it stands."""
         if self.options.objno != 1:
-            raise Failure(Code.REFUSED, f"{self.nl}: objno={self.options.objno}: no such "
+            raise Failure(Code.REFUSED, f"{self.model.shown}: objno={self.options.objno}: no such "
                           "objective: the first N row of an MPS file is its objective, and its "
                           "only one", Status.REFUSED)
-        try:
-            plain = unpacked(self.nl, target)
-        except Damaged as fault:
-            raise BadFile(str(fault)) from None
-        self.notes = [*plain.notes]
-        return Prepared(plain.path, self.notes)
+        self.notes = []
+        return Prepared(self.nl, self.notes)
 
     def exported(self, nl: str) -> Program:
         """Its own program, and what `bridge` makes of the file."""

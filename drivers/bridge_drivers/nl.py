@@ -14,6 +14,7 @@ from typing import NamedTuple
 from .binary_nl import shortest, text_of_binary
 from .files import naming
 
+LOOKED_AT = 1 << 20             # bytes that are looked through for printed doubles
 LONG = re.compile(rb"(?<![^\sn])-?\d+\.\d+(?:[eE][-+]?\d+)?(?!\S)")
 
 
@@ -52,12 +53,14 @@ def header(path: str) -> Header:
                   int(second[2]) if len(second) > 2 else 0)
 
 
-def prepared(path: str, target: str, shorter: bool) -> Prepared:
-    """The file itself where nothing is to be done, else a text form in `target`."""
+def prepared(path: str, target: str, shorter: bool, is_told: bool = True) -> Prepared:
+    """The file itself where nothing is to be done, else a text form in `target`. `is_told`: numbers
+    that look like printed doubles are told."""
     with open(path, "rb") as f:
         binary = f.read(1) == b"b"
         if not binary and not shorter:
-            return Prepared(path, [])
+            start = f.read(LOOKED_AT) if is_told else b""
+            return Prepared(path, long_numbers(start))
         f.seek(0)
         data = f.read()
     if os.path.exists(target) and os.path.samefile(path, target):
@@ -77,6 +80,18 @@ def prepared(path: str, target: str, shorter: bool) -> Prepared:
     with naming(target), open(target, "wb") as f:
         f.write(text)
     return Prepared(target, [note])
+
+
+def long_numbers(data: bytes) -> list[str]:
+    """A line where the first decimal of 16 digits or more is that of a double with fewer."""
+    for match in LONG.finditer(data):
+        text = match.group()
+        if sum(c in b"0123456789" for c in re.split(rb"[eE]", text)[0].lstrip(b"-0.")) >= 16:
+            short = shortest(float(text))
+            told = f"{text.decode()} in the .nl looks like a printed double: shortest=1 reads " \
+                   f"such numbers as {short}"
+            return [told] if len(short) < len(text) - 2 else []
+    return []
 
 
 def shortest_numbers(data: bytes) -> tuple[bytes, int]:

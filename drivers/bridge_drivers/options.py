@@ -4,92 +4,172 @@ from __future__ import annotations
 
 import os
 import shlex
-from typing import Callable, Iterable, Union
+import textwrap
+from typing import Iterable, Union
 
 from .near import near
 
 Value = Union[int, float, str]
-FORMS = ("free", "fixed")
 
 
-def form(word: str) -> str:
-    """That of an MPS file."""
-    if word not in FORMS:
-        raise ValueError(word)
-    return word
+class Range:
+    """Numbers of a kind from `low` to `high`, that included; None: without an end."""
+
+    def __init__(self, kind: type[int] | type[float], low: int, high: int | None = None) -> None:
+        self.kind, self.low, self.high = kind, low, high
+
+    def __call__(self, word: str) -> Value:
+        value = self.kind(word)
+        if not self.low <= value < float("inf") or self.high is not None and value > self.high:
+            raise ValueError(word)
+        return value
+
+    def words(self) -> list[str]:
+        """All of them, where they are few."""
+        if self.kind is not int or self.high is None or self.high > self.low + 2:
+            return []
+        return [str(value) for value in range(self.low, self.high + 1)]
+
+    def __str__(self) -> str:
+        few = self.words()
+        if few:
+            return ", ".join(few[:-1]) + " or " + few[-1]
+        kind = "a whole number" if self.kind is int else "a number"
+        return f"{kind} from {self.low}" + (f" to {self.high}" if self.high is not None else " on")
 
 
-KINDS: dict[object, str] = {int: "a whole number", float: "a number", str: "a text",
-                            form: "free or fixed"}
+class Words:
+    """One of some words."""
+
+    def __init__(self, *known: str) -> None:
+        self.known = known
+
+    def __call__(self, word: str) -> str:
+        if word not in self.known:
+            raise ValueError(word)
+        return word
+
+    def words(self) -> list[str]:
+        return list(self.known)
+
+    def __str__(self) -> str:
+        if len(self.known) == 1:
+            return self.known[0]
+        return ", ".join(self.known[:-1]) + " or " + self.known[-1]
+
+
+class Text:
+    """A text of any kind, called by what it is."""
+
+    def __init__(self, called: str = "a text") -> None:
+        self.called = called
+
+    def __call__(self, word: str) -> str:
+        return word
+
+    def words(self) -> list[str]:
+        return []
+
+    def __str__(self) -> str:
+        return self.called
+
+
+Kind = Union[Range, Words, Text]
+SWITCH, COUNT = Range(int, 0, 1), Range(int, 0)
+AMOUNT, SHARE = Range(float, 0), Range(float, 0, 1)
+FILE, FOLDER, WORD = Text("a file"), Text("a folder"), Text()
+WIDTH = 96                      # of a line of help
+FORMAT = Words("free", "fixed")                 # of an MPS file
+PLAIN: dict[object, Kind] = {int: COUNT, float: AMOUNT, str: WORD}
 
 
 class BadOption(Exception):
-    """An unknown name, a value of another kind, or none."""
+    """An unknown name, a value out of its range, or none."""
 
 
 class Option:
-    """One option: its name, what it is where nothing is said, its kind, and what -= tells."""
+    """One option: its name, what it is where nothing is said, its values, and what -= tells."""
 
-    def __init__(self, name: str, default: Value, kind: Callable[[str], Value], text: str) -> None:
-        self.name, self.default, self.kind, self.text = name, default, kind, text
+    def __init__(self, name: str, default: Value, kind: Kind | type[Value], text: str) -> None:
+        self.name, self.default, self.text = name, default, text
+        self.kind: Kind = PLAIN[kind] if isinstance(kind, type) else kind
 
     def read(self, word: str) -> Value:
         try:
-            value = self.kind(word)
+            return self.kind(word)
         except ValueError:
-            raise BadOption(f"{self.name}={word}: not {KINDS.get(self.kind, 'a value')}") from None
-        if not isinstance(value, str) and not 0 <= value < float("inf"):
-            raise BadOption(f"{self.name}={word}: must be finite and not below 0")
-        return value
+            raise BadOption(f"{self.name}={word}: {self.kind} is wanted") from None
+
+    def values(self) -> str:
+        """Its values, and what it is where nothing is said."""
+        default = f"; {self.default:g}" if isinstance(self.default, (int, float)) else \
+            f"; {self.default}" if self.default else ""
+        return f"({self.kind}{default})"
+
+    def line(self) -> str:
+        return f"{self.name:<11} {self.text} {self.values()}"
+
+    def paragraph(self) -> str:
+        """The same for people, in lines of one width."""
+        return textwrap.fill(self.line(), WIDTH, initial_indent="  ", subsequent_indent=" " * 14,
+                             break_on_hyphens=False) + "\n"
 
 
 COMMON = (
-    Option("bound", 0, int, "1: for integer programs also a proved bound, of the relaxation"),
-    Option("bridge", "", str, "words that start bridge (also $BRIDGE)"),
-    Option("certificate", "", str, "the file that an accepted certificate is written to"),
-    Option("check", 1, int, "1: ask bridge what it can prove of the answer; 0: do not"),
+    Option("bound", 0, SWITCH, "1: for integer programs also a proved bound, of the relaxation"),
+    Option("bridge", "", Text("words"), "what starts the proved program (also $BRIDGE)"),
+    Option("certificate", "", FILE, "where an accepted certificate is kept"),
+    Option("check", 1, SWITCH, "1: ask bridge what it can prove of the answer; 0: do not"),
+    Option("cluster", "", Text("an address"), "a scheduler of Dask, whose workers search "
+                                              "(prove=1)"),
     Option("extra", "", str, "further words for the solver, in quotes"),
-    Option("failexit", 0, int, "1: where there is no answer, write no .sol and end with another "
-                               "status than 0 (MiniZinc)"),
-    Option("format", "", form, "of an MPS file: free or fixed (what it is read as where nothing is "
-                               "said)"),
-    Option("json", 0, int, "1: standard output gets one object of JSON, and nothing else"),
-    Option("keep", "", str, "folder that keeps the files in between"),
-    Option("objno", 1, int, "which objective, from 1"),
-    Option("outlev", 0, int, "0 quiet, 1 the solver's log, 2 also the commands and times"),
-    Option("only", "", str, "mps: write the MPS text that this solver reads beside the model, "
-                            "and stop"),
-    Option("overwrite", 0, int, "1: a certificate replaces what stands at its place, also one that "
-                                "says more"),
-    Option("prove", 0, int, "1: search a certificate that the answer is optimal (timelim holds "
-                            "for it too; 60 seconds where there is none)"),
-    Option("relax", 0, int, "1: integer variables as continuous ones"),
-    Option("round", 1, int, "1: values of integer variables within 1e-5 of a whole number are "
-                            "written as that number"),
-    Option("shortest", 0, int, "1: numbers of the .nl with 16 digits or more become the shortest "
-                               "ones with the same double"),
-    Option("shorten", 0, int, "1: after a certificate, a shorter one is looked for in the time "
-                              "that is left (prove=1)"),
-    Option("solver", "", str, "path of the solver"),
-    Option("strict", 0, int, "1: what is not proved optimal, infeasible or unbounded is not "
-                             "solved (code 100, exit status 6); sets prove=1"),
-    Option("timelim", 0.0, float, "seconds for the solver; 0: no limit"),
-    Option("wantsol", 0, int, "without -AMPL, a sum of 1 write .sol, 2 print values, 4 print "
-                              "duals, 8 no message"),
+    Option("failexit", 0, SWITCH, "1: where there is no answer, write no .sol and end with another "
+                                  "status than 0 (MiniZinc)"),
+    Option("format", "", FORMAT, "how the lines of an MPS file are read, where both can be"),
+    Option("jobs", 0, COUNT, "processes that search (prove=1); 0: as many as processors may be "
+                             "used"),
+    Option("json", 0, SWITCH, "1: standard output gets one object of JSON, and nothing else"),
+    Option("keep", "", FOLDER, "where the files in between are kept"),
+    Option("objno", 1, Range(int, 1), "which objective"),
+    Option("outlev", 0, Range(int, 0, 2), "1: the solver's log, 2: also the commands and times"),
+    Option("only", "", Words("mps"), "mps: write the MPS text that this solver reads beside the "
+                                     "model, and stop"),
+    Option("overwrite", 0, SWITCH, "1: a certificate, and the text of only=mps, replaces what "
+                                   "stands at its place"),
+    Option("prove", 0, SWITCH, "1: search a certificate that the answer is optimal (timelim holds "
+                               "for it too; 60 seconds where there is none)"),
+    Option("relax", 0, SWITCH, "1: integer variables as continuous ones"),
+    Option("round", 1, SWITCH, "1: values of integer variables within 1e-5 of a whole number are "
+                               "written as that number"),
+    Option("shortest", 0, SWITCH, "1: numbers of the .nl with 16 digits or more become the "
+                                  "shortest ones with the same double"),
+    Option("shorten", 0, SWITCH, "1: after a certificate, a shorter one is looked for in the time "
+                                 "that is left (prove=1)"),
+    Option("solution", "", FILE, "where names and values are written; as JSON where it ends with "
+                                 ".json"),
+    Option("solver", "", FILE, "the solver's program, where it is not on the PATH"),
+    Option("strict", 0, SWITCH, "1: what is not proved optimal, infeasible or unbounded is not "
+                                "solved (code 100, exit status 7); sets prove=1"),
+    Option("timelim", 0.0, AMOUNT, "seconds for the solver; 0: no limit"),
+    Option("wantsol", 0, Range(int, 0, 15), "without -AMPL, a sum of 1 write .sol, 2 print values, "
+                                            "4 print duals, 8 no message"),
 )
+NAMES = frozenset(option.name for option in COMMON)
 
 
 class Options:
     """The options of one run. Those that all drivers have are attributes; a solver's own are
-    in `own`, by name. `given` lists what was said, for the echo."""
+    in `own`, by name. `given` lists what was said, for the echo. `is_written`: a .sol is."""
 
     bound: int
     bridge: str
     certificate: str
     check: int
+    cluster: str
     extra: str
     failexit: int
     format: str
+    jobs: int
     json: int
     keep: str
     objno: int
@@ -101,27 +181,32 @@ class Options:
     round: int
     shorten: int
     shortest: int
+    solution: str
     solver: str
     strict: int
     timelim: float
     wantsol: int
 
     def __init__(self, own: Iterable[Option] = ()) -> None:
-        own = tuple(own)
-        self.known = {o.name: o for o in sorted(COMMON + own, key=lambda o: o.name)}
-        self.own: dict[str, Value] = {o.name: o.default for o in own}
+        """An option of its own that has the name of a common one takes its place."""
+        self.known = {o.name: o for o in sorted((*COMMON, *own), key=lambda o: o.name)}
+        self.own: dict[str, Value] = {}
         self.given: list[str] = []
-        for option in COMMON:
-            setattr(self, option.name, option.default)
+        self.is_written = True
+        for option in self.known.values():
+            self.put(option.name, option.default)
+
+    def put(self, name: str, value: Value) -> None:
+        if name in NAMES:
+            setattr(self, name, value)
+        else:
+            self.own[name] = value
 
     def set(self, name: str, word: str) -> None:
+        """One option, by what is said of it."""
         option = self.find(name)
-        name, value = option.name, option.read(word)
-        if name in self.own:
-            self.own[name] = value
-        else:
-            setattr(self, name, value)
-        self.given.append(f"{name}={word}")
+        self.put(option.name, option.read(word))
+        self.given.append(f"{option.name}={word}")
 
     def find(self, name: str) -> Option:
         """The option of this name, in capitals or not, with `-` before it or not."""
@@ -155,8 +240,4 @@ class Options:
 
     def listing(self) -> str:
         """One line an option, for -=."""
-        lines = []
-        for o in self.known.values():
-            default = f" ({o.default})" if o.default != "" else ""
-            lines.append(f"{o.name:<11} {o.text}{default}\n")
-        return "".join(lines)
+        return "".join(option.line() + "\n" for option in self.known.values())

@@ -1,64 +1,43 @@
-"""What a driver needs of the exported MPS text: sense, rows, columns, which are whole, costs.
-
-The text is always the one that `bridge export` writes, so little of it is looked at: columns are
-x0, x1, .. in order, and then perhaps z, the tied objective; whole ones stand between markers.
-"""
+"""The program of an MPS text in the form that `bridge export` writes, which all stages take: its
+names beside what `mps_reader` reads of it. Columns are x0, x1, .. in order, and then perhaps z, the
+tied objective."""
 
 from __future__ import annotations
 
 import math
-import re
+from functools import cached_property
 from typing import Mapping
 
+from .mps_reader import OBJECTIVE, Text
 from .names import Names
+from .terms import Terms, entries_of, terms_of
 
-LAST_COLUMN = re.compile(rb" x(\d+) ")
-MARKER = re.compile(rb"^ M\d+ 'MARKER' '(INTORG|INTEND)'\n(?: x(\d+) )?", re.M)
-FAR = re.compile(rb"^ \S+(?: BND)? (\S+) (-?(?:\d{20,}[\d.]*|[\d.]+e\d+))$", re.M)
-COST = re.compile(rb"^ (\S+) obj (\S+)$", re.M)
-CONSTANT = re.compile(rb"^ RHS obj (\S+)$", re.M)
+TIED, TIED_ROW = "z", "zdef"
+INFINITE = math.inf
 
 
 class Program:
-    """`rows` are the names in order, the objective's first, `kinds` their letters (N, E, L, G);
-    `columns` the names in order, `whole` those that are integer. `costs` are the objective's
-    coefficients as texts, `objective_rhs` is minus its constant. `is_exported`: `bridge export`
-    wrote it, which scales rows and leaves those without sides out; `names` are those of a file that
-    has its own."""
+    """`read` has all numbers by place. `rows` are the names in order, the objective's first,
+    `kinds` their letters (N, E, L, G); `columns` the names in order, `whole` those that are
+    integer. `objective` are its columns and numbers by place, `costs` its coefficients as texts,
+    `objective_rhs` is minus its constant. `is_exported`: `bridge export` wrote it, which scales
+    rows and leaves those without sides out; `names` are those of a file that has its own."""
 
     is_exported = True
     names: Names | None = None
 
-    def __init__(self, text: bytes) -> None:
-        self.text = text
-        rows = text.index(b"\nROWS\n")
-        columns = text.index(b"\nCOLUMNS\n", rows)
-        rhs = text.index(b"\nRHS\n", columns)
-        body = text[columns + 9:rhs + 1]
-        self.maximise = b"\nOBJSENSE\n MAX" in text[:rows + 1]
-        self.kinds = {}
-        for line in text[rows + 6:columns].decode().split("\n"):
-            kind, name = line.split()
-            self.kinds[name] = kind
-        self.rows = list(self.kinds)
-        self.constraints = self.rows[1:]
-        last = LAST_COLUMN.match(body, body.rfind(b"\n x") + 1)
-        count = int(last.group(1)) + 1 if last else 0
-        self.columns = [f"x{j}" for j in range(count)]
-        self.whole: set[str] = set()
-        start = 0
-        for mark in MARKER.finditer(body):
-            if mark.group(1) == b"INTORG":
-                start = int(mark.group(2))
-            else:
-                stop = int(mark.group(2)) if mark.group(2) else count
-                self.whole.update(self.columns[start:stop])
-        if b"\n z " in body or body.startswith(b" z "):
-            self.columns.append("z")
-        constant = CONSTANT.search(text, rhs)
-        self.objective_rhs = constant.group(1).decode() if constant else "0"
-        self.costs = {m.group(1).decode(): m.group(2).decode()
-                      for m in COST.finditer(body) if m.group(2) != b"0"}
+    def __init__(self, text: bytes, read: Text | None = None) -> None:
+        self.text, self.read = text, read or Text(text)
+        self.maximise = self.read.maximise
+        self.constraints = decoded(self.read.constraints)
+        self.columns = decoded(self.read.columns)
+        self.rows = [self.read.objective.decode(), *self.constraints]
+        self.kinds = dict(zip(self.rows, ["N", *self.read.kinds]))
+        self.whole = {name for name, whole in zip(self.columns, self.read.whole) if whole}
+        self.objective_rhs = self.read.rhs.get(OBJECTIVE, b"0").decode()
+        self.objective = entries_of(self.read.entries(), OBJECTIVE)
+        numbers = decoded(self.read.numbers)
+        self.costs = {self.columns[j]: numbers[k] for j, k in self.objective if numbers[k] != "0"}
 
     def has_objective(self) -> bool:
         """Whether the objective is anything but the constant 0."""
@@ -67,13 +46,48 @@ class Program:
     def figure(self, values: Mapping[str, str] | Mapping[str, float]) -> float:
         """The objective at doubles or decimal texts, in doubles: for a message, never for a
         claim."""
-        terms = [float(cost) * float(values[column]) for column, cost in self.costs.items()]
-        return math.fsum([-float(self.objective_rhs)] + terms)
+        return math.fsum([-float(self.objective_rhs), *self.terms_at(values)])
+
+    def terms_at(self, values: Mapping[str, str] | Mapping[str, float]) -> list[float]:
+        """Those of the objective without its constant."""
+        return [cost * float(values[column]) for column, cost in self.cost_doubles.items()]
+
+    @cached_property
+    def cost_doubles(self) -> dict[str, float]:
+        return {column: float(cost) for column, cost in self.costs.items()}
 
     def far(self, size: float) -> int:
-        """How many sides, ranges and bounds are at least of that size, which is 1e20 or more."""
-        numbers = FAR.findall(self.text, self.text.index(b"\nRHS\n"))
-        return sum(abs(float(number)) >= size for name, number in numbers if name != b"obj")
+        """How many sides, ranges and bounds are at least of that size."""
+        read = self.read
+        sides = [text for i, text in read.rhs.items() if i != OBJECTIVE]
+        ends = [end for pair in zip(read.low, read.high) for end in set(pair) if end]
+        texts = [*sides, *read.ranges.values(), *ends]
+        are_far = {text: abs(float(text)) >= size for text in set(texts)}
+        return sum(map(are_far.__getitem__, texts)) if any(are_far.values()) else 0
+
+    # in doubles --------------------------------------------------------------------
+
+    def terms(self) -> Terms:
+        """Of the constraints."""
+        places = range(len(self.constraints))
+        return terms_of(len(places), len(self.columns), self.read.entries(),
+                        list(map(float, self.read.numbers)), [*places, -1, -1])
+
+    def sides(self) -> tuple[list[float], list[float]]:
+        """Of the constraints, lower and upper."""
+        low, high, scale = self.read.sides()
+        return ([-INFINITE if side is None else side / scale for side in low],
+                [INFINITE if side is None else side / scale for side in high])
+
+    def bounds(self) -> tuple[list[float], list[float]]:
+        """Of the columns."""
+        texts = self.read.bounds()
+        known = {text: float(text) for part in texts for text in set(part) if text}
+        low, high = ([known.get(text, end) for text in part] for part, end in
+                     zip(texts, (-INFINITE, INFINITE)))
+        return low, high
+
+    # texts for solvers -------------------------------------------------------------
 
     def free_name(self) -> bytes:
         """The text for readers that take `NAME nl` for fixed columns (all COIN readers)."""
@@ -82,3 +96,8 @@ class Program:
     def without_sense(self) -> bytes:
         """The text without OBJSENSE, for readers that reject it (GLPK)."""
         return self.text.replace(b"OBJSENSE\n MAX\n", b"", 1)
+
+
+def decoded(names: list[bytes]) -> list[str]:
+    """Names and numbers, which hold no ends of lines."""
+    return b"\n".join(names).decode().split("\n") if names else []

@@ -10,26 +10,28 @@ numbers.
 
 from __future__ import annotations
 
+import itertools
 import json
 import os
-import shutil
-import subprocess
-import sys
-from typing import Any, Iterable, Mapping, NamedTuple, Sequence
+from typing import Any, Iterable, Mapping, Sequence
 
 import pulp
 
-FILES = ("mps", "json")         # the problem, and what the driver answers
+from . import solvers
+from .errors import BridgeError
+from .interface import solve
+from .report import Report
+
+FILES = ("mps", "json")         # the problem, and what is told of it
 MOST_BYTES = 255                # of a name in an MPS file
-ALWAYS = ("format=free", "json=1", "wantsol=6")
 WORDS = (("relax=1", "mip=False"), ("prove=1", "prove=True"), ("timelim=", "timeLimit="),
          ("mipgap=", "gapRel="), ("solver=PATH", "options=['solver=PATH']"),
          ("bridge=PATH", "bridge='PATH'"))              # a driver's, and what they are here
 
 
 class BridgeCmd(pulp.LpSolver_CMD):
-    """A PuLP solver: `driver` is the name or path of a driver, `bridge` the words that start
-    bridge where it is elsewhere, `options` the driver's (`name=value`). `prove` asks for a
+    """A PuLP solver, made of `solve`: `driver` is the name of a driver, `bridge` what starts the
+    proved program where it is elsewhere, `options` the driver's (`name=value`). `prove` asks for a
     certificate, `gapRel` and `threads` are the driver's `mipgap` and `threads`."""
 
     name = "BridgeCmd"
@@ -46,11 +48,14 @@ class BridgeCmd(pulp.LpSolver_CMD):
     def defaultPath(self) -> str:
         return str(self.executableExtension("bridge-cbc"))
 
+    def solver(self) -> str:
+        """The solver that the driver's name ends with."""
+        return os.path.basename(str(self.path)).removesuffix(".exe").removeprefix("bridge-")
+
     def available(self) -> str | bool:
-        """The driver's path, or False. It is looked for on the PATH, and beside this Python, where
-        a virtual environment has it."""
-        beside = os.path.dirname(sys.executable)
-        return shutil.which(self.path) or shutil.which(self.path, path=beside) or False
+        """The path of the driver's solver, or False."""
+        name = self.solver()
+        return name in solvers.NAMES and solvers.load(name).place() or False
 
     def actualSolve(self, lp: pulp.LpProblem) -> int:
         """Solves, and assigns values, duals and reduced costs where there are any. Answers PuLP's
@@ -60,36 +65,45 @@ class BridgeCmd(pulp.LpSolver_CMD):
         if empty:
             self.message = f"infeasible: {empty}"
             return self.assigned(lp, pulp.LpStatusInfeasible, pulp.LpSolutionInfeasible)
-        if not self.available():
-            raise pulp.PulpSolverError(f"{self.path} was not found: install it or put it on the "
-                                       "PATH")
-        paths = dict(zip(FILES, self.create_tmp_files(lp.name, *FILES)))
+        paths = dict(zip(FILES, self.create_tmp_files(self.free_name(lp.name), *FILES)))
         try:
             names = self.written(lp, paths["mps"])
-            answer = self.answered(paths)
+            told = self.answered(paths["mps"])
+            if self.keepFiles:
+                with open(paths["json"], "w", encoding="ascii") as f:
+                    json.dump(told.object(), f, indent=1)
         finally:
             self.delete_tmp_files(*paths.values())
-        self.message = in_words(answer.message)
+        self.message = in_words("\n".join(told.lines))
         if self.msg:
             print(self.message)
-        if answer.code >= 500:
-            raise pulp.PulpSolverError(self.message)
-        self.take(lp, answer, names)
-        return self.assigned(lp, *statuses_of(answer.code, answer.message.split("\n")[-1]))
+        self.take(lp, told, names)
+        return self.assigned(lp, *statuses_of(told.code or 0, told.text))
+
+    def free_name(self, name: str) -> str:
+        """One that no kept file of another run has."""
+        for number in itertools.count(1):
+            free = name if number == 1 else f"{name}-{number}"
+            if not self.keepFiles or not any(map(os.path.exists,
+                                                 self.create_tmp_files(free, *FILES))):
+                return free
+        raise AssertionError
 
     @staticmethod
-    def take(lp: pulp.LpProblem, answer: Answer, names: Mapping[str, str]) -> None:
+    def take(lp: pulp.LpProblem, told: Report, names: Mapping[str, str]) -> None:
         """Values, slacks, duals and reduced costs, each where there are any. `names` are those of
         the file by PuLP's."""
-        if answer.values:
-            lp.assignVarsVals({name: answer.values[own] for name, own in names.items()})
+        values, duals, costs = ({name: float(text) for name, text in (texts or {}).items()}
+                                for texts in (told.values, told.duals, told.costs))
+        if values:
+            lp.assignVarsVals({name: values[own] for name, own in names.items()})
             lp.assignConsSlack({name: sum(a * x.varValue for x, a in constraint.items())
                                 for name, constraint in lp.constraints.items()}, activity=True)
         else:
             lp.assignVarsVals(dict.fromkeys(names))
-        lp.assignConsPi(dict(zip(lp.constraints, answer.duals)))
-        if answer.costs:
-            lp.assignVarsDj({name: answer.costs[own] for name, own in names.items()})
+        lp.assignConsPi(dict(zip(lp.constraints, duals.values())))
+        if costs:
+            lp.assignVarsDj({name: costs[own] for name, own in names.items()})
 
     def assigned(self, lp: pulp.LpProblem, status: int, solution: int) -> int:
         if self.msg and status == pulp.LpStatusInfeasible and self.message.startswith("inf"):
@@ -116,53 +130,22 @@ class BridgeCmd(pulp.LpSolver_CMD):
                               lp.objective.constant))
         return dict(names)
 
-    def answered(self, paths: Mapping[str, str]) -> Answer:
-        """What the driver told."""
+    def answered(self, mps: str) -> Report:
+        """What the driver tells."""
         try:
-            with open(paths["json"], "wb") as out:
-                ran = subprocess.run(self.words(paths["mps"]), stdout=out, stderr=subprocess.PIPE
-                                     if not self.msg else None)
-            with open(paths["json"], encoding="utf-8") as f:
-                told = json.load(f)
-            answer = answer_of(told)
-        except OSError as fault:
-            raise pulp.PulpSolverError(f"{fault.filename or self.path}: {fault.strerror}") from None
-        except (ValueError, KeyError):
-            raise pulp.PulpSolverError(f"{self.path} ended with {ran.returncode}, without an "
-                                       "answer") from None
-        if told["code"] is None or told["code"] >= 500:
-            raise pulp.PulpSolverError(in_words(str(told["text"])))
-        return answer
+            return solve(mps, self.solver(), **self.given())
+        except BridgeError as fault:
+            raise pulp.PulpSolverError(in_words(str(fault))) from None
 
-    def words(self, mps: str) -> list[str]:
-        words = [self.available() or self.path, mps, "-e", *ALWAYS, *self.options]
-        given = (("bridge", self.bridge), ("timelim", self.timeLimit),
-                 ("mipgap", self.optionsDict.get("gapRel")),
-                 ("threads", self.optionsDict.get("threads")))
-        words += [f"{name}={value}" for name, value in given if value]
-        words += ["relax=1"] if not self.mip else []
-        words += ["prove=1"] if self.prove else []
-        return words
-
-
-class Answer(NamedTuple):
-    """What a driver tells: values and reduced costs by name, duals in the order of the rows; empty
-    where there are none."""
-
-    code: int
-    message: str
-    duals: list[float]
-    values: dict[str, float]
-    costs: dict[str, float]
-
-
-def answer_of(told: Mapping[str, Any]) -> Answer:
-    """KeyError or ValueError where it is none."""
-    values, costs, duals = ({name: float(text) for name, text in told.get(key, {}).items()}
-                            for key in ("values", "costs", "duals"))
-    code = told["code"]
-    return Answer(599 if code is None else int(code), "\n".join(told["lines"]),
-                  list(duals.values()), values, costs)
+    def given(self) -> dict[str, Any]:
+        """The options of the driver."""
+        options: dict[str, Any] = {"format": "free", "prove": self.prove, "bridge": self.bridge,
+                                   "relax": not self.mip, "timelim": self.timeLimit,
+                                   "mipgap": self.optionsDict.get("gapRel"),
+                                   "threads": self.optionsDict.get("threads")}
+        said = dict(word.partition("=")[::2] for word in self.options)
+        said = {"program" if name == "solver" else name: value for name, value in said.items()}
+        return {**{name: value for name, value in options.items() if value}, **said}
 
 
 def are_words(names: Iterable[str]) -> bool:

@@ -9,6 +9,7 @@ import io
 import json
 import sys
 import time
+from dataclasses import dataclass, field
 from fractions import Fraction
 from typing import TYPE_CHECKING, Any, Callable, Dict, Optional, Sequence
 
@@ -18,9 +19,11 @@ from .options import BadOption, Options
 from .verdicts import Said
 
 if TYPE_CHECKING:
-    from .driver import Driver
+    from .driver import Driver, Run
 
 Object = Dict[str, Any]
+OPTIONAL = ("values", "duals", "costs", "stats", "explained", "refusal")      # keys
+SUMMED = ("program", "model", "certificate")
 PIECE = 1 << 20                 # bytes of a file that are read at once
 
 
@@ -49,36 +52,52 @@ def number(value: Fraction | None) -> Optional[Object]:
     return {"exact": str(value), "double": double}
 
 
+@dataclass
 class Report:
-    """What is known of one call. `program` are the words that start the proved program."""
+    """What is known of one call. `value` and `bound` are those of the claim, `text` is the verdict
+    word for word, or why there is none. `object` is as report.schema.json says."""
 
-    def __init__(self, command: str) -> None:
-        self.command, self.began = command, time.monotonic()
-        self.status = 0
-        self.code: int | None = None
-        self.said: Said | None = None
-        self.text = ""
-        self.lines: Sequence[str] = ()
-        self.model: str | None = None
-        self.certificate: str | None = None
-        self.program: Sequence[str] = ()
-        self.more: Object = {}
+    command: str
+    status: int = 0
+    code: int | None = None
+    claim: str | None = None
+    objective: int | None = None
+    value: Fraction | None = None
+    bound: Fraction | None = None
+    text: str = ""
+    lines: Sequence[str] = ()
+    seconds: float = 0.0
+    model: str | None = None
+    certificate: str | None = None
+    sums: Dict[str, Optional[str]] = field(default_factory=lambda: dict.fromkeys(SUMMED))
+    values: Dict[str, str] | None = None
+    duals: Dict[str, str] | None = None
+    costs: Dict[str, str] | None = None
+    stats: Object | None = None
+    explained: Object | None = None
+    refusal: Object | None = None
+    more: Object = field(default_factory=dict)
+    version: str = VERSION
+    program: Sequence[str] = ()
+    began: float = field(default_factory=time.monotonic, repr=False)
+
+    def end(self) -> Report:
+        """Takes what is known at the end of the call: seconds and sums."""
+        program = self.program[0] if len(self.program) == 1 else None
+        self.seconds = round(time.monotonic() - self.began, 3)
+        self.sums = {"program": sum_of(program), "model": sum_of(self.model),
+                     "certificate": sum_of(self.certificate)}
+        return self
 
     def object(self) -> Object:
-        said = self.said
-        program = self.program[0] if len(self.program) == 1 else None
-        return {
-            "command": self.command, "version": VERSION, "status": int(self.status),
-            "code": self.code, "claim": said.word if said else None,
-            "objective": said.objective if said else None,
-            "value": number(said.value) if said else None,
-            "bound": number(said.bound) if said else None,
-            "text": self.text, "lines": list(self.lines),
-            "seconds": round(time.monotonic() - self.began, 3),
-            "model": self.model, "certificate": self.certificate,
-            "sums": {"program": sum_of(program), "model": sum_of(self.model),
-                     "certificate": sum_of(self.certificate)},
-            **self.more}
+        """As JSON has it."""
+        found = {"command": self.command, "version": self.version, "status": int(self.status),
+                 "code": self.code, "claim": self.claim, "objective": self.objective,
+                 "value": number(self.value), "bound": number(self.bound), "text": self.text,
+                 "lines": list(self.lines), "seconds": self.seconds, "model": self.model,
+                 "certificate": self.certificate, "sums": self.sums, **self.more}
+        there = {key: getattr(self, key) for key in OPTIONAL}
+        return {**found, **{key: what for key, what in there.items() if what is not None}}
 
     def show(self) -> int:
         """Prints it; the status."""
@@ -86,9 +105,16 @@ class Report:
         print(text, flush=True)
         return self.status
 
+    def take(self, said: Said | None) -> None:
+        """What is claimed."""
+        if said is not None:
+            self.claim, self.objective = said.word, said.objective
+            self.value, self.bound = said.value, said.bound
+
     def take_line(self, line: str) -> None:
         """The last line of a message."""
-        self.text, self.said = line, verdicts.read(line)
+        self.text = line
+        self.take(verdicts.read(line))
 
 
 def is_wanted(given: Sequence[str], options: Options, driver: str) -> bool:
@@ -115,34 +141,20 @@ def reported(driver: Driver, argv: Sequence[str]) -> int:
     told = Report(driver.name)
     told.status = silently(lambda: driver.main(argv), bool(options.outlev))
     fill(told, driver)
-    return told.show()
+    return told.end().show()
 
 
-def fill(told: Report, driver: Driver) -> None:
-    """What is known after a driver's run."""
-    told.model, told.program = driver.nl or None, driver.bridge_words
-    if driver.fault is not None:
-        told.text = f"{driver.name}: {driver.fault.text}"
+def fill(told: Report, run: Run) -> None:
+    """What is known after a run."""
+    told.model, told.program = run.model.shown or None, run.bridge_words
+    if run.fault is not None:
+        told.text = f"{run.name}: {run.fault.text}"
         told.lines = [told.text]
-        told.code = None if driver.fault.code == Code.STOPPED else int(driver.fault.code)
-    elif driver.result is not None:
-        result, end = driver.result, driver.result.end
+        told.code = None if run.fault.code == Code.STOPPED else int(run.fault.code)
+    elif run.result is not None:
+        result, end = run.result, run.result.end
         told.code, told.lines, told.text = int(result.code), result.lines, result.lines[-1]
-        told.said = end.said if end else None
+        told.take(end.said if end else None)
         told.certificate = end.kept.path if end and end.kept else None
-        told.more.update(numbers_of(driver))
-
-
-def numbers_of(driver: Driver) -> Object:
-    """Values, duals and reduced costs by name, as `wantsol` asks for them."""
-    found: Object = {}
-    answer = driver.result.answer if driver.result else None
-    if answer is not None:
-        names = driver.names(answer)
-        for wanted, key, texts, of_list in ((2, "values", answer.values, names.column),
-                                            (4, "duals", answer.duals, names.row),
-                                            (4, "costs", answer.costs, names.column)):
-            if driver.options.wantsol & wanted and texts is not None:
-                found[key] = {of_list(int(name[1:])) or name: text
-                              for name, text in texts.items() if name[1:].isdigit()}
-    return found
+        numbers = run.numbers()
+        told.values, told.duals, told.costs = map(numbers.get, ("values", "duals", "costs"))

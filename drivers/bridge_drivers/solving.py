@@ -13,17 +13,22 @@ from .bridge import Bridge, Refused
 from .certificates import Certifier, End
 from .certify.claims import WITHOUT, Verdict
 from .codes import Code, Failure, Status
+from .files import Places
+from .inputs import Input
 from .interrupts import Interrupted
 from .job import Clock, Job
 from .miss import NONE, Miss, largest_share, miss, missing
 from .nl import BadFile, Prepared, header, prepared
 from .options import Options
 from .program import Program
-from .settled import is_final, settled
+from .settled import Facts, is_final, settled
 from .solvers.base import Outcome, Solver, Unclear
+from .solvers.given import given, hollow
 from .values import BadValue
+from .verdicts import percent, read
 
 
+EMPTY = "{} was not asked: a whole variable has no whole number between its bounds"
 ROUNDING = 1e-15            # of the largest term: less is not told by doubles
 
 
@@ -43,16 +48,18 @@ class Result:
 
 
 class Solving:
-    """`nl` is the path of the model, `solver_path` that of the solver, `folder` one for files."""
+    """`nl` is the path of the model's text, `solver_path` that of the solver, `folder` one for
+    files."""
 
     make_job = Job
     make_certifier = Certifier
     kept_name = "text.nl"
 
-    def __init__(self, solver: Solver, options: Options, bridge: Bridge, clock: Clock, nl: str,
-                 solver_path: str, folder: str) -> None:
+    def __init__(self, solver: Solver, options: Options, bridge: Bridge, clock: Clock,
+                 model: Input, solver_path: str, folder: str) -> None:
         self.solver, self.options, self.bridge, self.clock = solver, options, bridge, clock
-        self.nl, self.solver_path, self.folder = nl, solver_path, folder
+        self.model, self.nl = model, model.path
+        self.solver_path, self.folder = solver_path, folder
 
     def result(self) -> Result:
         """The outcome. Failure where there is none."""
@@ -60,8 +67,8 @@ class Solving:
         try:
             text_form = self.prepared(kept)
         except BadFile as fault:
-            raise Failure(Code.REFUSED, str(fault), Status.REFUSED) from None
-        self.bridge.shown[text_form.path] = self.nl
+            raise Failure(Code.REFUSED, str(fault).replace(self.nl, self.model.shown)) from None
+        self.bridge.shown[text_form.path] = self.model.shown
         if self.options.keep:
             keep_model(text_form.path, kept)
         try:
@@ -74,31 +81,33 @@ class Solving:
                                WITHOUT + "bridge refuses the model for this"], is_final=not strict)
             status = Status.REFUSED if fault.status == 2 else Status.FAILED
             raise Failure(Code.REFUSED, self.refusal(fault, text_form.path), status) from None
-        if self.options.only:
-            return self.only_written(program)
         if program.whole and not self.solver.integers and not self.options.relax:
             raise Failure(Code.TAKES_NO_INTEGERS,
                           f"{self.solver.title} takes no integer variables, and the model has "
                           f"{len(program.whole)}; relax=1 drops that they are whole",
                           Status.REFUSED)
+        if self.options.only:
+            return self.only_written(program)
         job = self.make_job(program, self.options, self.folder, self.solver_path, self.extra(),
                             self.clock)
         job.read = lambda line: self.solver.said(line, program)
         if self.options.keep:
             job.write("model.mps", program.text)
-        return self.told(job, text_form.path, *self.answered(job), text_form.notes)
+        return self.told(job, text_form.path, *self.answered(job),
+                         [*self.model.notes, *text_form.notes])
 
     def prepared(self, target: str) -> Prepared:
         """The model as the proved program reads it."""
-        return prepared(self.nl, target, bool(self.options.shortest))
+        is_told = not any(word.startswith("shortest") for word in self.options.given)
+        return prepared(self.nl, target, bool(self.options.shortest), is_told)
 
     def refusal(self, fault: Refused, nl: str) -> str:
         """In words; an objective that is not there by the number that the option says."""
         if not fault.told.endswith(": no such objective"):
             return fault.line()
         count = header(nl).objectives
-        return (f"{self.nl}: objno={self.options.objno}: no such objective: the file has {count}, "
-                "and objno counts from 1")
+        return (f"{self.model.shown}: objno={self.options.objno}: no such objective: the file has "
+                f"{count}, and objno counts from 1")
 
     def exported(self, nl: str) -> Program:
         words = ["export", nl]
@@ -109,19 +118,16 @@ class Solving:
     def only_written(self, program: Program) -> Result:
         """With only=mps: the text that the solver reads, beside the model, and how it is called
         with it."""
-        if self.options.only != "mps":
-            raise Failure(Code.BAD_OPTION, f"only={self.options.only}: mps is what there is",
-                          Status.BAD_WORDS)
         path = f"{self.stub()}.{self.solver.name}.mps"
-        with open(path, "wb") as f:
-            f.write(self.solver.text(program))
+        Places([self.nl], bool(self.options.overwrite)).write(path, self.solver.text(
+            given(program, bool(self.options.relax))))
         words = shlex.join(self.solver.command(program, path, self.options.solver))
         return Result(Code.LIMIT, [f"{path} is written, and nothing was solved; "
                                    f"{self.solver.title} reads and solves it by", words])
 
     def stub(self) -> str:
         """The model's path without its end."""
-        return self.nl[:-3]
+        return self.model.stub
 
     def extra(self) -> list[str]:
         try:
@@ -135,20 +141,31 @@ class Solving:
     def answered(self, job: Job) -> tuple[Outcome, Answer, Miss]:
         """What the solver answered, its answer text, and by how much it misses the model. Where
         that is much, or the answer says little, the solver is asked once more in another way."""
-        outcome, answer, missed = self.asked(job, False)
+        empty = None if self.options.relax else hollow(job.program)
+        if empty:
+            outcome = Outcome(Code.INFEASIBLE, "infeasible", notes=[EMPTY.format(
+                self.solver.title)])
+            return outcome, Answer(job.program, outcome, self.options), NONE
+        outcome, answer, missed = self.asked_twice(job)
         if outcome.code == Code.INFEASIBLE_OR_UNBOUNDED or missed.is_much():
-            other = self.in_another_way(job, outcome)
+            other = self.in_another_way(job, of_answer(outcome))
             if other is not None and other[0].code != Code.INFEASIBLE_OR_UNBOUNDED \
                     and not other[2].is_much():
                 outcome, answer, missed = other
-        if missed.is_much() and outcome.code == Code.SOLVED:
-            outcome = replace(outcome, code=Code.UNSURE,
-                              text="optimal solution that misses the model")
-            answer = Answer(job.program, outcome, self.options)
         if outcome.code == Code.INFEASIBLE_OR_UNBOUNDED and self.options.failexit:
             # MiniZinc would say that it is infeasible
             raise Failure(Code.NO_ANSWER, f"{self.solver.title}: {outcome.text}")
         return outcome, answer, missed
+
+    def asked_twice(self, job: Job) -> tuple[Outcome, Answer, Miss]:
+        """Once more in another way where it gives no answer."""
+        try:
+            return self.asked(job, False)
+        except Failure as fault:
+            other = self.in_another_way(job, "was none") if fault.code == Code.NO_ANSWER else None
+            if other is None:
+                raise
+            return other
 
     def asked(self, job: Job, again: bool) -> tuple[Outcome, Answer, Miss]:
         try:
@@ -162,23 +179,24 @@ class Solving:
         except (Unclear, BadValue, LookupError, ValueError, ArithmeticError) as fault:
             if job.is_interrupted:
                 raise Interrupted(signal.SIGINT) from None
-            raise Failure(Code.NO_ANSWER,
-                          f"{self.solver.title} gave no usable answer: {fault}") from None
+            ended = f"; it was ended by {signal.Signals(-job.status).name}" if job.status < 0 \
+                else ""
+            raise Failure(Code.NO_ANSWER, f"{self.solver.title} gave no usable answer: "
+                                          f"{fault}{ended}") from None
         except OSError as fault:
             raise Failure(Code.NOT_FOUND, f"{fault.filename or self.solver_path} could not be "
                           f"run or written: {fault.strerror}") from None
         return outcome, answer, missed
 
-    def in_another_way(self, job: Job, first: Outcome) -> tuple[Outcome, Answer, Miss] | None:
-        """None where it was asked so before, or gives no answer."""
+    def in_another_way(self, job: Job, was: str) -> tuple[Outcome, Answer, Miss] | None:
+        """None where it was asked so before, or gives no answer. `was` says what the first answer
+        was."""
         if job.again or not self.solver.again or job.is_interrupted:
             return None
         try:
             outcome, answer, missed = self.asked(job, True)
         except Failure:
             return None
-        was = f"was `{first.text}`" if first.code == Code.INFEASIBLE_OR_UNBOUNDED \
-            else "does not satisfy the model"
         outcome.notes.append(f"{self.solver.title} was asked once more {self.solver.again}: its "
                              f"first answer {was}")
         return outcome, answer, missed
@@ -191,11 +209,13 @@ class Solving:
 
     # the message -------------------------------------------------------------------
 
-    def headline(self, job: Job, answer: Answer, text: str | None = None) -> str:
-        """What is told first: the solver's words, or others that what was proved puts in their
-        place."""
+    def headline(self, job: Job, answer: Answer, text: str | None = None, lacks: str = "") -> str:
+        """What is told first: the solver's words, with what they lack, or others that what was
+        proved puts in their place."""
         title = self.solver.named(job.log)
         line = f"{title}: {answer.outcome.text}" if text is None else f"{title}, corrected: {text}"
+        if text is None and lacks:
+            line += f" (code 100: {lacks})"
         figure = answer.objective()
         if figure is not None:
             line += f"; objective {figure}"
@@ -214,56 +234,68 @@ class Solving:
             lines.append(f"its point misses {certifier.named(missed.name)} by {missed.share:.2g} "
                          "of the largest term")
         try:
-            answer, sol = self.returned(certifier, answer, lines)
-            verdict = self.verdict(certifier, answer, sol)
+            verdict, before = self.verdict(certifier, answer), len(lines)
             if verdict.contradicted and outcome.code == Code.SOLVED:
-                other = self.in_another_way(job, outcome)
+                other = self.in_another_way(job, of_answer(outcome))
                 if other is not None:
                     return self.told(job, nl, *other, notes)
-                answer = answer.with_code(Code.UNSURE)
             if certifier.is_interrupted:
                 lines.append("interrupted: the search for a certificate was ended")
-            found = settled(answer, verdict, bool(self.options.strict))
+            answer = self.with_gap(answer, verdict)
+            found = settled(answer, verdict, self.facts(missed))
             if found.text is not None:
                 own = self.headline(job, answer).partition(": ")[2]
                 lines.insert(0, f"its own answer: {own}")
+                before += 1
             if found.kind:
                 lines.append(f"{found.kind} point was found; objective {found.answer.objective()}")
-            if found.answer is not answer or answer.outcome.code != outcome.code:
-                answer, sol = self.returned(certifier, found.answer, lines)
+            answer, sol = self.returned(certifier, found.answer, lines, before)
             if self.options.check and answer.values is not None:
-                told = certifier.checked(answer)
-                if told.endswith(" is broken"):
-                    told += self.broken(answer)
-                told += certifier.rounding(verdict, answer, told)
-                lines.append(certifier.checks + told)
+                lines.append(self.check_line(certifier, answer, verdict))
         except Refused as fault:
             raise Failure(Code.NOT_RETURNED, f"return: {fault.line()}") from None
         if self.options.outlev and verdict.figures:
             print(f"certificate: {verdict.figures}", flush=True)
         end = certifier.ended(verdict)
-        return Result(found.code, [self.headline(job, answer, found.text), *lines,
+        return Result(found.code, [self.headline(job, answer, found.text, found.lacks), *lines,
                                    *answer.notes(), *end.lines], sol, answer, verdict.figures, end,
                       not self.options.strict or is_final(verdict))
 
-    def returned(self, certifier: Certifier, answer: Answer,
-                 lines: list[str]) -> tuple[Answer, bytes]:
-        """The .sol; without duals, which a line says, where they are too wide for it."""
+    def gap(self) -> float:
+        """That was asked for."""
+        return float(self.options.own.get("mipgap", 0.0))
+
+    def facts(self, missed: Miss) -> Facts:
+        return Facts(missed, self.gap(), bool(self.options.check), bool(self.options.strict))
+
+    def with_gap(self, answer: Answer, verdict: Verdict) -> Answer:
+        """The words of a gap that is reached, with what was asked for and what is proved."""
+        if not answer.outcome.is_gap:
+            return answer
+        proved = gap_of(verdict)
+        return answer.with_text(
+            f"stopped at the gap of {percent(self.gap())} that was asked for, " + (
+                f"{percent(proved)} are proved" if proved is not None else "none is proved"))
+
+    def returned(self, certifier: Certifier, answer: Answer, lines: list[str],
+                 before: int) -> tuple[Answer, bytes]:
+        """The .sol; without duals, which a line at that place says, where they are too wide for
+        it."""
         try:
             return answer, certifier.returned(answer, lines)
         except Refused as fault:
             if not fault.told.endswith("dual too wide"):
                 raise
-            lines.append(f"duals are left out: {fault.line()}")
+            lines.insert(before, f"duals are left out: {fault.line()}")
         answer = answer.without_duals()
         return answer, certifier.returned(answer, lines)
 
-    def verdict(self, certifier: Certifier, answer: Answer, sol: bytes) -> Verdict:
+    def verdict(self, certifier: Certifier, answer: Answer) -> Verdict:
         """What is proved. A fault of the search leaves the answer as it stands."""
         if not self.options.check:
             return Verdict(WITHOUT + "check=0")
         try:
-            return certifier.verdict(answer, sol)
+            return certifier.verdict(answer)
         except OSError as fault:
             return Verdict(f"{WITHOUT}{fault.filename}: {fault.strerror}")
         except (ArithmeticError, AssertionError, LookupError, TypeError, ValueError) as fault:
@@ -271,12 +303,40 @@ class Solving:
                 raise
             return Verdict(f"{WITHOUT}a fault of the driver: {fault!r}")
 
+    def check_line(self, certifier: Certifier, answer: Answer, verdict: Verdict) -> str:
+        """What the proved program says of the numbers that are passed on. Where these round a
+        point that is proved, what they miss is told as rounding."""
+        told = certifier.checked(answer)
+        if told.endswith(" is broken"):
+            by = self.broken(answer)
+            if verdict.is_proved() and verdict.point is not None and answer.loose:
+                return f"{certifier.checks}it has the exact point in decimals, which miss {by}"
+            told += f"; no row or bound is missed by more than {by}"
+        return certifier.checks + told + certifier.rounding(verdict, answer, told)
+
     @staticmethod
     def broken(answer: Answer) -> str:
         """By how much the written values miss the model at most."""
         assert answer.values is not None
         share = max(largest_share(answer.program, answer.values), ROUNDING)
-        return f"; no row or bound is missed by more than {share:.2g} of its largest term"
+        return f"{share:.2g} of the largest term of a row at most" if answer.loose else \
+            f"{share:.2g} of its largest term"
+
+
+def gap_of(verdict: Verdict) -> float | None:
+    """The relative gap that a verdict proves."""
+    said = read(verdict.line) if verdict.is_proved() else None
+    if said is None or said.value is None or said.bound is None:
+        return None
+    size = max(abs(said.bound), abs(said.value))
+    return float(abs(said.bound - said.value) / size) if size else 0.0
+
+
+def of_answer(first: Outcome) -> str:
+    """What an answer was that the solver is asked once more for."""
+    if first.code == Code.INFEASIBLE_OR_UNBOUNDED:
+        return f"was `{first.text}`"
+    return "does not satisfy the model"
 
 
 def interrupted(outcome: Outcome) -> Outcome:

@@ -1,29 +1,31 @@
 """Figures of the program that `bridge export` writes: sense, columns and rows by kind, entries,
 the range of coefficients, what doubles cannot hold, and which rows are scaled, by what.
 
-The text is read once, line by line; nothing but counts is kept of its entries. The factors of
-rows are not in the text: `bridge return` tells them, since the dual of a written row comes back
-times the row's factor.
+The factors of rows are not in the text: `bridge return` tells them, since the dual of a written
+row comes back times the row's factor.
 """
 
 from __future__ import annotations
 
 import os
 import tempfile
+from collections import Counter
 from dataclasses import dataclass, field
 from fractions import Fraction
 from functools import lru_cache
-from typing import Iterator, Union
+from typing import Union
 
 from .bridge import Bridge
+from .mps_reader import OBJECTIVE
 from .names import Names
+from .program import TIED, TIED_ROW, Program
 from .sol import duals_of
-from .subjects import subject
+from .subjects import Subject
+from .terms import entries_of
 
 Exact = Union[int, Fraction]
 MOST_NAMED = 5                  # rows and numbers that are named of a long list
 INFINITE = 10 ** 20             # a solver takes it for no bound
-OBJECTIVE, TIED_ROW, TIED = "obj", "zdef", "z"
 
 
 def is_held(text: str) -> bool:
@@ -41,13 +43,6 @@ def size_of(value: Exact) -> Exact:
     if value < 0:
         return -value
     return value
-
-
-@dataclass
-class Column:
-    whole: bool
-    low: Exact | None = 0
-    high: Exact | None = None
 
 
 @dataclass
@@ -80,12 +75,13 @@ class Range:
 
 @dataclass
 class Figures:
-    """What is counted of a text."""
+    """What is counted of a text. `columns` are counts by kind, `kinds` the letters of rows by
+    name; `lost` the numbers that doubles do not hold, with where they stand."""
 
     maximise: bool = False
     constant: str = "0"
     kinds: dict[str, str] = field(default_factory=dict)
-    columns: dict[str, Column] = field(default_factory=dict)
+    columns: dict[str, int] = field(default_factory=dict)
     ranged: int = 0
     entries: int = 0
     costs: int = 0
@@ -98,7 +94,7 @@ class Figures:
 
     def rows(self, kind: str = "") -> list[str]:
         return [name for name, letter in self.kinds.items()
-                if name not in (OBJECTIVE, TIED_ROW) and (not kind or letter == kind)]
+                if name != TIED_ROW and (not kind or letter == kind)]
 
 
 def figure(value: Exact) -> str:
@@ -108,107 +104,81 @@ def figure(value: Exact) -> str:
         return "beyond doubles"
 
 
-def data_lines(text: bytes) -> Iterator[tuple[str, list[str]]]:
-    """The data lines of a text, with the names of their sections."""
-    section = ""
-    for line in text.decode().split("\n"):
-        words = line.split()
-        if line.startswith(" "):
-            yield section, words
-        elif words:
-            section = words[0]
-
-
-def figures_of(text: bytes) -> Figures:
-    """Of a text as `bridge export` writes it."""
-    f, whole = Figures(), False
-    for section, words in data_lines(text):
-        if section == "OBJSENSE":
-            f.maximise = words == ["MAX"]
-        elif section == "ROWS":
-            f.kinds[words[1]] = words[0]
-        elif section == "COLUMNS" and words[1] == "'MARKER'":
-            whole = words[2] == "'INTORG'"
-        elif section == "COLUMNS":
-            entry(f, whole, *words)
-        elif section in ("RHS", "RANGES"):
-            side(f, section, words[1], words[2])
-        elif section == "BOUNDS":
-            bound(f, *words)
+def figures_of(program: Program) -> Figures:
+    read = program.read
+    f = Figures(program.maximise, program.objective_rhs,
+                dict(zip(program.constraints, read.kinds)), columns_of(program),
+                len(read.ranges))
+    entries(f, program)
+    for i, side in [*read.rhs.items(), *read.ranges.items()]:
+        value = number(f, program.rows[i + 1], side)
+        if i != OBJECTIVE and value:
+            f.sides.take(value)
+            f.infinite += not -INFINITE < value < INFINITE
+    for name, low, high in zip(program.columns, read.low, read.high):
+        for end in (low,) if low == high else (low, high):
+            value = number(f, name, end) if end else 0
+            f.infinite += not -INFINITE < value < INFINITE
     return f
 
 
 @lru_cache(maxsize=1 << 16)
-def known(text: str) -> tuple[Exact, bool]:
+def known(text: bytes) -> tuple[Exact, bool]:
     """A number, and whether it is held: most texts stand many times."""
-    value = Fraction(text)
+    value = Fraction(text.decode())
     exact: Exact = value
     if value.denominator == 1:
         exact = value.numerator
-    return exact, is_held(text)
+    return exact, is_held(text.decode())
 
 
-def number(f: Figures, where: str, text: str) -> Exact:
+def number(f: Figures, where: str, text: bytes) -> Exact:
     value, held = known(text)
     if not held:
-        f.lost.append((where, text))
+        f.lost.append((where, text.decode()))
     return value
 
 
-def entry(f: Figures, whole: bool, name: str, row: str, text: str) -> None:
-    column = f.columns.setdefault(name, Column(whole))
-    column.whole = whole
-    value = number(f, f"{row} {name}", text)
-    if row == TIED_ROW and name == TIED:
-        f.tied_by = size_of(value)
-    elif row in (OBJECTIVE, TIED_ROW):
-        if value and name != TIED:
+def entries(f: Figures, program: Program) -> None:
+    """Those of rows and of the objective, which may stand in the row zdef."""
+    read, costs = program.read, list(program.objective)
+    if TIED_ROW in f.kinds:
+        costs += entries_of(read.entries(), program.constraints.index(TIED_ROW))
+    values = [known(text) for text in read.numbers]
+    left = Counter(read.number)
+    for j, k in costs:
+        left[k] -= 1
+        if program.columns[j] == TIED:
+            f.tied_by = size_of(values[k][0])
+        elif values[k][0]:
             f.costs += 1
-            f.cost_sizes.take(value)
-    elif value:
-        f.entries += 1
-        f.sizes.take(value)
+            f.cost_sizes.take(values[k][0])
+    for k, count in left.items():
+        if count and values[k][0]:
+            f.entries += count
+            f.sizes.take(values[k][0])
+    if not all(held for _, held in values):
+        f.lost += [(f"{program.rows[i + 1]} {program.columns[j]}", read.numbers[k].decode())
+                   for i, j, k in zip(*read.entries()) if not values[k][1]]
 
 
-def side(f: Figures, section: str, row: str, text: str) -> None:
-    value = number(f, row, text)
-    if section == "RANGES":
-        f.ranged += 1
-    if row == OBJECTIVE:
-        f.constant = text
-    elif value:
-        f.sides.take(value)
-        f.infinite += not -INFINITE < value < INFINITE
-
-
-def bound(f: Figures, kind: str, _set: str, name: str, text: str = "") -> None:
-    column = f.columns[name]
-    value: Exact | None = None
-    if text:
-        value = number(f, name, text)
-        f.infinite += not -INFINITE < value < INFINITE
-    if kind in ("LO", "FX", "MI", "FR"):
-        column.low = value
-    if kind in ("UP", "FX", "PL", "FR"):
-        column.high = value
+def columns_of(program: Program) -> dict[str, int]:
+    """By kind, and those that are free or fixed."""
+    read = program.read
+    bounds = [(known(low)[0] if low else None, known(high)[0] if high else None)
+              for name, low, high in zip(program.columns, *read.bounds()) if name != TIED]
+    binary = sum(whole and pair == (0, 1) for whole, pair in zip(read.whole, bounds))
+    whole = len(program.whole)
+    return {"continuous": len(bounds) - whole, "binary": binary, "integer": whole - binary,
+            "free": bounds.count((None, None)),
+            "fixed": sum(low is not None and low == high for low, high in bounds)}
 
 
 # the lines --------------------------------------------------------------------------
 
 
-def counts_of(f: Figures) -> dict[str, int]:
-    """Columns by kind, and those that are free or fixed."""
-    columns = [c for name, c in f.columns.items() if name != TIED]
-    whole = [c for c in columns if c.whole]
-    binary = sum(c.low == 0 and c.high == 1 for c in whole)
-    return {"continuous": len(columns) - len(whole), "binary": binary,
-            "integer": len(whole) - binary,
-            "free": sum(c.low is None and c.high is None for c in columns),
-            "fixed": sum(c.low is not None and c.low == c.high for c in columns)}
-
-
 def columns_line(f: Figures) -> str:
-    k = counts_of(f)
+    k = f.columns
     return (f"{k['continuous'] + k['binary'] + k['integer']}: {k['continuous']} continuous, "
             f"{k['binary']} binary, {k['integer']} integer; {k['free']} free, {k['fixed']} fixed")
 
@@ -268,23 +238,17 @@ def factors_of(bridge: Bridge, nl: str, objective: str, rows: list[str]) -> dict
 
 
 class Stats:
-    """Of an .nl file, or of an MPS file's own program. Refused or mps_file.Damaged where there is
-    no program."""
+    """Of an .nl file, or of an MPS file's own program. Refused where there is no program."""
 
-    def __init__(self, bridge: Bridge, path: str, objective: str = "0") -> None:
-        with subject(bridge, path) as model:
-            if model.own is None:
-                text = bridge.text("export", path, objective)
-            else:
-                text = model.program(objective).text
-            self.figures, self.notes = figures_of(text), list(model.notes)
-            self.factors: dict[str, str] = {}
-            if model.own is None:
-                self.factors = factors_of(bridge, path, objective, self.figures.rows())
-            self.names = model.names()
-            if model.own is not None:
-                self.figures.lost = [(self.in_names(where), text)
-                                     for where, text in self.figures.lost]
+    def __init__(self, model: Subject, objective: str = "0") -> None:
+        self.figures = figures_of(model.program(objective))
+        self.notes, self.names = list(model.notes), model.names()
+        self.factors: dict[str, str] = {}
+        if model.own is None:
+            self.factors = factors_of(model.bridge, model.path, objective, self.figures.rows())
+        else:
+            self.figures.lost = [(self.in_names(where), text)
+                                 for where, text in self.figures.lost]
 
     def in_names(self, where: str) -> str:
         """Rows and columns of an MPS file as they are called there."""
@@ -298,7 +262,7 @@ class Stats:
     def object(self) -> dict[str, object]:
         """The same for programs: counts, and ranges in doubles."""
         f = self.figures
-        kinds = counts_of(f)
+        kinds = f.columns
         return {"sense": "maximise" if f.maximise else "minimise",
                 "constant": None if f.tied_by is not None else str(-Fraction(f.constant)),
                 "tied_by": None if f.tied_by is None else str(f.tied_by),
@@ -310,8 +274,3 @@ class Stats:
                 "infinite": f.infinite, "not_doubles": len(f.lost),
                 "scaled_rows": {row_name(row, self.names): factor
                                 for row, factor in self.factors.items() if factor != "1"}}
-
-
-def stats(bridge: Bridge, path: str, objective: str = "0") -> list[str]:
-    """The lines on a model, as Stats is."""
-    return Stats(bridge, path, objective).lines()

@@ -5,20 +5,21 @@ from __future__ import annotations
 import contextlib
 from typing import Iterator, NamedTuple, Sequence
 
-from . import kinds, mps_file
+from . import mps_file
 from .bridge import Bridge, Refused, Reply
+from .inputs import Input, Inputs
 from .mps_text import MpsProgram
 from .names import Names
-from .nl import header
+from .nl import header, prepared
 from .program import Program
 
 
 class Subject(NamedTuple):
-    """`shown` is what it is called, `path` the file that the proved program reads; `own` is the
+    """`given` is what was asked about, `path` the file that the proved program reads; `own` is the
     program of an MPS file, `notes` what there is to say of how it was read."""
 
     bridge: Bridge
-    shown: str
+    given: Input
     path: str
     own: MpsProgram | None = None
     notes: Sequence[str] = ()
@@ -31,7 +32,7 @@ class Subject(NamedTuple):
         if self.own is not None and self.own.names is not None:
             return self.own.names
         head = header(self.path)
-        return Names(self.path.removesuffix(".nl"), head.variables, head.constraints)
+        return Names(self.given.stub, head.variables, head.constraints)
 
     def program(self, objective: str = "0") -> Program:
         """Refused where it has none."""
@@ -45,11 +46,16 @@ class Subject(NamedTuple):
 
 
 @contextlib.contextmanager
-def subject(bridge: Bridge, path: str) -> Iterator[Subject]:
-    """With `verify` of this bridge being that of the file. Refused or mps_file.Damaged where an MPS
-    file is none."""
-    if not kinds.is_mps(path):
-        yield Subject(bridge, path, path)
+def subject(bridge: Bridge, inputs: Inputs, word: str) -> Iterator[Subject]:
+    """With `verify` of this bridge being that of the model. Refused where an MPS file is none,
+    Damaged or BadFile where what is packed or binary cannot be read, Absent or OSError where there
+    is no model."""
+    given = inputs.model(word)
+    bridge.shown[given.path] = given.shown
+    if given.is_mps:
+        with mps_file.opened(bridge, given.path) as found:
+            yield Subject(bridge, given, found.path, found.program, [*given.notes, *found.notes])
         return
-    with mps_file.opened(bridge, path) as found:
-        yield Subject(bridge, path, found.path, found.program, found.notes)
+    form = prepared(given.path, inputs.place(), False)
+    bridge.shown[form.path] = given.shown
+    yield Subject(bridge, given, form.path, None, [*given.notes, *form.notes])

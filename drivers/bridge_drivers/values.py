@@ -6,7 +6,8 @@ from __future__ import annotations
 import decimal
 import math
 from fractions import Fraction
-from typing import Union
+from math import gcd
+from typing import Sequence, Union
 
 Number = Union[int, float, Fraction]
 
@@ -77,6 +78,38 @@ def text_of(value: Number) -> tuple[str, bool]:
     return (near_decimal(exact), False) if decimal_text is None else (decimal_text, True)
 
 
+def texts_of(values: Sequence[Number]) -> tuple[list[str], int]:
+    """The same of many, with how many are not exact. Each object that is no double is written
+    once: most stand many times."""
+    if set(map(type, values)) == {float}:
+        if not all(map(math.isfinite, values)):
+            raise BadValue(str(next(v for v in values if not math.isfinite(v))))
+        texts = [repr(v) if v else "0" for v in values]
+        return [text[:-2] if text[-2:] == ".0" else text for text in texts], 0
+    known = {id(v): v for v in values}
+    pairs = [text_of(v) for v in known.values()]
+    found = dict(zip(known, (text for text, _ in pairs)))
+    loose = {key for key, (_, exact) in zip(known, pairs) if not exact}
+    return [found[id(v)] for v in values], sum(id(v) in loose for v in values) if loose else 0
+
+
 def plain(fraction: str) -> str:
     """The text `p/q` of a verdict as a decimal, where it has one."""
     return exact_decimal(Fraction(fraction)) or fraction
+
+
+def wholes_of(texts: Sequence[bytes]) -> tuple[list[int], int]:
+    """Decimals as whole numbers over the least denominator that all of them have."""
+    parts = []
+    for text in texts:
+        mantissa, _, power = text.partition(b"e")
+        whole, _, places = mantissa.partition(b".")
+        parts.append((int(whole + places), int(power or 0) - len(places)))
+    least = min([0, *(power for _, power in parts)])
+    return reduced([v * 10 ** (power - least) for v, power in parts], 10 ** -least)
+
+
+def reduced(numbers: list[int], den: int) -> tuple[list[int], int]:
+    """The same fractions over the least denominator."""
+    common = gcd(den, *numbers)
+    return ([v // common for v in numbers], den // common) if common > 1 else (numbers, den)

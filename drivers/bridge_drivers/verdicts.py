@@ -96,9 +96,18 @@ def decimal(value: Fraction) -> str:
         return f"about {'-' if value < 0 else ''}1e{len(str(abs(value.numerator)))}"
 
 
+def percent(share: float | Fraction) -> str:
+    """By its first two digits, where they stand behind the point: `11.76 %`, `0.0000031 %`."""
+    value = abs(float(share)) * 100
+    if value >= 1 or not value:
+        return f"{value:.2f} %"
+    places = 1 - math.floor(math.log10(value))
+    return f"{value:.{places}f} %"
+
+
 def share(part: Fraction, of: Fraction) -> str:
     """` (8.8 %)`, or nothing of 0."""
-    return f" ({float(abs(part) / abs(of)):.2%})".replace("%", " %") if of else ""
+    return f" ({percent(part / of)})" if of else ""
 
 
 def better(maximise: bool) -> str:

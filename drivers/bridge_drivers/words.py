@@ -2,53 +2,64 @@
 
 from __future__ import annotations
 
+import os
+import re
 from dataclasses import dataclass, field
 from typing import Sequence
 
-USAGE = """usage: {name} stub [-AMPL] [option=value ..]
+USAGE = """usage: {name} MODEL [-AMPL] [option=value ..]
 
-  reads stub.nl (stub may end in .nl), runs {title}, and tells the answer; where stub is an MPS
-  file itself (model.mps, model.mps.gz) it is read, and no .sol is written
+  reads MODEL, runs {title}, and tells the answer. {model}
   -AMPL   called by a modelling system: stub.sol is always written, the outcome in it
   -s      without -AMPL: write stub.sol         -e  do not echo options
   -=      list the options                      -v  versions
+  --      what follows is no option             -h  this text; help OPTION: one option
   Options may also stand in the variable {variable}.
 """
+MODEL = """A MODEL is a stub (knap for knap.nl), an .nl
+  file or an MPS file (of which no .sol is made), packed or not (.gz, .bz2, .xz), a pipe, or - for
+  standard input, which is called stdin."""
+EXAMPLE = """
+example: {name} knap prove=1 timelim=60
+"""
+NAMED = re.compile(r"[A-Za-z]\w*=")
+ASKS = {"-v": "-v", "--version": "-v", "-=": "-=", "-?": "-?", "-h": "-?", "--help": "-?"}
 
 
 @dataclass
 class Words:
-    """`ask` is the word that wants a text and no run: -v, -= or -?. `options` are the words
-    of options, in order."""
+    """`ask` is the word that wants a text and no run: -v, -= or -?; `topic` the option that it is
+    about. `options` are the words of options, in order."""
 
     stub: str | None = None
     ampl: bool = False
     echo: bool = True
     save: bool = False
     ask: str | None = None
+    topic: str = ""
     options: list[str] = field(default_factory=list)
 
 
 def read(argv: Sequence[str]) -> Words:
-    """The first word that is no option is the stub; an option before it begins with `-`."""
+    """In any order: what is `name=value`, or begins with `-`, is an option, the first other word
+    the model, and what follows it options of the form `name value`. After `--` nothing begins
+    with `-`, and the first word is the model."""
     words = Words()
     left = list(argv)[::-1]
+    if argv[:1] == ["help"] and not any(map(os.path.exists, ("help", "help.nl"))):
+        words.ask, words.topic = "-?", argv[1] if len(argv) > 1 else ""
+        return words
     while left:
         word = left.pop()
-        if word == "-AMPL":
-            words.ampl = True
-        elif word == "-e":
-            words.echo = False
-        elif word == "-s":
-            words.save = True
-        elif word in ("-v", "--version"):
-            words.ask = words.ask or "-v"
-        elif word in ("-=", "-?", "-h", "--help"):
-            words.ask = words.ask or ("-=" if word == "-=" else "-?")
-        elif word.startswith("-") and len(word) > 1:
-            words.options.append(word)
-            if "=" not in word and left:
-                words.options.append(left.pop())
+        if word == "--":
+            take_plain(words, left)
+        elif word in ASKS:
+            words.ask = words.ask or ASKS[word]
+        elif word in ("-AMPL", "-e", "-s"):
+            words.ampl, words.save = words.ampl or word == "-AMPL", words.save or word == "-s"
+            words.echo = words.echo and word != "-e"
+        elif is_option(word, left):
+            words.options += [word, *rest_of(word, left)]
         elif words.stub is None:
             words.stub = word
         else:
@@ -56,15 +67,27 @@ def read(argv: Sequence[str]) -> Words:
     return words
 
 
-EXAMPLE = """
-example: {name} knap prove=1 timelim=60
-"""
+def take_plain(words: Words, left: list[str]) -> None:
+    """All that is left, none of it an option."""
+    while left:
+        word = left.pop()
+        if words.stub is None:
+            words.stub = word
+        else:
+            words.options.append(word)
 
 
-def help_text(name: str, title: str, options: str) -> str:
-    """The usage, the options one a line, an example."""
-    return usage(name, title) + "\noptions:\n" + options + EXAMPLE.format(name=name)
+def is_option(word: str, left: Sequence[str]) -> bool:
+    """By itself, wherever it stands, or by the sign = of the word behind it."""
+    return word.startswith("-") and word != "-" or NAMED.match(word) is not None \
+        or bool(left) and left[-1].startswith("=")
 
 
-def usage(name: str, title: str) -> str:
-    return USAGE.format(name=name, title=title, variable=name.replace("-", "_") + "_options")
+def rest_of(word: str, left: list[str]) -> list[str]:
+    """The words of its value, where that is not in the word itself."""
+    name, equal, value = word.partition("=")
+    if value or not left:
+        return []
+    if not equal and left[-1] == "=":
+        return [left.pop(), *([left.pop()] if left else [])]
+    return [left.pop()]

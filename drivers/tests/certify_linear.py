@@ -17,6 +17,7 @@ from bridge_drivers.certify.leaves import Closer, Multipliers
 from bridge_drivers.certify.model import Box, Model, over_one
 from bridge_drivers.certify.refined import Refining
 from bridge_drivers.certify.sparse import NoSolution, Wide
+import families
 from families import made
 from models import nl, real
 
@@ -136,7 +137,7 @@ class Shorts(TestCase):
         """Columns that stand in one equation alone, with a coefficient of 1 first."""
         p = Model(TWO.replace(b" G c0\n L c1\n", b" E c0\n L c1\n").replace(b" x1 c1 -1.5\n", b"")
                   .replace(b"RHS\n", b" x2 c0 1\n x3 c1 1\nRHS\n", 1), {}, 2)
-        self.assertEqual(short.alone(p), {0: 2})
+        self.assertEqual(short.alone(p), {0: (2, 1)})
 
     def test_bounds(self) -> None:
         p = two()
@@ -212,7 +213,7 @@ ENDATA
         clp = p.relaxation()
         self.assertIs(clp.solve(), State.OPTIMAL)
         rounding = short.Rounding(p, clp.keep(), clp.values(), 1.0)
-        self.assertEqual((rounding.alone, rounding.equations), ({3: 3}, {}))
+        self.assertEqual((rounding.alone, rounding.equations), ({3: (3, -7)}, {}))
         self.assertIsNone(rounding.solved(9))
         found = next(rounding.points())
         self.assertEqual(found.way, "rounding is taken up by a basis of 1 equation and 1 row")
@@ -282,6 +283,18 @@ class Linear(Certified):
                 lines.append(self.verdict(text)[1].line)
             self.assertRegex(lines[0], r"^optimal \d+$")
             self.assertEqual(lines[0], lines[1], family)
+
+    def test_badly_scaled(self) -> None:
+        """Exactly, or within a millionth, or the last note has why not."""
+        for size in (60, 300, 600):
+            for seed in range(3):
+                text = families.uneven(size, random.Random(f"{size} {seed}"))
+                verdict = self.verdict(text)[1]
+                self.assertIn(verdict.claim(), ("optimal", "within", "infeasible"), verdict)
+                if verdict.claim() == "within":
+                    value, bound = map(F, verdict.line.split()[1:3])
+                    self.assertLessEqual(abs(value - bound), max(1, abs(bound)) / 10 ** 6)
+                    self.assertIn("the exact optimum", verdict.note)
 
     def test_nearly_parallel(self) -> None:
         """CLP's basis is not the exact one."""

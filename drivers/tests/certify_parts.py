@@ -316,10 +316,10 @@ class Rows(TestCase):
         p = Model(b"NAME nl\nROWS\n N obj\n L c0\nCOLUMNS\n x0 obj 1\n x0 c0 1\n"
                   b" M0 'MARKER' 'INTORG'\n x1 c0 -10\n M1 'MARKER' 'INTEND'\nRHS\nBOUNDS\n"
                   b" UP BND x0 7\n UP BND x1 1\nENDATA\n", {}, 1)
-        self.assertEqual(lemmas.variable_bounds(p), {0: [(F(10), 1)]})
-        rounding = lemmas.MixedRounding(p, [7.0, 0.7], {})
-        self.assertTrue(rounding.take(lemmas.Row({0: F(1), 1: F(-10)}, F(0))))
-        found = rounding.best()
+        rows = lemmas.Rows(p)
+        self.assertEqual(rows.bounds, {0: [(F(10), 1)]})
+        rows.bounds = {}
+        found, = rows.proposals([7.0, 0.7])
         self.assertEqual((found.terms, found.at), ({0: 1, 1: -7}, 0))
         self.assertEqual((found.form, found.low), ({1: -1}, -1))
 

@@ -1,5 +1,4 @@
-"""Certificates of small models and of random ones against all their points, judged by
-`bridge verify`; skipped without the program or CLP's library."""
+"""Certificates of small and random models against all their points, by `bridge verify`."""
 
 from __future__ import annotations
 
@@ -15,10 +14,12 @@ from unittest import mock
 
 from support import HERE, NEEDS_CLP, NEEDS_PROGRAM, PROGRAM, Case
 from bridge_drivers.bridge import Bridge, Late
-from bridge_drivers.certify import text
+from bridge_drivers.certify import pending, text
 from bridge_drivers.certify.claims import Certifying, Given, Verdict, certified
+from bridge_drivers.certify.parts import Better
 from bridge_drivers.certify.plans import Plans
-from bridge_drivers.certify.search import Better, Search
+from bridge_drivers.certify.search import Search
+from bridge_drivers.certify.shared import Shared
 from bridge_drivers.certify.short import trivial
 from bridge_drivers.certify.watch import Watch
 from bridge_drivers.program import Program
@@ -147,9 +148,9 @@ class Models(Certified):
         for off in (-3, 4, 5000):
             for proves in (True, False):
                 work = self.work(made, proves)
-                with mock.patch.object(Plans, "run", lambda *_, **__: False):
+                with mock.patch.object(Plans, "goes", lambda *_: False):
                     verdict = certified(work, "point", Given([9.0, 2.0, float(best + off)]))
-                self.assertRegex(verdict.line, rf"^(feasible|within \S+) {best}$")
+                self.assertRegex(verdict.line, rf"^(feasible|optimal|within \S+) {best}$")
                 self.assertEqual(verdict.point, [9, 2, best])
 
     def test_wrong_values(self) -> None:
@@ -191,7 +192,7 @@ class Spines(Certified):
 
     def test_lemmas(self) -> None:
         work, plans = self.plans(CLAIMED["lots"].text, F("14.3"))
-        rows = plans.maker.lemmas(plans.until(SECONDS))
+        rows = plans.maker.lemmas([], plans.until(SECONDS))
         self.assertTrue(rows)
         self.assertTrue(plans.run("lemma", rows, SECONDS), plans.told)
         with open(plans.best.path) as f:
@@ -208,15 +209,17 @@ class Spines(Certified):
         self.assertLess(os.path.getsize(verdict.path), 2000)
 
     def test_cliques(self) -> None:
-        """Pigeons of which no two share a hole: the program with cliques has no point."""
-        work = self.work(families.made("pigeons", 6))
-        work.load()
-        found = work.below_cuts(SECONDS)
-        with open(os.path.join(self.folder, "cliques"), "w") as f:
-            f.writelines(line + "\n" for line in found.lines)
-        self.assertLess(found.nodes, 150)
-        reply = work.bridge.call("verify", work.nl, os.path.join(self.folder, "cliques"))
-        self.assertEqual((reply.status, reply.out.strip()), (0, b"infeasible"))
+        """Pigeons of which no two share a hole: the program with cliques has no point. Each clique
+        is a chain of planes whose parts beyond are one leaf each."""
+        for size in (6, 9):
+            work = self.work(families.made("pigeons", size))
+            work.load()
+            found = work.below_cuts(2 * SECONDS)
+            with open(os.path.join(self.folder, "cliques"), "w") as f:
+                f.writelines(line + "\n" for line in found.lines)
+            self.assertLessEqual(found.nodes, 2 * (size - 1) * (size - 2) + 1)
+            reply = work.bridge.call("verify", work.nl, os.path.join(self.folder, "cliques"))
+            self.assertEqual((reply.status, reply.out.strip()), (0, b"infeasible"))
 
     def test_no_point(self) -> None:
         """Numbers that no sum of coins makes: forms of a lattice, also where a solver has
@@ -224,7 +227,7 @@ class Spines(Certified):
         for size in (4, 5):
             for claim in ("infeasible", "nothing"):
                 work = self.work(families.made("frobenius", size))
-                with mock.patch("bridge_drivers.certify.claims.PLAIN", 0.2):
+                with mock.patch("bridge_drivers.certify.contradictions.PLAIN", 0.2):
                     verdict = certified(work, claim)
                 self.assertEqual(verdict.line, "infeasible")
                 self.assertLess(os.path.getsize(verdict.path), 20_000)
@@ -239,7 +242,6 @@ class Spines(Certified):
             verdict = work.judged(text.head("bound", 0, work.model.sign * bound), path)
             self.assertEqual(verdict.line, f"bound {work.model.sign * bound}", name)
             self.assertLessEqual(bound, work.model.sign * value)
-
 
     def test_first_tree(self) -> None:
         """It is told; a shorter text is looked for where that is wanted."""
@@ -258,8 +260,8 @@ class Spines(Certified):
         """It has that of both parts; and nothing is told below what bounds of columns say."""
         for name, value in (("mixed", F("43.25")), ("lots", F("14.3"))):
             work, plans = self.plans(CLAIMED[name].text, value)
-            unworked = Search.unworked
-            with mock.patch.object(Search, "unworked", lambda search: None if search.open else
+            unworked = pending.unworked
+            with mock.patch.object(pending, "unworked", lambda search: None if search.open else
                                    unworked(search)):
                 self.assertFalse(plans.run("plain", [], SECONDS, most=2), name)
             bound, path = plans.bounded()
@@ -273,18 +275,19 @@ class Spines(Certified):
         """A bound that does not close is lowered, and the search is as it was."""
         work, plans = self.plans(CLAIMED["lots"].text, F("14.3"))
         self.assertFalse(plans.run("plain", [], SECONDS, most=4))
-        closed, tries = Search.closed_at, []
+        closed, tries = Shared.closed_at, []
 
         def closing(search, pending, target, strict):
             tries.append(target)
             return None if len(tries) < 2 else closed(search, pending, target, strict)
-        with mock.patch.object(Search, "closed_at", closing):
+        with mock.patch.object(Shared, "closed_at", closing):
             low, _ = plans.bounded()
         self.assertEqual(sorted(set(tries), reverse=True), tries)
         bound, path = plans.bounded()
         self.assertLess(low, bound)
         verdict = work.judged(text.head("bound", 0, work.model.sign * bound), path)
         self.assertEqual(verdict.claim(), "bound", verdict.line)
+
 
 class Limits(Certified):
     def test_within(self) -> None:
@@ -313,7 +316,7 @@ class Limits(Certified):
                 time.sleep(0.01)
         knap = CLAIMED["knap"].text
         for part, claim, given, made, lines in (
-                ("bridge_drivers.certify.claims.parity", "infeasible", None, knap,
+                ("bridge_drivers.certify.contradictions.parity", "infeasible", None, knap,
                  "not proved: time"),
                 ("bridge_drivers.certify.search.Search.run", "point", [F(1), F(1), F(0)], knap,
                  r"within \S+ 17"),
@@ -342,7 +345,7 @@ class Limits(Certified):
         """The point stays, with the bound of the relaxation."""
         work = self.work(CLAIMED["eqknap"].text)
         with mock.patch("bridge_drivers.certify.search.MOST_DEPTH", -1), \
-                mock.patch.object(Search, "best_bound", lambda *_: None):
+                mock.patch.object(pending, "best_bound", lambda *_: None):
             verdict = certified(work, "point", Given([F(2), F(7), F(5)]))
         self.assertRegex(verdict.line, r"^within \S+ 14$")
 
@@ -389,8 +392,8 @@ class Commands(Certified):
 
     def test_words(self) -> None:
         for words, status, said in (((), 3, "usage"), (("-h",), 0, ""), (("-=",), 0, ""),
-                                    (("m", "speed=9"), 3, "unknown option speed=9"),
-                                    (("m", "driver=none"), 3, "driver is one of"),
+                                    (("m", "speed=9"), 3, "unknown option speed;"),
+                                    (("m", "driver=none"), 3, "driver=none: cbc, clp, "),
                                     (("m",), 4, "m.nl: no such file")):
             ended = self.command(*words)
             self.assertEqual(ended.returncode, status, ended.stderr)

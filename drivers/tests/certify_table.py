@@ -6,7 +6,7 @@
                                                 linear programs of at most MOST nonzeros (100000)
     certify_table.py [-jN] SECONDS FOLDER FILE ..       .nl files, or MPS files as they stand;
                                                 certificates go to FOLDER, N models at once (1)
-    certify_table.py readme TABLE ..            the tables of drivers/README.md of such lines
+    certify_table.py readme TABLE ..            the tables of drivers/TABLES.md of such lines
     certify_table.py sizes TABLE ..             all of them in one
 
 The models, from two packages of Debian (examples of the one, samples of the other):
@@ -32,6 +32,7 @@ import subprocess
 import sys
 import tempfile
 import threading
+import time
 from concurrent.futures import ThreadPoolExecutor
 from fractions import Fraction
 from typing import NamedTuple
@@ -48,7 +49,7 @@ from bridge_drivers.subjects import subject             # noqa: E402
 SOURCES = ("/usr/share/doc/glpk-utils/examples/*.mod", "/usr/share/doc/glpk-utils/examples/*.mps",
            "/usr/share/coin/Data/Sample/*.mps")
 HEAD = ("model", "columns", "whole", "rows", "plan", "nodes", "pairs", "digits", "bytes",
-        "seconds", "search", "line")
+        "seconds", "clock", "search", "line")
 NODES = ("split", "plane", "lemma", "duals", "weights")
 READ_SECONDS = 60               # of glpsol, for one model
 MARGIN = 120                    # seconds beyond both limits
@@ -141,13 +142,16 @@ def figures(path: str) -> list[str]:
 
 
 class Ended(NamedTuple):
-    """What a process wrote, and the processor seconds of it and of all that it ran."""
+    """What a process wrote, the processor seconds of it and of all that it ran, and those of the
+    clock."""
 
     told: list[str]
     seconds: float
+    clock: float
 
 
 def ended(words: list[str], limit: float) -> Ended:
+    began = time.monotonic()
     with tempfile.TemporaryFile() as out:
         child = subprocess.Popen(words, stdin=subprocess.DEVNULL, stdout=out,
                                  stderr=subprocess.STDOUT)
@@ -158,24 +162,26 @@ def ended(words: list[str], limit: float) -> Ended:
         timer.cancel()
         out.seek(0)
         told = out.read().decode("utf-8", "replace").strip().split("\n")
-    return Ended(["no end"] if child.returncode < 0 else told, used.ru_utime + used.ru_stime)
+    return Ended(["no end"] if child.returncode < 0 else told, used.ru_utime + used.ru_stime,
+                 time.monotonic() - began)
 
 
 def line(bridge: list[str], path: str, seconds: str, folder: str) -> list[str]:
     name = os.path.basename(kinds.stub_of(path).removesuffix(".nl"))
     certificate = os.path.join(folder, name + ".certificate")
     program = os.path.join(HERE, "..", "bin", "bridge-certify")
-    told, spent = ended([sys.executable, program, path, f"timelim={seconds}", "stats=1",
-                         "certificate=" + certificate], 2 * float(seconds) + MARGIN)
+    words = [f"timelim={seconds}", "stats=1", "certificate=" + certificate]
+    told, spent, clock = ended([sys.executable, program, path, *words],
+                               2 * float(seconds) + MARGIN)
     plan, search = "", ""
     if os.path.exists(certificate):
         plan, _, search = told.pop().rpartition("; ")
         plan, search = plan.partition(",")[0], search.split(" ")[0]
-    return [name, *shape(bridge, path), plan, *figures(certificate), f"{spent:.1f}", search,
-            told[-1]]
+    return [name, *shape(bridge, path), plan, *figures(certificate), f"{spent:.1f}", f"{clock:.1f}",
+            search, told[-1]]
 
 
-# for the README ----------------------------------------------------------------------
+# for the page ------------------------------------------------------------------------
 
 
 def summary(rows: list[dict[str, str]]) -> list[str]:
@@ -221,14 +227,15 @@ def read(tables: list[str]) -> list[dict[str, str]]:
 
 def sizes(tables: list[str]) -> None:
     """Each model with its last line, long numbers as doubles."""
-    print("| model | columns (whole) | rows | nodes | bytes | seconds | search | last line |\n"
-          "|---|---|---|---|---|---|---|---|")
+    heads = ["model", "columns (whole)", "rows", "nodes", "bytes", "seconds", "clock", "search",
+             "last line"]
+    print(f"| {' | '.join(heads)} |\n|{'---|' * len(heads)}")
     for row in read(tables):
         told = " ".join(word if len(word) < 16 or not word[-1].isdigit()
                         else f"{float(Fraction(word)):.10g}.." for word in row["line"].split())
         print(f"| {row['model']} | {row['columns']} ({row['whole']}) | {row['rows']} "
-              f"| {row['nodes']} | {row['bytes']} | {row['seconds']} | {row['search']} "
-              f"| `{told}` |")
+              f"| {row['nodes']} | {row['bytes']} | {row['seconds']} | {row['clock']} "
+              f"| {row['search']} | `{told}` |")
 
 
 def readme(tables: list[str]) -> None:

@@ -87,6 +87,6 @@ class Processes(Case):
                                                              b"knap.nl: optimal 17\x1b[0m"))
 
     def test_drivers(self) -> None:
-        status, told = self.on_a_terminal("bridge-cbc", "knap")
+        status, told = self.on_a_terminal("bridge-cbc", "knap", "wantsol=0")
         if status == 0:
             self.assertRegex(told, rb"\n\x1b\[3[23]m(feasible|optimal) 17\x1b\[0m\n$")

@@ -24,6 +24,25 @@ printf '%s\\n' "${{COMPREPLY[@]}}"
 """
 
 
+@unittest.skipUnless(shutil.which("fish"), "no fish")
+class Fish(Case):
+    def test_answers(self) -> None:
+        path = os.path.join(self.folder, "completion.fish")
+        with open(path, "w", encoding="utf-8") as f:
+            f.write(front.completion("fish"))
+        calls = ("bridge-cbc knap prov", "nl-bridge veri", "bridge-certify knap driver=gl",
+                 "nl-bridge completion f", "nl-bridge help bridge-cer")
+        code = f"source {path}; " + "; ".join(f"complete -C '{call}'; echo END" for call in calls)
+        ran = subprocess.run(["fish", "--no-config", "-c", code], cwd=self.folder,
+                             capture_output=True, text=True, check=False,
+                             env={**os.environ, "HOME": self.folder})
+        answers = [[line.split("\t")[0] for line in part.strip().split("\n")]
+                   for part in ran.stdout.split("END\n")[:-1]]
+        self.assertEqual((answers, ran.stderr), (
+            [["prove=0", "prove=1"], ["verify", "verify_fixed", "verify_mps"], ["driver=glpsol"],
+             ["fish"], ["bridge-certify"]], ""))
+
+
 @unittest.skipUnless(shutil.which("bash"), "no bash")
 class Bash(Case):
     def answers(self, *words: str) -> list[str]:
@@ -62,13 +81,13 @@ class Bash(Case):
         self.assertEqual(self.answers("nl-bridge", "explain", "--h"), ["--html"])
         self.assertEqual(self.answers("nl-bridge", "stats", "m.nl", "js"), ["json=1"])
         self.assertEqual(self.answers("nl-bridge", "completion", ""),
-                         sorted(["bash", "zsh", "completion"]))
+                         ["bash", "completion", "fish", "zsh"])
 
 
 class Texts(Case):
     def test_all_commands(self) -> None:
         """Both name each command that is installed."""
-        for shell in ("bash", "zsh"):
+        for shell in ("bash", "fish", "zsh"):
             text = front.completion(shell)
             for name in os.listdir(BIN):
                 self.assertIn(f" {name}", text)

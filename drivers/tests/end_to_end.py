@@ -13,10 +13,9 @@ from support import HAS_CLP, HERE, Case, Sol, knows
 from bridge_drivers import certificates, solvers
 from claim_models import CLAIMED
 from models import FAR, MODELS
-import misleading
 import misled
 
-EACH_MISLED = 2                 # models of a kind
+EACH_MISLED = 1                 # models of a kind
 
 
 class EndToEnd(Case):
@@ -102,15 +101,17 @@ class FarBounds(Case):
 
 
 class Misled(Case):
-    """The first models of each kind of misleading.py: none ends with code 0 and a wrong or
-    impossible answer. `misled.py` runs all of them."""
+    """The first models of each kind: none ends with code 0 and a wrong or impossible answer, and
+    none that is right and exact is lost. `misled.py` runs all of them, both ways."""
 
     def through(self, driver: str) -> None:
-        for model in misleading.models(EACH_MISLED):
+        for model in misled.family(EACH_MISLED, EACH_MISLED):
+            if not misled.takes(driver, model):
+                continue
             with self.subTest(model=model.name):
                 with mock.patch.object(certificates, "ONE_LEAF", 30.0):     # a busy machine
-                    code, fault = misled.judged(self.folder, driver, model, [])
-                self.assertEqual(fault, "", code)
+                    found = misled.judged(self.folder, driver, model, [])
+                self.assertEqual((found.wrong, found.lost), ("", ""), found.code)
 
 
 def add_tests() -> None:
@@ -129,11 +130,11 @@ def add_tests() -> None:
         def far(self: FarBounds, driver: str = driver) -> None:
             self.through(driver)
         setattr(FarBounds, f"test_{driver}", unittest.skipUnless(solver, reason)(far))
-        if driver in misled.DRIVERS:
-            def misleads(self: Misled, driver: str = driver) -> None:
-                self.through(driver)
-            setattr(Misled, f"test_{driver}", unittest.skipUnless(
-                solver and HAS_CLP, f"no {driver}, or no library of CLP")(misleads))
+
+        def misleads(self: Misled, driver: str = driver) -> None:
+            self.through(driver)
+        setattr(Misled, f"test_{driver}", unittest.skipUnless(
+            solver and HAS_CLP, f"no {driver}, or no library of CLP")(misleads))
         if solvers.load(driver).integers:
             def factors(self: LargeFactors, driver: str = driver) -> None:
                 self.through(driver)

@@ -2,8 +2,7 @@
 
 from __future__ import annotations
 
-import contextlib
-import io
+import json
 import os
 import re
 import shutil
@@ -12,12 +11,15 @@ import unittest
 import xml.etree.ElementTree as xml
 from fractions import Fraction as F
 
+import reports
 from support import HERE, NEEDS_PROGRAM, PROGRAM, Case
 from models import MODELS, nl
 
+from bridge_drivers import BridgeError, front, interface
 from bridge_drivers.bridge import Bridge
-from bridge_drivers.explained import command, reading
-from bridge_drivers.explained.command import BadWords, Explaining, Files, explained, files_of
+from bridge_drivers.explained import command, reading, sums
+from bridge_drivers.explained.command import Explaining, Files
+from bridge_drivers.inputs import Input
 from bridge_drivers.subjects import Subject
 from bridge_drivers.explained.picture import MOST_DEPTH, MOST_SHOWN, Picture
 from bridge_drivers.printable import printable
@@ -74,9 +76,14 @@ class Texts(Case):
         self.assertRaises(ValueError, reading.read, self.stub + ".certificate")
 
     def test_words_of_the_call(self) -> None:
-        self.assertEqual(files_of(["--svg=s", "m", "c", "--html", "h"]), Files("m", "c", "h", "s"))
-        for words in (["m"], ["m", "c", "d"], ["m", "c", "--pdf", "x"], ["m", "c", "--html"]):
-            self.assertRaises(BadWords, files_of, words)
+        call = front.read(["--svg=s", "explain", "m", "--html", "h", "--", "-c"])
+        self.assertEqual((call.word, call.rest, call.pages),
+                         ("explain", ["m", "-c"], {"html": "h", "svg": "s"}))
+        for words in (["explain", "m", "c", "--pdf", "x"], ["explain", "m", "c", "--html"],
+                      ["verify", "m", "c", "--html", "x"], ["export", "m", "json=1"]):
+            self.assertRaises(front.BadWords, front.read, words)
+        for words in (["explain"], ["explain", "m", "c", "d"]):
+            self.assertRaises(front.BadWords, front.explained, front.read(words))
 
 
 @NEEDS_PROGRAM
@@ -88,11 +95,15 @@ class Explained(Case):
         self.put(certificate, ".certificate")
         if names:
             self.put(names.replace(" ", "\n").encode() + b"\n", ".col")
-        out = io.StringIO()
-        with contextlib.redirect_stdout(out):
-            self.status = explained(Bridge(PROGRAM, lambda argv: None),
-                                    Files(self.stub + ".nl", self.stub + ".certificate"))
-        return out.getvalue().replace(self.stub, "m").split("\n")[:-1]
+        try:
+            told = interface.explain(self.stub, self.stub + ".certificate")
+        except BridgeError as fault:
+            told = fault.report
+        self.assertEqual(reports.faults(json.loads(json.dumps(told.object())), reports.schema()),
+                         [])
+        self.status = told.status
+        more = told.refusal["more"] if told.refusal else []
+        return "\n".join([*told.lines, *more]).replace(self.stub, "m").split("\n")
 
     def object(self, model: bytes, certificate: bytes) -> Explaining:
         self.put(model)
@@ -100,7 +111,8 @@ class Explained(Case):
         bridge = Bridge(PROGRAM, lambda argv: None)
         files = Files(self.stub + ".nl", self.stub + ".certificate")
         reply = bridge.call("verify", *files[:2])
-        return Explaining(Subject(bridge, files.nl, files.nl), files,
+        given = Input(files.model, files.model, self.stub, False)
+        return Explaining(Subject(bridge, given, given.path), files,
                           reply.out.decode().strip(), reply.status == 0)
 
     def example(self, name: str) -> bytes:
@@ -186,7 +198,7 @@ class Explained(Case):
         lines = self.explain(ENDLESS, b"certificate 1\nfeasible 0\npoint 1\n7 1\n")
         self.assertEqual((self.status, lines[0]),
                          (2, "m.certificate line 4: index out of range"))
-        self.assertIn("  >      4 7 1", lines)
+        self.assertIn(">      4 7 1", lines)
         lines = self.explain(ENDLESS, b"letters\n")
         self.assertEqual(lines[0], "m.certificate line 1: bad first line (it does not begin with "
                                    "`certificate 1`)")
@@ -219,6 +231,34 @@ class Explained(Case):
                 assert shown is not None
                 self.assertTrue(shown > 0 if node.kind == "weights" else shown <= 17)
 
+    def test_sums(self) -> None:
+        """Their lines add up to what the program tells of each leaf, in one width, nothing cut."""
+        knap, lemma = self.example("knap.nl"), text_of(
+            "bound 0 17/lemma 3 17/0 10/1 7/2 12/split 2 0/duals 0/split 0 0/split 1 0/duals 0/"
+            "weights 1/0 -1/weights 1/0 -1/duals 1/1 1")
+        for model, text in ((knap, self.example("knap.certificate")), (knap, lemma),
+                            (knap, full_tree(3, "bound 0 -1")), (WIDE, full_tree(5, "bound 0 9"))):
+            told = self.object(model, text)
+            drawn = told.tree()
+            for found in sums.sums(told.bounds, told.wording, [d.place for d in drawn.drawn
+                                   if told.certificate.nodes[d.place].is_leaf()]):
+                products = [F(line.split(")")[-1].split("=")[0].strip()) for line in found.lines
+                            if "\u00d7" in line]
+                total = told.bounds.shown(found.place, told.bounds.part(found.place))
+                self.assertEqual((sum(products), F(found.lines[-1].split("=")[0])), (total, total))
+                self.assertEqual(len({len(line) for line in found.lines}), 1)
+                self.assertIn(found.lines[-1].strip(), told.page())
+
+    def test_the_objective_by_its_name(self) -> None:
+        """A plane on it, whatever it is multiplied by, and turned."""
+        for factor, low, high in ((1, "objective \u2264 16", "objective \u2265 17"),
+                                  (-1, "objective \u2265 -16", "objective \u2264 -17")):
+            pairs = "/".join(f"{j} {factor * a}" for j, a in enumerate((10, 7, 12)))
+            told = self.object(self.example("knap.nl"),
+                               text_of(f"bound 0 17/plane 3 16/{pairs}/duals 0/duals 0"))
+            parts = [part.part for part in told.tree().parts()]
+            self.assertEqual(parts, ["all points", low, high])
+
     # pictures ------------------------------------------------------------------------
 
     def test_picture(self) -> None:
@@ -228,9 +268,9 @@ class Explained(Case):
         self.assertEqual([g.get("class") for g in groups],
                          ["cut", "duals", "cut", "cut", "duals", "weights", "weights"])
         self.assertEqual([[t.text for t in g.findall(SVG + "text")] for g in groups[:3]],
-                         [["all points", "bound 17", "split x2"],
-                          ["x2 \u2264 0", "bound 17", "closes by bounds alone"],
-                          ["x2 \u2265 1", "bound 12", "split x0"]])
+                         [["6", "all points", "bound 17", "split x2"],
+                          ["7", "x2 \u2264 0", "bound 17", "closes by bounds alone"],
+                          ["8", "x2 \u2265 1", "bound 12", "split x0"]])
         self.assertEqual(len(root.findall(SVG + "path")), 6 + 1)
 
     def test_without_a_tree(self) -> None:
@@ -275,11 +315,8 @@ class Explained(Case):
     def test_pages_that_cannot_be_written(self) -> None:
         self.put(self.example("knap.nl"))
         self.put(self.example("knap.certificate"), ".certificate")
-        out = io.StringIO()
-        with contextlib.redirect_stdout(out):
-            status = explained(Bridge(PROGRAM, lambda argv: None), Files(
-                self.stub + ".nl", self.stub + ".certificate", "/nonexistent/x.html"))
-        self.assertEqual((status, out.getvalue().split("\n")[-2]),
+        told = interface.explain(self.stub, self.stub + ".certificate", html="/nonexistent/x.html")
+        self.assertEqual((told.status, told.lines[-1]),
                          (command.UNWRITTEN, "/nonexistent/x.html is not written: No such file or "
                                              "directory"))
 
@@ -288,11 +325,9 @@ class Explained(Case):
         text = self.example("knap.certificate")
         self.put(text, ".certificate")
         nl, certificate = self.stub + ".nl", self.stub + ".certificate"
-        with contextlib.redirect_stdout(io.StringIO()):
-            status = explained(Bridge(PROGRAM, lambda argv: None),
-                               Files(nl, certificate, "", certificate))
+        told = interface.explain(nl, certificate, svg=certificate)
         with open(certificate, "rb") as f:
-            self.assertEqual((status, f.read()), (command.UNWRITTEN, text))
+            self.assertEqual((told.status, f.read()), (command.UNWRITTEN, text))
 
     @unittest.skipUnless(BROWSER, "no chromium")
     def test_in_a_browser(self) -> None:

@@ -5,8 +5,9 @@
                                             same text
 
 Linear programs, SIZE being about their nonzeros: `transport`, `flow`, `assignment`, `covering` in
-whole numbers, `staircase`, `diet`, `dense` and `decimal_flow` with decimals; `parallel`: SIZE pairs
-of rows that are nearly parallel. Integer programs, SIZE being columns, periods or things:
+whole numbers, `staircase`, `diet`, `dense` and `decimal_flow` with decimals; `uneven`: badly
+scaled; `parallel`: SIZE pairs of rows that are nearly parallel. Integer programs, SIZE being
+columns, periods or things:
 `knapsack`, `lots`, `packing`, `stock`, `pigeons`, `frobenius`, `split`.
 """
 
@@ -137,6 +138,28 @@ def dense(size: int, rnd: random.Random) -> bytes:
     return blend(m, m, rnd)
 
 
+def uneven(size: int, rnd: random.Random) -> bytes:
+    """Flows between stages whose rows and columns are in units of their own, from millionths to
+    millions, with prices of many digits: what one solver's tolerance hides, another row shows."""
+    m = max(3, round(math.sqrt(size / 3)))
+    n = 2 * m
+    up = [rnd.randint(-3, 3) for _ in range(m)]
+    by = [rnd.randint(-3, 3) for _ in range(n)]
+
+    def scaled(value: float, power: int) -> str:
+        return f"{value * 10.0 ** power:.{max(0, 4 - power)}f}"
+    rows = []
+    for i in range(m):
+        inside = sorted({i, i + m, *rnd.sample(range(n), min(n, 2 + i % 3))})
+        terms = {j: scaled(rnd.uniform(1, 9) * (1 if j % 3 else -1), up[i] + by[j])
+                 for j in inside}
+        side = scaled(rnd.uniform(5, 90), up[i])
+        rows.append((side, side, terms) if i % 4 == 0 else (None, side, terms))
+    columns = [real(0, scaled(rnd.uniform(3, 80), -by[j])) for j in range(n)]
+    return nl(columns, rows, [("max", 0, {j: scaled(rnd.uniform(0.5, 9), by[j])
+                                          for j in range(n)})])
+
+
 def parallel(size: int, rnd: random.Random) -> bytes:
     """Pairs of rows that differ by a hundred millionth, and meet within a tolerance."""
     rows, costs = [], {}
@@ -240,8 +263,8 @@ def split(size: int, rnd: random.Random) -> bytes:
 
 
 FAMILIES = {f.__name__: f for f in (transport, assignment, flow, decimal_flow, covering,
-                                    staircase, diet, dense, parallel, knapsack, lots, packing,
-                                    stock, pigeons, frobenius, split)}
+                                    staircase, diet, dense, uneven, parallel, knapsack, lots,
+                                    packing, stock, pigeons, frobenius, split)}
 
 
 def made(name: str, size: int) -> bytes:

@@ -22,13 +22,13 @@ from models import MODELS
 from bridge_drivers import files, verdicts
 from bridge_drivers.bridge import Bridge, Late, Reply
 from bridge_drivers.certify import clp, command
-from bridge_drivers.certify.command import Finding
 from bridge_drivers.keeping import Keeper, Kept
 from bridge_drivers.program import Program
 from bridge_drivers.verdicts import Said
 
 CERTIFY = os.path.join(HERE, "..", "bin", "bridge-certify")
 OPTIMAL = b"certificate 1\noptimal 0\npoint 0\nduals 0\n"
+STANDS = "it stands there, and this run did not make it; overwrite=1 replaces it"
 
 
 class Covers(unittest.TestCase):
@@ -128,37 +128,43 @@ class Keeping(Case):
 
     def test_what_stays(self) -> None:
         older = b"certificate 1\noptimal 0\npoint 1\n0 1\nduals 0\n"
-        for line, says, stays in (("feasible 17", "optimal 17", True),
-                                  ("feasible 17", "leaf 0 gap 16", False),
-                                  ("optimal 17", "optimal 17", False),
-                                  ("within 19 17", "within 18 17", True)):
+        for line, says, proves in (("feasible 17", "optimal 17", True),
+                                   ("feasible 17", "leaf 0 gap 16", False),
+                                   ("optimal 17", "optimal 17", True),
+                                   ("optimal 17", "within 18 17", False),
+                                   ("within 19 17", "within 18 17", True)):
             self.put(older, ".certificate")
             kept = self.keep(line, says)
-            self.assertEqual((self.text() == older, kept.path is None, kept.failed),
-                             (stays, stays, False), kept.line)
-            if stays:
-                self.assertEqual(kept.line, f"{self.target} stays as it is: it proves `{says}`, "
-                                            "which says more; overwrite=1 replaces it")
-                self.assertEqual(self.keep(line, says, True).path, self.target)
-                self.assertEqual(self.text(), OPTIMAL)
+            self.assertEqual((self.text() == older, kept.path, kept.failed),
+                             (True, self.target if proves else None, not proves), kept.line)
+            self.assertEqual(kept.line, f"{self.target} stays as it is: it proves `{says}`; "
+                                        "overwrite=1 replaces it" if proves else
+                             f"the certificate is not kept: {self.target}: {STANDS}")
+            self.assertEqual(self.keep(line, says, True).path, self.target)
+            self.assertEqual(self.text(), OPTIMAL)
 
     def test_verdicts_that_take_long(self) -> None:
         self.put(OPTIMAL, ".certificate")
         self.put(b"model")
-        bridge = Bridge([], lambda argv: None)
+        bridge, source = Bridge([], lambda argv: None), os.path.join(self.folder, "source")
+        with open(source, "wb") as f:
+            f.write(OPTIMAL[:-2])
         with mock.patch.object(bridge, "call", side_effect=Late("verify")):
-            kept = Keeper(bridge, self.stub + ".nl", True, False).kept("s", "bound 1", self.target)
-        self.assertIn("stays as it is: the verdict on it takes long", kept.line)
+            kept = Keeper(bridge, self.stub + ".nl", True, False).kept(source, "bound 1",
+                                                                       self.target)
+        self.assertEqual((kept.failed, self.text()), (True, OPTIMAL))
 
     def test_other_files(self) -> None:
-        """What is no certificate stays, an empty file does not, and the model always does."""
+        """What is no certificate stays, an empty file does not, the same text is written again,
+        and the model always stays."""
         self.put(b"letters\n", ".certificate")
         kept = self.keep("optimal 17", "")
         self.assertEqual((kept.failed, self.text()), (True, b"letters\n"))
-        self.assertIn("is no certificate; overwrite=1 replaces it", kept.line)
-        self.put(b"", ".certificate")
-        self.assertEqual(self.keep("optimal 17", "").line, f"{self.target} is written: the "
-                         f"certificate of `optimal 17`, {len(OPTIMAL)} bytes")
+        self.assertIn(STANDS, kept.line)
+        for there in (b"", OPTIMAL):
+            self.put(there, ".certificate")
+            self.assertEqual(self.keep("optimal 17", "").line, f"{self.target} is written: the "
+                             f"certificate of `optimal 17`, {len(OPTIMAL)} bytes")
         with mock.patch.object(Keeping, "target", self.stub + ".nl"):
             kept = self.keep("optimal 17", "", True)
             self.assertEqual((kept.failed, self.text()), (True, b"model"))
@@ -174,7 +180,7 @@ class Keeping(Case):
                                         True))
         self.put(OPTIMAL[:-8], ".certificate")
         os.chmod(self.target, 0o444)
-        kept = self.keep("optimal 17", "")
+        kept = self.keep("optimal 17", "", True)
         self.assertEqual((kept.failed, self.text()), (True, OPTIMAL[:-8]))
         self.assertIn("it may not be written", kept.line)
         self.assertEqual(sorted(os.listdir(self.folder)), ["source", "stub.certificate", "stub.nl"])
@@ -222,7 +228,8 @@ class Certify(Case):
         return OPTIMAL
 
     def test_failures_leave_an_older_one(self) -> None:
-        for model, words, status in (("nonlinear", (), 2), ("knap", ("bridge=/nonexistent/b",), 1),
+        for model, words, status in (("nonlinear", (), 2),
+                                     ("knap", ("bridge=/nonexistent/b",), 127),
                                      ("knap", ("driver=clp",), 2)):
             self.put(MODELS[model].text)
             older = self.older()
@@ -274,8 +281,7 @@ class Certify(Case):
         """A search that cannot be made is told, with the package that it needs, and status 1."""
         self.put(MODELS["knap"].text)
         out = io.StringIO()
-        with mock.patch.object(clp, "LOADED", [None]), contextlib.redirect_stdout(out), \
-                mock.patch.object(Finding, "stream", out):
+        with mock.patch.object(clp, "LOADED", [None]), contextlib.redirect_stdout(out):
             status = command.run([self.stub])
         self.assertEqual(status, 1)
         self.assertIn("(Debian: apt install coinor-libclp1)\n", out.getvalue())

@@ -3,19 +3,12 @@
 from __future__ import annotations
 
 import copy
+import json
 import os
-import shutil
-import subprocess
-from fractions import Fraction as F
-from unittest import mock
 
-from support import (CHECKED, HAS_CLP, HERE, NEEDS_CLP, NEEDS_PROGRAM, PROGRAM, Case, Injected,
-                     Reply)
-from bridge_drivers import VERSION, solvers
-from bridge_drivers.certificates import Certifier
-from bridge_drivers.certify import clp
-from bridge_drivers.certify.claims import Verdict
-from models import FAR, MODELS
+from support import NEEDS_PROGRAM, Case
+from bridge_drivers import VERSION, showing, solvers
+from models import MODELS
 import stored
 
 
@@ -34,14 +27,44 @@ class Words(Case):
     def test_wantsol(self) -> None:
         self.put(MODELS["product"].text)
         ended = self.replay("cbc", "product", self.stub, "wantsol=7", "-e")
-        self.assertEqual(ended.stdout.splitlines()[-4:], ["x0 2", "x1 4", "c0 1", "c1 0"])
+        self.assertEqual(ended.stdout.splitlines()[-5:], ["x0 2", "x1 4", "duals", "c0 1", "c1 0"])
         self.assertTrue(os.path.exists(self.stub + ".sol"))
         self.assertEqual(self.replay("cbc", "product", self.stub, "wantsol=8", "-e").stdout, "")
         ended = self.replay("esolver", "thirds", self.stub, "wantsol=6", "-e")
         self.put(MODELS["thirds"].text)
         ended = self.replay("esolver", "thirds", self.stub, "wantsol=14", "-e")
         self.assertEqual([line.split()[0] for line in ended.stdout.splitlines()],
-                         ["x0", "x1", "c0", "c1"])     # z and zdef are not the model's
+                         ["x0", "x1", "duals", "c0", "c1"])     # z and zdef are not the model's
+
+    def test_values_by_hand(self) -> None:
+        """Without asking, at most a screen of them; wantsol decides otherwise."""
+        self.put(MODELS["product"].text)
+        for words, shown in (([], True), (["wantsol=0"], False), (["-s"], False),
+                             (["-AMPL"], False), (["wantsol=2"], True)):
+            ended = self.replay("cbc", "product", self.stub, "-e", *words)
+            self.assertEqual("x0 2\nx1 4\n" in ended.stdout, shown, words)
+        many = [(f"x{j}", str(j % 2)) for j in range(100)]
+        told = list(showing.screen(many))
+        self.assertEqual((len(told), told[0]), (showing.SCREEN + 1, "x1 1"))
+        self.assertIn("(80 values more: wantsol=2 prints all", told[-1])
+
+    def test_solution_files(self) -> None:
+        """Names and values, JSON by the file's end; what stands there stays."""
+        self.put(MODELS["product"].text)
+        self.put(b"desk\nchair\n", ".col")
+        path = self.stub + ".values"
+        ended = self.replay("cbc", "product", self.stub, "-e", "solution=" + path)
+        self.assertIn(f"{path} is written\n", ended.stdout)
+        with open(path) as f:
+            self.assertEqual(f.read(), "desk 2\nchair 4\n\nduals\nc0 1\nc1 0\n")
+        self.put(b"letters", ".values")
+        ended = self.replay("cbc", "product", self.stub, "-e", "solution=" + path)
+        self.assertEqual(ended.returncode, 5)
+        self.assertIn("it stands there", ended.stderr)
+        self.replay("cbc", "product", self.stub, "-e", "solution=" + self.stub + ".json")
+        with open(self.stub + ".json") as f:
+            self.assertEqual(json.load(f), {"values": {"desk": "2", "chair": "4"},
+                                            "duals": {"c0": "1", "c1": "0"}})
 
     def test_environment(self) -> None:
         self.put(MODELS["second"].text)
@@ -111,7 +134,7 @@ class Failures(Case):
         self.failure(501, 2, "stub.nl: objno=3: no such objective: the file has 1, and objno "
                              "counts from 1", "cbc", "knap", "objno=3")
         self.failure(502, 3, "extra: a quote does not end", "cbc", "knap", "extra='")
-        self.failure(502, 3, "objno=0: solving without an objective is not offered", "cbc",
+        self.failure(502, 3, "objno=0: a whole number from 1 on is wanted", "cbc",
                      "knap", "objno=0")
 
     def test_unknown_option(self) -> None:
@@ -131,20 +154,15 @@ class Failures(Case):
         self.assertEqual(self.replay("cbc", "knap", self.stub, "-AMPL").returncode, 2)
 
     def test_an_older_answer_in_a_kept_folder_is_not_read(self) -> None:
+        """Each run that finds files in it has a folder of its own below."""
         self.put(MODELS["knap"].text)
-        keep = "keep=" + os.path.join(self.folder, "kept")
+        kept = os.path.join(self.folder, "kept")
         for name, code in (("knap", 0), ("nothing", 506)):
             for driver in ("cbc", "glpsol"):
-                self.replay(driver, name, self.stub, "-AMPL", keep)
+                self.replay(driver, name, self.stub, "-AMPL", "keep=" + kept)
                 self.assertEqual(self.sol().code, code)
-
-    def test_keep_never_overwrites_the_model(self) -> None:
-        self.stub = os.path.join(self.folder, "text")
-        self.put(b"b" + MODELS["knap"].text[1:])
-        before = os.listdir(self.folder)
-        ended = self.replay("cbc", "knap", self.stub, "keep=" + self.folder)
-        self.assertEqual((ended.returncode, os.listdir(self.folder)), (2, before))
-        self.assertIn("is the model itself", ended.stderr)
+        self.assertEqual(sorted(n for n in os.listdir(kept) if n.startswith("bridge-")),
+                         ["bridge-cbc-1", "bridge-glpsol-1", "bridge-glpsol-2"])
 
     def test_damaged_binary(self) -> None:
         self.put(b"b3 1 1 0\n 1 1 1 0 0\n")
@@ -155,303 +173,12 @@ class Failures(Case):
         self.put(MODELS["diet"].text)
         for driver, file, change in (
                 ("cbc", "answer.bin", lambda old: old[:-12]),
-                ("clp", "answer.txt", lambda old: ["who knows"]),
                 ("glpsol", "answer.txt", lambda old: replaced(old, "j 1 b 4", "j 9 b 4")),
                 ("esolver", "answer.sol", lambda old: replaced(old, "4/5", "4/0"))):
             run = copy.deepcopy(stored.runs(driver)["diet"])
             run["files"][file] = change(run["files"][file])
             ended = self.replay(driver, "diet", self.stub, "-AMPL", run=run)
             self.assertEqual((ended.returncode, self.sol().code), (0, 506), ended.stderr)
-
-
-@NEEDS_PROGRAM
-class Claims(Case):
-    """The last line of the message."""
-
-    def last(self, driver: str, name: str, *words: str, run: dict | None = None) -> str:
-        ended = self.replay(driver, name, self.stub, "-AMPL", *words, run=run)
-        self.assertEqual(ended.returncode, 0, ended.stderr)
-        return self.sol().message[-1]
-
-    def without_clp(self) -> None:
-        patch = mock.patch.object(clp, "LOADED", [None])
-        patch.start()
-        self.addCleanup(patch.stop)
-
-    def test_wrong_answers(self) -> None:
-        """An answer changed in one place: what is told of it without a search."""
-        self.without_clp()
-        self.put(MODELS["diet"].text)
-        self.put(b"first\nsecond\ncost\n", ".row")
-        self.put(b"alpha\nbeta\n", ".col")
-        row = "x0                              4", "x0                              3"
-        bound = "x1                            0.8", "x1                            101"
-        dual = "c0                                0.3", "c0                                0.2"
-        sign = "c0                                0.3", "c0                               -0.3"
-        for change, code, line, last in (
-                (row, 100, "its point misses constraint 1 (second) by 0.23 of the largest term",
-                 "not proved: no exact point was found near the answer"),
-                (row, 100, CHECKED + "constraint 0 (first) is broken; no row or bound is missed by "
-                 "more than 0.23 of its largest term",
-                 "not proved: no exact point was found near the answer"),
-                (bound, 100, "its point misses variable 1 (beta) by 0.0099 of the largest term",
-                 "not proved: no exact point was found near the answer"),
-                (bound, 100, CHECKED + "a bound of variable 1 (beta) is broken; no row or bound is "
-                 "missed by more than 0.0099 of its largest term",
-                 "not proved: no exact point was found near the answer"),
-                (dual, 0, CHECKED + "gap 4.4 4", "feasible 22/5"),
-                (sign, 0, CHECKED + "the dual of constraint 0 (first) has the wrong sign",
-                 "feasible 22/5")):
-            run = copy.deepcopy(stored.runs("lp_solve")["diet"])
-            text = "\n".join(run["logs"]["solver.log"])
-            self.assertIn(change[0], text)
-            run["logs"]["solver.log"] = text.replace(*change, 1).split("\n")
-            self.assertEqual(self.last("lp_solve", "diet", run=run), last)
-            self.assertIn(line, self.sol().message)
-            self.assertEqual(self.sol().code, code)
-
-    @NEEDS_CLP
-    def test_wrong_answers_are_mended(self) -> None:
-        """A search finds the point; what the solver said stays in the message."""
-        for name, change, words, line, kind in (
-                ("diet", ("x0                              4", "x0                              3"),
-                 [], "optimal 22/5", "another"),
-                ("knap", ("x1                              1", "x1                              0"),
-                 ["prove=1"], "optimal 17", "a better")):
-            self.put(MODELS[name].text)
-            run = copy.deepcopy(stored.runs("lp_solve")[name])
-            text = "\n".join(run["logs"]["solver.log"])
-            self.assertIn(change[0], text)
-            run["logs"]["solver.log"] = text.replace(*change, 1).split("\n")
-            self.assertEqual(self.last("lp_solve", name, *words, run=run), line)
-            self.assertEqual(self.sol().code, 0)
-            self.assertIn(f"{kind} point was found; objective ", self.sol().text)
-            self.judge_claim(name, self.sol())
-
-    def test_another_point_is_not_passed_on_as_solved(self) -> None:
-        """Neither a better nor a worse one, where it is not proved optimal."""
-        self.put(MODELS["knap"].text)
-        for point, kind, code in (([1, 0, 0], "another", 100), ([0, 1, 0], "another", 100),
-                                  ([1, 1, 0], "", 0)):
-            verdict = Verdict("feasible 1", list(map(F, point)), "kept", value=F(1))
-            with mock.patch.object(Certifier, "verdict", lambda *_: verdict):
-                self.assertEqual(self.last("lp_solve", "knap"), "feasible 1")
-            self.assertEqual(self.sol().code, code, self.sol().text)
-            self.assertEqual(self.sol().values, point)
-            self.assertEqual(f"{kind} point was found" in self.sol().text, bool(kind))
-
-    def test_strict(self) -> None:
-        """A status and a code of its own where the question is left open."""
-        self.put(MODELS["knap"].text)
-        for line, status, code in (("feasible 17", 6, 100), ("within 19 17", 6, 100),
-                                   ("optimal 17", 0, 0)):
-            verdict = Verdict(line, [F(1), F(1), F(0)], "kept", value=F(17))
-            with mock.patch.object(Certifier, "verdict", lambda *_: verdict):
-                self.assertEqual(self.last("cbc", "knap", "strict=1"), line)
-                self.assertEqual(self.sol().code, code)
-                ended = self.replay("cbc", "knap", self.stub, "strict=1")
-                self.assertEqual(ended.returncode, status)
-
-    def test_fractions_are_written_as_nearest(self) -> None:
-        self.put(MODELS["thirds"].text)
-        self.assertEqual(self.last("esolver", "thirds"), "optimal 1/3")
-        self.assertRegex(self.sol().text, r"\n\d+ exact values have no decimal of at most 38")
-        self.assertRegex(self.sol().text, CHECKED + "the reduced cost of .*; the exact values and "
-                                          "duals are rounded to decimals in it\n")
-        self.put(MODELS["no_objective"].text)
-        run = copy.deepcopy(stored.runs("esolver")["no_objective"])
-        run["files"]["answer.sol"] = ["status OPTIMAL", "\tValue = 0", "VARS:", "x0 = 10/3",
-                                      "REDUCED COST:", "PI:", "SLACK:"]
-        self.assertEqual(self.last("esolver", "no_objective", run=run), "optimal 0")
-        self.assertEqual(float(self.sol().values[0]), 10 / 3)
-
-    def test_integers_that_are_broken_or_not_whole(self) -> None:
-        """What is told of it without a search."""
-        self.without_clp()
-        self.put(MODELS["knap"].text)
-        for value, note in (("1", "its point misses constraint 0 by 0.55 of the largest term"),
-                            ("0.25", "1 integer variables are not within 1e-05 of a whole number")):
-            run = copy.deepcopy(stored.runs("lp_solve")["knap"])
-            lines = run["logs"]["solver.log"]
-            at = next(i for i, text in enumerate(lines) if text.startswith("x0 "))
-            others = "0" if value == "0.25" else "1"
-            lines[at:at + 3] = [f"x0 {value}", f"x1 {others}", f"x2 {others}"]
-            self.assertEqual(self.last("lp_solve", "knap", run=run),
-                             "not proved: no exact point has the answer's whole variables")
-            self.assertIn(note, self.sol().text)
-            self.assertEqual(self.sol().code, 100)
-
-    def test_each_verdict_of_the_check(self) -> None:
-        """What the line before the last makes of each line of `check`."""
-        wide = "exact values do not fit 128 bits "
-        rounding = "; no row or bound is missed by more than 1e-15 of its largest term"
-        for verdict, linear, whole in (
-                ("yes 19/2", "yes 9.5", "feasible, objective exactly 9.5"),
-                ("gap 9 17/2", "gap 9 8.5", "feasible, objective exactly 9"),
-                ("row 1 has no side", "the dual of constraint 1 has the wrong sign",
-                 "the dual of constraint 1 has the wrong sign"),
-                ("bound 1 has no side", "the reduced cost of variable 1 has no bound to rest on",
-                 "feasible"),
-                ("bound 1 broken", "a bound of variable 1 is broken" + rounding,
-                 "a bound of variable 1 is broken" + rounding),
-                ("too wide at row 1", wide + "(too wide at row 1)", wide + "(too wide at row 1)"),
-                ("too wide at cost 1", wide + "(too wide at cost 1)", "feasible"),
-                ("too wide at total", wide + "(too wide at total)", "feasible")):
-            reply = Reply(int(not verdict.startswith("yes")), verdict.encode() + b"\n", "")
-            with mock.patch.dict(Injected.says, {"check": lambda text: reply}):
-                for name, line in (("product", linear), ("knap", whole)):
-                    self.put(MODELS[name].text)
-                    self.last("cbc", name)
-                    self.assertIn(CHECKED + line, self.sol().message)
-
-    def test_a_bridge_that_lacks_a_command_or_refuses(self) -> None:
-        def lacks(text: str) -> Reply:
-            return Reply(3, b"", "bad words")
-        self.put(MODELS["product"].text)
-        for command, line in (("verify", "not proved: this bridge does not know the command "
-                                         "`verify` (bad words)"), ("check", "optimal 19")):
-            with mock.patch.dict(Injected.says, {command: lacks}):
-                self.assertEqual(self.last("cbc", "product"), line)
-        with mock.patch.dict(Injected.says, {"return": lacks}):
-            self.assertIn("return: this bridge does not know the command `return`",
-                          self.last("cbc", "product"))
-            self.assertEqual(self.sol().code, 507)
-
-    def test_a_certificate_that_is_not_accepted(self) -> None:
-        self.put(MODELS["product"].text)
-        reply = Reply(1, b"leaf 0 gap 20\n", "")
-        with mock.patch.dict(Injected.says, {"verify": lambda text: reply}):
-            self.assertEqual(self.last("cbc", "product"),
-                             "not proved: bridge verify says `leaf 0 gap 20`")
-
-    def test_duals_that_do_not_fit(self) -> None:
-        """They are left out, which a line tells; the values are checked without them."""
-        def refuses(text: str) -> "Reply | None":
-            wide = "\nrow c0 1\n" in text and "\ncol " in text
-            return Reply(2, b"", "refused row 0: dual too wide") if wide else None
-        self.put(MODELS["product"].text)
-        with mock.patch.dict(Injected.says, {"return": refuses}):
-            line = self.last("clp", "product")
-        sol = self.sol()
-        self.assertRegex(sol.message[1], "^duals are left out: .*dual too wide")
-        self.assertEqual((line, len(sol.values), sol.duals, sol.suffixes),
-                         ("optimal 19", 2, [], {}))
-
-    def test_bound_and_relax(self) -> None:
-        self.put(MODELS["knap"].text)
-        run = copy.deepcopy(stored.runs("esolver")["diet"])
-        run["files"]["answer.sol"] = ["status OPTIMAL", "\tValue = 250/13", "VARS:", "x0 = 1",
-                                      "x2 = 10/13", "REDUCED COST:", "PI:", "c0 = 24/13", "SLACK:"]
-        run["files"]["answer.bas"] = ["NAME nl", "ENDATA"]
-        line = self.last("esolver", "knap", "relax=1", run=run)
-        self.assertIn("objective 250/13 (integer variables relaxed)", self.sol().message[0])
-        if HAS_CLP:
-            self.assertRegex(line, r"^bound \S+$")
-            self.assertRegex(self.last("cbc", "knap", "bound=1"), "^(within 19|optimal) 17$")
-
-    def test_without_clp(self) -> None:
-        """What a solver's own answer gives."""
-        self.without_clp()
-        for name, line in (("infeasible", "not proved: CLP's library (coinor-libclp1) is not "
-                                          "installed"), ("whole_infeasible", "infeasible"),
-                           ("product", "optimal 19"), ("knap", "feasible 17"),
-                           ("mixed", "feasible 173/4")):
-            self.put(MODELS[name].text)
-            self.assertEqual(self.last("cbc", name), line)
-        for name, line in (("knap", "not proved: there was no search; without it: feasible 17"),
-                           ("infeasible", "not proved: CLP's library (coinor-libclp1) is not "
-                                          "installed"), ("product", "optimal 19")):
-            self.put(MODELS[name].text)
-            self.assertEqual(self.last("cbc", name, "prove=1"), line)
-            self.assertEqual("prove=1 needs the library of CLP, which is not there (Debian: apt "
-                             "install coinor-libclp1)" in self.sol().message, name != "product")
-            self.assertNotIn("in words", self.sol().message[-1])
-
-    def test_stopped_and_undecided(self) -> None:
-        self.put(MODELS["knap"].text)
-        for first, code, line in (
-                ("Stopped on time - objective value 17.0", 400, "^(feasible|optimal) 17$"),
-                ("Stopped on time (no integer solution - continuous used) - objective value 17.0",
-                 450, r"^bound \S+$" if HAS_CLP else "^not proved: there is no point"),
-                ("Unbounded", 300, "^not proved: "),
-                ("Integer infeasible", 290, "^(not proved|feasible|optimal)")):
-            run = copy.deepcopy(stored.runs("cbc")["knap"])
-            run["files"]["answer.txt"][0] = first
-            if code == 290:
-                run["logs"]["solver.log"] = ["Problem is infeasible or unbounded"]
-            self.assertRegex(self.last("cbc", "knap", run=run), line)
-            last = self.sol().message[-1]
-            self.assertEqual(self.sol().code, 0 if last.startswith("optimal") else
-                             100 if last.startswith("feasible") and code == 290 else code)
-
-    def test_lp_solve_at_1e30(self) -> None:
-        """The size that it prints where there is no end: an answer where a bound is there."""
-        for name, value, code in (("lower", "1e+30", 0), ("upper", "1e+30", 300),
-                                  ("beyond", "1e+30", 300), ("side", "1e+30", 300),
-                                  ("near", "1e+29", 0)):
-            text, optimum = FAR[name]
-            self.put(text)
-            columns = ["x0", "x1"] if name == "upper" else ["x0"]
-            rows = ["c0"] if name in ("upper", "side") else []
-            log = ["", f"Value of objective function: {float(value):.8f}", "",
-                   "Actual values of the variables:", *(f"{j} {value}" for j in columns), "",
-                   "Dual values with from - till limits:", *(f"{i} 0" for i in rows + columns), ""]
-            run = {"files": {}, "logs": {"solver.log": log}}
-            last = self.last("lp_solve", name, run=run)
-            self.assertEqual(self.sol().code, code, self.sol().text)
-            if code:
-                self.assertTrue(last.startswith("not proved: "), last)
-            elif HAS_CLP:
-                self.assertIn(last, (f"optimal {optimum}", f"feasible {optimum}"))
-            self.assertEqual("1 side or bound from 1e30 on, which lp_solve may take for none"
-                             in self.sol().text, name != "near")
-
-    def test_certificate(self) -> None:
-        """It is kept where it is accepted, and judged again; else an older one stays."""
-        kept = os.path.join(self.folder, "kept.certificate")
-        self.put(MODELS["product"].text)
-        self.assertEqual(self.last("cbc", "product", "certificate=" + kept), "optimal 19")
-        ran = subprocess.run([*PROGRAM, "verify", self.stub + ".nl", kept], capture_output=True)
-        self.assertEqual(ran.stdout, b"optimal 19\n")
-        self.last("cbc", "product", "certificate=" + kept, "check=0")
-        self.assertEqual(self.sol().message[-2],
-                         f"no certificate is written; {kept} stays as it was")
-        self.assertTrue(os.path.exists(kept))
-        self.assertEqual(self.sol().message[-1], "not proved: check=0")
-        self.last("cbc", "product", "certificate=/nonexistent/kept")
-        self.assertIn("the certificate is not kept: /nonexistent/kept: No such file",
-                      self.sol().text)
-
-    def test_only_mps(self) -> None:
-        self.put(MODELS["product"].text)
-        for driver, start, words in (("cbc", b"NAME nl FREE\n", " -max "),
-                                     ("lp_solve", b"NAME nl\n", " -fmps "),
-                                     ("glpsol", b"NAME nl\nROWS\n", "--max")):
-            self.last(driver, "product", "only=mps")
-            sol = self.sol()
-            self.assertEqual((sol.code, sol.values), (450, []))
-            self.assertIn(f"{self.stub}.{driver}.mps is written, and nothing was solved; ",
-                          sol.message[0])
-            self.assertIn(words, sol.message[1])
-            self.assertNotIn("not proved", sol.text)
-            with open(f"{self.stub}.{driver}.mps", "rb") as f:
-                self.assertTrue(f.read().startswith(start))
-        self.last("cbc", "product", "only=lp")
-        self.assertEqual(self.sol().code, 502)
-
-    def test_shortest(self) -> None:
-        text = MODELS["diet"].text.replace(b"0.9", b"0.90000000000000002")
-        self.put(text.replace(b"6.4", b"6.4000000000000004"))
-        self.assertRegex(self.last("cbc", "diet"), r"^optimal \d{17,}/\d+")
-        self.assertEqual(self.last("cbc", "diet", "shortest=1"), "optimal 22/5")
-        self.assertIn("2 numbers of the .nl file were read in their shortest spelling",
-                      self.sol().text)
-
-    def test_binary(self) -> None:
-        shutil.copy(os.path.join(HERE, "binary", "mixed.bin.nl"), self.stub + ".nl")
-        self.assertRegex(self.last("cbc", "mixed"), "^(feasible|optimal) 173/4$")
-        self.assertEqual(self.sol().message[1],
-                         "the binary .nl file was turned into text, which is not proved")
 
 
 def replaced(lines: list[str], old: str, new: str) -> list[str]:

@@ -12,7 +12,7 @@ from typing import Callable, Iterator, List, Mapping, NamedTuple, Optional, Sequ
 from models import nl
 
 Number = Union[int, str]
-Column = Tuple[str, Number, Number]                     # C or I, and its bounds
+Column = Tuple[str, Optional[Number], Optional[Number]]     # C or I, and its bounds
 Row = Tuple[Optional[Number], Optional[Number], Mapping[int, Number]]
 Point = List[F]
 
@@ -22,7 +22,8 @@ CLOSE = F(1, 10 ** 9)           # of the largest term of the objective
 
 
 class Misleading(NamedTuple):
-    """Continuous columns come first, at most two. `best` is None where there is no point."""
+    """Continuous columns come first. `best` is None where there is no point; `is_endless`: there
+    is no best one."""
 
     name: str
     columns: Sequence[Column]
@@ -30,22 +31,41 @@ class Misleading(NamedTuple):
     sense: str
     costs: Mapping[int, Number]
     best: F | None
+    is_endless: bool = False
 
     def text(self) -> bytes:
         return nl(list(self.columns), list(self.rows), [(self.sense, 0, dict(self.costs))])
 
+    def is_exact(self, point: Sequence[F]) -> bool:
+        """Whether a point is optimal in fractions."""
+        if self.best is None or self.is_endless:
+            return False
+        for (kind, lo, hi), v in zip(self.columns, point):
+            if kind == "I" and v.denominator != 1 or lo is not None and v < F(lo) \
+                    or hi is not None and v > F(hi):
+                return False
+        for low, high, terms in self.rows:
+            at = sum(F(a) * point[j] for j, a in terms.items())
+            if low is not None and at < F(low) or high is not None and at > F(high):
+                return False
+        return sum(F(c) * point[j] for j, c in self.costs.items()) == self.best
+
+    def is_linear(self) -> bool:
+        return all(kind == "C" for kind, _, _ in self.columns)
+
     def fault(self, point: Sequence[F]) -> str:
         """What is wrong with a point that is told to be optimal; nothing where it may be."""
-        if self.best is None:
-            return "there is no point"
+        if self.best is None or self.is_endless:
+            return "there is no point" if self.best is None else "there is no best point"
         for j, ((kind, lo, hi), value) in enumerate(zip(self.columns, point)):
             if kind == "I" and value.denominator != 1:
                 return f"x{j} is not whole"
-            if misses(value, F(lo), F(hi), [value]):
+            if misses(value, lo if lo is None else F(lo), hi if hi is None else F(hi), [value]):
                 return f"x{j} is beyond a bound"
         for i, (low, high, terms) in enumerate(self.rows):
             parts = [F(a) * point[j] for j, a in terms.items()]
-            if misses(sum(parts), low and F(low), high and F(high), parts):
+            if misses(sum(parts), low if low is None else F(low),
+                      high if high is None else F(high), parts):
                 return f"row {i} is broken"
         parts = [F(c) * point[j] for j, c in self.costs.items()]
         room = CLOSE * max(abs(self.best), *map(abs, parts))

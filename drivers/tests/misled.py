@@ -1,80 +1,162 @@
 #!/usr/bin/env python3
-"""All models of misleading.py through drivers, and what ends with code 0 and is wrong.
+"""Models that mislead solvers in doubles (misleading.py, misleading_more.py) through drivers: what
+ends with code 0 and is wrong, and what a solver answered rightly and exactly and the driver lost.
 
-    misled.py [DRIVER ..] [option=value ..]     cbc, glpsol, lp_solve and highs, where they are
+    misled.py [DRIVER ..] [KIND ..] [option=value ..]   all six drivers, where they are; all kinds
 
-BRIDGE names the program. `second=5` makes five of the second that a run without `prove=1` has for
-its certificate: on a machine that does much else. A line for each wrong answer, and one for each driver: how many end with
-which code. The status is 1 where an answer is wrong.
+BRIDGE names the program. Each model goes through each driver as it comes, and with `prove=1`;
+`prove=0` or `prove=1` says which alone, `each=2` takes two models of each kind, `code=100` lists
+those that end with it. `second=5` makes five of the second that a run without
+`prove=1` has for its certificate: on a machine that does much else. A line for each wrong or lost
+answer, and one for each driver: how many end with which code. The status is 1 where one is wrong.
 """
 
 from __future__ import annotations
 
 import collections
+import itertools
 import os
 import sys
 import tempfile
 import time
 from concurrent.futures import ProcessPoolExecutor
+from fractions import Fraction as F
+from typing import Any, Iterator, NamedTuple
 
 sys.dont_write_bytecode = True
 HERE = os.path.dirname(os.path.abspath(__file__))
 sys.path[:0] = [HERE]
 
-from misleading import Misleading, models       # noqa: E402
+from misleading import EACH, Misleading, models         # noqa: E402
+from misleading_more import EACH as EACH_MORE, more     # noqa: E402
 from support import Sol                         # noqa: E402
 from bridge_drivers import certificates, solvers    # noqa: E402
+from bridge_drivers.codes import Code           # noqa: E402
 from bridge_drivers.driver import Driver        # noqa: E402
+from bridge_drivers.solving import Solving      # noqa: E402
 
-DRIVERS = ("cbc", "glpsol", "lp_solve", "highs")
-WORKERS, SECONDS = 4, 20        # lp_solve goes on for ever at some of them
+WORKERS, SECONDS = 4, 10        # lp_solve goes on for ever at some of them
 
 
-def judged(folder: str, driver: str, model: Misleading, options: list[str]) -> tuple[int, str]:
-    """The code, and what is wrong."""
-    stub = os.path.join(folder, f"{driver}-{model.name}")
+class Judged(NamedTuple):
+    """The code of a run, what is wrong with it, and what was lost."""
+
+    code: int
+    wrong: str = ""
+    lost: str = ""
+    last: str = ""
+
+
+class Noting(Solving):
+    """Notes what the solver itself answered."""
+
+    own: Any = None
+
+    def answered(self, job: Any) -> Any:
+        found = super().answered(job)
+        Noting.own = found[0]
+        return found
+
+
+class NotingDriver(Driver):
+    make_solving = Noting
+
+
+def family(each: int = EACH, each_more: int = EACH_MORE) -> Iterator[Misleading]:
+    """The first models of each kind."""
+    return itertools.chain(models(each), more(each_more))
+
+
+def judged(folder: str, driver: str, model: Misleading, options: list[str]) -> Judged:
+    """One run. What a solver takes no whole variables for is refused, and that is right."""
+    stub = os.path.join(folder, f"{driver}-{model.name}-{'-'.join(options)}")
     with open(stub + ".nl", "wb") as f:
         f.write(model.text())
-    status = Driver(driver).main([stub, "-AMPL", "-e", f"timelim={SECONDS}", *options])
-    return told(model, Sol(stub + ".sol")) if status == 0 else (-1, f"it ended with {status}")
+    Noting.own = None
+    status = NotingDriver(driver).main([stub, "-AMPL", "-e", f"timelim={SECONDS}", *options])
+    if status != 0:
+        return Judged(-1, f"it ended with {status}")
+    return told(model, Sol(stub + ".sol"))
 
 
-def told(model: Misleading, sol: Sol) -> tuple[int, str]:
-    """Of a .sol: the code, and what is wrong; infeasible and unbounded are claims too."""
-    fault = ""
+def told(model: Misleading, sol: Sol) -> Judged:
+    """Of a .sol: infeasible and unbounded are claims too, where they are proved."""
+    wrong, last = "", sol.message[-1]
     if sol.code == 0:
-        fault = model.fault(sol.values) if sol.values else "there are no values"
-    elif 200 <= sol.code < 290 and model.best is not None or 300 <= sol.code < 400:
-        fault = "there is an optimum" if model.best is not None else "there is no point"
-    return sol.code, f"{fault} ({sol.message[-1]})" if fault else ""
+        wrong = model.fault(sol.values) if sol.values or not model.columns else "no values"
+    elif last == "infeasible" and model.best is not None:
+        wrong = "there is a point"
+    elif last == "unbounded" and not model.is_endless:
+        wrong = "there is a best point" if model.best is not None else "there is no point"
+    return Judged(sol.code, f"{wrong} ({last})" if wrong else "", "" if wrong else lost(model, sol),
+                  last)
+
+
+def lost(model: Misleading, sol: Sol) -> str:
+    """What the solver itself answered rightly and exactly, and the driver did not pass on."""
+    own, last = Noting.own, sol.message[-1]
+    if own is None:
+        return ""
+    if own.code == Code.INFEASIBLE and model.best is None and sol.code != 200 \
+            or own.code == Code.UNBOUNDED and model.is_endless and sol.code != 300:
+        return f"it said so ({last})"
+    if own.code == Code.SOLVED and own.values is not None and sol.code != 0:
+        names = [f"x{j}" for j in range(len(model.columns))]
+        point = [F(own.values[name]) for name in names]
+        point = [F(round(v)) if kind == "I" else v
+                 for v, (kind, _, _) in zip(point, model.columns)]
+        return f"its point is optimal ({last})" if model.is_exact(point) else ""
+    return ""
+
+
+def takes(driver: str, model: Misleading) -> bool:
+    return solvers.load(driver).integers or model.is_linear()
 
 
 def main() -> int:
-    drivers = [w for w in sys.argv[1:] if "=" not in w] or list(DRIVERS)
-    options = [w for w in sys.argv[1:] if "=" in w and not w.startswith("second=")]
-    for word in sys.argv[1:]:
-        if word.startswith("second="):
-            certificates.ONE_LEAF = float(word.partition("=")[2])
-    family, wrong = list(models()), 0
-    print(f"{len(family)} models, {sum(m.best is None for m in family)} without a point")
-    for driver in drivers:
-        if solvers.load(driver).place() is None:
-            print(f"{driver}: not there")
-            continue
-        start, codes = time.monotonic(), collections.Counter()
-        with tempfile.TemporaryDirectory(prefix="misled-") as folder, \
-                ProcessPoolExecutor(WORKERS) as pool:
-            jobs = [pool.submit(judged, folder, driver, model, options) for model in family]
-            for model, job in zip(family, jobs):
-                code, fault = job.result()
-                codes[code] += 1
-                wrong += bool(fault)
-                if fault:
-                    print(f"{driver} {model.name}: code {code}, {fault}", flush=True)
-        shares = ", ".join(f"code {code}: {count}" for code, count in sorted(codes.items()))
-        print(f"{driver}: {shares}; {time.monotonic() - start:.0f} s")
+    words = [w for w in sys.argv[1:] if "=" not in w]
+    options = [w for w in sys.argv[1:] if "=" in w
+               and not w.startswith(("second=", "prove=", "each=", "code="))]
+    codes = [int(w[5:]) for w in sys.argv[1:] if w.startswith("code=")]
+    ways = [w for w in sys.argv[1:] if w.startswith("prove=")] or ["prove=0", "prove=1"]
+    counts = (EACH, EACH_MORE)
+    for name, _, value in (word.partition("=") for word in sys.argv[1:]):
+        if name == "second":
+            certificates.ONE_LEAF = float(value)
+        if name == "each":
+            counts = int(value), int(value)
+    kinds = [w for w in words if w not in solvers.NAMES]
+    chosen = [m for m in family(*counts) if not kinds or m.name.rstrip("0123456789") in kinds]
+    print(f"{len(chosen)} models, {sum(m.best is None for m in chosen)} without a point, "
+          f"{sum(m.is_endless for m in chosen)} without an end", flush=True)
+    wrong = 0
+    for driver in [w for w in words if w in solvers.NAMES] or solvers.NAMES:
+        for way in ways if solvers.load(driver).place() else ():
+            wrong += run(driver, [m for m in chosen if takes(driver, m)], [way, *options], codes)
     print(f"{wrong} wrong")
     return 1 if wrong else 0
+
+
+def run(driver: str, chosen: list[Misleading], options: list[str], shown: list[int]) -> int:
+    """How many are wrong."""
+    start, codes, wrong, gone = time.monotonic(), collections.Counter(), 0, 0
+    with tempfile.TemporaryDirectory(prefix="misled-") as folder, \
+            ProcessPoolExecutor(WORKERS) as pool:
+        jobs = [pool.submit(judged, folder, driver, model, options) for model in chosen]
+        for model, job in zip(chosen, jobs):
+            found = job.result()
+            codes[found.code] += 1
+            wrong += bool(found.wrong)
+            gone += bool(found.lost)
+            left = found.last if found.code in shown else ""
+            for word, text in (("wrong", found.wrong), ("lost", found.lost), ("left", left)):
+                if text:
+                    print(f"{driver} {options[0]} {model.name}: code {found.code}, {word}: {text}",
+                          flush=True)
+    shares = ", ".join(f"code {code}: {count}" for code, count in sorted(codes.items()))
+    print(f"{driver} {options[0]}: {shares}; {wrong} wrong, {gone} lost; "
+          f"{time.monotonic() - start:.0f} s", flush=True)
+    return wrong
 
 
 if __name__ == "__main__":

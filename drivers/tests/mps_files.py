@@ -20,7 +20,7 @@ from bridge_drivers import kinds, mps_file, solvers
 from bridge_drivers.bridge import Bridge, Refused
 from bridge_drivers.importing import lists_of
 from bridge_drivers.mps_text import program_of
-from bridge_drivers.sections import Sections
+from plain import Plain
 from reports import faults, schema
 from mps_models import BLANK, EMPTY_INTERVAL, FIXED_TEXT, MODELS, sections
 
@@ -169,25 +169,21 @@ class Read(Case):
         for _ in range(40):
             text = random_text(made)
             read = self.read(text)
-            own = Sections(program_of(read.text).text)
+            own = Plain(program_of(read.text).text)
             order = lists_of(read.text).columns
             self.put(bridge().text("import", self.stub + ".mps"))
-            other = Sections(bridge().text("export", self.stub + ".nl"))
+            other = Plain(bridge().text("export", self.stub + ".nl"))
             names = program_of(read.text).names
             assert names is not None
-            at = {names.column(j): f"x{j}" for j in range(len(own.bounds))}
+            at = {names.column(j): f"x{j}" for j in range(len(own.low))}
             place = {f"x{k}": at[name] for k, name in enumerate(order)}
-            self.assertEqual({place[x]: ends for x, ends in other.bounds.items()}, own.bounds, text)
-            self.assertEqual({place[x] for x in other.whole}, own.whole, text)
-            self.assertEqual({place[x]: c for x, c in other.costs.items() if c},
-                             {x: c for x, c in own.costs.items() if c}, text)
-            self.assertEqual({(row, place[x]): a for x, entries in other.entries.items()
-                              for row, a in entries},
-                             {(row, x): a for x, entries in own.entries.items()
-                              for row, a in entries}, text)
-            self.assertEqual({row: other.sides(row) for row in other.kinds if row != "obj"},
-                             {row: own.sides(row) for row in own.kinds if row != "obj"}, text)
-            self.assertEqual((other.maximise, other.untie()), (own.maximise, own.untie()), text)
+            self.assertEqual({place[x]: ends for x, ends in other.bounds().items()}, own.bounds(),
+                             text)
+            self.assertEqual({place[x]: whole for x, whole in other.whole.items()}, own.whole, text)
+            self.assertEqual({(row, place[x]): a for (row, x), a in other.entries.items() if a},
+                             {key: a for key, a in own.entries.items() if a}, text)
+            self.assertEqual((other.maximise, other.sides(), other.rhs.get("obj", 0)),
+                             (own.maximise, own.sides(), own.rhs.get("obj", 0)), text)
 
 
 def random_text(made: random.Random) -> str:
@@ -265,7 +261,7 @@ class Driven(Case):
                 (BLANK, [], 2, "names with blanks are not read"),
                 (FIXED_TEXT, ["objno=2"], 2, "objno=2: no such objective"),
                 (FIXED_TEXT, ["shortest=1"], 3, "shortest=1 is for .nl files"),
-                (FIXED_TEXT, ["format=nl"], 3, "format=nl: not free or fixed"),
+                (FIXED_TEXT, ["format=nl"], 3, "format=nl: free or fixed is wanted"),
                 (FIXED_TEXT, ["-AMPL"], 3, "a .sol is the answer to an .nl file: wantsol=2 "),
                 (FIXED_TEXT, ["-s"], 3, "a .sol is the answer to an .nl file: wantsol=2 ")):
             self.put(text.encode(), ".mps")
@@ -297,7 +293,7 @@ class Driven(Case):
             told = self.told(SOLVERS[0], MODELS["free"].text, "overwrite=1",
                              f"certificate={self.stub}{end}", end=end)
             self.assertIn("the certificate is not kept: ", "\n".join(told["lines"]))
-            self.assertIn("is the model", "\n".join(told["lines"]))
+            self.assertIn("it is what this command reads", "\n".join(told["lines"]))
 
 
 @NEEDS_MPS

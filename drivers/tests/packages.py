@@ -36,6 +36,15 @@ class Built(Case):
         self.sums()
         self.fields()
         self.wheel()
+        self.lintian()
+
+    def lintian(self) -> None:
+        """No error, where it is there."""
+        if shutil.which("lintian"):
+            ran = subprocess.run(["lintian", "--allow-root", "--fail-on", "error,warning",
+                                  os.path.join(self.out, self.names[0])], capture_output=True,
+                                 text=True)
+            self.assertEqual((ran.returncode, ran.stdout), (0, ""))
 
     def sums(self) -> None:
         """They pass, and tell that of the program in the packages."""
@@ -46,10 +55,28 @@ class Built(Case):
         with open(os.path.join(self.out, "SHA256SUMS"), encoding="ascii") as f:
             self.assertEqual(f.readline(), f"# {own}  bridge, the program in them\n")
 
+    def test_uninstalled(self) -> None:
+        """A virtual environment is as it was before, once commands have run there, too."""
+        place = os.path.join(self.folder, "env")
+        made = subprocess.run([sys.executable, "-m", "venv", place], capture_output=True)
+        if made.returncode:
+            self.skipTest("no venv")
+        before = paths_of(place)
+        words = [os.path.join(place, "bin", "pip"), "-q", "--disable-pip-version-check"]
+        wheel = os.path.join(self.out, self.names[1])
+        subprocess.run([*words, "install", "--no-index", wheel], check=True)
+        environment = {k: v for k, v in os.environ.items() if k != "BRIDGE"}
+        ran = subprocess.run([os.path.join(place, "bin", "nl-bridge"), "version"],
+                             capture_output=True, text=True, env=environment)
+        self.assertIn("NOT PROVED", ran.stdout)
+        subprocess.run([*words, "uninstall", "-y", "nl-bridge"], check=True)
+        self.assertEqual(paths_of(place), before)
+
     def fields(self) -> None:
         deb = os.path.join(self.out, self.names[0])
         told = subprocess.run(["dpkg-deb", "-f", deb], capture_output=True, text=True).stdout
         self.assertRegex(told, r"(?m)^Depends: .*\bcoinor-libclp1\b")
+        self.assertIn("Description: UNPROVED bridge", told)
         self.assertRegex(told, r"(?m)^Recommends: .*\bcoinor-cbc\b")
         self.assertRegex(told, r"(?m)^Suggests: .*\bminizinc, python3-pulp\b")
 
@@ -58,6 +85,11 @@ class Built(Case):
             facts = next(name for name in z.namelist() if name.endswith(".dist-info/METADATA"))
             told = z.read(facts).decode()
         self.assertIn("Provides-Extra: pulp\nRequires-Dist: pulp; extra == 'pulp'\n", told)
+
+
+def paths_of(folder: str) -> set[str]:
+    return {os.path.join(place, name) for place, inner, names in os.walk(folder)
+            for name in [*inner, *names]}
 
 
 @unittest.skipUnless(IS_NEW, "a Python before 3.11")

@@ -70,8 +70,9 @@ class Processes(Case):
                                 ("esolver", "qsopt-ex"), ("glpsol", "glpk-utils"),
                                 ("lp_solve", "lp-solve")):
             ended = self.drive(driver, self.stub, PATH="/nonexistent", BRIDGE=bridge)
-            self.assertEqual((ended.returncode, ended.stderr), (1, f"bridge-{driver}: {driver} was "
-                             f"not found: apt install {package} (Debian) or give solver=PATH\n"))
+            wanted = f"not found: apt install {package} (Debian) or give solver=PATH\n"
+            self.assertEqual((ended.returncode, ended.stderr),
+                             (127, f"bridge-{driver}: {driver} was {wanted}"))
 
     def test_solver_that_fails(self) -> None:
         self.put(MODELS["knap"].text)

@@ -177,18 +177,23 @@ class Manners(unittest.TestCase):
                                               f"upper bound {high}")
 
     def test_what_is_not_there(self) -> None:
-        with self.assertRaisesRegex(pulp.PulpSolverError, "/nonexistent was not found"):
+        with self.assertRaisesRegex(pulp.PulpSolverError, "no driver of nonexistent: cbc, "):
             self.problem(0, 1).solve(pulp_solver.BridgeCmd("/nonexistent", msg=False))
         self.assertFalse(pulp_solver.BridgeCmd("/nonexistent").available())
-        with self.assertRaisesRegex(pulp.PulpSolverError, "true ended with 0, without an answer"):
-            self.problem(0, 1).solve(pulp_solver.BridgeCmd("/bin/true", msg=False))
+        for name in SOLVERS:
+            self.assertEqual(pulp_solver.BridgeCmd("/x/bridge-" + name).available(),
+                             shutil.which(name))
+        with self.assertRaisesRegex(pulp.PulpSolverError, "was not found: install it or give "
+                                                          "options=.'solver=PATH'."):
+            self.problem(0, 1).solve(pulp_solver.BridgeCmd(msg=False, options=["solver=/no"],
+                                                           bridge="/bin/true"))
 
     def test_words(self) -> None:
         command = pulp_solver.BridgeCmd("d", mip=False, timeLimit=2.5, gapRel=0.1, threads=3,
                                         prove=True, options=["outlev=1"])
-        self.assertEqual(command.words("a.mps"),
-                         ["d", "a.mps", "-e", "format=free", "json=1", "wantsol=6", "outlev=1",
-                          "timelim=2.5", "mipgap=0.1", "threads=3", "relax=1", "prove=1"])
+        self.assertEqual(command.given(),
+                         {"format": "free", "prove": True, "relax": True, "timelim": 2.5,
+                          "mipgap": 0.1, "threads": 3, "outlev": "1"})
 
     def test_statuses(self) -> None:
         for last, solution in (("feasible 3", pulp.LpSolutionIntegerFeasible),

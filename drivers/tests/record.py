@@ -1,7 +1,8 @@
 #!/usr/bin/env python3
 """Stores one run of each installed solver on each small model, for test_drivers.py.
 
-    record.py [NAME ..]         the drivers, all where none is named; BRIDGE as for the drivers
+    record.py [NAME ..]         the drivers, all where none is named; BRIDGE as for the drivers;
+                                `statuses`: runs that stop at a limit or a gap
 """
 
 from __future__ import annotations
@@ -10,6 +11,7 @@ import os
 import subprocess
 import sys
 import tempfile
+from typing import Sequence
 
 HERE = os.path.dirname(os.path.abspath(__file__))
 sys.path[:0] = [os.path.join(HERE, ".."), HERE]
@@ -17,18 +19,18 @@ sys.path[:0] = [os.path.join(HERE, ".."), HERE]
 from bridge_drivers import solvers          # noqa: E402
 from bridge_drivers.job import ANSWERS      # noqa: E402
 from models import MODELS, is_solved        # noqa: E402
+from status_models import REAL              # noqa: E402
 import stored                               # noqa: E402
 
 
-def run(driver: str, name: str) -> dict:
-    model = MODELS[name]
+def run(driver: str, text: bytes, options: Sequence[str]) -> dict:
     with tempfile.TemporaryDirectory() as folder:
         stub, kept = os.path.join(folder, "stub"), os.path.join(folder, "kept")
         with open(stub + ".nl", "wb") as f:
-            f.write(model.text)
+            f.write(text)
         program = os.path.join(HERE, "..", "bin", "bridge-" + driver)
         subprocess.run([sys.executable, program, stub, "-AMPL", "-e", "keep=" + kept,
-                        *model.options], stdout=subprocess.DEVNULL, check=True)
+                        *options], stdout=subprocess.DEVNULL, check=True)
         files, logs = {}, {}
         for file in sorted(os.listdir(kept)):
             with open(os.path.join(kept, file), "rb") as f:
@@ -37,17 +39,23 @@ def run(driver: str, name: str) -> dict:
                 logs[file] = data.decode("utf-8", "replace").split("\n")
             elif file.startswith(ANSWERS) and not file.endswith(".mps"):
                 files[file] = stored.content(data)
-    return {"options": model.options, "logs": logs, "files": files}
+    return {"options": list(options), "logs": logs, "files": files}
 
 
 def main() -> None:
-    for driver in sys.argv[1:] or solvers.NAMES:
+    wanted = sys.argv[1:] or [*solvers.NAMES, "statuses"]
+    if "statuses" in wanted:
+        stored.save("statuses", {real.name: run(real.driver, real.text(), real.options)
+                                 for real in REAL})
+        print(f"statuses: {len(REAL)} runs stored")
+    for driver in (name for name in wanted if name != "statuses"):
         solver = solvers.load(driver)
         if solver.place() is None:
             print(f"{driver}: not installed, its stored runs stay")
             continue
         names = [n for n in MODELS if is_solved(n) and (MODELS[n].linear or solver.integers)]
-        stored.save(driver, {name: run(driver, name) for name in names})
+        stored.save(driver, {name: run(driver, MODELS[name].text, MODELS[name].options)
+                             for name in names})
         print(f"{driver}: {len(names)} runs stored")
 
 

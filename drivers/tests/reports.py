@@ -14,7 +14,6 @@ from support import HAS_CLP, HERE, NEEDS_PROGRAM, PROGRAM, Case
 from models import MODELS
 
 from bridge_drivers import VERSION, report
-from bridge_drivers.verdicts import Said
 from fractions import Fraction as F
 
 BIN = os.path.join(HERE, "..", "bin")
@@ -82,7 +81,8 @@ class Schema(unittest.TestCase):
     def test_claims(self) -> None:
         told = report.Report("c")
         told.take_line("within 19 35/2 of objective 2")
-        self.assertEqual(told.said, Said("within", F(35, 2), F(19), 2))
+        self.assertEqual((told.claim, told.value, told.bound, told.objective),
+                         ("within", F(35, 2), F(19), 2))
         said = told.object()
         self.assertEqual((said["claim"], said["objective"], said["value"]["exact"],
                           said["bound"]["double"]), ("within", 2, "35/2", 19.0))
@@ -123,7 +123,7 @@ class Objects(Case):
                          "json=1")
         self.assertEqual((told["status"], told["claim"], told["text"]), (1, None, "leaf 0 gap 29"))
         told = self.call("nl-bridge", "verify", self.stub + ".nl", "/nonexistent", "json=1")
-        self.assertEqual((told["status"], self.err), (4, told["text"] + "\n"))
+        self.assertEqual((told["status"], self.err), (4, f"nl-bridge: {told['text']}\n"))
 
     def test_stats_and_version(self) -> None:
         self.put_knap()
@@ -134,7 +134,8 @@ class Objects(Case):
         self.assertEqual((told["program"], told["proved"]), (PROGRAM, None))
         self.put(MODELS["nonlinear"].text)
         told = self.call("nl-bridge", "stats", self.stub + ".nl", "json=1")
-        self.assertEqual((told["status"], told["text"] + "\n"), (2, self.err))
+        self.assertEqual((told["status"], f"nl-bridge: {told['text']}\n"), (2, self.err))
+        self.assertEqual((told["refusal"]["reason"], told["refusal"]["number"]), ("nonlinear", 12))
 
     @unittest.skipUnless(HAS_CLP, "no library of CLP")
     def test_drivers(self) -> None:
@@ -147,7 +148,8 @@ class Objects(Case):
             self.assertEqual((told["code"], told["claim"], told["values"], told["certificate"]),
                              (0, "optimal", {"a": "1", "b": "1", "z": "0"}, self.stub + ".new"))
             self.assertEqual(self.sol().message, told["lines"])
-            told = self.call("bridge-certify", self.stub, "json=1", "driver=" + driver)
+            told = self.call("bridge-certify", self.stub, "json=1", "driver=" + driver,
+                             "overwrite=1")
             self.assertEqual((told["claim"], told["certificate"]),
                              ("optimal", self.stub + ".certificate"))
 

@@ -10,11 +10,12 @@ from bridge_drivers.certify.claims import Verdict
 from bridge_drivers.codes import Code
 from bridge_drivers.options import Options
 from bridge_drivers.program import Program
-from bridge_drivers.settled import Settled, settled
+from bridge_drivers.settled import Facts, Settled, settled
 from bridge_drivers.solvers.base import Outcome
 
 TEXT = b"NAME nl\nOBJSENSE\n MAX\nROWS\n N obj\n L c0\nCOLUMNS\n M0 'MARKER' 'INTORG'\n" \
        b" x0 obj 1\n x0 c0 1\n M1 'MARKER' 'INTEND'\nRHS\n RHS c0 9\nENDATA\n"
+LINEAR = TEXT.replace(b" M0 'MARKER' 'INTORG'\n", b"").replace(b" M1 'MARKER' 'INTEND'\n", b"")
 SOLVED, UNSURE, LIMIT = Code.SOLVED, Code.UNSURE, Code.LIMIT
 INFEASIBLE, EITHER, UNBOUNDED = Code.INFEASIBLE, Code.INFEASIBLE_OR_UNBOUNDED, Code.UNBOUNDED
 STOPPED = Code.LIMIT_WITH_POINT
@@ -30,7 +31,7 @@ class Table(Case):
         is_proved = not line.startswith("not proved")
         verdict = Verdict(line, None if point is None else [F(point)],
                           "kept" if is_proved else None, "", None if point is None else F(point))
-        return settled(answer, verdict, strict)
+        return settled(answer, verdict, Facts(strict=strict))
 
     def judge(self, found: Settled, code: Code, value: "int | None", kind: str = "") -> None:
         self.assertEqual((found.code, found.answer.outcome.code), (code, code))
@@ -61,13 +62,34 @@ class Table(Case):
                 self.judge(self.settled(code, f"{line} {point}", point), wanted, point, kind)
 
     def test_bounds(self) -> None:
-        """A value that is better than what is possible is not solved."""
+        """Without an exact point a whole one is not solved; a linear one where its value is at the
+        bound."""
         for line, code, wanted, value in (
-                ("bound 5", SOLVED, SOLVED, 5), ("bound 6", SOLVED, SOLVED, 5),
+                ("bound 5", SOLVED, UNSURE, 5), ("bound 6", SOLVED, UNSURE, 5),
                 ("bound 4", SOLVED, UNSURE, 5), ("bound 5", STOPPED, STOPPED, 5),
                 ("bound 5", LIMIT, LIMIT, None), ("bound 5", UNBOUNDED, LIMIT, None),
                 ("bound 5", INFEASIBLE, INFEASIBLE, None)):
             self.judge(self.settled(code, line), wanted, value)
+        answer = Answer(Program(LINEAR), Outcome(SOLVED, "told", {"x0": 5.0}), Options())
+        for line, wanted in (("bound 5", SOLVED), ("bound 5.000004", SOLVED), ("bound 6", UNSURE),
+                             ("bound 4", UNSURE)):
+            found = settled(answer, Verdict(line.replace("5.000004", "1250001/250000"), None,
+                                            "kept"))
+            self.judge(found, wanted, 5)
+            self.assertEqual(bool(found.lacks), wanted is UNSURE)
+
+    def test_gaps(self) -> None:
+        """A linear program's point is solved where the bound is at it up to 1e-6."""
+        answer = Answer(Program(LINEAR), Outcome(SOLVED, "told", {"x0": 5.0}), Options())
+        for line, wanted in (("within 5 5", SOLVED), ("within 1250001/250000 5", SOLVED),
+                             ("within 125001/25000 5", UNSURE), ("feasible 5", UNSURE)):
+            found = settled(answer, Verdict(line, [F(5)], "kept", "", F(5)))
+            self.judge(found, wanted, 5)
+        for gap, wanted in ((0.5, SOLVED), (0.01, UNSURE)):
+            answer.outcome.is_gap, answer.outcome.code = True, UNSURE
+            found = settled(answer, Verdict("within 6 5", [F(5)], "kept", "", F(5)),
+                            Facts(gap=gap))
+            self.judge(found, wanted, 5)
 
     def test_strict(self) -> None:
         """Only what ends the question is passed on with another code than 100."""
@@ -86,8 +108,10 @@ class Table(Case):
         self.judge(found, UNSURE, 4, "a better")
 
     def test_digits_that_are_not_printed(self) -> None:
-        """A point that is mended is the solver's."""
+        """A point that is mended is the solver's, and is solved where it is proved optimal."""
         found = self.settled(SOLVED, "feasible 1234567", 1234567, "1234570")
+        self.judge(found, UNSURE, 1234567)
+        found = self.settled(SOLVED, "optimal 1234567", 1234567, "1234570")
         self.judge(found, SOLVED, 1234567)
         found = self.settled(SOLVED, "feasible 1234567", 1234567, "1234600")
         self.judge(found, UNSURE, 1234567, "another")
@@ -95,5 +119,6 @@ class Table(Case):
     def test_nothing_proved(self) -> None:
         for code in ALL:
             found = self.settled(code, "not proved: time")
-            self.judge(found, code, 5 if code in WITH_POINT else None)
-            self.assertIsNone(found.text)
+            self.judge(found, UNSURE if code is SOLVED else code,
+                       5 if code in WITH_POINT else None)
+            self.assertEqual((found.text, bool(found.lacks)), (None, code is SOLVED))

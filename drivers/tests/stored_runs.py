@@ -67,8 +67,8 @@ class StoredRuns(Case):
         texts = {}
         for driver, name in (("glpsol", "glpsol.mps"), ("cbc", "coin.mps"),
                              ("lp_solve", "lp_solve.mps")):
-            self.replay(driver, "product", self.stub, "keep=" + kept)
-            with open(os.path.join(kept, name)) as f:
+            self.replay(driver, "product", self.stub, f"keep={kept}-{driver}")
+            with open(os.path.join(f"{kept}-{driver}", name)) as f:
                 texts[driver] = f.read()
         self.assertIn("\n RHS obj -5\n", texts["lp_solve"])
         self.assertIn("\n RHS obj 5\n", texts["glpsol"])

@@ -21,9 +21,12 @@ sys.dont_write_bytecode = True
 os.environ["PYTHONDONTWRITEBYTECODE"] = "1"         # also where drivers are processes
 HERE = os.path.dirname(os.path.abspath(__file__))
 sys.path[:0] = [HERE]
-MODULES = ("units", "stored_runs", "manners", "kept", "processes", "end_to_end", "mps_files",
-           "pulp_class", "certify_parts", "certify_search", "certify_linear", "settled_table",
-           "test_front", "explains", "reports", "completions", "colours", "packages")
+MODULES = ("units", "readers", "stored_runs", "statuses", "manners", "last_lines", "kept",
+           "untouched", "processes", "end_to_end", "mps_files", "mps_mended", "pulp_class",
+           "certify_parts", "certify_exact", "certify_search", "certify_pool", "certify_turns",
+           "certify_linear", "rulings", "settled_table", "front", "refusals", "figures",
+           "installs", "explains", "surface", "python_calls", "documents", "reports",
+           "completions", "colours", "packages")
 
 
 def main() -> int:

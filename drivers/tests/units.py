@@ -78,8 +78,9 @@ class Texts(Case):
         self.assertEqual((empty.columns, empty.constraints, empty.whole), ([], [], set()))
 
     def test_far_sides_and_bounds(self) -> None:
-        text = b"NAME nl\nROWS\n N obj\n G c0\nCOLUMNS\n x0 obj 1e31\n x0 c0 1e32\nRHS\n" \
-               b" RHS obj -1e40\n RHS c0 -1e30\nRANGES\n RNG c0 100000000000000000000.5\n" \
+        text = b"NAME nl\nROWS\n N obj\n G c0\nCOLUMNS\n x0 obj 1e31\n x0 c0 1e32\n" \
+               b" x1 obj 1\n x2e30 obj 1\nRHS\n RHS obj -1e40\n RHS c0 -1e30\n" \
+               b"RANGES\n RNG c0 100000000000000000000.5\n" \
                b"BOUNDS\n LO BND x0 0\n UP BND x0 99999999999999999999\n FX BND x1 1e25\n" \
                b" FR BND x2e30\nENDATA\n"
         p = Program(text)

@@ -20,4 +20,6 @@ mod words;
 
 pub use answer::Answer;
 pub use fault::{AnswerFault, AnswerReason};
+pub use grammar::AnswerGrammar;
 pub use reader::{AnswerReader, read_answer};
+pub use scope::Scope;

@@ -72,14 +72,14 @@ impl Scope {
     }
 
     /// What an answer for this file is judged by.
-    pub(crate) fn of(alloc: Global, file: &NlFile) -> Result<Scope, AllocError>
+    pub fn of(alloc: Global, file: &NlFile) -> Result<Scope, AllocError>
         ensures { IfOk result (λ s. s ≡ setting_of file.now) }
     {
         Scope::by(alloc, Naming::Numbered, file)
     }
 
     /// What an answer for this file is judged by, with the names of lists.
-    pub(crate) fn named(
+    pub fn named(
         alloc: Global,
         file: &NlFile,
         rows: NameList,

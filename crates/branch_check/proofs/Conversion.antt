@@ -11,8 +11,8 @@ use Rattle.certificates.specs.Certificates.{CertificateTree, IsCutNumber, split 
 use Rattle.linear_program.specs.Numbers.{Pair as WrittenPair, number_of as written_number, spread as written_spread}
 use Rattle.certificates.specs.declared.certificate.CertificateNode.{CertificateNode}
 use Rattle.certificates.specs.declared.certificate.CertificateNode.TheVariants.{Split as SplitAt}
-use Rattle.dual_bounds.specs.Leaves.{AreIndices}
-use Rattle.certificate_walk.specs.Walks.{IsWalkable}
+use Rattle.exact_checks.specs.Leaves.{AreIndices}
+use Rattle.certificate_judge.specs.Walks.{IsWalkable}
 use Rattle.certificates.specs.declared.proof.ProofNode.{ProofNode}
 use Rattle.certificates.specs.declared.proof.ProofNode.TheVariants.{Split, Duals, Weights}
 use Rattle.branch_check.specs.InsideConverted.{HasCutNumber, IsTreeFor, node_with}

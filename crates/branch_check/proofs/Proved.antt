@@ -5,14 +5,14 @@ use Rattle.program_meaning.specs.Linear.{Linear, row_count}
 use Rattle.duality.specs.Branch.{AreSplitsWhole, LeafFault, proof_fault}
 use Rattle.duality.proofs.Branches.{branches, infeasible}
 use Rattle.exact_numbers.specs.Values.{dec_value}
-use Rattle.branch_check.specs.declared.leaf.ProofVerdict.{ProofVerdict}
-use Rattle.branch_check.specs.declared.leaf.ProofVerdict.TheVariants.{Yes}
+use Rattle.branch_check.specs.declared.verdict.ProofVerdict.{ProofVerdict}
+use Rattle.branch_check.specs.declared.verdict.ProofVerdict.TheVariants.{Yes}
 use Rattle.certificates.specs.declared.proof.Claim.{Claim}
 use Rattle.certificates.specs.declared.proof.Claim.TheVariants.{Value, Infeasible}
 use Rattle.certificates.specs.Certificates.{CertificateTree, tree_over as written_over}
 use Rattle.linear_program.specs.Numbers.{Pair as WrittenPair}
 use Rattle.certificates.specs.declared.certificate.CertificateNode.{CertificateNode}
-use Rattle.certificate_walk.specs.Walks.{IsWritten}
+use Rattle.certificate_judge.specs.Walks.{IsWritten}
 use Rattle.branch_check.specs.InsideConverted.{IsTreeFor}
 use Rattle.branch_check.specs.Leaves.{IsProved, fault_of}
 use Rattle.certificates.specs.Proofs.{IsAlone, IsProofOf, IsTreeOf, ProofTree, ProofValue, split, duals, weights, claim_value, spread, tree_over}

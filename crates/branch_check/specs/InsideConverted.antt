@@ -7,7 +7,7 @@ use Rattle.certificates.specs.Certificates.{CertificateTree, IsCutNumber, tree_o
 use Rattle.linear_program.specs.Numbers.{Pair}
 use Rattle.certificates.specs.declared.certificate.CertificateNode.{CertificateNode}
 use Rattle.certificates.specs.declared.certificate.CertificateNode.TheVariants.{Split as SplitAt, Plane, Lemma, Duals as DualsOf, Weights as WeightsOf}
-use Rattle.certificate_walk.specs.Walks.{IsWritten}
+use Rattle.certificate_judge.specs.Walks.{IsWritten}
 use Rattle.certificates.specs.Proofs.{ProofTree, tree_over}
 
 -- the node of a certificate, with so many pairs where it is a leaf

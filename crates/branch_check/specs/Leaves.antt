@@ -5,8 +5,8 @@ use Rattle.program_meaning.specs.Linear.{Linear, IsFeasible, IsRelaxed, objectiv
 use Rattle.duality.specs.Branch.{LeafFault, row_side, bound_side, wide, open_gap, proof_fault}
 use Rattle.duality.specs.Points.{IsBetter}
 use Rattle.exact_numbers.specs.Values.{dec_value, frac_value}
-use Rattle.branch_check.specs.declared.leaf.ProofVerdict.{ProofVerdict}
-use Rattle.branch_check.specs.declared.leaf.ProofVerdict.TheVariants.{Yes, RowSide, BoundSide, TooWide, Gap}
+use Rattle.branch_check.specs.declared.verdict.ProofVerdict.{ProofVerdict}
+use Rattle.branch_check.specs.declared.verdict.ProofVerdict.TheVariants.{Yes, RowSide, BoundSide, TooWide, Gap}
 use Rattle.certificates.specs.declared.proof.Claim.{Claim}
 use Rattle.certificates.specs.declared.proof.Claim.TheVariants.{Value, Infeasible}
 use Rattle.certificates.specs.Proofs.{IsProofOf, ProofValue, claim_value, tree_over}

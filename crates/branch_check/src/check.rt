@@ -2,15 +2,15 @@
 ghost use Rattle.std.specs.Prelude.{◌≡◌, IfOk, true};
 ghost use Rattle.fractions.specs.Fits.{fits};
 ghost use Rattle.exact_numbers.specs.Values.{frac_value};
-ghost use Rattle.dual_bounds.specs.Programs.{linear_of, program_of};
+ghost use Rattle.exact_checks.specs.Programs.{program_value, program_of};
 ghost use Rattle.branch_check.specs.Leaves.{IsProved, IsVerdictOn};
 ghost use Rattle.certificates.specs.Proofs.{IsProofOf, claim_value};
 
-use crate::leaf::{ProofVerdict, verdict_of};
 use crate::tree::tree_of;
-use certificate_walk::check_tree;
+use crate::verdict::{ProofVerdict, verdict_of};
+use certificate_judge::check_tree;
 use certificates::proof::{Claim, Proof};
-use dual_bounds::{Columns, Program};
+use exact_checks::{Columns, Program};
 use exact_numbers::Frac;
 use std::alloc::{AllocError, Global};
 
@@ -37,13 +37,13 @@ pub fn check_proof_by_rows(
     program: &Program,
     proof: &Proof,
 ) -> Result<ProofVerdict, AllocError>
-    requires { IsProofOf (linear_of program.now) proof.now }
+    requires { IsProofOf (program_value program.now) proof.now }
 
     // The first leaf, in order, that does not close under the bounds of the splits above it.
-    ensures exact { IfOk result (λ v. IsVerdictOn (linear_of program.now) proof.now v) }
+    ensures exact { IfOk result (λ v. IsVerdictOn (program_value program.now) proof.now v) }
 
     // With Yes no feasible point is better than the stated value, or there is no relaxed point.
-    ensures proved { IfOk result (λ v. IsProved (linear_of program.now) proof.now.claim v) }
+    ensures proved { IfOk result (λ v. IsProved (program_value program.now) proof.now.claim v) }
 {
     let tree = tree_of(alloc, program, proof)?;
     let value = stated_value(proof.claim());

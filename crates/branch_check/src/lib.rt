@@ -3,9 +3,9 @@
 #![tactic(auto)]
 
 mod check;
-mod leaf;
-mod numbers;
+mod ordered_pairs;
 mod tree;
+mod verdict;
 
 pub use check::{check_proof, check_proof_by_rows};
-pub use leaf::ProofVerdict;
+pub use verdict::ProofVerdict;

@@ -1,15 +1,15 @@
 // The tree of a proof as that of a certificate.
 ghost use Rattle.std.specs.Prelude.{◌≡◌, [], IfOk, length};
 ghost use Rattle.program_meaning.specs.Linear.{Linear, row_count};
-ghost use Rattle.dual_bounds.specs.Programs.{linear_of};
+ghost use Rattle.exact_checks.specs.Programs.{program_value};
 ghost use Rattle.branch_check.specs.InsideConverted.{HasCutNumber, IsTreeFor, node_with};
 ghost use Rattle.certificates.specs.Proofs.{announced_pairs, IsProofOf};
 ghost use Rattle.branch_check.specs.InsideNumbers.{AreReady};
 
-use crate::numbers::Numbers;
+use crate::ordered_pairs::Numbers;
 use certificates::CertificateNode;
 use certificates::proof::{Proof, ProofNode};
-use dual_bounds::Program;
+use exact_checks::Program;
 use linear_program::Number;
 use std::alloc::{AllocError, Global};
 
@@ -86,9 +86,9 @@ fn most_pairs(nodes: &[ProofNode]) -> u32 {
 
 // The tree of a proof as that of a certificate.
 pub(crate) fn tree_of(alloc: Global, program: &Program, proof: &Proof) -> Result<Tree, AllocError>
-    requires { IsProofOf (linear_of program.now) proof.now }
-    ensures tree { IfOk result (λ t. (h : IsProofOf (linear_of program.now) proof.now)
-        → IsTreeFor (linear_of program.now) h.tree t.nodes.items t.pairs.items) }
+    requires { IsProofOf (program_value program.now) proof.now }
+    ensures tree { IfOk result (λ t. (h : IsProofOf (program_value program.now) proof.now)
+        → IsTreeFor (program_value program.now) h.tree t.nodes.items t.pairs.items) }
     ensures count { IfOk result (λ t. length t.nodes.items ≡ length proof.now.nodes) }
 {
     let mut numbers = Numbers::new(alloc, program.n_con(), most_pairs(proof.nodes()) as usize)?;

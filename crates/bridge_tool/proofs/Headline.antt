@@ -1,26 +1,22 @@
 -- Words come to exactly one outcome; what the top call says of any command, and the headline.
 use Rattle.std.proofs.Common.{◌≡◌, ◌∙◌, ℕ, List, Option, Some, None, true, false, Bool, refl, sym, inl, inr, ◌⊎◌, ◌<◌, ◌≤◌, IfSome, subst, arith, ◌≢◌}
 use Rattle.desk.specs.Desk.{Texts, Meaning, Rose, OnlyMessages}
-use Rattle.nl_round_trip.specs.Writable.{IsText}
-use Rattle.nl_writer.specs.Written.{nl_text}
 use Rattle.bridge_tool.specs.Check.{IsCertified, IsNotCertified}
-use Rattle.bridge_tool.specs.Command.{Command, Check, Export, Fixed, Mps, Nl, Sol, command_of, Import, Prove, Verify, VerifyProgram, Make, Return, NamedExport, NamedReturn}
+use Rattle.bridge_tool.specs.Command.{Command, Check, Export, Rewrite, command_of, Prove, Verify, VerifyProgram, Make, Return, NamedExport, NamedReturn}
 use Rattle.bridge_tool.specs.Commands.{promise_of, promise_by, ComesTo}
 use Rattle.bridge_tool.specs.Export.{IsExportMeant}
-use Rattle.bridge_tool.specs.Import.{MeansTheProgram}
 use Rattle.bridge_tool.specs.Make.{make_promise}
-use Rattle.bridge_tool.specs.Mps.{IsMpsMeant}
+use Rattle.bridge_tool.specs.OneFile.{row_of}
 use Rattle.command_parts.specs.Outcome.{Outcome, BadWords, Untold, Status, Written, IsQuiet, Told, told_line, NoText, Refused, Done, verdict_status}
 use Rattle.bridge_tool.specs.Prove.{IsLeftOpen, IsProvedOf}
 use Rattle.bridge_tool.specs.Return.{IsReturnMeant}
-use Rattle.bridge_tool.specs.Sol.{IsSolMeant}
 use Rattle.bridge_tool.specs.Verify.{IsDenied, IsVerified}
 use Rattle.bridge_tool.specs.VerifyMps.{IsDeniedMps, IsVerifiedMps}
 use Rattle.bridge_tool.proofs.Programs.{program_last, program_read}
 use Rattle.bridge_tool.proofs.Verdicts.{check_last, prove_last, verify_last}
 use Rattle.command_parts.proofs.TextsRead.{nl_read}
 use Rattle.bridge_tool.proofs.Exporting.{export_last}
-use Rattle.bridge_tool.proofs.OneFile.{import_last, fixed_last, mps_last, nl_last, sol_last}
+use Rattle.bridge_tool.proofs.OneFile.{last_of}
 use Rattle.bridge_tool.proofs.Making.{make_one}
 use Rattle.command_parts.proofs.NameLists.{listed_sound}
 use Rattle.bridge_tool.proofs.NamedExporting.{after_names as named_next, names_sound as named_next_sound}
@@ -47,15 +43,11 @@ Any outcome = Unit {0}
 pub told_has_one : (texts : Texts) (c : Command) → HasOne IsPlain (promise_of (Some texts) c).comes
 told_has_one texts (Export file k) = (last_sound (export_last k) (λ nl. IsExportMeant nl k) NoVerdict file texts).one
 told_has_one texts (Make seed size) = make_one seed size
-told_has_one texts (Nl file) = (last_sound nl_last (λ nl. IsText nl.file (nl_text nl.file)) NoVerdict file texts).one
-told_has_one texts (Mps file) = (last_sound mps_last IsMpsMeant NoVerdict file texts).one
-told_has_one texts (Sol file) = (last_sound sol_last IsSolMeant NoVerdict file texts).one
+told_has_one texts (Rewrite of file) = (last_sound (last_of of) (row_of of).means NoVerdict file texts).one
 told_has_one texts (Check nl sol) = (both_sound nl_read check_last IsCertified IsNotCertified nl sol texts).one
-told_has_one texts (Import file) = (last_sound import_last MeansTheProgram NoVerdict file texts).one
 told_has_one texts (Prove nl proof) = (both_sound nl_read prove_last IsProvedOf IsLeftOpen nl proof texts).one
 told_has_one texts (Verify nl certificate) = (both_sound nl_read verify_last IsVerified IsDenied nl certificate texts).one
 told_has_one texts (VerifyProgram form mps certificate) = (both_sound (program_read form) program_last IsVerifiedMps IsDeniedMps mps certificate texts).one
-told_has_one texts (Fixed file) = (last_sound fixed_last IsMpsMeant NoVerdict file texts).one
 told_has_one texts (Return nl answer) = (both_sound nl_read return_last IsReturnMeant (λ nl. NoVerdict) nl answer texts).one
 told_has_one texts (NamedExport file k rows columns) = (listed_sound false 2 file rows columns (named_next k columns) (named_next_sound k columns) texts).one
 told_has_one texts (NamedReturn nl answer rows columns) = (listed_sound false 3 nl rows columns (return_next answer) (return_next_sound answer) texts).one

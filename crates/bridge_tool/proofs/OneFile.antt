@@ -1,25 +1,26 @@
 -- Commands of one file that write what it says, or what it is imported as; and what each comes to, by its text.
-use Rattle.std.proofs.Common.{◌≡◌, inl, true, false, refl, ℕ, List, Bool, Option, Some, None, Result, Ok, Err, inr, ◌⊎◌, ◌↔◌, ◌+◌, ◌≤◌, take, sym, subst}
+use Rattle.std.proofs.Common.{◌≡◌, inl, true, false, refl, ℕ, List, Bool, Option, Some, None, Result, Ok, Err, inr, ◌⊎◌, ◌↔◌, ◌+◌, ◌≤◌, take, sym, subst, arith}
 use Rattle.std.specs.Prelude.{IfOk}
 use Rattle.exact_numbers.specs.Values.{dec_value}
 use Rattle.exact_numbers.specs.declared.dec.Dec.{Dec}
-use Rattle.mps_model.specs.Mps.{Mps}
+use Rattle.mps_model.specs.Mps.{Mps as Program}
 use Rattle.mps_model.specs.Valid.{IsMps}
 use Rattle.mps_reader.specs.Reader.{IsMpsText}
 use Rattle.mps_reader.specs.Written.{mps_text}
 use Rattle.mps_reader.proofs.RoundTrip.{written_again}
 use Rattle.fixed_mps.specs.Reader.{IsFixedText}
-use Rattle.bridge_tool.specs.Mps.{IsMpsMeant, mps_told}
-use Rattle.bridge_tool.specs.Fixed.{fixed_told}
+use Rattle.bridge_tool.specs.OneFile.{IsMpsMeant, IsSolMeant, import_row, mps_row, nl_row, row_of, row_promise, row_told, sol_row}
+use Rattle.bridge_tool.specs.declared.one_file.OneFile.{OneFile}
+use Rattle.bridge_tool.specs.declared.one_file.OneFile.TheVariants.{Import, Mps, Nl, Sol}
+use Rattle.bridge_tool.specs.declared.verify_mps.Layout.TheVariants.{Fixed, Free}
 use Rattle.command_parts.specs.Outcome.{Done, Outcome, Refused}
 use Rattle.command_parts.specs.Promise.{Promise}
-use Rattle.command_parts.proofs.SeveralFiles.{AreRead, same_one, IsLast, IsPlain, of_yes, one_refused, one_said, writes_last}
+use Rattle.command_parts.proofs.SeveralFiles.{AreRead, same_one, IsLast, IsPlain, NoVerdict, at_rest, of_yes, one_refused, one_said, only_ended, only_stopped, writes_last}
 use Rattle.sol_files.specs.Reader.{IsSol}
-use Rattle.sol_files.specs.Sol.{Sol}
+use Rattle.sol_files.specs.Sol.{Sol as SolValue}
 use Rattle.sol_files.specs.Written.{sol_text}
 use Rattle.sol_files.proofs.KeptTexts.{read_keeps}
 use Rattle.sol_files.proofs.RoundTrip.{is_read_back}
-use Rattle.bridge_tool.specs.Sol.{IsSolMeant, sol_told}
 use Rattle.nl_round_trip.specs.Writable.{IsText}
 use Rattle.nl_round_trip.proofs.Rewriting.{written_again as nl_again}
 use Rattle.nl_segments.specs.Grammar.{NlValue}
@@ -32,47 +33,35 @@ use Rattle.mps_import.proofs.LawLemmas.{feasible_lem, objective_lem, sense_lem}
 use Rattle.mps_import.specs.declared.import_fault.ImportFault.{ImportFault}
 use Rattle.mps_import.specs.Faults.{import_fault}
 use Rattle.texts.specs.declared.stop.Stop.{Stop}
-use Rattle.bridge_tool.specs.Import.{MeansTheProgram, by_fault, import_outcome, CannotBeImported, IsImportedAs, import_told}
-use Rattle.command_parts.specs.SeveralFiles.{ByVerdict, Comes, after_file, ends, writes}
+use Rattle.bridge_tool.specs.Import.{MeansTheProgram, by_fault, import_outcome, CannotBeImported, IsImportedAs}
+use Rattle.command_parts.specs.SeveralFiles.{ByVerdict, Comes, ReadsFile, after_file, ends, writes}
 use Rattle.command_parts.specs.declared.refusal.Refusal.{Refusal}
-use Rattle.desk.specs.Desk.{Texts}
+use Rattle.desk.specs.Desk.{Meaning, Texts}
+use Rattle.command_parts.specs.InsideAnswer.{Ends, IsAtRest}
+use Rattle.command_parts.specs.declared.answer.Answer.{Answer}
+use Rattle.bridge_tool.proofs.Programs.{text_read}
 use Rattle.mps_import.specs.Import.{import_of}
 use Rattle.bridge_tool.specs.ByText.{IsByText, IsWritingByText}
 use Rattle.bridge_tool.specs.Export.{ExportsAs, IsExportMeant, IsExported, export_told}
 use Rattle.command_parts.specs.ImportTold.{import_line}
-use Rattle.bridge_tool.specs.Nl.{nl_told}
 use Rattle.command_parts.specs.Stages.{CannotBeExported, fold_steps}
 use Rattle.command_parts.specs.declared.transfer.TheConstants.{LIMIT}
 
--- ---- reading
-
 -- ---- writing
 
-pub mps_last : IsLast false IsMpsText IsMpsRefused (λ m outcome. outcome ≡ Done true (mps_text m)) (λ m old new. new ≡ old)
-mps_last = writes_last mps_read mps_text
-
-pub fixed_last : IsLast false IsFixedText IsFixedRefused (λ m outcome. outcome ≡ Done true (mps_text m)) (λ m old new. new ≡ old)
-fixed_last = writes_last fixed_read mps_text
-
 -- a whole program is written as a text that is read as itself
-pub mps_meant : (m : Mps Dec) → IsMps dec_value m → IsMpsMeant m
+pub mps_meant : (m : Program Dec) → IsMps dec_value m → IsMpsMeant m
 mps_meant m valid = λ le. written_again m (record { valid = valid; room = le })
 
-pub sol_last : IsLast false IsSol (IsSolRefused 1) (λ sol outcome. outcome ≡ Done true (sol_text sol)) (λ sol old new. new ≡ old)
-sol_last = writes_last (sol_read 1) sol_text
-
 -- what was read keeps the rules of values, so that its written text is read as itself
-pub sol_meant : (text : List ℕ) (sol : Sol) → IsSol text sol → IsSolMeant sol
+pub sol_meant : (text : List ℕ) (sol : SolValue) → IsSol text sol → IsSolMeant sol
 sol_meant text sol read = λ le. is_read_back sol (record { rules = read_keeps text sol read; text = le })
-
-pub nl_last : IsLast false IsNl HasTextRefusal (λ nl outcome. outcome ≡ Done true (nl_text nl.file)) (λ nl old new. new ≡ old)
-nl_last = writes_last nl_read (λ nl. nl_text nl.file)
 
 -- what was read is writable, so that its written text says the same file
 pub nl_meant : (text : List ℕ) (nl : NlValue) → IsNl text nl → IsText nl.file (nl_text nl.file)
 nl_meant text nl read = nl_again text nl read
 
-module _ (m : Mps Dec) where
+module _ (m : Program Dec) where
   plain : (o : Option ImportFault) → IsPlain (by_fault m o)
   plain None = tt
   plain (Some fault) = tt
@@ -91,17 +80,30 @@ module _ (m : Mps Dec) where
       let clean = clean_by (import_fault m) holds bytes e in
       record { feasible = λ xs. feasible_lem m clean xs; objective = λ xs. objective_lem m xs; sense = sense_lem m }
 
-pub meant_so : (m : Mps Dec) (judged : Result (Bool × Vec ℕ) (Stop Refusal)) → Comes (λ outcome. outcome ≡ import_outcome m) judged → IfOk judged (λ t. ByVerdict t.0 (MeansTheProgram m) (Unit {0}))
+pub meant_so : (m : Program Dec) (judged : Result (Bool × Vec ℕ) (Stop Refusal)) → Comes (λ outcome. outcome ≡ import_outcome m) judged → IfOk judged (λ t. ByVerdict t.0 (MeansTheProgram m) (Unit {0}))
 meant_so m (Ok t) h = of_yes t.0 (MeansTheProgram m) (λ e. import_meant m t.0 t.1.items h)
 meant_so m (Err stop) h = tt
 
-pub import_last : IsLast false IsMpsText IsMpsRefused (λ m outcome. outcome ≡ import_outcome m) (λ m old new. new ≡ old)
-import_last = record {
+-- each command of one file
+pub last_of : (of : OneFile) → IsLast false (row_of of).reads (row_of of).refuses (λ value outcome. outcome ≡ (row_of of).outcome value) (λ value old new. new ≡ old)
+last_of Nl = writes_last nl_read (λ nl. nl_text nl.file)
+last_of (Mps layout) = writes_last (text_read layout) mps_text
+last_of Sol = writes_last (sol_read 1) sol_text
+last_of Import = record {
   read = mps_read;
   one = λ m. same_one (import_outcome m) (plain m (import_fault m));
   idle = λ m n. refl;
   verdict = λ m holds bytes e. inl (yes_by m (import_fault m) holds bytes e);
 }
+
+-- what reading the file, and what its value comes to, show of it
+module _ (of : OneFile) (file : List ℕ) {R : Type 0} (seen : R → (row_of of).Value) (old : Meaning) where
+  pub stopped : (new : Meaning) (answer : Answer) → ReadsFile {R = R} seen (row_of of).reads (row_of of).refuses file old new (Err answer) → IsAtRest (row_promise old.texts (row_of of) file) old new answer
+  stopped new answer read = at_rest (λ n. only_stopped (last_of of) (row_of of).means NoVerdict file seen n old new answer read)
+
+  pub ended : (mid new : Meaning) (value : R) (judged : Result (Bool × Vec ℕ) (Stop Refusal)) (answer : Answer) → ReadsFile {R = R} seen (row_of of).reads (row_of of).refuses file old mid (Ok value)
+      → Comes (λ outcome. outcome ≡ (row_of of).outcome (seen value)) judged → IfOk judged (λ t. ByVerdict t.0 ((row_of of).means (seen value)) (Unit {0})) → Ends judged mid new answer → IsAtRest (row_promise old.texts (row_of of) file) old new answer
+  ended mid new value judged answer read comes means ends = at_rest (λ n. only_ended (last_of of) (row_of of).means NoVerdict file seen old mid value read n n new judged answer comes means ends (omega arith) refl)
 
 done_same : (a b : List ℕ) → Done true a ≡ Done true b → a ≡ b
 done_same a b e = cc
@@ -160,21 +162,21 @@ module _ (texts : Texts) (file text : List ℕ) (is : texts file ≡ Some text) 
   export_by_text k = by_text IsNl HasTextRefusal nl_read (λ nl. ExportsAs nl k) (λ nl old new. new ≤ old + fold_steps nl k) (λ nl. IsExportMeant nl k) (λ nl. IsExported nl k) (λ nl. CannotBeExported nl k)
       (λ nl bytes. (λ h. h, λ h. h)) (λ nl line. (λ h. h, λ h. h)) texts file text is
 
-  pub nl_by_text : IsWritingByText IsNl HasTextRefusal (λ nl. nl_text nl.file) (λ nl. IsText nl.file (nl_text nl.file)) (take LIMIT text) (nl_told file texts)
+  pub nl_by_text : IsWritingByText IsNl HasTextRefusal (λ nl. nl_text nl.file) (λ nl. IsText nl.file (nl_text nl.file)) (take LIMIT text) (row_told nl_row file texts)
   nl_by_text = writing_by_text IsNl HasTextRefusal nl_read (λ nl. nl_text nl.file) (λ nl. IsText nl.file (nl_text nl.file)) texts file text is
 
-  pub mps_by_text : IsWritingByText IsMpsText IsMpsRefused mps_text IsMpsMeant (take LIMIT text) (mps_told file texts)
+  pub mps_by_text : IsWritingByText IsMpsText IsMpsRefused mps_text IsMpsMeant (take LIMIT text) (row_told (mps_row Free) file texts)
   mps_by_text = writing_by_text IsMpsText IsMpsRefused mps_read mps_text IsMpsMeant texts file text is
 
-  pub fixed_by_text : IsWritingByText IsFixedText IsFixedRefused mps_text IsMpsMeant (take LIMIT text) (fixed_told file texts)
+  pub fixed_by_text : IsWritingByText IsFixedText IsFixedRefused mps_text IsMpsMeant (take LIMIT text) (row_told (mps_row Fixed) file texts)
   fixed_by_text = writing_by_text IsFixedText IsFixedRefused fixed_read mps_text IsMpsMeant texts file text is
 
-  pub sol_by_text : IsWritingByText IsSol (IsSolRefused 1) sol_text IsSolMeant (take LIMIT text) (sol_told file texts)
+  pub sol_by_text : IsWritingByText IsSol (IsSolRefused 1) sol_text IsSolMeant (take LIMIT text) (row_told sol_row file texts)
   sol_by_text = writing_by_text IsSol (IsSolRefused 1) (sol_read 1) sol_text IsSolMeant texts file text is
 
 -- ---- import
 
-module _ (m : Mps Dec) where
+module _ (m : Program Dec) where
   imported_by : (o : Option ImportFault) (bytes : List ℕ) → Done true bytes ≡ by_fault m o ↔ ((o ≡ None) × (bytes ≡ nl_text (import_of m)))
   imported_by None bytes = (λ e. (refl, done_same bytes (nl_text (import_of m)) e), λ h. (let e = h.1 in cc))
   imported_by (Some fault) bytes = (λ e. absurd cc, λ h. (let e = h.0 in absurd cc))
@@ -184,7 +186,7 @@ module _ (m : Mps Dec) where
   denied_by (Some fault) line = (λ e. (fault, refl, refused_same line (import_line fault) e), λ h. (let e = h.1 in let told = h.2 in cc))
 
 pub import_by_text : (texts : Texts) (file text : List ℕ) → texts file ≡ Some text
-    → IsByText IsMpsText IsMpsRefused IsImportedAs CannotBeImported (λ m old new. new ≡ old) MeansTheProgram (take LIMIT text) (import_told file texts)
+    → IsByText IsMpsText IsMpsRefused IsImportedAs CannotBeImported (λ m old new. new ≡ old) MeansTheProgram (take LIMIT text) (row_told import_row file texts)
 import_by_text texts file text is = by_text IsMpsText IsMpsRefused mps_read (λ m outcome. outcome ≡ import_outcome m) (λ m old new. new ≡ old) MeansTheProgram
     IsImportedAs CannotBeImported
     (λ m bytes. imported_by m (import_fault m) bytes) (λ m line. denied_by m (import_fault m) line) texts file text is

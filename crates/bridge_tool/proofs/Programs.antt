@@ -43,15 +43,15 @@ use Rattle.bridge_tool.specs.VerifyMps.{HasNoLinear, HasProgram, IsDeniedMps, Is
 use Rattle.command_parts.specs.declared.answer.Answer.{Answer}
 use Rattle.command_parts.specs.declared.answer.Answer.TheVariants.{Refused, InputFault, NoMemory}
 use Rattle.command_parts.specs.declared.refusal.Refusal.{Refusal}
-use Rattle.bridge_tool.specs.declared.verify_mps.Form.{Form}
-use Rattle.bridge_tool.specs.declared.verify_mps.Form.TheVariants.{Free, Fixed}
+use Rattle.bridge_tool.specs.declared.verify_mps.Layout.{Layout}
+use Rattle.bridge_tool.specs.declared.verify_mps.Layout.TheVariants.{Free, Fixed}
 use Rattle.command_parts.proofs.TextsRead.{certificate_read, fixed_read, mps_read}
 use Rattle.command_parts.proofs.SeveralFiles.{AreRead, IsLast, IsPlain, same_one}
 use Rattle.bridge_tool.proofs.Verdicts.{ClaimSays, claim_means}
 
 -- ---- the first file
 
-text_read : (form : Form) → AreRead (IsTextIn form) (IsTextRefused form)
+pub text_read : (layout : Layout) → AreRead (IsTextIn layout) (IsTextRefused layout)
 text_read Free = mps_read
 text_read Fixed = fixed_read
 
@@ -64,24 +64,24 @@ no_both : (m n : Mps Dec) (line : List ℕ) → m ≡ n → mps_fault m ≡ None
 no_both m n line same clean h = (let first = ap mps_fault same ∙ h.first in cc)
 
 -- each text has one program with a linear program, or one line
-pub program_read : (form : Form) → AreRead (HasProgram form) (IsProgramRefused form)
-program_read form = record {
+pub program_read : (layout : Layout) → AreRead (HasProgram layout) (IsProgramRefused layout)
+program_read layout = record {
   said = λ text a b h k. d.said text a b h.says k.says;
   refused = one;
   either = λ text. elim (d.either text) [ inl said ↦ by text said.0 said.1 (mps_fault said.0) refl | inr found ↦ inr (found.0, inl found.1) ];
   apart = λ text m line h k. elim k [ inl first ↦ d.apart text m line h.says first | inr none ↦ no_both m none.program line (d.said text m none.program h.says none.says) h.clean none.fails ];
 }
   where
-    d : AreRead (IsTextIn form) (IsTextRefused form)
-    d = text_read form
+    d : AreRead (IsTextIn layout) (IsTextRefused layout)
+    d = text_read layout
 
-    one : (text a b : List ℕ) → IsProgramRefused form text a → IsProgramRefused form text b → a ≡ b
+    one : (text a b : List ℕ) → IsProgramRefused layout text a → IsProgramRefused layout text b → a ≡ b
     one text a b (inl h) (inl k) = d.refused text a b h k
     one text a b (inl h) (inr k) = absurd (d.apart text k.program a k.says h)
     one text a b (inr h) (inl k) = absurd (d.apart text h.program b h.says k)
     one text a b (inr h) (inr k) = one_line h.program k.program a b (d.said text h.program k.program h.says k.says) h.fails k.fails
 
-    by : (text : List ℕ) (m : Mps Dec) → IsTextIn form text m → (o : Option MpsFault) → mps_fault m ≡ o → ((n : Mps Dec) × HasProgram form text n) ⊎ ((line : List ℕ) × IsProgramRefused form text line)
+    by : (text : List ℕ) (m : Mps Dec) → IsTextIn layout text m → (o : Option MpsFault) → mps_fault m ≡ o → ((n : Mps Dec) × HasProgram layout text n) ⊎ ((line : List ℕ) × IsProgramRefused layout text line)
     by text m says None e = inl (m, record { says = says; clean = e })
     by text m says (Some fault) e = inr (import_line (as_import fault), inr (record { program = m; says = says; fails = record { fault = fault; first = e; told = refl } }))
 
@@ -96,31 +96,31 @@ same_answer a b r e h = cc
 same_program : (k l : LinearValue) (r : Result LinearValue Answer) → r ≡ Ok l → r ≡ Ok k → k ≡ l
 same_program k l r e h = cc
 
-module _ (form : Form) (file : List ℕ) (old new : Meaning) where
-  ended_by : (answer : Answer) → HasEnded (IsTextRefused form) file old new answer → HasEnded (IsProgramRefused form) file old new answer
+module _ (layout : Layout) (file : List ℕ) (old new : Meaning) where
+  ended_by : (answer : Answer) → HasEnded (IsTextRefused layout) file old new answer → HasEnded (IsProgramRefused layout) file old new answer
   ended_by (Refused refusal) h = record { bytes = h.bytes; read = h.read; says = inl h.says; same = h.same }
   ended_by InputFault h = h
   ended_by NoMemory h = h
   ended_by other h = absurd h
 
   -- its text ends the command
-  pub text_ended : (answer : Answer) → ReadsFile {R = Mps Dec} itself (IsTextIn form) (IsTextRefused form) file old new (Err answer) → ReadsFile {R = Mps Dec} itself (HasProgram form) (IsProgramRefused form) file old new (Err answer)
+  pub text_ended : (answer : Answer) → ReadsFile {R = Mps Dec} itself (IsTextIn layout) (IsTextRefused layout) file old new (Err answer) → ReadsFile {R = Mps Dec} itself (HasProgram layout) (IsProgramRefused layout) file old new (Err answer)
   text_ended answer h = record { rest = h.rest; later = h.later; judged = ended_by answer h.judged }
 
-  module _ (m : Mps Dec) (h : ReadsFile {R = Mps Dec} itself (IsTextIn form) (IsTextRefused form) file old new (Ok m)) where
-    no_linear : (answer : Answer) (refusal : Refusal) → answer ≡ Refused refusal → HasNoLinear m (refusal_line refusal) → HasEnded (IsProgramRefused form) file old new answer
+  module _ (m : Mps Dec) (h : ReadsFile {R = Mps Dec} itself (IsTextIn layout) (IsTextRefused layout) file old new (Ok m)) where
+    no_linear : (answer : Answer) (refusal : Refusal) → answer ≡ Refused refusal → HasNoLinear m (refusal_line refusal) → HasEnded (IsProgramRefused layout) file old new answer
     no_linear answer refusal e none = rw e (record { bytes = h.judged.bytes; read = h.judged.read; says = inr (record { program = m; says = h.judged.says; fails = none }); same = h.judged.same })
 
-    no_memory : (answer : Answer) → answer ≡ NoMemory → HasEnded (IsProgramRefused form) file old new answer
+    no_memory : (answer : Answer) → answer ≡ NoMemory → HasEnded (IsProgramRefused layout) file old new answer
     no_memory answer e = rw e h.judged.same
 
-    ended_with : (judged : Result LinearValue (Stop Refusal)) (answer : Answer) → GivesProgram m judged → Answered judged (Err answer) → HasEnded (IsProgramRefused form) file old new answer
+    ended_with : (judged : Result LinearValue (Stop Refusal)) (answer : Answer) → GivesProgram m judged → Answered judged (Err answer) → HasEnded (IsProgramRefused layout) file old new answer
     ended_with (Ok l) answer gives same = absurd (no_answer l answer (Err answer) refl same)
     ended_with (Err (Fault why)) answer gives same = no_linear answer why (same_answer answer (Refused why) (Err answer) refl same) gives
     ended_with (Err Memory) answer gives same = no_memory answer (same_answer answer NoMemory (Err answer) refl same)
 
     -- its program ends it
-    pub program_ended : (judged : Result LinearValue (Stop Refusal)) (answer : Answer) → GivesProgram m judged → Answered judged (Err answer) → ReadsFile {R = Mps Dec} itself (HasProgram form) (IsProgramRefused form) file old new (Err answer)
+    pub program_ended : (judged : Result LinearValue (Stop Refusal)) (answer : Answer) → GivesProgram m judged → Answered judged (Err answer) → ReadsFile {R = Mps Dec} itself (HasProgram layout) (IsProgramRefused layout) file old new (Err answer)
     program_ended judged answer gives same = record { rest = h.rest; later = h.later; judged = ended_with judged answer gives same }
 
     -- it has a linear program
@@ -129,7 +129,7 @@ module _ (form : Form) (file : List ℕ) (old new : Meaning) where
     program_is (Err (Fault why)) l gives same = absurd (no_answer l (Refused why) (Ok l) same refl)
     program_is (Err Memory) l gives same = absurd (no_answer l NoMemory (Ok l) same refl)
 
-    pub program_there : (l : LinearValue) → IsProgramOf m l → ReadsFile {R = Mps Dec} itself (HasProgram form) (IsProgramRefused form) file old new (Ok m)
+    pub program_there : (l : LinearValue) → IsProgramOf m l → ReadsFile {R = Mps Dec} itself (HasProgram layout) (IsProgramRefused layout) file old new (Ok m)
     program_there l is = record {
       rest = h.rest;
       later = h.later;

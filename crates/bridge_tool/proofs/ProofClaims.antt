@@ -11,7 +11,7 @@ use Rattle.certificates.specs.ProofSays.{IsProvedTrueOf}
 use Rattle.file_certificates.specs.FileProblem.{problem_of}
 use Rattle.file_certificates.proofs.Verdicts.{file_bound_of, file_broken_at}
 use Rattle.branch_check.specs.Leaves.{IsProved}
-use Rattle.branch_check.specs.declared.leaf.ProofVerdict.TheVariants.{Yes}
+use Rattle.branch_check.specs.declared.verdict.ProofVerdict.TheVariants.{Yes}
 
 pub claim_true : (f : File) (k : ℕ) → IsFile f → fold_fault f k ≡ None → (claim : Claim) → IsProved (linear_of f k) claim Yes → IsProvedTrueOf (problem_of f k) claim
 claim_true f k file clean (Value n d) proved = file_bound_of f k file clean (dec_value d) proved

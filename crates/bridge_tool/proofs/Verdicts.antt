@@ -13,11 +13,11 @@ use Rattle.program_meaning.specs.Linear.{row_count, variable_count, Linear}
 use Rattle.exact_numbers.specs.declared.dec.Dec.{Dec}
 use Rattle.texts.specs.declared.stop.Stop.{Stop}
 use Rattle.texts.specs.declared.stop.Stop.TheVariants.{Fault, Memory}
-use Rattle.dual_bounds.specs.Terms.{values_of}
+use Rattle.exact_checks.specs.Terms.{values_of}
 use Rattle.solution_fit.specs.declared.fitting.FitFault.{FitFault}
 use Rattle.solution_fit.specs.declared.fitting.FitFault.TheVariants.{OtherCounts, NoPrimal, NoDual}
 use Rattle.file_certificates.specs.FileProblem.{problem_of}
-use Rattle.file_certificates.proofs.Verdicts.{file_verdicts}
+use Rattle.file_certificates.proofs.Verdicts.{file_leaf, file_verdicts}
 use Rattle.file_meaning.specs.FoldFaults.{fold_fault, FoldFault as FileFault}
 use Rattle.file_meaning.specs.LinearFile.{linear_of, linear_row}
 use Rattle.program_meaning.proofs.Elements.{elements_length}
@@ -42,9 +42,8 @@ use Rattle.command_parts.proofs.SeveralFiles.{IsPlain, IsLast, verdict_last}
 use Rattle.command_parts.proofs.TextsRead.{certificate_read, proof_read, sol_read}
 use Rattle.command_parts.specs.declared.refusal.Refusal.{Refusal}
 use Rattle.duality.specs.Branch.{LeafFault, proof_fault}
-use Rattle.duality.proofs.Causes.{denied}
-use Rattle.branch_check.specs.declared.leaf.ProofVerdict.{ProofVerdict}
-use Rattle.branch_check.specs.declared.leaf.ProofVerdict.TheVariants.{Yes}
+use Rattle.branch_check.specs.declared.verdict.ProofVerdict.{ProofVerdict}
+use Rattle.branch_check.specs.declared.verdict.ProofVerdict.TheVariants.{Yes}
 use Rattle.file_certificates.specs.Files.{IsProofIn, IsCertificateIn}
 use Rattle.branch_check.specs.Leaves.{IsProved, IsVerdictOn, fault_of}
 use Rattle.certificates.specs.Proofs.{IsProofOf, ProofTree, ProofValue, claim_value, tree_over}
@@ -254,7 +253,7 @@ module _ (nl : NlValue) (p : ProofValue) (given : IsProofIn nl.file p) where
   -- a verdict means what it should
   proved_by : (o : Option LeafFault) (v : ProofVerdict) → fault_of v ≡ o → IsFile nl.file → fold_fault nl.file claimed ≡ None → IsProved folded p.claim v → open_leaf nl p ≡ o → prove_outcome nl p ≡ by_leaf o → ByVerdict (is_none o) (IsProvedOf nl p) (IsLeftOpen nl p)
   proved_by None v none file fine proved first line = proof_true nl.file claimed file fine p.claim (subst (λ (w : ProofVerdict). IsProved folded p.claim w) (yes_of v (ap is_none none)) proved)
-  proved_by (Some fault) v some file fine proved first line = record { fault = fault; line = line; denies = denied folded (tree_over (row_count folded) (tree_in p)) (claim_value p.claim) fault first }
+  proved_by (Some fault) v some file fine proved first line = record { fault = fault; line = line; denies = file_leaf nl.file claimed file fine (claim_value p.claim) (tree_over (row_count folded) (tree_in p)) fault first }
 
   pub proof_says : (l : LinearValue) (v : ProofVerdict) (held : Bool) (bytes : List ℕ) → IsFile nl.file → HasFolded nl claimed l → IsVerdictOn (linear_value l) p v → IsProved (linear_value l) p.claim v
       → held ≡ is_none (fault_of v) → bytes ≡ leaf_line (fault_of v) → ByVerdict held (IsProvedOf nl p) (IsLeftOpen nl p)

@@ -17,7 +17,7 @@ use Rattle.sol_files.specs.Reader.{IsSol}
 use Rattle.sol_files.specs.Sol.{Sol}
 use Rattle.file_certificates.specs.FileProblem.{problem_of}
 use Rattle.solution_fit.specs.Fits.{fit_fault, given_by}
-use Rattle.dual_bounds.specs.Terms.{values_of}
+use Rattle.exact_checks.specs.Terms.{values_of}
 use Rattle.solution_fit.specs.declared.fitting.FitFault.{FitFault}
 use Rattle.command_parts.specs.NlTold.{fold_line}
 use Rattle.command_parts.specs.Outcome.{Outcome, Refused, Done}

@@ -1,14 +1,12 @@
--- The command import: an MPS program as the .nl text of a file that means the same.
-use Rattle.std.specs.Prelude.{◌≡◌, ◌↔◌, ℕ, true, false, List}
+-- An MPS program as the .nl text of a file that means the same.
+use Rattle.std.specs.Prelude.{◌≡◌, ◌↔◌, ℕ, true, List}
 use Rattle.std.specs.declared.option.Option.{Option}
 use Rattle.std.specs.declared.option.Option.TheVariants.{None, Some}
 use Rattle.fractions.specs.Rational.{ℚ}
-use Rattle.desk.specs.Desk.{Texts}
 use Rattle.exact_numbers.specs.declared.dec.Dec.{Dec}
 use Rattle.file_meaning.specs.Expressions.{maximises}
 use Rattle.file_meaning.specs.Meaning.{IsFeasible, file_objective}
 use Rattle.mps_model.specs.Mps.{IsMpsFeasible, Mps, mps_objective}
-use Rattle.mps_reader.specs.Reader.{IsMpsText}
 use Rattle.mps_import.specs.declared.import_fault.ImportFault.{ImportFault}
 use Rattle.mps_import.specs.Faults.{import_fault}
 use Rattle.mps_import.specs.Import.{import_of}
@@ -16,10 +14,7 @@ use Rattle.mps_import.specs.Variables.{in_order}
 use Rattle.mps_program.specs.Program.{values_of}
 use Rattle.nl_writer.specs.Written.{nl_text}
 use Rattle.command_parts.specs.ImportTold.{import_line}
-use Rattle.command_parts.specs.Refusal.{IsMpsRefused}
 use Rattle.command_parts.specs.Outcome.{Done, Outcome, Refused}
-use Rattle.command_parts.specs.Promise.{Promise}
-use Rattle.command_parts.specs.SeveralFiles.{after_file, desk_promise, ends}
 
 -- a program with a first fault is refused; else the text of its file is written
 abbrev pub by_fault : Mps Dec → Option ImportFault → Outcome
@@ -47,15 +42,3 @@ pub record MeansTheProgram (m : Mps Dec) : Type 0 where
   pub objective : (xs : List ℚ) → file_objective (import_of m) 0 (in_order m xs)
       ≡ Some (mps_objective (values_of m) xs)
   pub sense : maximises (import_of m) 0 ≡ m.maximise
-
--- ---- the promise
-
--- no steps are counted
-abbrev pub import_told : List ℕ → Texts → Promise
-import_told file texts =
-    after_file IsMpsText IsMpsRefused texts file (λ m.
-    ends texts file (λ outcome. outcome ≡ import_outcome m) (λ old new. new ≡ old)
-    (MeansTheProgram m))
-
-abbrev pub import_promise : Option Texts → List ℕ → Promise
-import_promise texts file = desk_promise false (import_told file) texts

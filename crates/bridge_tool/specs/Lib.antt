@@ -6,15 +6,12 @@ pub mod Commands
 pub mod Export
 pub mod InsideExport
 pub mod Import
-pub mod Fixed
 pub mod Instances
 pub mod Make
-pub mod Mps
 pub mod NamedExport
-pub mod Nl
+pub mod OneFile
 pub mod Prove
 pub mod Return
-pub mod Sol
 pub mod Verify
 pub mod VerifyMps
 pub mod InsideVerifyMps

@@ -61,8 +61,8 @@ IsProvedOf nl p = IsProvedTrueOf (problem_of nl.file (claimed_objective p.claim)
 pub record IsLeftOpen (nl : NlValue) (p : ProofValue) : Type 0 where
   pub fault : LeafFault
   pub line : prove_outcome nl p ≡ Done false (leaf_line (Some fault))
-  pub denies : let f = linear_of nl.file (claimed_objective p.claim) in
-      IsLeafDenied f (tree_over (row_count f) (tree_in p)) fault
+  pub denies : let k = claimed_objective p.claim in let f = linear_of nl.file k in
+      IsLeafDenied (problem_of nl.file k) f (tree_over (row_count f) (tree_in p)) fault
 
 -- ---- the promise
 

@@ -28,23 +28,23 @@ use Rattle.command_parts.specs.Promise.{Promise}
 use Rattle.command_parts.specs.SeveralFiles.{after_file, desk_promise, judges_last}
 use Rattle.command_parts.specs.Told.{refusal}
 use Rattle.bridge_tool.specs.Verify.{by_claim}
-use Rattle.bridge_tool.specs.declared.verify_mps.Form.{Form}
-use Rattle.bridge_tool.specs.declared.verify_mps.Form.TheVariants.{Free, Fixed}
+use Rattle.bridge_tool.specs.declared.verify_mps.Layout.{Layout}
+use Rattle.bridge_tool.specs.declared.verify_mps.Layout.TheVariants.{Free, Fixed}
 
 -- ---- the first file: an MPS text in free form or in fixed columns, whose program has a linear
 -- program
 
-abbrev pub IsTextIn : Form → List ℕ → Mps Dec → Type 0
-IsTextIn Free text m = IsMpsText text m
-IsTextIn Fixed text m = IsFixedText text m
+abbrev pub IsTextIn : Layout → List ℕ → Mps Dec → Type 0
+IsTextIn Free = IsMpsText
+IsTextIn Fixed = IsFixedText
 
-abbrev pub IsTextRefused : Form → List ℕ → List ℕ → Type 0
-IsTextRefused Free text line = IsMpsRefused text line
-IsTextRefused Fixed text line = IsFixedRefused text line
+abbrev pub IsTextRefused : Layout → List ℕ → List ℕ → Type 0
+IsTextRefused Free = IsMpsRefused
+IsTextRefused Fixed = IsFixedRefused
 
 -- the text says this program, which has no fault
-pub record HasProgram (form : Form) (text : List ℕ) (m : Mps Dec) : Type 0 where
-  pub says : IsTextIn form text m
+pub record HasProgram (layout : Layout) (text : List ℕ) (m : Mps Dec) : Type 0 where
+  pub says : IsTextIn layout text m
   pub clean : mps_fault m ≡ None
 
 -- a fault of a program as import has it, which tells it so
@@ -60,14 +60,14 @@ pub record HasNoLinear (m : Mps Dec) (line : List ℕ) : Type 0 where
   pub told : line ≡ import_line (as_import fault)
 
 -- it says a program with a fault
-pub record SaysNoLinear (form : Form) (text line : List ℕ) : Type 0 where
+pub record SaysNoLinear (layout : Layout) (text line : List ℕ) : Type 0 where
   pub program : Mps Dec
-  pub says : IsTextIn form text program
+  pub says : IsTextIn layout text program
   pub fails : HasNoLinear program line
 
 -- the text has a first fault, or its program has
-abbrev pub IsProgramRefused : Form → List ℕ → List ℕ → Type 0
-IsProgramRefused form text line = IsTextRefused form text line ⊎ SaysNoLinear form text line
+abbrev pub IsProgramRefused : Layout → List ℕ → List ℕ → Type 0
+IsProgramRefused layout text line = IsTextRefused layout text line ⊎ SaysNoLinear layout text line
 
 -- ---- what the values of both files come to
 
@@ -99,14 +99,14 @@ IsDeniedMps m c =
 -- ---- the promise
 
 -- no steps are counted
-abbrev pub verify_mps_told : Form → List ℕ → List ℕ → Texts → Promise
-verify_mps_told form mps certificate texts =
-    after_file (HasProgram form) (IsProgramRefused form) texts mps (λ m.
+abbrev pub verify_mps_told : Layout → List ℕ → List ℕ → Texts → Promise
+verify_mps_told layout mps certificate texts =
+    after_file (HasProgram layout) (IsProgramRefused layout) texts mps (λ m.
     after_file (IsCertificateText (mps_setting m)) (IsCertificateRefused (mps_setting m) 2) texts
     certificate (λ c.
     judges_last texts certificate (λ outcome. outcome ≡ verify_mps_outcome m c)
     (λ old new. new ≡ old) (IsVerifiedMps m c) (IsDeniedMps m c)))
 
-abbrev pub verify_mps_promise : Option Texts → Form → List ℕ → List ℕ → Promise
-verify_mps_promise texts form mps certificate =
-    desk_promise true (verify_mps_told form mps certificate) texts
+abbrev pub verify_mps_promise : Option Texts → Layout → List ℕ → List ℕ → Promise
+verify_mps_promise texts layout mps certificate =
+    desk_promise true (verify_mps_told layout mps certificate) texts

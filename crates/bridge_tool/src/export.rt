@@ -13,8 +13,8 @@ ghost use Rattle.command_parts.specs.Stages.{fold_steps};
 
 use command_parts::{Answer, Refusal, end_in_pieces, fold_read, open_nl, scale};
 use desk::Desk;
+use mps_export::text_in_pieces;
 use nl_segments::NlRead;
-use row_scaling::write_pieces;
 use scaling::Scaled;
 use std::alloc::{AllocError, Global};
 use texts::{Ledger, Steps, Stop};
@@ -24,7 +24,7 @@ fn write_program(alloc: Global, scaled: Scaled) -> Result<Vec<Vec<u8>>, AllocErr
     ensures { IfOk result (λ out. flat_map (λ p. p.items) out.items
         ≡ mps_text_by value_text (mps_of (scaled_as scaled))) }
 {
-    write_pieces(alloc, scaled)
+    text_in_pieces(alloc, scaled)
 }
 
 // The bytes to write for a file, or why it is refused.

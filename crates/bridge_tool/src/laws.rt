@@ -3,7 +3,7 @@ ghost use Rattle.std.specs.Prelude.{◌≡◌, ◌↔◌, ◌+◌, ◌≤◌, �
 ghost use Rattle.export_round_trip.specs.Exportable.{IsExportable, IsNamedByNumber};
 ghost use Rattle.export_round_trip.specs.ReadAs.{IsReadAs};
 ghost use Rattle.branch_check.specs.Leaves.{IsProved};
-ghost use Rattle.branch_check.specs.declared.leaf.ProofVerdict.TheVariants.{Yes};
+ghost use Rattle.branch_check.specs.declared.verdict.ProofVerdict.TheVariants.{Yes};
 ghost use Rattle.certificates.specs.declared.proof.Claim.{Claim as ClaimValue};
 ghost use Rattle.certificates.specs.ProofSays.{IsProvedTrueOf};
 ghost use Rattle.exported_program.specs.Program.{mps_of};
@@ -26,16 +26,14 @@ ghost use Rattle.desk.specs.Desk.{Texts};
 ghost use Rattle.bridge_tool.specs.Commands.{ComesTo};
 ghost use Rattle.bridge_tool.specs.Export.{IsExportMeant, IsExported, MeansTheFile, export_told};
 ghost use Rattle.bridge_tool.specs.ByText.{IsByText, IsWritingByText};
-ghost use Rattle.bridge_tool.specs.Fixed.{fixed_told};
-ghost use Rattle.bridge_tool.specs.Import.{CannotBeImported, IsImportedAs, MeansTheProgram, import_told};
-ghost use Rattle.bridge_tool.specs.Mps.{IsMpsMeant, mps_told};
+ghost use Rattle.bridge_tool.specs.Import.{CannotBeImported, IsImportedAs, MeansTheProgram};
+ghost use Rattle.bridge_tool.specs.OneFile.{IsMpsMeant, IsSolMeant, import_row, mps_row, nl_row, row_told, sol_row};
+ghost use Rattle.bridge_tool.specs.declared.verify_mps.Layout.TheVariants.{Fixed, Free};
 ghost use Rattle.command_parts.specs.NameLists.{AreListed, column_counts, row_counts};
 ghost use Rattle.bridge_tool.specs.Instances.{InstancesAreSaid, InstancesAreWritable};
 ghost use Rattle.bridge_tool.specs.NamedExport.{IsNamedExport, Named};
-ghost use Rattle.bridge_tool.specs.Nl.{nl_told};
 ghost use Rattle.command_parts.specs.Outcome.{Outcome};
 ghost use Rattle.command_parts.specs.Refusal.{HasTextRefusal, IsFixedRefused, IsMpsRefused, IsSolRefused};
-ghost use Rattle.bridge_tool.specs.Sol.{IsSolMeant, sol_told};
 ghost use Rattle.command_parts.specs.Stages.{CannotBeExported, fold_steps};
 ghost use Rattle.command_parts.specs.declared.transfer.TheConstants.{LIMIT};
 
@@ -58,19 +56,19 @@ pub fn commands_by_text()
         (export_told file k texts) }
     ensures nl { (texts : Texts) (file text : List ℕ) → texts file ≡ Some text
         → IsWritingByText IsNl HasTextRefusal (λ nl. nl_text nl.file)
-        (λ nl. IsText nl.file (nl_text nl.file)) (take LIMIT text) (nl_told file texts) }
+        (λ nl. IsText nl.file (nl_text nl.file)) (take LIMIT text) (row_told nl_row file texts) }
     ensures mps { (texts : Texts) (file text : List ℕ) → texts file ≡ Some text
         → IsWritingByText IsMpsText IsMpsRefused mps_text IsMpsMeant (take LIMIT text)
-        (mps_told file texts) }
+        (row_told (mps_row Free) file texts) }
     ensures fixed { (texts : Texts) (file text : List ℕ) → texts file ≡ Some text
         → IsWritingByText IsFixedText IsFixedRefused mps_text IsMpsMeant (take LIMIT text)
-        (fixed_told file texts) }
+        (row_told (mps_row Fixed) file texts) }
     ensures sol { (texts : Texts) (file text : List ℕ) → texts file ≡ Some text
         → IsWritingByText IsSol (IsSolRefused 1) sol_text IsSolMeant (take LIMIT text)
-        (sol_told file texts) }
+        (row_told sol_row file texts) }
     ensures import { (texts : Texts) (file text : List ℕ) → texts file ≡ Some text
         → IsByText IsMpsText IsMpsRefused IsImportedAs CannotBeImported (λ m old new. new ≡ old)
-        MeansTheProgram (take LIMIT text) (import_told file texts) }
+        MeansTheProgram (take LIMIT text) (row_told import_row file texts) }
 {}
 
 /// The program of a file that is exported means what the file means.

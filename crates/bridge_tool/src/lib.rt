@@ -4,16 +4,12 @@
 mod check;
 mod command;
 mod export;
-mod fixed;
-mod import;
 pub mod laws;
 mod make;
-mod mps;
 mod named_export;
-mod nl;
+mod one_file;
 mod prove;
 mod returns;
-mod sol;
 mod summary;
 mod top;
 mod verify;

@@ -16,7 +16,7 @@ use branch_check::{ProofVerdict, check_proof_by_rows};
 use certificates::proof::{Claim, Proof};
 use command_parts::{Answer, Refusal, end, fold_read, leaf_line, open_nl, open_proof};
 use desk::Desk;
-use dual_bounds::Program;
+use exact_checks::Program;
 use linear_program::Linear;
 use nl_segments::NlRead;
 use std::alloc::{AllocError, Global};

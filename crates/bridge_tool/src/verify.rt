@@ -5,21 +5,21 @@ ghost use Rattle.linear_program.specs.Programs.{linear_value};
 ghost use Rattle.nl_segments.specs.Reader.{HasLines, value_of};
 ghost use Rattle.certificates.specs.Certificates.{IsCertificateOf, claim_outcome, claim_objective};
 ghost use Rattle.file_certificates.specs.Files.{IsCertificateIn};
-ghost use Rattle.certificate_walk.specs.Outcomes.{outcome_of};
+ghost use Rattle.certificate_judge.specs.Outcomes.{outcome_of};
 ghost use Rattle.command_parts.specs.InsideAnswer.{IsCounted};
 ghost use Rattle.command_parts.specs.CertificateTold.{HasFittingBound, is_held, outcome_line};
 ghost use Rattle.command_parts.specs.SeveralFiles.{ByVerdict, Comes};
 ghost use Rattle.command_parts.specs.Stages.{fold_steps};
 ghost use Rattle.bridge_tool.specs.Verify.{IsDenied, IsVerified, verify_outcome, verify_promise};
 
-use certificate_walk::{Outcome, check_certificate};
+use certificate_judge::{Outcome, check_certificate};
 use certificates::Certificate;
 use command_parts::{
     Answer, Refusal, claim_objective, end, fold_read, is_held, open_certificate, open_nl,
     outcome_line,
 };
 use desk::Desk;
-use dual_bounds::Program;
+use exact_checks::Program;
 use linear_program::Linear;
 use nl_segments::NlRead;
 use std::alloc::{AllocError, Global};

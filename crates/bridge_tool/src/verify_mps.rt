@@ -28,20 +28,25 @@ use texts::Stop;
 
 /// How an MPS text stands on its lines: in free form, or in fixed columns.
 #[derive(Clone, Copy)]
-pub(crate) enum Form {
+pub(crate) enum Layout {
     Free,
     Fixed,
 }
 
-// What a file says as an MPS text in this form, or the answer that ends the command.
-fn open_text<D: Desk>(alloc: Global, desk: &mut D, form: Form, file: &str) -> Result<Mps, Answer>
-    ensures reads { ReadsFile itself (IsTextIn form) (IsTextRefused form) file.now
+/// What a file says as an MPS text in this form, or the answer that ends the command.
+pub(crate) fn open_text<D: Desk>(
+    alloc: Global,
+    desk: &mut D,
+    layout: Layout,
+    file: &str,
+) -> Result<Mps, Answer>
+    ensures reads { ReadsFile itself (IsTextIn layout) (IsTextRefused layout) file.now
         (D.meaning desk.old) (D.meaning desk.new) result }
     ensures known { IfErr result (λ answer. status_of answer ≢ 3) }
 {
-    match form {
-        Form::Free => open_mps(alloc, desk, file),
-        Form::Fixed => open_fixed(alloc, desk, file),
+    match layout {
+        Layout::Free => open_mps(alloc, desk, file),
+        Layout::Fixed => open_fixed(alloc, desk, file),
     }
 }
 
@@ -116,16 +121,16 @@ fn to_verdict(
 /// they come to. Tells nothing.
 pub(crate) fn verify_program<D: Desk>(
     alloc: Global,
-    form: Form,
+    layout: Layout,
     mps: &str,
     certificate: &str,
     desk: &mut D,
 ) -> Answer
     ensures { IsAtRest
-        (verify_mps_promise (D.meaning desk.old).texts form mps.now certificate.now)
+        (verify_mps_promise (D.meaning desk.old).texts layout mps.now certificate.now)
         (D.meaning desk.old) (D.meaning desk.new) result }
 {
-    let read = match open_text(alloc, desk, form, mps) {
+    let read = match open_text(alloc, desk, layout, mps) {
         Ok(read) => read,
         Err(ended) => return ended,
     };

@@ -27,10 +27,13 @@ fn texts_are_read(rt: HostRuntime) {
 // Fast ways, whose clauses let them give up.
 #[test]
 fn plain_words_are_taken(rt: HostRuntime) {
-    let decimals: [(&[u8], Option<Dec>); 3] = [
+    let decimals: [(&[u8], Option<Dec>); 6] = [
         (b"-12.50", Dec::new(-125, -1)),
         (b"7", Dec::new(7, 0)),
-        (b"1e5", None),
+        (b"1.5e-05", Dec::new(15, -6)),
+        (b"-2E+006", Dec::new(-2, 6)),
+        (b"1e0005", None),
+        (b"1e", None),
     ];
     for (word, wanted) in decimals {
         assert!(rt; plain_dec(word) == wanted);

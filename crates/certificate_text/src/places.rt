@@ -9,7 +9,7 @@ use std::marker::Model;
 
 /// Where a subtree stands: the number of added rows above it, and whether it is in the proof of a
 /// lemma.
-#[derive(Clone, Copy, PartialEq, Eq, Debug)]
+#[derive(Clone, Copy, PartialEq, Eq)]
 pub struct Place {
     pub(crate) rows: u32,
     pub(crate) in_proof: bool,

@@ -7,7 +7,7 @@ use std::marker::Model;
 
 /// What a proof claims: that no feasible point has a better value of an objective, or that there is
 /// no relaxed point.
-#[derive(Clone, Copy, Debug)]
+#[derive(Clone, Copy)]
 pub enum Claim {
     Value(u32, Dec),
     Infeasible,
@@ -15,7 +15,7 @@ pub enum Claim {
 
 /// A node of a tree in prefix order: a split of a variable at a number, or a leaf with the number
 /// of its pairs.
-#[derive(Clone, Copy, PartialEq, Eq, Debug)]
+#[derive(Clone, Copy, PartialEq, Eq)]
 pub enum ProofNode {
     Split(u32, i32),
     Duals(u32),

@@ -1,7 +1,7 @@
 // What an opcode of an .nl expression means: its class and its operands.
 
 /// What an opcode of an .nl expression does.
-#[derive(Clone, Copy, Debug, PartialEq, Eq)]
+#[derive(Clone, Copy, PartialEq, Eq)]
 pub enum OpClass {
     Sum,
     Difference,
@@ -20,7 +20,7 @@ pub enum OpClass {
 }
 
 /// How many operands follow an opcode.
-#[derive(Clone, Copy, Debug, PartialEq, Eq)]
+#[derive(Clone, Copy, PartialEq, Eq)]
 pub enum Operands {
     One,
     Two,
@@ -29,7 +29,7 @@ pub enum Operands {
 }
 
 /// A row of the table of opcodes.
-#[derive(Clone, Copy, Debug, PartialEq, Eq)]
+#[derive(Clone, Copy, PartialEq, Eq)]
 pub struct OpcodeRow {
     pub opcode: u32,
     pub class: OpClass,

@@ -1,7 +1,7 @@
 // The fields of the header of an .nl file.
 
 /// A field of the header.
-#[derive(Clone, Copy, Debug, PartialEq, Eq)]
+#[derive(Clone, Copy, PartialEq, Eq)]
 pub struct Field {
     /// The number of its row in the table, which stands for its name.
     pub row: u32,
@@ -12,7 +12,7 @@ pub struct Field {
 }
 
 /// A row of the table of fields: header line and place in it, both from 1.
-#[derive(Clone, Copy, Debug, PartialEq, Eq)]
+#[derive(Clone, Copy, PartialEq, Eq)]
 pub struct FieldRow {
     pub line: u32,
     pub place: u32,

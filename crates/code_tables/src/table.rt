@@ -8,7 +8,7 @@ use crate::class::{OpClass, OpcodeRow, Operands};
 use crate::field::{Field, FieldRow};
 
 /// N rows, which are those of the header where nothing else is said.
-#[derive(Clone, Copy, Debug)]
+#[derive(Clone, Copy)]
 pub struct Table<const N: usize, R = FieldRow> {
     pub rows: [R; N],
 }

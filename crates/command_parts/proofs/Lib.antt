@@ -4,4 +4,5 @@ pub mod SeveralFiles
 pub mod FaultLines
 pub mod NameLists
 pub mod TextsRead
+pub mod Opened
 pub mod ExportStages

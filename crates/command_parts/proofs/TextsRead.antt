@@ -1,5 +1,5 @@
 -- Each text that a command reads says one value, or is refused with one line.
-use Rattle.std.proofs.Common.{◌≡◌, inl, inr, ◌⊎◌, ℕ, List, refl, sym, ap, ◌∙◌, ap₂, Err}
+use Rattle.std.proofs.Common.{◌≡◌, inl, inr, ◌⊎◌, ℕ, List, refl, sym, ap, ◌∙◌, ap₂}
 use Rattle.std.specs.Prelude.{map}
 use Rattle.nl_segments.specs.Grammar.{NlValue, nl_rules, standing, said, counts_of}
 use Rattle.command_parts.specs.NlTold.{nl_line}
@@ -21,18 +21,10 @@ use Rattle.command_parts.specs.MpsTold.{mps_line}
 use Rattle.sol_files.specs.Reader.{HasSolFault, IsSol}
 use Rattle.sol_files.proofs.ReadingLemmas.{one_reading}
 use Rattle.command_parts.specs.SolTold.{sol_line}
-use Rattle.texts.specs.declared.stop.Stop.{Stop}
-use Rattle.command_parts.specs.SeveralFiles.{Says, itself}
-use Rattle.command_parts.specs.declared.refusal.Refusal.{Refusal}
-use Rattle.texts.specs.declared.stop.Stop.TheVariants.{Fault, Memory}
 use Rattle.answer_file.specs.Grammar.{SaysAnswer, answer_of, answer_rules, standing as answer_standing}
 use Rattle.answer_file.specs.Names.{Setting}
-use Rattle.answer_file.specs.Reading.{IsAnswer, ReadsAnswer}
-use Rattle.answer_file.specs.declared.fault.AnswerReason.{AnswerReason}
-use Rattle.texts.specs.declared.fault.TextFault.{TextFault}
+use Rattle.answer_file.specs.Reading.{IsAnswer}
 use Rattle.command_parts.specs.AnswerTold.{answer_line}
-use Rattle.command_parts.specs.InsideRefusal.{refused_by}
-use Rattle.command_parts.specs.declared.refusal.Refusal.TheVariants.{Answer}
 use Rattle.proof_text.specs.Reader.{HasProofFault, IsProofText}
 use Rattle.certificates.specs.Setting.{Setting as CertificateSetting}
 use Rattle.proof_text.proofs.ReadingLemmas.{one_reading as one_proof}
@@ -99,11 +91,6 @@ sol_read file =
 
 pub answer_read : (s : Setting) → AreRead (IsAnswer s) (IsAnswerRefused s)
 answer_read s = read_by (answer_rules s) (SaysAnswer s) (answer_line 2) (λ lines. answer_of (answer_standing s lines)) (λ lines a h. h) (λ lines. refl)
-
--- its fault is told with its line
-pub refused_so : (s : Setting) (text : List ℕ) (stop : Stop (TextFault AnswerReason)) (told : Stop Refusal) → ReadsAnswer s text (Err stop) → told ≡ refused_by Answer stop → Says itself (IsAnswer s) (IsAnswerRefused s) text (Err told)
-refused_so s text (Fault fault) told reads is = rw is (record { fault = fault; first = reads; told = refl })
-refused_so s text Memory told reads is = rw is tt
 
 -- ---- proofs and certificates
 

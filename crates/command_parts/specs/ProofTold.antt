@@ -3,7 +3,7 @@ use Rattle.std.specs.Prelude.{ℕ, List, ◌++◌, codes, Option, Some, None}
 use Rattle.duality.specs.Branch.{LeafFault}
 use Rattle.texts.specs.declared.fault.TextFault.{TextFault}
 use Rattle.proof_text.specs.declared.fault.ProofReason.{ProofReason}
-use Rattle.certificate_walk.specs.Reasons.{leaf_fault_text}
+use Rattle.certificate_judge.specs.Reasons.{leaf_fault_text}
 use Rattle.proof_text.specs.Reasons.{proof_reason_text}
 use Rattle.command_parts.specs.Told.{refusal}
 

@@ -31,12 +31,16 @@ use Rattle.std.specs.List.{flat_map}
 use Rattle.std.specs.declared.option.Option.{Option}
 use Rattle.std.specs.declared.option.Option.TheVariants.{None, Some}
 use Rattle.desk.specs.Desk.{IsUnknown, Meaning, OnlyInput, Rose, Texts}
+use Rattle.texts.specs.Judged.{Rules}
+use Rattle.texts.specs.Reading.{HasFault}
+use Rattle.texts.specs.declared.fault.TextFault.{TextFault}
 use Rattle.texts.specs.declared.stop.Stop.{Stop}
 use Rattle.texts.specs.declared.stop.Stop.TheVariants.{Fault, Memory}
 use Rattle.command_parts.specs.InsideRefusal.{Gives, refusal_line}
 use Rattle.command_parts.specs.declared.refusal.Refusal.{Refusal}
 use Rattle.command_parts.specs.Outcome.{Outcome, Untold, NoText, Refused as IsRefusal, Done as IsDone}
 use Rattle.command_parts.specs.Promise.{Promise}
+use Rattle.command_parts.specs.Told.{TellsFault}
 use Rattle.command_parts.specs.Transfer.{ReadsFront}
 use Rattle.command_parts.specs.declared.answer.Answer.{Answer}
 use Rattle.command_parts.specs.declared.answer.Answer.TheVariants.{Refused, InputFault, NoMemory}
@@ -110,6 +114,10 @@ desk_promise judges known (Some texts) = known texts
 
 abbrev pub itself : {V : Type 0} → V → V
 itself v = v
+
+-- the text has a first fault by a grammar's rules, and the line tells the refusal that it is
+abbrev pub IsRefusedBy : {R : Type 0} → Rules R → (TextFault R → Refusal) → List ℕ → List ℕ → Type 0
+IsRefusedBy rules told text = TellsFault (HasFault rules text) (λ fault. refusal_line (told fault))
 
 -- what judging a text answers: what it says, seen so, or why it is refused
 abbrev pub Says : {R V : Type 0} → (seen : R → V) → (reads : List ℕ → V → Type 0)

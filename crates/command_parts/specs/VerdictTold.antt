@@ -4,7 +4,7 @@ use Rattle.std.specs.Fmt.{signed_decimal}
 use Rattle.duality.specs.Verdict.{Verdict, yes, gap, refused}
 use Rattle.solution_fit.specs.declared.fitting.FitFault.{FitFault}
 use Rattle.solution_fit.specs.Fits.{fit_text}
-use Rattle.dual_bounds.specs.Reasons.{cause_text}
+use Rattle.exact_checks.specs.Reasons.{cause_text}
 use Rattle.command_parts.specs.Told.{number_text}
 
 -- ---- verdicts

@@ -4,6 +4,7 @@ ghost use Rattle.command_parts.specs.InsideAnswer.{status_of, told_by};
 
 use crate::refusal::Refusal;
 use crate::told::fixed;
+use std::alloc::AllocError;
 use written_texts::LineText;
 
 /// How a command ends: whether the verdict is yes, or why the input is refused, or what failed.
@@ -15,6 +16,17 @@ pub enum Answer {
     InputFault,
     OutputFault,
     NoMemory,
+}
+
+impl From<AllocError> for Answer {
+    ghost use Rattle.std.specs.Prelude.{◌≡◌};
+    ghost use Rattle.command_parts.specs.declared.answer.Answer.TheVariants.{NoMemory};
+
+    ghost from_gives = { λ _ a. a ≡ NoMemory };
+
+    fn from(_: AllocError) -> Self {
+        Answer::NoMemory
+    }
 }
 
 impl Answer {

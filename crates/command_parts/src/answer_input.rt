@@ -1,67 +1,28 @@
 // Reading and judging an answer for a file.
-ghost use Rattle.std.specs.Prelude.{◌≡◌, ◌≢◌, List, ℕ, IfErr, length, Err, IfSome};
-ghost use Rattle.answer_file.specs.Names.{Setting, named_setting, setting_of};
-ghost use Rattle.answer_file.specs.Reading.{IsAnswer, IsFed};
+ghost use Rattle.std.specs.Prelude.{◌≡◌, ◌≢◌, IfErr, length};
+ghost use Rattle.answer_file.specs.Names.{named_setting, setting_of};
+ghost use Rattle.answer_file.specs.Reading.{IsAnswer};
 ghost use Rattle.command_parts.specs.InsideAnswer.{status_of};
 ghost use Rattle.command_parts.specs.Refusal.{IsAnswerRefused};
-ghost use Rattle.command_parts.specs.InsideRefusal.{refused_by};
 ghost use Rattle.command_parts.specs.declared.refusal.Refusal.TheVariants.{Answer as IsAnswerFault};
-ghost use Rattle.command_parts.specs.SeveralFiles.{ReadsFile, Says, itself};
+ghost use Rattle.command_parts.specs.SeveralFiles.{ReadsFile, itself};
 
 use crate::answer::Answer;
-use crate::input::{Input, open};
+use crate::input::{Source, open};
 use crate::refusal::Refusal;
-use answer_file::{Answer as Given, AnswerReader};
+use answer_file::{Answer as Given, AnswerFault, AnswerGrammar, Scope};
 use desk::Desk;
 use name_lists::NameList;
 use nl_model::NlFile;
 use std::alloc::Global;
-use texts::Stop;
 
-impl Input for AnswerReader {
-    ghost use Rattle.answer_file.specs.Grammar.{AnswerValue};
-    ghost use Rattle.answer_file.specs.Names.{Setting};
-    ghost use Rattle.answer_file.specs.Reading.{IsAnswer, IsFed};
-    ghost use Rattle.command_parts.specs.Refusal.{IsAnswerRefused};
-    ghost use Rattle.command_parts.specs.SeveralFiles.{itself};
+impl Source for AnswerGrammar {
+    ghost told = { λ _. IsAnswerFault };
 
-    type Value = Given;
-
-    ghost Setting = { Setting };
-
-    ghost setting = { λ reader. reader.progress.setting };
-
-    ghost fed = { λ reader text. IsFed reader.progress.setting reader text };
-
-    ghost Seen = { AnswerValue };
-
-    ghost seen = { itself };
-
-    ghost reads = { IsAnswer };
-
-    ghost refuses = { λ s _. IsAnswerRefused s };
-
-    ghost keeps = { λ _ _. Unit {0} };
-
-    fn take(&mut self, piece: &[u8]) {
-        // The reader keeps an error, and answers it at the end.
-        let _ = self.feed(piece);
-    }
-
-    fn judge(self, _number: u32) -> Result<Given, Stop<Refusal>> {
-        judge_answer(self)
-    }
-}
-
-// The answer of the text that a reader was fed, or why it is refused; it is the second file.
-fn judge_answer(reader: AnswerReader) -> Result<Given, Stop<Refusal>>
-    ensures says { (s : Setting) (text : List ℕ) → IsFed s reader text
-        → Says itself (IsAnswer s) (IsAnswerRefused s) text result }
-    ensures kept { IfSome reader.stopped (λ stop. result ≡ Err (refused_by IsAnswerFault stop)) }
-{
-    match reader.finish() {
-        Ok(answer) => Ok(answer),
-        Err(stop) => Err(stop.map_fault(|fault| Refusal::Answer(fault))),
+    fn told(_number: u32, fault: AnswerFault) -> Refusal
+        ensures { result ≡ IsAnswerFault fault }
+    {
+        Refusal::Answer(fault)
     }
 }
 
@@ -78,10 +39,9 @@ pub fn open_answer<D: Desk>(
         result }
     ensures known { IfErr result (λ answer. status_of answer ≢ 3) }
 {
-    match AnswerReader::new(alloc, file) {
-        Ok(reader) => open(alloc, desk, name, 2, reader),
-        Err(_) => Err(Answer::NoMemory),
-    }
+    let scope = Scope::of(alloc, file)?;
+    let grammar = AnswerGrammar::new(alloc, scope)?;
+    open(alloc, desk, name, 2, grammar)
 }
 
 /// What the second file of a command says as an answer for the first with the names of these lists,
@@ -101,8 +61,7 @@ pub fn open_named<D: Desk>(
         (D.meaning desk.new) result }
     ensures known { IfErr result (λ answer. status_of answer ≢ 3) }
 {
-    match AnswerReader::with_names(alloc, file, rows, columns) {
-        Ok(reader) => open(alloc, desk, name, 2, reader),
-        Err(_) => Err(Answer::NoMemory),
-    }
+    let scope = Scope::named(alloc, file, rows, columns)?;
+    let grammar = AnswerGrammar::new(alloc, scope)?;
+    open(alloc, desk, name, 2, grammar)
 }

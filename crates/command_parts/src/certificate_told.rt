@@ -6,14 +6,14 @@ ghost use Rattle.duality.specs.Certificate.{holds};
 ghost use Rattle.duality.specs.Told.{within};
 ghost use Rattle.exact_numbers.specs.Values.{frac_value};
 ghost use Rattle.linear_program.specs.Numbers.{number_value};
-ghost use Rattle.dual_bounds.specs.Terms.{value_found};
+ghost use Rattle.exact_checks.specs.Terms.{value_found};
 ghost use Rattle.certificates.specs.Certificates.{claim_objective};
 ghost use Rattle.certificates.specs.Told.{told_claim};
-ghost use Rattle.certificate_walk.specs.Reasons.{failed_text};
-ghost use Rattle.certificate_walk.specs.Outcomes.{cause_of, outcome_of};
+ghost use Rattle.certificate_judge.specs.Reasons.{failed_text};
+ghost use Rattle.certificate_judge.specs.Outcomes.{cause_of, outcome_of};
 ghost use Rattle.command_parts.specs.CertificateTold.{HasFittingBound, is_held, objective_text, outcome_line, told_text};
 
-use certificate_walk::{Cause, Outcome};
+use certificate_judge::{Cause, Outcome};
 use certificates::Claim;
 use exact_numbers::Frac;
 use linear_program::Number;

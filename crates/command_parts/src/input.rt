@@ -1,81 +1,71 @@
 // Opening a text of any kind that commands read.
-ghost use Rattle.std.specs.Prelude.{◌≡◌, ◌≢◌, ◌++◌, List, ℕ, [], IfErr, IfOk};
+ghost use Rattle.std.specs.Prelude.{◌≡◌, ◌≢◌, List, ℕ, [], Err, IfErr, IfSome};
+ghost use Rattle.texts.specs.Reading.{IsRead};
+ghost use Rattle.texts.specs.Readers.{HasTaken, grammar_of, stopped_by};
+ghost use Rattle.texts.specs.declared.fault.TextFault.{TextFault};
 ghost use Rattle.command_parts.specs.InsideAnswer.{status_of};
-ghost use Rattle.command_parts.specs.SeveralFiles.{ReadsFile, Says};
+ghost use Rattle.command_parts.specs.InsideRefusal.{refused_by};
+ghost use Rattle.command_parts.specs.SeveralFiles.{IsRefusedBy, ReadsFile, Says, itself};
+ghost use Rattle.command_parts.specs.declared.refusal.Refusal.{Refusal};
 
 use crate::answer::Answer;
 use crate::one_file::{answered, missed, read};
 use crate::refusal::Refusal;
 use desk::Desk;
 use std::alloc::Global;
-use texts::Stop;
+use texts::{Grammar, Reader, Stop, TextFault};
 
-/// A reader of one kind of text. It takes a text in pieces, keeps a fault until the text has ended,
-/// and then judges it.
-pub trait Input: Drop {
-    /// What a text says.
-    type Value;
+/// A grammar of texts that commands read.
+pub trait Source: Grammar {
+    /// The refusal that a fault of a text is, which is this file of its command.
+    ghost told: { ℕ → TextFault Self.Reason → Refusal };
 
-    /// What it was made for, which stays.
-    ghost Setting: { Type 0 };
-
-    ghost setting: { Self → Setting };
-
-    /// It was fed this text.
-    ghost fed: { Self → List ℕ → Type 0 };
-
-    /// A value as the definitions have it.
-    ghost Seen: { Type 0 };
-
-    ghost seen: { Self.Value → Seen };
-
-    /// The text says this.
-    ghost reads: { Setting → List ℕ → Seen → Type 0 };
-
-    /// The text, which is this file of its command, is refused with this line.
-    ghost refuses: { Setting → ℕ → List ℕ → List ℕ → Type 0 };
-
-    /// What is known of what a text says.
-    ghost keeps: { Setting → Self.Value → Type 0 };
-
-    /// Takes the next piece.
-    fn take(&mut self, piece: &[u8])
-        ensures fed { (text : List ℕ) → fed self.old text → fed self.new (text ++ piece.now) }
-        ensures setting { setting self.new ≡ setting self.old };
-
-    /// What the text says that it was fed, or why it is refused; the text is this file of its
-    /// command.
-    fn judge(self, number: u32) -> Result<Self::Value, Stop<Refusal>>
-        ensures says { (text : List ℕ) → fed self text
-            → Says seen (reads (setting self)) (refuses (setting self) number) text result }
-        ensures keeps { IfOk result (λ value. (text : List ℕ) → fed self text
-            → keeps (setting self) value) };
+    fn told(number: u32, fault: TextFault<Self::Reason>) -> Refusal
+        ensures { result ≡ told number fault };
 }
 
-/// What a text says to a new reader, or the answer that ends the command; the text is this file of
-/// its command.
-pub fn open<D: Desk, R: Input>(
+// What the text says that a reader was fed, or why it is refused; the text is this file of its
+// command.
+fn judged<G: Source>(reader: Reader<G>, number: u32) -> Result<G::Value, Stop<Refusal>>
+    ensures says { (text : List ℕ)
+        → HasTaken (G.rules (G.setting (grammar_of reader))) G.took reader text
+        → Says itself (IsRead (G.rules (G.setting (grammar_of reader)))
+        (G.says (G.setting (grammar_of reader))))
+        (IsRefusedBy (G.rules (G.setting (grammar_of reader))) (G.told number)) text result }
+    ensures kept { IfSome (stopped_by reader)
+        (λ stop. result ≡ Err (refused_by (G.told number) stop)) }
+{
+    match reader.finish() {
+        Ok(value) => Ok(value),
+        Err(Stop::Fault(fault)) => Err(Stop::Fault(G::told(number, fault))),
+        Err(Stop::Memory) => Err(Stop::Memory),
+    }
+}
+
+/// What a text says by a grammar that has taken no lines, or the answer that ends the command; the
+/// text is this file of its command.
+pub fn open<D: Desk, G: Source>(
     alloc: Global,
     desk: &mut D,
     name: &str,
     number: u32,
-    reader: R,
-) -> Result<R::Value, Answer>
-    requires { R.fed reader [] }
-    ensures reads { ReadsFile R.seen (R.reads (R.setting reader))
-        (R.refuses (R.setting reader) number) name.now (D.meaning desk.old)
-        (D.meaning desk.new) result }
-    ensures keeps { IfOk result (R.keeps (R.setting reader)) }
-    // The same by a setting that is equal to the reader's.
-    ensures reads_so { (s : R.Setting) → R.setting reader ≡ s → ReadsFile R.seen (R.reads s)
-        (R.refuses s number) name.now (D.meaning desk.old) (D.meaning desk.new) result }
-    ensures keeps_so { (s : R.Setting) → R.setting reader ≡ s → IfOk result (R.keeps s) }
+    grammar: G,
+) -> Result<G::Value, Answer>
+    requires { G.took grammar [] }
+    ensures reads { ReadsFile itself
+        (IsRead (G.rules (G.setting grammar)) (G.says (G.setting grammar)))
+        (IsRefusedBy (G.rules (G.setting grammar)) (G.told number)) name.now
+        (D.meaning desk.old) (D.meaning desk.new) result }
+    // The same by a setting that is equal to the grammar's.
+    ensures reads_so { (s : G.Setting) → G.setting grammar ≡ s
+        → ReadsFile itself (IsRead (G.rules s) (G.says s)) (IsRefusedBy (G.rules s) (G.told number))
+        name.now (D.meaning desk.old) (D.meaning desk.new) result }
     ensures known { IfErr result (λ answer. status_of answer ≢ 3) }
 {
-    match read(alloc, desk, name, reader) {
+    match read(alloc, desk, name, grammar) {
         Ok(reader) => {
-            let judged = reader.judge(number);
-            answered(judged)
+            let found = judged(reader, number);
+            answered(found)
         }
         Err(unread) => Err(missed(unread)),
     }

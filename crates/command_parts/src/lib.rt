@@ -28,7 +28,7 @@ pub use answer::Answer;
 pub use answer_input::{open_answer, open_named};
 pub use certificate_input::{open_certificate, open_certificate_over};
 pub use certificate_told::{claim_objective, is_held, outcome_line};
-pub use input::{Input, open};
+pub use input::{Source, open};
 pub use mps_input::{open_fixed, open_mps};
 pub use name_input::{open_columns, open_rows};
 pub use nl_input::open_nl;

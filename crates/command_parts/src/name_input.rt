@@ -1,69 +1,27 @@
 // Reading and judging lists of names.
-ghost use Rattle.std.specs.Prelude.{◌≡◌, ◌≢◌, List, ℕ, IfErr, IfOk, length, Err, IfSome};
+ghost use Rattle.std.specs.Prelude.{◌≡◌, ◌≢◌, IfErr, IfOk, length};
 ghost use Rattle.name_files.specs.Names.{Counts};
-ghost use Rattle.name_files.specs.Reader.{IsFed};
 ghost use Rattle.command_parts.specs.InsideAnswer.{status_of};
 ghost use Rattle.command_parts.specs.NameLists.{AreListed, IsListRefused, column_counts, row_counts};
-ghost use Rattle.command_parts.specs.InsideRefusal.{refused_by};
 ghost use Rattle.command_parts.specs.declared.refusal.Refusal.TheVariants.{Names};
-ghost use Rattle.command_parts.specs.SeveralFiles.{ReadsFile, Says, itself};
+ghost use Rattle.command_parts.specs.SeveralFiles.{ReadsFile, itself};
 
 use crate::answer::Answer;
-use crate::input::{Input, open};
+use crate::input::{Source, open};
 use crate::refusal::Refusal;
 use desk::Desk;
-use name_files::NameReader;
+use name_files::{NameFault, NameGrammar};
 use name_lists::NameList;
 use nl_model::NlFile;
 use std::alloc::Global;
-use texts::Stop;
 
-impl Input for NameReader {
-    ghost use Rattle.name_files.specs.Names.{Counts};
-    ghost use Rattle.name_files.specs.Reader.{IsFed};
-    ghost use Rattle.command_parts.specs.NameLists.{AreListed, IsListRefused};
-    ghost use Rattle.command_parts.specs.SeveralFiles.{itself};
+impl Source for NameGrammar {
+    ghost told = { Names };
 
-    type Value = NameList;
-
-    ghost Setting = { Counts };
-
-    ghost setting = { λ reader. reader.held.counts };
-
-    ghost fed = { IsFed };
-
-    ghost Seen = { List (List ℕ) };
-
-    ghost seen = { itself };
-
-    ghost reads = { AreListed };
-
-    ghost refuses = { IsListRefused };
-
-    ghost keeps = { λ _ _. Unit {0} };
-
-    fn take(&mut self, piece: &[u8]) {
-        // The reader keeps an error, and answers it at the end.
-        let _ = self.feed(piece);
-    }
-
-    fn judge(self, number: u32) -> Result<NameList, Stop<Refusal>> {
-        judge_names(self, number)
-    }
-}
-
-// The names of the text that a reader was fed, which is this file of its command, or the line to
-// tell.
-fn judge_names(reader: NameReader, file: u32) -> Result<NameList, Stop<Refusal>>
-    ensures says { (counts : Counts) (text : List ℕ) → reader.held.counts ≡ counts
-        → IsFed reader text
-        → Says itself (AreListed counts) (IsListRefused counts file) text result }
-    ensures kept { IfSome reader.stopped (λ stop. result ≡ Err (refused_by (Names file) stop)) }
-{
-    match reader.finish() {
-        Ok(names) => Ok(names),
-        Err(Stop::Fault(fault)) => Err(Stop::Fault(Refusal::Names(file, fault))),
-        Err(Stop::Memory) => Err(Stop::Memory),
+    fn told(number: u32, fault: NameFault) -> Refusal
+        ensures { result ≡ Names number fault }
+    {
+        Refusal::Names(number, fault)
     }
 }
 
@@ -81,10 +39,13 @@ fn open_names<D: Desk>(
         (D.meaning desk.old) (D.meaning desk.new) result }
     ensures known { IfErr result (λ answer. status_of answer ≢ 3) }
 {
-    match NameReader::new(alloc, used, further) {
-        Ok(reader) => open(alloc, desk, name, file, reader),
-        Err(_) => Err(Answer::NoMemory),
-    }
+    open(
+        alloc,
+        desk,
+        name,
+        file,
+        NameGrammar::new(alloc, used, further),
+    )
 }
 
 /// The names of the rows of a file, which this file of a command lists, or the answer that ends the

@@ -1,64 +1,26 @@
 // Reading and judging an .nl file.
-ghost use Rattle.std.specs.Prelude.{◌≡◌, ◌≢◌, List, ℕ, IfErr, IfOk, Err, IfSome};
-ghost use Rattle.nl_segments.specs.Reader.{HasLines, IsFed, IsNl, stop_in, value_of};
+ghost use Rattle.std.specs.Prelude.{◌≡◌, ◌≢◌, IfErr, IfOk};
+ghost use Rattle.nl_segments.specs.Reader.{HasLines, IsNl, fault_of, value_of};
 ghost use Rattle.command_parts.specs.InsideAnswer.{status_of};
 ghost use Rattle.command_parts.specs.Refusal.{HasTextRefusal};
-ghost use Rattle.command_parts.specs.InsideRefusal.{refused_by};
 ghost use Rattle.command_parts.specs.declared.refusal.Refusal.TheVariants.{Nl};
-ghost use Rattle.command_parts.specs.SeveralFiles.{ReadsFile, Says};
+ghost use Rattle.command_parts.specs.SeveralFiles.{ReadsFile};
 
 use crate::answer::Answer;
-use crate::input::{Input, open};
+use crate::input::{Source, open};
 use crate::refusal::Refusal;
 use desk::Desk;
-use nl_segments::{NlRead, NlReader};
+use nl_segments::{NlGrammar, NlRead, NlReason, fault_of};
 use std::alloc::Global;
-use texts::Stop;
+use texts::TextFault;
 
-impl Input for NlReader {
-    ghost use Rattle.nl_segments.specs.Grammar.{NlValue};
-    ghost use Rattle.nl_segments.specs.Reader.{HasLines, IsFed, IsNl, value_of};
-    ghost use Rattle.command_parts.specs.Refusal.{HasTextRefusal};
+impl Source for NlGrammar {
+    ghost told = { λ _ fault. Nl (fault_of fault) };
 
-    type Value = NlRead;
-
-    ghost Setting = { Unit {0} };
-
-    ghost setting = { λ _. tt };
-
-    ghost fed = { IsFed };
-
-    ghost Seen = { NlValue };
-
-    ghost seen = { value_of };
-
-    ghost reads = { λ _. IsNl };
-
-    ghost refuses = { λ _ _. HasTextRefusal };
-
-    ghost keeps = { λ _. HasLines };
-
-    fn take(&mut self, piece: &[u8]) {
-        // The reader keeps an error, and answers it at the end.
-        let _ = self.feed(piece);
-    }
-
-    fn judge(self, _number: u32) -> Result<NlRead, Stop<Refusal>> {
-        judge_nl(self)
-    }
-}
-
-// What the text says that a reader was fed, or why it is refused.
-fn judge_nl(reader: NlReader) -> Result<NlRead, Stop<Refusal>>
-    ensures says { (text : List ℕ) → IsFed reader text
-        → Says value_of IsNl HasTextRefusal text result }
-    ensures lines { IfOk result HasLines }
-    ensures kept { IfSome (stop_in reader) (λ stop. result ≡ Err (refused_by Nl stop)) }
-{
-    match reader.finish() {
-        Ok(read) => Ok(read),
-        Err(Stop::Fault(fault)) => Err(Stop::Fault(Refusal::Nl(fault))),
-        Err(Stop::Memory) => Err(Stop::Memory),
+    fn told(_number: u32, fault: TextFault<NlReason>) -> Refusal
+        ensures { result ≡ Nl (fault_of fault) }
+    {
+        Refusal::Nl(fault_of(fault))
     }
 }
 
@@ -69,8 +31,5 @@ pub fn open_nl<D: Desk>(alloc: Global, desk: &mut D, file: &str) -> Result<NlRea
     ensures lines { IfOk result HasLines }
     ensures known { IfErr result (λ answer. status_of answer ≢ 3) }
 {
-    match NlReader::new(alloc) {
-        Ok(reader) => open(alloc, desk, file, 1, reader),
-        Err(_) => Err(Answer::NoMemory),
-    }
+    open(alloc, desk, file, 1, NlGrammar::new(alloc))
 }

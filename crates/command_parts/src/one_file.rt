@@ -2,33 +2,35 @@
 ghost use Rattle.std.specs.Prelude.{◌≡◌, [], IfOk};
 ghost use Rattle.std.specs.List.{flat_map};
 ghost use Rattle.desk.specs.Desk.{IsUnknown, OnlyInput};
+ghost use Rattle.texts.specs.Readers.{HasTaken, grammar_of};
 ghost use Rattle.command_parts.specs.InsideAnswer.{Ends, EndsInPieces, EndsWriting, Missed};
 ghost use Rattle.command_parts.specs.SeveralFiles.{Answered};
 ghost use Rattle.command_parts.specs.Transfer.{HasRead, HasReadCause};
 
 use crate::answer::Answer;
-use crate::input::Input;
 use crate::refusal::Refusal;
 use crate::transfer::{LIMIT, Unread, feed_text, write_all, write_pieces};
 use desk::Desk;
 use std::alloc::Global;
-use texts::Stop;
+use texts::{Grammar, Reader, Stop};
 
-/// Feeds a new reader the named text.
-pub fn read<D: Desk, R: Input>(
+/// A reader by a grammar that has taken no lines, which was fed the named text.
+pub fn read<D: Desk, G: Grammar>(
     alloc: Global,
     desk: &mut D,
     file: &str,
-    mut reader: R,
-) -> Result<R, Unread>
-    requires { R.fed reader [] }
+    grammar: G,
+) -> Result<Reader<G>, Unread>
+    requires { G.took grammar [] }
     ensures text { IfOk result (λ reader. HasRead (D.meaning desk.old).texts file.now LIMIT
-        (D.meaning desk.new).left (R.fed reader)) }
-    ensures setting { IfOk result (λ read. R.setting read ≡ R.setting reader) }
+        (D.meaning desk.new).left
+        (HasTaken (G.rules (G.setting (grammar_of reader))) G.took reader)) }
+    ensures setting { IfOk result (λ reader. G.setting (grammar_of reader) ≡ G.setting grammar) }
     ensures cause { HasReadCause (IsUnknown (D.meaning desk.old).texts file.now)
         (D.meaning desk.old).input_faults (D.meaning desk.new).input_faults result }
     ensures rest { OnlyInput (D.meaning desk.old) (D.meaning desk.new) }
 {
+    let mut reader = Reader::new(alloc, grammar)?;
     feed_text(alloc, desk, file, &mut reader)?;
     Ok(reader)
 }

@@ -1,12 +1,12 @@
 // The lines of verdicts on proofs.
 ghost use Rattle.std.specs.Prelude.{◌≡◌, IfOk};
-ghost use Rattle.certificate_walk.specs.Outcomes.{fault_found};
+ghost use Rattle.certificate_judge.specs.Outcomes.{fault_found};
 ghost use Rattle.branch_check.specs.Leaves.{fault_of};
 ghost use Rattle.command_parts.specs.ProofTold.{leaf_line};
 
 use crate::certificate_told::failed_line;
 use branch_check::ProofVerdict;
-use certificate_walk::{Cause, LeafFault};
+use certificate_judge::{Cause, LeafFault};
 use std::alloc::{AllocError, Global};
 
 // The first leaf that does not close, and why.

@@ -3,11 +3,12 @@ ghost use Rattle.std.specs.Prelude.{◌≡◌, ◌<◌, ◌≤◌, IfOk, OnOk, l
 ghost use Rattle.std.specs.List.{flat_map};
 ghost use Rattle.std.specs.Io.KnownBytes.{ReadConsumes};
 ghost use Rattle.desk.specs.Desk.{HasCause, IsUnknown, OnlyInput, OnlyOutput, OnlyMessages};
+ghost use Rattle.texts.specs.Readers.{HasTaken, grammar_of};
 ghost use Rattle.command_parts.specs.Transfer.{AppendsAll, TellsFront, FeedsText, FeedsToLimit, HasReadCause};
 
-use crate::input::Input;
 use desk::{Desk, Failed};
 use std::alloc::{AllocError, Global};
+use texts::{Grammar, Reader};
 
 /// A text is read up to this many bytes.
 pub const LIMIT: usize = 0x8000_0001;
@@ -100,11 +101,16 @@ fn read_piece<D: Desk>(desk: &mut D, room: &mut [u8], most: usize) -> Result<usi
 }
 
 // Feeds the reader what is left of the current text, to its end or to the limit.
-fn feed_rest<D: Desk, R: Input>(desk: &mut D, reader: &mut R, room: &mut [u8]) -> Result<(), Failed>
+fn feed_rest<D: Desk, G: Grammar>(
+    desk: &mut D,
+    reader: &mut Reader<G>,
+    room: &mut [u8],
+) -> Result<(), Failed>
     requires { 0 < length room.old }
     ensures text { OnOk result (FeedsToLimit (D.meaning desk.old).left (D.meaning desk.new).left
-        LIMIT (R.fed reader.old) (R.fed reader.new)) }
-    ensures setting { R.setting reader.new ≡ R.setting reader.old }
+        LIMIT (HasTaken (G.rules (G.setting (grammar_of reader.old))) G.took reader.old)
+        (HasTaken (G.rules (G.setting (grammar_of reader.new))) G.took reader.new)) }
+    ensures setting { G.setting (grammar_of reader.new) ≡ G.setting (grammar_of reader.old) }
     ensures cause { HasCause (D.meaning desk.old).input_faults (D.meaning desk.new).input_faults
         result }
     ensures rest { OnlyInput (D.meaning desk.old) (D.meaning desk.new) }
@@ -116,22 +122,25 @@ fn feed_rest<D: Desk, R: Input>(desk: &mut D, reader: &mut R, room: &mut [u8]) -
         if count == 0 {
             return Ok(());
         }
-        reader.take(&room[..count]);
+        // The reader keeps an error, and answers it at the end.
+        let _ = reader.feed(&room[..count]);
         taken += count;
     }
     Ok(())
 }
 
 /// Feeds a reader the named text to its end, or to the limit.
-pub fn feed_text<D: Desk, R: Input>(
+pub fn feed_text<D: Desk, G: Grammar>(
     alloc: Global,
     desk: &mut D,
     name: &str,
-    reader: &mut R,
+    reader: &mut Reader<G>,
 ) -> Result<(), Unread>
     ensures text { OnOk result (FeedsText (D.meaning desk.old).texts name.now LIMIT
-        (D.meaning desk.new).left (R.fed reader.old) (R.fed reader.new)) }
-    ensures setting { R.setting reader.new ≡ R.setting reader.old }
+        (D.meaning desk.new).left
+        (HasTaken (G.rules (G.setting (grammar_of reader.old))) G.took reader.old)
+        (HasTaken (G.rules (G.setting (grammar_of reader.new))) G.took reader.new)) }
+    ensures setting { G.setting (grammar_of reader.new) ≡ G.setting (grammar_of reader.old) }
     ensures cause { HasReadCause (IsUnknown (D.meaning desk.old).texts name.now)
         (D.meaning desk.old).input_faults (D.meaning desk.new).input_faults result }
     ensures rest { OnlyInput (D.meaning desk.old) (D.meaning desk.new) }

@@ -1,11 +1,11 @@
 // The lines of verdicts, and of faults of solutions that do not fit their file.
 ghost use Rattle.std.specs.Prelude.{◌≡◌, ◌++◌, IfOk, OnOk, string_bytes};
-ghost use Rattle.dual_bounds.specs.Answers.{answer_of};
-ghost use Rattle.dual_bounds.specs.declared.verdict.Verdict.TheVariants.{TooWide};
+ghost use Rattle.exact_checks.specs.Answers.{answer_of};
+ghost use Rattle.exact_checks.specs.declared.verdict.Verdict.TheVariants.{TooWide};
 ghost use Rattle.command_parts.specs.VerdictTold.{fit_line, is_yes, negative_line, verdict_line, verdict_text};
 
 use crate::told::{fixed, put_signed};
-use dual_bounds::{Spot, Verdict};
+use exact_checks::{Spot, Verdict};
 use solution_fit::FitFault;
 use std::alloc::{AllocError, Global};
 use written_texts::LineText;

@@ -55,10 +55,6 @@ next_count n = min (n + 1) (2 ^ 64 - 1)
 abbrev pub is_failing : MemoryState → Bool
 is_failing s = list_any (λ n. n == s.calls) s.failing
 
--- the state after a call was numbered
-abbrev pub numbered : MemoryState → MemoryState
-numbered s = record s { calls = next_count s.calls }
-
 -- a start succeeds
 abbrev pub start_succeeds : MemoryState → List ℕ → Bool
 start_succeeds s name = not (is_failing s) && is_some (text_named s.texts name)

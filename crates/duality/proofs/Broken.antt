@@ -31,7 +31,7 @@ below (Some u) x = by (le_or_lt x u)
     by (inl h) = inl h
     by (inr h) = inr (λ g. not_both x u g h)
 
-inside_or_not : (s : Interval) (x : ℚ) → IsInside s x ⊎ (¬ IsInside s x)
+pub inside_or_not : (s : Interval) (x : ℚ) → IsInside s x ⊎ (¬ IsInside s x)
 inside_or_not s x = by (above s.lower x) (below s.upper x)
   where
     by : AtLeast s.lower x ⊎ (¬ AtLeast s.lower x) → AtMost s.upper x ⊎ (¬ AtMost s.upper x) → IsInside s x ⊎ (¬ IsInside s x)

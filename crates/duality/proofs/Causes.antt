@@ -5,22 +5,19 @@ use Rattle.fractions.specs.Rational.{ℚ, zero_ℚ}
 use Rattle.program_meaning.specs.Linear.{Interval, Linear, value_at, variable_count, row_at, row_count}
 use Rattle.duality.specs.Branch.{BranchTree, LeafFault, proof_fault}
 use Rattle.duality.specs.Certificate.{Certificate, optimal, near, bounded, feasible, infeasible, unbounded, Cause, at_point, not_whole, objective_wide, at_ray, at_leaf, Judged, valued as judged_valued, refused as judged_refused, judged, judged_by, given_fault, whole_fault, fitting_bound_fault, can_compare, unless_leaf, unless_ray, with_proof, with_leaves, with_ray, alone, ClaimOutcome, holds, fails, outcome}
-use Rattle.duality.specs.Parts.{whole_part}
 use Rattle.duality.specs.Points.{Numbers, bounds_of}
 use Rattle.duality.specs.Ray.{RayFault, ray_fault}
-use Rattle.duality.specs.Verdict.{Fault, row_broken, bound_broken, row_side_missing, bound_side_missing, too_wide, at_row, at_bound, first_fault, row_fault, row_check, bound_fault, run_form, sides_fit, is_inside}
+use Rattle.duality.specs.Verdict.{Fault, row_broken, bound_broken, too_wide, at_row, at_bound, first_fault, row_fault, row_check, bound_fault, run_form, sides_fit, is_inside}
 use Rattle.duality.proofs.DualFaults.{both_say, first_says}
-use Rattle.duality.specs.LeafSays.{IsLeafDenied}
 use Rattle.duality.specs.ProblemSays.{AtPoint}
-use Rattle.duality.proofs.LeafGaps.{leaf_denies}
 
--- ---- at a point no side is missing
+-- ---- at a point: its rows and bounds
 abbrev pub IsPointFault : Fault → Type 0
 IsPointFault (row_broken i) = Unit {0}
 IsPointFault (bound_broken j) = Unit {0}
-IsPointFault (row_side_missing i) = ⊥
-IsPointFault (bound_side_missing j) = ⊥
-IsPointFault (too_wide place) = Unit {0}
+IsPointFault (too_wide (at_row i)) = Unit {0}
+IsPointFault (too_wide (at_bound j)) = Unit {0}
+IsPointFault other = ⊥
 
 row_kind : (i : ℕ) (s : Interval) (o : Option ℚ) → IfSome (row_check i s o) IsPointFault
 row_kind i s None = tt
@@ -48,8 +45,8 @@ given_kind : (p : Linear) (x : Numbers) → IfSome (given_fault p x) IsPointFaul
 unfolding given_fault
 given_kind p x =
     both_say IsPointFault (first_fault (row_fault p x) (row_count p)) (first_fault (fitting_bound_fault p x) (variable_count p))
-    (first_says IsPointFault (row_fault p x) (row_count p) (λ i l. row_fault_kind p x i))
-    (first_says IsPointFault (fitting_bound_fault p x) (variable_count p) (λ j l. bound_kind p x j))
+    (first_says IsPointFault (row_fault p x) (row_count p) (λ i l none. row_fault_kind p x i))
+    (λ none. first_says IsPointFault (fitting_bound_fault p x) (variable_count p) (λ j l none. bound_kind p x j))
 
 -- ---- a point is refused by what is judged at it
 abbrev JudgedKind : Judged → Type 0
@@ -71,12 +68,16 @@ judged_kind p xs = by (given_fault p (value_at xs)) (whole_fault p (value_at xs)
     by None None (Some v) h = tt
 
 -- ---- what each cause has
+-- the leaf is the first that does not close, for some value that is to be met
+abbrev pub IsOpenLeaf : Linear → BranchTree → LeafFault → Type 0
+IsOpenLeaf p tree g = (v : ℚ) × (proof_fault p v tree ≡ Some g)
+
 abbrev pub LeafCause : Linear → Certificate → LeafFault → Type 0
-LeafCause p (optimal xs tree) g = IsLeafDenied p tree g
-LeafCause p (near xs b tree) g = IsLeafDenied p tree g
-LeafCause p (bounded v tree) g = IsLeafDenied p tree g
+LeafCause p (optimal xs tree) g = IsOpenLeaf p tree g
+LeafCause p (near xs b tree) g = IsOpenLeaf p tree g
+LeafCause p (bounded v tree) g = IsOpenLeaf p tree g
 LeafCause p (feasible xs) g = ⊥
-LeafCause p (infeasible tree) g = IsLeafDenied p tree g
+LeafCause p (infeasible tree) g = IsOpenLeaf p tree g
 LeafCause p (unbounded xs ds) g = ⊥
 
 abbrev pub HasPoint : Certificate → Type 0
@@ -100,16 +101,12 @@ refused_has p c at objective_wide h = at
 refused_has p c at (at_ray g) h = absurd h
 refused_has p c at (at_leaf g) h = absurd h
 
-pub denied : (p : Linear) (tree : BranchTree) (v : ℚ) (g : LeafFault) → proof_fault p v tree ≡ Some g → IsLeafDenied p tree g
-unfolding proof_fault
-denied p tree v g e = record { met = v; denies = leaf_denies (whole_part p v) tree g e }
-
-leaf_has : (p : Linear) (c : Certificate) (tree : BranchTree) (v : ℚ) (o : Option ℚ) → ((g : LeafFault) → IsLeafDenied p tree g → LeafCause p c g) → OutcomeHas p c (unless_leaf (proof_fault p v tree) o)
+leaf_has : (p : Linear) (c : Certificate) (tree : BranchTree) (v : ℚ) (o : Option ℚ) → ((g : LeafFault) → IsOpenLeaf p tree g → LeafCause p c g) → OutcomeHas p c (unless_leaf (proof_fault p v tree) o)
 leaf_has p c tree v o to = by (proof_fault p v tree) refl
   where
     by : (r : Option LeafFault) → proof_fault p v tree ≡ r → OutcomeHas p c (unless_leaf r o)
     by None e = tt
-    by (Some g) e = to g (denied p tree v g e)
+    by (Some g) e = to g (v, e)
 
 ray_has : (p : Linear) (c : Certificate) → HasPoint c → (r : Option RayFault) → OutcomeHas p c (unless_ray r)
 ray_has p c at None = tt

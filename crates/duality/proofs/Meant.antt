@@ -31,6 +31,8 @@ module _ (f : Linear) where
   pub meant : Means f (problem_in f)
   meant =
       record {
+        constraints = refl;
+        variables = refl;
         feasible = λ xs. (λ h. record { relaxed = (relaxed xs).0 h.relaxed; whole = h.whole }, λ h. record { relaxed = (relaxed xs).1 h.relaxed; whole = h.whole });
         relaxed = relaxed;
         rows = rows;

@@ -5,10 +5,12 @@ use Rattle.program_meaning.specs.Linear.{Linear, IsFeasible as IsFeasibleProgram
 use Rattle.duality.specs.Says.{IsRowBroken, IsBoundBroken as IsBoundBrokenProgram, IsNotWhole as IsNotWholeProgram}
 use Rattle.duality.specs.Problem.{Problem, IsBoundBroken, IsConstraintBroken, IsFeasible, IsNotWhole, IsRelaxed}
 
--- The same points are feasible, and so without the whole variables; a point fails at the same
--- constraints, bounds and whole variables; each body has a value at each point; the objective is
--- there, with the same sense and values.
+-- Constraints and variables are as many; the same points are feasible, and so without the whole
+-- variables; a point fails at the same constraints, bounds and whole variables; each body has a
+-- value at each point; the objective is there, with the same sense and values.
 pub record Means (f : Linear) (p : Problem) : Type 0 where
+  pub constraints : p.constraints ≡ row_count f
+  pub variables : p.variables ≡ variable_count f
   pub feasible : (xs : List ℚ) → IsFeasible p xs ↔ IsFeasibleProgram f xs
   pub relaxed : (xs : List ℚ) → IsRelaxed p xs ↔ IsRelaxedProgram f xs
   pub rows : (xs : List ℚ) (i : ℕ) → IsConstraintBroken p xs i ↔ IsRowBroken f xs i

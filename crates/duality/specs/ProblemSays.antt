@@ -1,27 +1,39 @@
 -- What a verdict on a linear program says of the problem that the program means.
-use Rattle.std.specs.Prelude.{List, [], Option}
+use Rattle.std.specs.Prelude.{ℕ, ◌<◌, List, [], Option}
 use Rattle.fractions.specs.Rational.{ℚ}
-use Rattle.program_meaning.specs.Linear.{Linear}
+use Rattle.program_meaning.specs.Linear.{IsInside, Linear, value_at}
 use Rattle.duality.specs.Branch.{LeafFault}
 use Rattle.duality.specs.Certificate.{Certificate, optimal, near, bounded, feasible, infeasible, unbounded, Cause, at_point, not_whole, objective_wide, at_ray, at_leaf, ClaimOutcome, holds, fails}
 use Rattle.duality.specs.LeafSays.{IsLeafDenied}
-use Rattle.duality.specs.Problem.{Problem, IsBoundBroken, IsConstraintBroken, IsFeasible, IsNotWhole, IsRelaxed, IsWithinGap}
+use Rattle.duality.specs.Problem.{Problem, IsBoundBroken, IsConstraintBroken, IsConstraintMet, IsFeasible, IsNotWhole, IsRelaxed, IsWithinGap}
 use Rattle.duality.specs.Told.{IsToldTrue, told_certificate}
 use Rattle.duality.specs.Verdict.{Place, at_row, at_bound, at_cost, at_objective, at_total, Fault, row_broken, bound_broken, row_side_missing, bound_side_missing, too_wide, Verdict, yes, gap, refused}
 
+-- ---- up to where a point is met
+-- constraint i is there, and each before it is met
+pub record IsMetBeforeConstraint (p : Problem) (xs : List ℚ) (i : ℕ) : Type 0 where
+  pub within : i < p.constraints
+  pub met : (h : ℕ) → h < i → IsConstraintMet p xs h
+
+-- variable j is there; each constraint is met, and each variable before it is within its bounds
+pub record IsMetBeforeBound (p : Problem) (xs : List ℚ) (j : ℕ) : Type 0 where
+  pub within : j < p.variables
+  pub met : (i : ℕ) → i < p.constraints → IsConstraintMet p xs i
+  pub bounds : (k : ℕ) → k < j → IsInside (p.bound k) (value_at xs k)
+
 -- ---- the verdict on a point and duals
--- what is too wide says nothing of the row or bound at which it is met; after them the point is
--- relaxed feasible
+-- what is too wide at a constraint or a bound says that all before it is met; after them the point
+-- is relaxed feasible
 abbrev pub WidthSays : Problem → List ℚ → Place → Type 0
-WidthSays p xs (at_row i) = Unit {0}
-WidthSays p xs (at_bound j) = Unit {0}
+WidthSays p xs (at_row i) = IsMetBeforeConstraint p xs i
+WidthSays p xs (at_bound j) = IsMetBeforeBound p xs j
 WidthSays p xs (at_cost j) = IsRelaxed p xs
 WidthSays p xs at_objective = IsRelaxed p xs
 WidthSays p xs at_total = IsRelaxed p xs
 
 abbrev pub FaultSays : Problem → List ℚ → Fault → Type 0
-FaultSays p xs (row_broken i) = IsConstraintBroken p xs i
-FaultSays p xs (bound_broken j) = IsBoundBroken p xs j
+FaultSays p xs (row_broken i) = IsMetBeforeConstraint p xs i × IsConstraintBroken p xs i
+FaultSays p xs (bound_broken j) = IsMetBeforeBound p xs j × IsBoundBroken p xs j
 FaultSays p xs (row_side_missing i) = IsRelaxed p xs
 FaultSays p xs (bound_side_missing j) = IsRelaxed p xs
 FaultSays p xs (too_wide place) = WidthSays p xs place
@@ -45,14 +57,14 @@ point_in (unbounded xs ds) = xs
 abbrev pub IsShown : Problem → Certificate → Option ℚ → Type 0
 IsShown p c o = IsToldTrue p (point_in c) (told_certificate c o)
 
--- What a fault of the rows and bounds at a point says: nothing of what is too wide. No side can be
--- missing there.
+-- What a fault of the constraints and bounds at a point says: all before it is met. No other fault
+-- comes there: so the line `too wide at objective` has the cause objective_wide alone.
 abbrev pub PointDenies : Problem → List ℚ → Fault → Type 0
-PointDenies p xs (row_broken i) = IsConstraintBroken p xs i
-PointDenies p xs (bound_broken j) = IsBoundBroken p xs j
-PointDenies p xs (row_side_missing i) = ⊥
-PointDenies p xs (bound_side_missing j) = ⊥
-PointDenies p xs (too_wide place) = Unit {0}
+PointDenies p xs (row_broken i) = IsMetBeforeConstraint p xs i × IsConstraintBroken p xs i
+PointDenies p xs (bound_broken j) = IsMetBeforeBound p xs j × IsBoundBroken p xs j
+PointDenies p xs (too_wide (at_row i)) = IsMetBeforeConstraint p xs i
+PointDenies p xs (too_wide (at_bound j)) = IsMetBeforeBound p xs j
+PointDenies p xs other = ⊥
 
 -- it holds at the point that is judged; a claim on a bound or on no feasible point is judged
 -- without one
@@ -67,11 +79,11 @@ AtPoint (unbounded xs ds) says = says xs
 -- what a leaf of a tree over the program f says that does not close: the point, where one is
 -- judged, is feasible
 abbrev pub LeafSays : Problem → Linear → Certificate → LeafFault → Type 0
-LeafSays p f (optimal xs tree) g = IsFeasible p xs × IsLeafDenied f tree g
-LeafSays p f (near xs b tree) g = IsFeasible p xs × IsLeafDenied f tree g
-LeafSays p f (bounded v tree) g = IsLeafDenied f tree g
+LeafSays p f (optimal xs tree) g = IsFeasible p xs × IsLeafDenied p f tree g
+LeafSays p f (near xs b tree) g = IsFeasible p xs × IsLeafDenied p f tree g
+LeafSays p f (bounded v tree) g = IsLeafDenied p f tree g
 LeafSays p f (feasible xs) g = ⊥
-LeafSays p f (infeasible tree) g = IsLeafDenied f tree g
+LeafSays p f (infeasible tree) g = IsLeafDenied p f tree g
 LeafSays p f (unbounded xs ds) g = ⊥
 
 -- What is said where a certificate fails, by its cause. The point is judged before the ray and the

@@ -17,7 +17,7 @@ use Rattle.fractions.specs.Rational.{over}
 use Rattle.fractions.specs.LowestLemmas.{gcd_of, is_gcd}
 use Rattle.exact_numbers.specs.Decimal.{signed}
 use Rattle.exact_numbers.proofs.Coprime.{Reduced, same_reduced, Crosswise, crosswise, reduced_by, lcm_by, same_lcm, lcm_over, coprime-swap}
-use Rattle.exact_numbers.proofs.Signed.{sizes_of, parts_of, same_halves, SameValue-trans, SameValue-sym, sum_times, times_twice}
+use Rattle.exact_numbers.proofs.Signed.{sizes_of, SameValue-trans, SameValue-sym, sum_times, times_twice}
 use Rattle.exact_numbers.proofs.Decimals.{size_of, abs_is, negative_test, is_negative}
 
 pub signed_times : (s : Bool) (x y : ℕ) → signed s x *ℤ pos y ≡ signed s (x * y)
@@ -210,15 +210,6 @@ added n d k e g x y is =
 pub sized_fits : (z : ℤ) → unsigned_abs z < 2 ^ 127 → SFits w128 z
 sized_fits (pos n) h = record { sfits = h }
 sized_fits (negsuc n) h = record { sfits = omega arith }
-
--- two Fracs of one value have one denominator and one numerator
-pub same_frac : (m : ℤ) (d : ℕ) (k : ℤ) (e : ℕ) → IsFrac m d → IsFrac k e → SameValue (pair m d) (pair k e) → (m ≡ k) × (d ≡ e)
-same_frac m d k e x y h =
-    let sizes : unsigned_abs m * e ≡ unsigned_abs k * d = sizes_of m k e d h.equal in
-    let same = same_reduced (unsigned_abs m) d (unsigned_abs k) e x.above y.above x.reduced y.reduced sizes in
-    let tops : m *ℤ pos e ≡ k *ℤ pos e = h.equal ∙ ap (λ n. k *ℤ pos n) same.1 in
-    let parts = parts_of m k e e tops in
-    (same_halves m k (eq_of_mul-eq-mul_right e y.above _ _ parts.0) (eq_of_mul-eq-mul_right e y.above _ _ parts.1), same.1)
 
 pub is_frac_turned : (s : Bool) (n : ℤ) (d a : ℕ) → a ≡ unsigned_abs n → n ≢ pos 0 → IsFrac n d → IsFrac (signed s d) a
 is_frac_turned s n d a e some h =

@@ -93,24 +93,6 @@ alike_z u v x y l e g =
     (cases_order u v)
 
 module _ (m k : ℤ) (a c b d : ℕ) (first : a ≡ unsigned_abs m) (second : c ≡ unsigned_abs k) where
-  pub order_above : pos 0 ≤ℤ m → pos 0 ≤ℤ k → nat_cmp (a * d) (c * b) ≡ int_cmp (m *ℤ pos d) (k *ℤ pos b)
-  order_above p q =
-      let x : a ≡ up m = omega (arith, first, abs_is m, above_down m p) in
-      let y : c ≡ up k = omega (arith, second, abs_is k, above_down k q) in
-      let u = ap (λ n. n * d) x in
-      let v = ap (λ n. n * b) y in
-      let none = above_down m p in
-      let gone = above_down k q in
-      let s = ap (λ n. n * d) none in
-      let t = ap (λ n. n * b) gone in
-      let f = m *ℤ pos d in
-      let g = k *ℤ pos b in
-      let fu : up f ≡ a * d = up_times m d ∙ sym u in
-      let fd : down f ≡ 0 = omega (arith, down_times m d, s) in
-      let gu : up g ≡ c * b = up_times k b ∙ sym v in
-      let gd : down g ≡ 0 = omega (arith, down_times k b, t) in
-      alike_z (a * d) (c * b) f g (λ h. omega (arith, ints)) (λ h. omega (arith, ints)) (λ h. omega (arith, ints))
-
   pub order_below : m <ℤ pos 0 → k <ℤ pos 0 → nat_cmp (c * b) (a * d) ≡ int_cmp (m *ℤ pos d) (k *ℤ pos b)
   order_below p q =
       let x : a ≡ down m = omega (arith, first, abs_is m, below_up m p) in

@@ -12,6 +12,7 @@ use Rattle.std.specs.Str.Parse.{AllDigits, digits_value, digits_value_after}
 use Rattle.fractions.specs.Rational.{decimal_value}
 use Rattle.exact_numbers.specs.Decimal.{signed, IsDec}
 use Rattle.exact_numbers.specs.Text.{begins_minus, after_sign, is_mark, is_point, mantissa_part, exponent_part, whole_digits, fraction_digits, IsExponent, exponent_value, IsDecText, text_value}
+use Rattle.exact_numbers.specs.InsideFront.{IsBare}
 use Rattle.exact_numbers.specs.Written.{zeros, with_point, padded, scaled_text, dec_text}
 use Rattle.exact_numbers.proofs.Decimals.{signed_moved}
 use Rattle.exact_numbers.proofs.Fractions.{signed_self}
@@ -69,9 +70,9 @@ digits-point (x ∷ xs) h = (no_point x (digit_byte x h.0), digits-point xs h.1)
 
 -- ---- a text cut into its parts
 pub record Cut (text whole fraction exponent : List ℕ) : Type 0 where
-  whole_is : whole_digits text ≡ whole
-  fraction_is : fraction_digits text ≡ fraction
-  exponent_is : exponent_part text ≡ exponent
+  pub whole_is : whole_digits text ≡ whole
+  pub fraction_is : fraction_digits text ≡ fraction
+  pub exponent_is : exponent_part text ≡ exponent
 
 pub cut_plain : (text xs : List ℕ) → after_sign text ≡ xs → AllDigits 10 xs → Cut text xs [] []
 cut_plain text xs e d =
@@ -126,11 +127,11 @@ pub record IsReading (text : List ℕ) (m e : ℤ) : Type 0 where
   pub is : IsDecText text
   pub value : text_value text ≡ decimal_value m e
 
-pub reading : (text whole fraction exponent : List ℕ) (s : Bool) (m e : ℤ) → Cut text whole fraction exponent → begins_minus text ≡ s → AllDigits 10 whole → AllDigits 10 fraction → 0 < length whole → IsExponent exponent → decimal_value (signed s (digits_value 10 (whole ++ fraction))) (exponent_value exponent -ℤ pos (length fraction)) ≡ decimal_value m e → IsReading text m e
-reading text whole fraction exponent s m e c sign dw df some de value =
+pub reading_of : (text whole fraction exponent : List ℕ) (s : Bool) (m e : ℤ) → Cut text whole fraction exponent → begins_minus text ≡ s → AllDigits 10 whole → AllDigits 10 fraction → 0 < length whole + length fraction → IsExponent exponent → decimal_value (signed s (digits_value 10 (whole ++ fraction))) (exponent_value exponent -ℤ pos (length fraction)) ≡ decimal_value m e → IsReading text m e
+reading_of text whole fraction exponent s m e c sign dw df some de value =
     record {
       is = record {
-        some = subst₂ (λ xs ys. 0 < length xs + length ys) (sym c.whole_is) (sym c.fraction_is) (omega arith);
+        some = subst₂ (λ xs ys. 0 < length xs + length ys) (sym c.whole_is) (sym c.fraction_is) some;
         whole = subst (λ xs. AllDigits 10 xs) (sym c.whole_is) dw;
         fraction = subst (λ xs. AllDigits 10 xs) (sym c.fraction_is) df;
         exponent = subst IsExponent (sym c.exponent_is) de;
@@ -141,6 +142,42 @@ reading text whole fraction exponent s m e c sign dw df some de value =
           ∙ ap (λ zs. decimal_value (signed s (digits_value 10 (whole ++ fraction))) (exponent_value zs -ℤ pos (length fraction))) c.exponent_is
           ∙ value;
     }
+
+pub reading : (text whole fraction exponent : List ℕ) (s : Bool) (m e : ℤ) → Cut text whole fraction exponent → begins_minus text ≡ s → AllDigits 10 whole → AllDigits 10 fraction → 0 < length whole → IsExponent exponent → decimal_value (signed s (digits_value 10 (whole ++ fraction))) (exponent_value exponent -ℤ pos (length fraction)) ≡ decimal_value m e → IsReading text m e
+reading text whole fraction exponent s m e c sign dw df some de value = reading_of text whole fraction exponent s m e c sign dw df (omega arith) de value
+
+-- ---- an exponent behind a number without one
+
+fails-none : (p : ℕ → Bool) (xs : List ℕ) → drop (position_or_len p xs) xs ≡ [] → Fails p xs
+fails-none p [] h = tt
+fails-none p (x ∷ xs) h = by (p x) refl (fails-none p xs) h
+  where
+    by : (t : Bool) → p x ≡ t → (drop (position_or_len p xs) xs ≡ [] → Fails p xs) → drop (cond (not t) (1 + position_or_len p xs) 0) (x ∷ xs) ≡ [] → Fails p (x ∷ xs)
+    by true e rest g = absurd cc
+    by false e rest g = let next : suc (position_or_len p xs) ≡ 1 + position_or_len p xs = omega arith in (e, rest (ap (λ i. drop i (x ∷ xs)) next ∙ g))
+
+after_sign-append : (b : ℕ) (text more : List ℕ) → after_sign ((b ∷ text) ++ more) ≡ after_sign (b ∷ text) ++ more
+after_sign-append b text more = by (nat_eq b 43 || nat_eq b 45)
+  where
+    by : (t : Bool) → cond t (text ++ more) (b ∷ text ++ more) ≡ cond t text (b ∷ text) ++ more
+    by true = refl
+    by false = refl
+
+pub marked : (text : List ℕ) (s : Bool) (size places y : ℕ) (ys : List ℕ) → IsBare text s size places → is_mark y ≡ true → IsExponent (y ∷ ys) → IsReading (text ++ y ∷ ys) (signed s size) (exponent_value (y ∷ ys) -ℤ pos places)
+marked [] s size places y ys bare mark de = absurd (omega (arith, bare.is.some))
+marked (b ∷ bs) s size places y ys bare mark de =
+    let text = b ∷ bs in
+    let body = after_sign text in
+    let fails : Fails is_mark body = fails-none is_mark body bare.bare in
+    let more : after_sign (text ++ y ∷ ys) ≡ body ++ y ∷ ys = after_sign-append b bs (y ∷ ys) in
+    let mantissa : mantissa_part (text ++ y ∷ ys) ≡ mantissa_part text = ap (before_first is_mark) more ∙ before-stop is_mark body y ys fails mark ∙ sym (before-none is_mark body fails) in
+    reading_of (text ++ y ∷ ys) (whole_digits text) (fraction_digits text) (y ∷ ys) s (signed s size) (exponent_value (y ∷ ys) -ℤ pos places)
+    (record {
+      whole_is = ap (before_first is_point) mantissa;
+      fraction_is = ap (after_first is_point) mantissa;
+      exponent_is = ap (λ zs. drop (position_or_len is_mark zs) zs) more ∙ from-stop is_mark body y ys fails mark;
+    })
+    bare.sign bare.is.whole bare.is.fraction bare.is.some de (ap₂ (λ v k. decimal_value (signed s v) (exponent_value (y ∷ ys) -ℤ pos k)) bare.digits bare.after)
 
 zeros-length : (k : ℕ) → length (zeros k) ≡ k
 zeros-length k = length-replicate {A = ℕ} k 48

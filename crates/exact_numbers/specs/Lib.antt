@@ -2,6 +2,7 @@ pub mod Fraction
 pub mod Decimal
 pub mod Written
 pub mod InsidePadded
+pub mod InsideFront
 pub mod Values
 pub mod Text
 pub mod SpelledLemmas

@@ -182,6 +182,9 @@ impl Frac {
     pub fn mul(self, other: Frac) -> Option<Frac>
         ensures { IsFracOf result (frac_value self *ℚ frac_value other) }
     {
+        if self.is_one() {
+            return Some(other);
+        }
         if let Some(product) = self.mul_short(other) {
             return Some(product);
         }
@@ -190,9 +193,6 @@ impl Frac {
         }
         if other.is_one() {
             return Some(self);
-        }
-        if self.is_one() {
-            return Some(other);
         }
         self.mul_parts(other)
     }

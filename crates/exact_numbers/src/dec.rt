@@ -5,7 +5,7 @@ use crate::words::Words;
 use std::marker::Model;
 
 /// The number m * 10 ^ e, in its one form: the last digit of m is not 0, and zero is (0, 0).
-#[derive(Clone, Copy, Debug)]
+#[derive(Clone, Copy)]
 pub struct Dec {
     pub(crate) words: Words,
     pub(crate) e: i16,

@@ -4,6 +4,7 @@
 mod arithmetic;
 mod dec;
 mod frac;
+mod front;
 mod gcd;
 pub mod laws;
 mod mantissa;
@@ -19,10 +20,8 @@ mod write;
 pub use arithmetic::lcm;
 pub use dec::Dec;
 pub use frac::Frac;
+pub use front::{FrontDec, PlainIndex, front_dec, plain_dec, plain_index};
 pub use mantissa::MAXN;
 pub use num_text::NumText;
-pub use numbers::{
-    FrontDec, PlainIndex, are_digits, dec_of, front_dec, plain_dec, plain_index, signed_of,
-    whole_of,
-};
+pub use numbers::{are_digits, dec_of, signed_of, whole_of};
 pub use read::{NumFault, read_dec, read_whole};

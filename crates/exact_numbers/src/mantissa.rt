@@ -1,4 +1,4 @@
-ghost use Rattle.std.specs.Prelude.{◌≡◌, ◌≢◌, ℕ, ◌+◌, ◌*◌, ◌%◌, ◌<◌, ◌≤◌, ◌^◌, MatchOption, SomeIff, unsigned_abs, neg_ℤ, pos, IsTrue, ◌↔◌, ◌*ℤ◌};
+ghost use Rattle.std.specs.Prelude.{◌≡◌, ◌≢◌, ℕ, ◌+◌, ◌*◌, ◌%◌, ◌<◌, ◌≤◌, ◌≤ℤ◌, ◌^◌, MatchOption, SomeIff, unsigned_abs, neg_ℤ, pos, IsTrue, ◌↔◌, ◌*ℤ◌};
 ghost use Rattle.fractions.specs.Rational.{whole, zero_ℚ, ◌*ℚ◌, ◌<ℚ◌, neg_ℚ, decimal_value, IsWhole};
 ghost use Rattle.exact_numbers.specs.Decimal.{signed};
 ghost use Rattle.exact_numbers.specs.Values.{dec_value, exponent_of, mantissa_of, IsDecOf, IsInReach};
@@ -95,12 +95,12 @@ impl Dec {
         Dec::of_few(n < 0, n.unsigned_abs(), 0)
     }
 
-    // The Dec of a size of 64 bits, with so many places after the point and a sign.
+    // The Dec of a sign and a size of 64 bits, times a power of ten.
     #[inline]
-    pub(crate) fn of_few(negative: bool, size: u64, places: u32) -> Dec
-        requires { places ≤ 40 }
-        ensures { dec_value result
-            ≡ decimal_value (signed negative size) (neg_ℤ (pos places)) }
+    pub(crate) fn of_few(negative: bool, size: u64, power: i16) -> Dec
+        requires low { neg_ℤ (pos 300) ≤ℤ power }
+        requires high { power ≤ℤ pos 300 }
+        ensures { dec_value result ≡ decimal_value (signed negative size) power }
     {
         if size == 0 {
             return Dec::zero();
@@ -108,7 +108,7 @@ impl Dec {
         let stripped = strip_few(size);
         Dec::of_parts(
             with_sign(negative, stripped.rest),
-            stripped.zeros as i16 - places as i16,
+            stripped.zeros as i16 + power,
         )
     }
 

@@ -8,6 +8,7 @@ ghost use Rattle.exact_numbers.specs.Text.{begins_minus, after_sign, is_mark, is
 ghost use Rattle.exact_numbers.specs.Numbers.{IsUnmarked};
 
 use crate::dec::Dec;
+use crate::front::{MOST_DIGITS, front_number, has_minus, sum_front, without_sign};
 use crate::mantissa::{MAX_SIZE, with_sign};
 use std::fmt;
 
@@ -48,26 +49,6 @@ impl fmt::Display for NumFault {
 
 // Exponents are read up to this size, and larger ones as if they were it.
 const CAP: u128 = 0x1_0000_0000_0000_0000_0000;
-
-#[inline]
-fn has_minus(text: &[u8]) -> bool
-    ensures { result ≡ begins_minus text.now }
-{
-    match text {
-        [b'-', ..] => true,
-        _ => false,
-    }
-}
-
-#[inline]
-fn without_sign(text: &[u8]) -> &[u8]
-    ensures { result.now ≡ after_sign text.now }
-{
-    match text {
-        [b'+' | b'-', rest @ ..] => rest,
-        _ => text,
-    }
-}
 
 fn mark_place(text: &[u8]) -> usize
     ensures place { result ≡ position_or_len is_mark text.now }
@@ -233,95 +214,15 @@ fn dec_of_digits(negative: bool, whole: &[u8], fraction: &[u8], exponent: i128) 
     Dec::new(with_sign(negative, size), place as i32)
 }
 
-// So many digits fit in 64 bits.
-pub(crate) const MOST_DIGITS: usize = 18;
-
-// The digits that a text begins with, as many as there is room for.
-#[derive(Clone, Copy)]
-pub(crate) struct Front {
-    pub(crate) number: u64,
-    pub(crate) len: usize,
-}
-
-// Sums the digits that a text begins with onto a number, at most so many.
-#[inline]
-pub(crate) fn sum_front(text: &[u8], start: u64, most: usize) -> Front
-    requires { (start + 1) * 10 ^ most ≤ 10 ^ 18 }
-    ensures within { result.len ≤ length text.now }
-    ensures few { result.len ≤ most }
-    ensures small { (result.number + 1) * 10 ^ (most - result.len) ≤ 10 ^ 18 }
-    ensures digits { AllDigits 10 (take result.len text.now) }
-    ensures number { result.number ≡ digits_value_after 10 start (take result.len text.now) }
-{
-    let end = text.len().min(most);
-    let mut number = start;
-    let mut len = 0;
-    'digits: while len < end {
-        let byte = text[len];
-        if !byte.is_ascii_digit() {
-            return Front { number, len };
-        }
-        number = number * 10 + (byte - b'0') as u64;
-        len += 1;
-    }
-    Front { number, len }
-}
-
-// A size with this many places after the point, and how many bytes say so.
-#[derive(Clone, Copy)]
-pub(crate) struct Plain {
-    pub(crate) negative: bool,
-    pub(crate) size: u64,
-    pub(crate) places: u32,
-    pub(crate) len: usize,
-}
-
-// A number of the common form that a text begins with: digits with one point among them or none.
-// Each byte is read once.
-#[inline]
-pub(crate) fn front_plain(text: &[u8]) -> Option<Plain>
-    ensures { IfSome result (λ p. (p.len ≤ length text.now) × (0 < p.len) × (p.len ≤ 40)
-        × (p.places ≤ 18) × IsDecText (take p.len text.now) × (text_value (take p.len text.now)
-        ≡ decimal_value (signed p.negative p.size) (neg_ℤ (pos p.places)))
-        × IsUnmarked (take p.len text.now)) }
-{
-    let body = without_sign(text);
-    let sign = text.len() - body.len();
-    let negative = has_minus(text);
-    let whole = sum_front(body, 0, MOST_DIGITS);
-    if whole.len == 0 {
-        return None;
-    }
-    if whole.len >= body.len() || body[whole.len] != b'.' {
-        return Some(Plain {
-            negative,
-            size: whole.number,
-            places: 0,
-            len: sign + whole.len,
-        });
-    }
-    let fraction = body.split_at(whole.len + 1).1;
-    let front = sum_front(fraction, whole.number, MOST_DIGITS - whole.len);
-    Some(Plain {
-        negative,
-        size: front.number,
-        places: front.len as u32,
-        len: sign + whole.len + 1 + front.len,
-    })
-}
-
 /// The number of a decimal text; too wide exactly where the text is one and no Dec has its value.
 pub fn read_dec(text: &[u8]) -> Result<Dec, NumFault>
     ensures { MatchResult result (λ d. IsDecText text.now × (dec_value d ≡ text_value text.now))
         (λ f. DecFault f text.now) }
 {
-    let Some(plain) = front_plain(text) else {
-        return read_any(text);
-    };
-    if plain.len < text.len() {
-        return read_any(text);
+    match front_number(text) {
+        Some(front) if front.len == text.len() => Ok(front.value),
+        _ => read_any(text),
     }
-    Ok(Dec::of_few(plain.negative, plain.size, plain.places))
 }
 
 // A number of any form.

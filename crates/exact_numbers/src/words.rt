@@ -5,7 +5,7 @@ ghost use Rattle.std.specs.Prelude.{◌≡◌};
 const BEYOND: u128 = 0x1_0000_0000;
 
 /// The bits of a whole number, the lowest first.
-#[derive(Clone, Copy, Debug)]
+#[derive(Clone, Copy)]
 pub struct Words {
     first: u32,
     second: u32,

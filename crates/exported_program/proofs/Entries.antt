@@ -9,9 +9,6 @@ use Rattle.mps_model.specs.Mps.{Entry, at_row, part_of_row, or_zero, no_column}
 use Rattle.scaled_program.specs.Program.{ScaledRow, nonzero}
 use Rattle.exported_program.specs.Program.{with_entry, entries_of, or_obj_zero, column_entries, columns_of}
 
-same_row : (i : ℕ) → nat_eq i i ≡ true
-same_row i = eq-eqb i i refl
-
 other_row : (i j : ℕ) → (i ≡ j → ⊥) → nat_eq i j ≡ false
 other_row i j h = ne_eqb i j h
 

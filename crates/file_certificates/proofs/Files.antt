@@ -113,6 +113,8 @@ module _ (f : File) (k : ℕ) where
   meant file clean =
       let lines : HasLines f k = clean_has_lines f k (file_formed f file k) clean in
       record {
+        constraints = sym rows_counted;
+        variables = sym (count_lem f k);
         feasible = feasible lines;
         relaxed = relaxed lines;
         rows = rows lines;

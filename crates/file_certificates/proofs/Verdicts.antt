@@ -1,15 +1,15 @@
 -- What verdicts on the linear program of a file say of the file: what they say of the problem that it states.
-use Rattle.std.proofs.Common.{◌≡◌, ℕ, List, None}
+use Rattle.std.proofs.Common.{◌≡◌, ℕ, List, None, Some}
 use Rattle.fractions.specs.Rational.{ℚ}
 use Rattle.program_meaning.specs.Linear.{IsRelaxed as IsRelaxedProgram}
-use Rattle.duality.specs.Branch.{BranchTree, duals, open_gap, weights, AreSplitsWhole, proof_fault}
+use Rattle.duality.specs.Branch.{BranchTree, LeafFault, duals, open_gap, weights, AreSplitsWhole, proof_fault}
 use Rattle.duality.specs.Certificate.{Certificate, IsCertificate, outcome}
 use Rattle.duality.specs.LeafSays.{IsLeafDenied}
 use Rattle.duality.specs.Problem.{IsBestRelaxed, IsBound, IsBroken, IsReached, IsRelaxed}
 use Rattle.duality.specs.ProblemSays.{OutcomeSays, VerdictSays}
 use Rattle.duality.specs.Solutions.{IsBound as IsBoundProgram}
 use Rattle.duality.specs.Verdict.{verdict, yes}
-use Rattle.duality.proofs.Problems.{bound_of, bounds, broken_at, certificates, lone_leaf, none_relaxed, outcomes, verdicts}
+use Rattle.duality.proofs.Problems.{bound_of, bounds, broken_at, certificates, leaf_at, lone_leaf, none_relaxed, outcomes, verdicts}
 use Rattle.nl_model.specs.File.{File}
 use Rattle.nl_model.specs.Rules.{IsFile}
 use Rattle.file_meaning.specs.FoldFaults.{fold_fault}
@@ -41,5 +41,8 @@ module _ (f : File) (k : ℕ) (file : IsFile f) (clean : fold_fault f k ≡ None
   pub file_broken : (v : ℚ) (ys : List ℚ) → proof_fault (linear_of f k) v (weights ys) ≡ None → (xs : List ℚ) → IsBroken (problem_of f k) xs
   file_broken = none_relaxed (linear_of f k) (problem_of f k) (meant f k file clean)
 
-  pub file_gaps : (ys : List ℚ) (n : ℕ) (b : ℚ) → IsLeafDenied (linear_of f k) (duals ys) (open_gap n b) → (xs : List ℚ) → IsRelaxed (problem_of f k) xs → IsReached (problem_of f k) b xs
+  pub file_leaf : (v : ℚ) (tree : BranchTree) (g : LeafFault) → proof_fault (linear_of f k) v tree ≡ Some g → IsLeafDenied (problem_of f k) (linear_of f k) tree g
+  file_leaf v tree g e = leaf_at (linear_of f k) (problem_of f k) (meant f k file clean) tree g (v, e)
+
+  pub file_gaps : (ys : List ℚ) (n : ℕ) (b : ℚ) → IsLeafDenied (problem_of f k) (linear_of f k) (duals ys) (open_gap n b) → (xs : List ℚ) → IsRelaxed (problem_of f k) xs → IsReached (problem_of f k) b xs
   file_gaps = lone_leaf (linear_of f k) (problem_of f k) (meant f k file clean)

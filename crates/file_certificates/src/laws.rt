@@ -80,7 +80,7 @@ pub fn claims_are_stronger()
 /// What the verdict on a point and duals says of a file without fold faults: with a yes or a gap
 /// the point is relaxed feasible, objective k has the value there, and the bound is at least as
 /// good as the objective at each relaxed feasible point; a constraint or a bound that is named as
-/// broken is so.
+/// broken is so, and where one is named as broken or too wide all before it is met.
 pub fn verdicts_of_files()
     ensures { (f : File) (k : ℕ) → IsFile f → fold_fault f k ≡ None → (xs ys : List ℚ)
         → VerdictSays (problem_of f k) xs (verdict (linear_of f k) xs ys) }
@@ -96,8 +96,8 @@ pub fn certificates_of_files()
 
 /// What the verdict on a certificate says of a file without fold faults. Where it holds, what is
 /// told is true of the file: the point is optimal, near or a solution, v is a bound on objective k,
-/// there is no feasible point, or no end. Where it fails at the point, that is not feasible; where
-/// it fails later, the point is feasible.
+/// there is no feasible point, or no end. Where a constraint or a bound at the point is broken or
+/// too wide, all before it is met; where it fails later, the point is feasible.
 pub fn outcomes_of_files()
     ensures { (f : File) (k : ℕ) → IsFile f → fold_fault f k ≡ None
         → (c : ProgramCertificate) → IsCertificate (linear_of f k) c
@@ -122,8 +122,8 @@ pub fn claims_are_true()
 {}
 
 /// What a claim whose certificate fails in the linear program of a file without fold faults says of
-/// the file by the cause that is told: the row or the bound that is broken, the variable that is
-/// not whole, that the point is feasible, the bound of a leaf.
+/// the file by the cause that is told: the row or the bound that is broken, and that all before it
+/// is met; the variable that is not whole; that the point is feasible; what the gap of a leaf shows.
 pub fn claims_are_denied()
     ensures { (f : File) (c : CertificateValue) → IsFile f
         → fold_fault f (claim_objective c.claim) ≡ None → (h : IsCertificateIn f c)
@@ -160,6 +160,6 @@ pub fn proofs_are_of_programs()
 /// its whole variables.
 pub fn lone_gaps_are_bounds()
     ensures { (f : File) (k : ℕ) → IsFile f → fold_fault f k ≡ None → (ys : List ℚ) (n : ℕ)
-        (b : ℚ) → IsLeafDenied (linear_of f k) (duals ys) (open_gap n b) → (xs : List ℚ)
-        → IsRelaxed (problem_of f k) xs → IsReached (problem_of f k) b xs }
+        (b : ℚ) → IsLeafDenied (problem_of f k) (linear_of f k) (duals ys) (open_gap n b)
+        → (xs : List ℚ) → IsRelaxed (problem_of f k) xs → IsReached (problem_of f k) b xs }
 {}

@@ -6,7 +6,7 @@ use Rattle.program_meaning.specs.Linear.{Interval, IsInside, value_at}
 use Rattle.nl_meaning.specs.Trees.{expression_value}
 use Rattle.nl_model.specs.File.{File}
 use Rattle.nl_model.specs.Kinds.{variable_kind}
-use Rattle.file_meaning.specs.Expressions.{definitions_of, body_of, objective_of, maximises}
+use Rattle.file_meaning.specs.Expressions.{definitions_of, body_of, objective_of}
 use Rattle.linear_program.specs.Intervals.{interval_of, no_sides, is_whole_kind}
 
 -- ---- values
@@ -53,7 +53,3 @@ abbrev pub IsBetterValue : Bool → Option ℚ → Option ℚ → Type 0
 IsBetterValue true (Some v) (Some w) = w <ℚ v
 IsBetterValue false (Some v) (Some w) = v <ℚ w
 IsBetterValue maximise v w = ⊥
-
--- xs is better than ys for objective k
-abbrev pub IsBetter : File → ℕ → List ℚ → List ℚ → Type 0
-IsBetter f k xs ys = IsBetterValue (maximises f k) (file_objective f k xs) (file_objective f k ys)

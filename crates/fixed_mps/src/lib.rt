@@ -6,4 +6,5 @@ mod grammar;
 pub mod laws;
 mod reader;
 
+pub use grammar::FixedGrammar;
 pub use reader::FixedReader;

@@ -21,7 +21,7 @@ use Rattle.linear_fold.specs.declared.entries.Entry.TheVariants.{Linear as Whole
 use Rattle.linear_program.specs.declared.form.Form.{Form}
 use Rattle.linear_fold.specs.declared.parts.PartialForm.{PartialForm}
 use Rattle.linear_fold.specs.declared.parts.PartialForm.TheVariants.{Number, Variable, Linear, Broken}
-use Rattle.linear_program.specs.Forms.{form_line, IsWithin, IsZeroFrom}
+use Rattle.linear_program.specs.Forms.{form_line, is_open, IsWithin, IsZeroFrom}
 use Rattle.linear_fold.specs.InsideOperates.{IsOperand, IsSound, AreOperands, lines_of_parts, part_line}
 use Rattle.linear_fold.specs.InsideFolds.{HasLine, HasLineOf, IsLined, AreLinesOf, AreOperandsOf, ArePartsWithin, ComesToLine, IsEntryOf, IsEntryWithin, IsFolded, IsPartFolded, IsPartWithin, first_broken, AreNodesWithin, ArePartsFolded, IsNodeWithin, NodeFinds}
 use Rattle.linear_fold.proofs.Operators.{multiple_zero_from}
@@ -51,8 +51,8 @@ number_within n k = record { sound = tt; zero_from = λ j h. refl }
 pub multiple_within : (n j : ℕ) (k : Frac) → j < n → IsPartWithin n (Variable j k)
 multiple_within n j k l = record { sound = l; zero_from = multiple_zero_from n j (frac_value k) l }
 
-pub form_within : (n : ℕ) (a b : Form) → form_line a ≡ form_line b → IsWithin n b → IsPartWithin n (Linear a)
-form_within n a b e w = record { sound = tt; zero_from = λ j g. ap (λ m. m.coef j) e ∙ w j g }
+pub form_within : (n : ℕ) (a b : Form) → form_line a ≡ form_line b → is_open a ≡ false → IsWithin n b → IsPartWithin n (Linear a)
+form_within n a b e c w = record { sound = λ o. (let clash : true ≡ false = sym o ∙ c in cc); zero_from = λ j g. ap (λ m. m.coef j) e ∙ w j g }
 
 -- a line of a tree's values is the tree's line
 pub is_line_by : (n : ℕ) (f : Point → Option ℚ) (l : Line) → IsZeroFrom n l → HasLine n f l → l ≡ line_by f
@@ -275,19 +275,25 @@ within_parts_drop n (suc k) [] a = tt
 within_parts_drop n (suc k) (p ∷ ps) a = within_parts_drop n k ps a.1
 
 -- ---- steps
-pub entry_steps : (w from to m new old : ℕ) → to ≤ from + w * m → new + m ≤ old → to + w * new ≤ from + w * old + w
-entry_steps w from to m new old a b =
-    let most : w * (new + m) ≤ w * old = mul-le-mul_left w b in
-    let split : w * (new + m) ≡ w * new + w * m = omega arith in
+-- an operator takes at most so many operands off the stack, and at most so many steps for each
+pub entry_steps : (w from to k new old : ℕ) → to ≤ from + 2 * w * k → new + k ≤ old → to + 2 * w * new ≤ from + 2 * w * old
+entry_steps w from to k new old a b =
+    let most : 2 * w * (new + k) ≤ 2 * w * old = mul-le-mul_left (2 * w) b in
+    let split : 2 * w * (new + k) ≡ 2 * w * new + 2 * w * k = omega arith in
+    omega arith
+
+pub operator_steps : (w from to k old : ℕ) → to ≤ from + 2 * w * k → k ≤ old → to ≤ from + 2 * w * old
+operator_steps w from to k old a b =
+    let most : 2 * w * k ≤ 2 * w * old = mul-le-mul_left (2 * w) b in
     omega arith
 
 -- one node more, of those before place p
-pub tree_steps : (w total p start from to old new : ℕ) → 0 < p → p ≤ total → from + w * old ≤ start + 2 * w * (total - p) → to + w * new ≤ from + w * old + w → to + w * (new + 1) ≤ start + 2 * w * (total - (p - 1))
+pub tree_steps : (w total p start from to old new : ℕ) → 0 < p → p ≤ total → from + 2 * w * old ≤ start + 2 * w * (total - p) → to + 2 * w * new ≤ from + 2 * w * old → to + 2 * w * (new + 1) ≤ start + 2 * w * (total - (p - 1))
 tree_steps w total p start from to old new some within a b =
     let one : total - (p - 1) ≡ total - p + 1 = omega arith in
-    subst (λ k. to + w * (new + 1) ≤ start + 2 * w * k) (sym one)
+    subst (λ k. to + 2 * w * (new + 1) ≤ start + 2 * w * k) (sym one)
     (let e : 2 * w * (total - p + 1) ≡ 2 * w * (total - p) + 2 * w = omega arith in
-    let f : w * (new + 1) ≡ w * new + w = omega arith in
+    let f : 2 * w * (new + 1) ≡ 2 * w * new + 2 * w = omega arith in
     omega arith)
 
 pub some_node : (nodes : List Node) → length (trees_of nodes) ≡ 1 → 0 < length nodes
@@ -299,17 +305,16 @@ no_step w start nodes some =
     let most : 2 * w * 1 ≤ 2 * w * nodes = mul-le-mul_left (2 * w) some in
     omega arith
 
--- the steps where a node is the last that is read, and those at the end
-pub stopped_steps : (w total p start from to old new : ℕ) → 0 < p → p ≤ total → from + w * old ≤ start + 2 * w * (total - p) → to + w * new ≤ from + w * old + w → to + w ≤ start + 2 * w * total
-stopped_steps w total p start from to old new some within a b =
-    let h = tree_steps w total p start from to old new some within a b in
-    let split : w * (new + 1) ≡ w * new + w = omega arith in
-    let most : 2 * w * (total - (p - 1)) ≤ 2 * w * total = mul-le-mul_left (2 * w) (omega arith) in
+-- the steps where a node is the last that is read, and those at the end, where one more form is made
+pub stopped_steps : (w total p start from to old : ℕ) → 0 < p → p ≤ total → from + 2 * w * old ≤ start + 2 * w * (total - p) → to ≤ from + 2 * w * old → to + w ≤ start + 2 * w * total
+stopped_steps w total p start from to old some within a b =
+    let fewer : 2 * w * (total - p + 1) ≤ 2 * w * total = mul-le-mul_left (2 * w) (omega arith) in
+    let split : 2 * w * (total - p + 1) ≡ 2 * w * (total - p) + 2 * w = omega arith in
     omega arith
 
-pub last_steps : (w total p start to old : ℕ) → 0 < old → to + w * old ≤ start + 2 * w * (total - p) → to + w ≤ start + 2 * w * total
-last_steps w total p start to old some a =
-    let least : w * 1 ≤ w * old = mul-le-mul_left w some in
+pub last_steps : (w total p start from to old : ℕ) → 0 < old → from + 2 * w * old ≤ start + 2 * w * (total - p) → to ≤ from + w → to + w ≤ start + 2 * w * total
+last_steps w total p start from to old some a b =
+    let least : 2 * w * 1 ≤ 2 * w * old = mul-le-mul_left (2 * w) some in
     let most : 2 * w * (total - p) ≤ 2 * w * total = mul-le-mul_left (2 * w) (omega arith) in
     omega arith
 

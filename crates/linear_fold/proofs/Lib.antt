@@ -5,6 +5,8 @@ pub mod Expressions
 pub mod Folding
 pub mod Operators
 pub mod OwnerLemmas
+pub mod StackLemmas
+pub mod SumLemmas
 mod HeldLemmas
 mod LeafLemmas
 mod CompletionLemmas

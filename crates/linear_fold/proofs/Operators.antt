@@ -12,24 +12,23 @@ use Rattle.exact_numbers.proofs.Bridge.{frac_fits_lem}
 use Rattle.fractions.specs.Fits.{fits, sum_fits}
 use Rattle.fractions.specs.Rational.{ℚ, zero_ℚ, ◌+ℚ◌, ◌*ℚ◌, one_ℚ, neg_ℚ, inverse_of}
 use Rattle.fractions.proofs.Arithmetic.{*ℚ_one, *ℚ_zero, +ℚ_zero, zero-+ℚ, one-*ℚ, neg-*ℚ}
-use Rattle.program_meaning.specs.Lines.{constant_line, line_scaled, line_sum, products_fit, Line, is_zero, is_constant, one_if, line_neg, sums_fit, running_sums_fit, running_line, all_below}
+use Rattle.program_meaning.specs.Lines.{constant_line, line_scaled, line_sum, products_fit, Line, is_zero, is_constant, one_if, line_neg, sums_fit, all_below}
 use Rattle.program_meaning.proofs.LineLemmas.{all_below-true, apart-eqb}
 use Rattle.linear_program.specs.declared.form.Form.{Form}
-use Rattle.linear_program.specs.declared.sum.Sum.{Sum}
 use Rattle.linear_fold.specs.declared.parts.PartialForm.{PartialForm}
-use Rattle.linear_fold.specs.declared.parts.PartialForm.TheVariants.{Number, Variable, Linear, Broken}
+use Rattle.linear_fold.specs.declared.parts.PartialForm.TheVariants.{Number, Variable, Linear, Opposite, Broken}
 use Rattle.linear_program.specs.declared.too_wide.Wide.{Wide}
 use Rattle.linear_program.specs.Coefs.{AddsAt, coef_in, value_or_zero, AreAscending}
-use Rattle.linear_program.specs.Forms.{form_line, sum_line, AddsScaled, IsWithin, IsZeroFrom, ScaledSumFits, kept_constant, form_terms}
+use Rattle.linear_program.specs.Forms.{form_line, AddsScaled, IsWithin, IsZeroFrom, ScaledSumFits, kept_constant, form_terms}
 use Rattle.linear_fold.specs.InsideOperates.{AreOperands, AreUnbroken, IsOperand, IsSound, IsUnbroken, multiple_line, part_line, zero_line, SumsTo, ComesTo, Operates}
 use Rattle.linear_program.proofs.CoefLemmas.{adds_at, found_apart, found_same}
 use Rattle.exact_numbers.proofs.Zeros.{fits_zero, sum_fits_zero, zero_sum_fits}
-use Rattle.linear_program.proofs.FracLemmas.{coef_fits, place_fits, zero_test, fits_neg}
+use Rattle.linear_program.proofs.FracLemmas.{coef_fits, zero_test, fits_neg}
 use Rattle.linear_program.proofs.Scaled.{all_below-false, all_below-intro, same_line, few_terms}
 use Rattle.std.proofs.Math.Nat.{mul-le-mul_left}
 use Rattle.std.specs.declared.alloc.AllocError.{AllocError}
 use Rattle.code_tables.specs.declared.class.OpClass.{OpClass}
-use Rattle.code_tables.specs.declared.class.OpClass.TheVariants.{Sum as SumOfTwo, Difference, Quotient, Negation, List as SumOfAll}
+use Rattle.code_tables.specs.declared.class.OpClass.TheVariants.{Quotient}
 use Rattle.nl_meaning.specs.declared.Reason.{Reason}
 use Rattle.nl_meaning.specs.declared.Reason.TheVariants.{DivideByZero}
 use Rattle.nl_meaning.specs.Faults.{too_wide_unless, operator_fault}
@@ -42,9 +41,6 @@ pub record FitsLine (l : Line) : Type 0 where
 
 pub form_fits : (f : Form) → FitsLine (form_line f)
 form_fits f = record { constant = frac_fits_lem (kept_constant f.kept); coefs = coef_fits (form_terms f) }
-
-pub total_fits : (s : Sum) → FitsLine (sum_line s)
-total_fits s = record { constant = frac_fits_lem s.constant; coefs = place_fits s.accumulator.value }
 
 -- ---- the coefficients of a multiple
 pub multiple_at : (i j : ℕ) (k : ℚ) → i ≡ j → (multiple_line j k).coef i ≡ k
@@ -148,10 +144,14 @@ pub unbroken_of : (n : ℕ) (ps : List PartialForm) → AreOperands n ps → Are
 unbroken_of n [] w = tt
 unbroken_of n (p ∷ ps) w = (sound_unbroken n p w.0.sound, unbroken_of n ps w.1)
 
+pub neg_fits : (l : Line) → FitsLine l → FitsLine (line_neg l)
+neg_fits l h = record { constant = fits_neg l.constant ∙ h.constant; coefs = λ j. fits_neg (l.coef j) ∙ h.coefs j }
+
 pub part_fits : (p : PartialForm) → FitsLine (part_line p)
 part_fits (Number k) = record { constant = frac_fits_lem k; coefs = λ j. fits_zero }
 part_fits (Variable j k) = record { constant = fits_zero; coefs = each_of (λ x. fits x ≡ true) j (frac_value k) (frac_fits_lem k) fits_zero }
 part_fits (Linear f) = form_fits f
+part_fits (Opposite f) = neg_fits (form_line f) (form_fits f)
 part_fits (Broken x) = record { constant = fits_zero; coefs = λ j. fits_zero }
 
 -- ---- the operands lie at the end of the stack, the first of them last
@@ -184,9 +184,6 @@ module _ {A : Type 0} where
   pub front_is : (xs : List A) (r k : ℕ) → k + r ≡ length xs → reverse (take r xs) ≡ drop k (reverse xs)
   front_is xs r k e =
       sym (ap (drop k) (halves xs r) ∙ ap (λ i. drop i (reverse (drop r xs) ++ reverse (take r xs))) (sym (back_size xs r k e)) ∙ drop-append_seam (reverse (drop r xs)) (reverse (take r xs)))
-
-pub neg_fits : (l : Line) → FitsLine l → FitsLine (line_neg l)
-neg_fits l h = record { constant = fits_neg l.constant ∙ h.constant; coefs = λ j. fits_neg (l.coef j) ∙ h.coefs j }
 
 -- ---- a form of n variables has few terms
 pub few_of_form : (n : ℕ) (f : Form) → IsWithin n f → AreAscending 0 (form_terms f) → length (form_terms f) ≤ n
@@ -260,85 +257,10 @@ module _ (z : Line) (empty : z ≡ zero_line) (a : Line) (k : ℚ) (n : ℕ) (za
   multiplied new (Err (Fault w)) h = scaled_wide h
   multiplied new (Err Memory) h = tt
 
--- ---- differences
-module _ (z a : Line) (empty : z ≡ zero_line) (k : ℚ) (one : k ≡ one_ℚ) (fa : FitsLine a) where
-  first_fits : ScaledSumFits z k a
-  first_fits =
-      let parts : FitsLine (line_scaled k a) = subst FitsLine (sym (scaled_by_one k a one)) fa in
-      subst (λ y. ScaledSumFits y k a) (sym empty)
-      (record {
-        product = parts.constant;
-        sum = zero_sum_fits (k *ℚ a.constant) parts.constant;
-        products = parts.coefs;
-        sums = λ j. zero_sum_fits (k *ℚ a.coef j) (parts.coefs j);
-      })
-
-  pub first_stop : (n : ℕ) (b mid new : Line) (stop : Stop Wide) → AddsScaled z k a mid (Err stop) → SumsTo (sums_fit n a (line_neg b)) (line_sum a (line_neg b)) new (Err stop)
-  first_stop n b mid new (Fault w) h = absurd (h first_fits)
-  first_stop n b mid new Memory h = tt
-
-module _ (z a b : Line) (empty : z ≡ zero_line) (k m x : ℚ) (one : k ≡ one_ℚ) (is_neg : m ≡ neg_ℚ x) (x_one : x ≡ one_ℚ) (fb : FitsLine b) (n : ℕ) (za : IsZeroFrom n a) (zb : IsZeroFrom n b) where
-  pub difference_done : (mid new : Line) (r : Result (Unit {0}) (Stop Wide)) → ScaledSumFits z k a × (mid ≡ line_sum z (line_scaled k a)) → AddsScaled mid m b new r → SumsTo (sums_fit n a (line_neg b)) (line_sum a (line_neg b)) new r
-  difference_done mid new r first second =
-      let same : mid ≡ a = first.1 ∙ ap (λ y. line_sum y (line_scaled k a)) empty ∙ zero_line_sum (line_scaled k a) ∙ scaled_by_one k a one in
-      added a b m (line_neg b) (scaled_by_minus m x b is_neg x_one) (neg_fits b fb) n za zb new r (subst (λ l. AddsScaled l m b new r) same second)
-
--- ---- running sums
-pub record Running (n : ℕ) (total : Line) (left all : List PartialForm) : Type 0 where
-  pub line : running_line total (map part_line left) ≡ running_line zero_line (map part_line all)
-  pub fit : running_sums_fit n total (map part_line left) ≡ running_sums_fit n zero_line (map part_line all)
-  pub zero_from : IsZeroFrom n total
-  pub within : AreOperands n left
-
-pub running_init : (n : ℕ) (total : Line) (fs : List PartialForm) → total ≡ zero_line → AreOperands n fs → Running n total fs fs
-running_init n total fs e w =
-    record {
-      line = ap (λ c. running_line c (map part_line fs)) e;
-      fit = ap (λ c. running_sums_fit n c (map part_line fs)) e;
-      zero_from = λ j h. ap (λ c. c.coef j) e;
-      within = w;
-    }
-
-module _ (n : ℕ) (total : Line) (x : PartialForm) (left rest all : List PartialForm) (is : left ≡ x ∷ rest) (r : Running n total left all) (k : ℚ) (one : k ≡ one_ℚ) where
-  opened : Running n total (x ∷ rest) all
-  opened = subst (λ l. Running n total l all) is r
-
-  step : (new : Line) (o : Result (Unit {0}) (Stop Wide)) → AddsScaled total k (part_line x) new o → SumsTo (sums_fit n total (part_line x)) (line_sum total (part_line x)) new o
-  step new o h = added total (part_line x) k (part_line x) (scaled_by_one k (part_line x) one) (part_fits x) n opened.zero_from opened.within.0.zero_from new o h
-
-  pub here_within : IsOperand n x
-  here_within = opened.within.0
-
-  pub running_more : (new : Line) → ScaledSumFits total k (part_line x) × (new ≡ line_sum total (line_scaled k (part_line x))) → Running n new rest all
-  running_more new h =
-      let s = sum_ok total (part_line x) k (part_line x) (scaled_by_one k (part_line x) one) (part_fits x) n opened.zero_from opened.within.0.zero_from new h in
-      let o = opened in
-      record {
-        line = ap (λ c. running_line c (map part_line rest)) s.1 ∙ o.line;
-        fit = ap (λ c. running_sums_fit n c (map part_line rest)) s.1 ∙ ap (λ b. b && running_sums_fit n (line_sum total (part_line x)) (map part_line rest)) (sym s.0) ∙ o.fit;
-        zero_from = λ j g. ap (λ c. c.coef j) s.1 ∙ ap₂ ◌+ℚ◌ (o.zero_from j g) (o.within.0.zero_from j g) ∙ +ℚ_zero zero_ℚ;
-        within = o.within.1;
-      }
-
-  pub running_stop : (new other : Line) (stop : Stop Wide) → AddsScaled total k (part_line x) new (Err stop) → SumsTo (running_sums_fit n zero_line (map part_line all)) (running_line zero_line (map part_line all)) other (Err stop)
-  running_stop new other (Fault w) h =
-      let o = opened in
-      sym o.fit ∙ ap (λ b. b && running_sums_fit n (line_sum total (part_line x)) (map part_line rest)) (step new (Err (Fault w)) h)
-  running_stop new other Memory h = tt
-
-pub running_end : (n : ℕ) (total : Line) (left all : List PartialForm) → left ≡ [] → Running n total left all → (running_sums_fit n zero_line (map part_line all) ≡ true) × (total ≡ running_line zero_line (map part_line all))
-running_end n total left all is r =
-    let o : Running n total [] all = subst (λ l. Running n total l all) is r in
-    (sym o.fit, o.line)
-
 -- ---- operators
 pub if_ok : {T E : Type 0} (r : Result T E) (P Q : T → Type 0) → ((x : T) → P x → Q x) → IfOk r P → IfOk r Q
 if_ok (Ok x) P Q f h = f x h
 if_ok (Err e) P Q f h = h
-
-pub difference_comes : (n : ℕ) (a b : Line) (o : Outcome) → ComesTo n (sums_fit n a (line_neg b)) (line_sum a (line_neg b)) o → Operates n Difference (a ∷ b ∷ []) o
-difference_comes n a b (Made f) h = (ap too_wide_unless h.0, h.1, h.2)
-difference_comes n a b (Refused r) h = ap too_wide_unless h.0 ∙ ap Some (sym h.1)
 
 pub fault_first : (p : Bool) (x y : Option Reason) → p ≡ true → (if p then x else y) ≡ x
 fault_first true x y e = refl
@@ -359,58 +281,11 @@ quotient_comes n a b (Made f) k is t z h = (
 )
 quotient_comes n a b (Refused r) k is t z h = fault_first _ _ _ t ∙ fault_second _ _ _ z ∙ ap too_wide_unless (ap (λ x. products_fit n x a) (sym is) ∙ h.0) ∙ ap Some (sym h.1)
 
-scaled_fits : (n : ℕ) (k : ℚ) (a : Line) → FitsLine (line_scaled k a) → products_fit n k a ≡ true
-scaled_fits n k a h = and_from _ _ h.constant (all_below-intro (λ j. fits (k *ℚ a.coef j)) n (λ j p. h.coefs j))
-
-pub negation_comes : (n : ℕ) (a : Line) (o : Outcome) (k : ℚ) → line_scaled k a ≡ line_neg a → FitsLine a → ComesTo n (products_fit n k a) (line_scaled k a) o → Operates n Negation (a ∷ []) o
-negation_comes n a (Made f) k is small h = (refl, h.1 ∙ is, h.2)
-negation_comes n a (Refused r) k is small h =
-    let clash : true ≡ false = sym (scaled_fits n k a (subst FitsLine (sym is) (neg_fits a small))) ∙ h.0 in
-    cc
-
--- the sum from 0 is the sum from the first
-zero_sums_fit : (n : ℕ) (a : Line) → FitsLine a → sums_fit n zero_line a ≡ true
-zero_sums_fit n a h = and_from _ _ (zero_sum_fits a.constant h.constant) (all_below-intro (λ j. sum_fits zero_ℚ (a.coef j)) n (λ j p. zero_sum_fits (a.coef j) (h.coefs j)))
-
-from_first : (n : ℕ) (a : Line) (ls : List Line) → FitsLine a → running_sums_fit n zero_line (a ∷ ls) ≡ running_sums_fit n a ls
-from_first n a ls h = ap₂ (λ b c. b && running_sums_fit n c ls) (zero_sums_fit n a h) (zero_line_sum a)
-
-pub sum_of_all_comes : (n : ℕ) (fs : List PartialForm) (o : Outcome) → 0 < length fs → ComesTo n (running_sums_fit n zero_line (map part_line fs)) (running_line zero_line (map part_line fs)) o → Operates n SumOfAll (map part_line fs) o
-sum_of_all_comes n [] o some h = absurd (omega arith)
-sum_of_all_comes n (f ∷ fs) (Made g) some h = (
-  ap too_wide_unless (sym (from_first n (part_line f) (map part_line fs) (part_fits f)) ∙ h.0),
-  h.1 ∙ ap (λ c. running_line c (map part_line fs)) (zero_line_sum (part_line f)),
-  h.2,
-)
-sum_of_all_comes n (f ∷ fs) (Refused r) some h = ap too_wide_unless (sym (from_first n (part_line f) (map part_line fs) (part_fits f)) ∙ h.0) ∙ ap Some (sym h.1)
-
-pub sum_comes : (n : ℕ) (fs : List PartialForm) (o : Outcome) → length fs ≡ 2 → ComesTo n (running_sums_fit n zero_line (map part_line fs)) (running_line zero_line (map part_line fs)) o → Operates n SumOfTwo (map part_line fs) o
-sum_comes n (f ∷ g ∷ []) (Made r) two h = (
-  ap too_wide_unless (sym (and-true (sums_fit n (part_line f) (part_line g))) ∙ sym (from_first n (part_line f) (part_line g ∷ []) (part_fits f)) ∙ h.0),
-  h.1 ∙ ap (λ c. line_sum c (part_line g)) (zero_line_sum (part_line f)),
-  h.2,
-)
-sum_comes n (f ∷ g ∷ []) (Refused r) two h =
-    ap too_wide_unless (sym (and-true (sums_fit n (part_line f) (part_line g))) ∙ sym (from_first n (part_line f) (part_line g ∷ []) (part_fits f)) ∙ h.0) ∙ ap Some (sym h.1)
-sum_comes n fs o two h = absurd (omega arith)
-
--- ---- steps
-pub one_done : (n p total from old new : ℕ) → 0 < p → p ≤ total → old ≤ from + (n + 1) * (total - p) → new ≤ old + (n + 1) → new ≤ from + (n + 1) * (total - (p - 1))
-one_done n p total from old new some within a b =
-    let one : total - (p - 1) ≡ total - p + 1 = omega arith in
-    subst (λ k. new ≤ from + (n + 1) * k) (sym one)
-    (let e : (n + 1) * (total - p + 1) ≡ (n + 1) * (total - p) + (n + 1) = omega arith in
-    omega arith)
-
-pub done_within : (n p total from old new : ℕ) → 0 < p → p ≤ total → old ≤ from + (n + 1) * (total - p) → new ≤ old + (n + 1) → new ≤ from + (n + 1) * total
-done_within n p total from old new some within a b =
-    let h = one_done n p total from old new some within a b in
-    let less : total - (p - 1) ≤ total = omega arith in
-    let most : (n + 1) * (total - (p - 1)) ≤ (n + 1) * total = mul-le-mul_left (n + 1) less in
-    omega arith
+pub line_fits : (n : ℕ) (k : ℚ) (a : Line) → FitsLine (line_scaled k a) → products_fit n k a ≡ true
+line_fits n k a h = and_from _ _ h.constant (all_below-intro (λ j. fits (k *ℚ a.coef j)) n (λ j p. h.coefs j))
 
 pub copy_fits : (n : ℕ) (k : ℚ) (a : Line) → k ≡ one_ℚ → FitsLine a → products_fit n k a ≡ true
-copy_fits n k a e small = scaled_fits n k a (subst FitsLine (sym (scaled_by_one k a e)) small)
+copy_fits n k a e small = line_fits n k a (subst FitsLine (sym (scaled_by_one k a e)) small)
 
 pub few_steps : (w k from to : ℕ) → 1 ≤ k → to ≤ from + w → to ≤ from + w * k
 few_steps w k from to some h =

@@ -13,7 +13,7 @@ use Rattle.nl_model.specs.declared.node.Node.TheVariants.{Num, Var, Defined, Op}
 use Rattle.linear_fold.specs.declared.entries.Entry.{Entry}
 use Rattle.linear_fold.specs.declared.entries.Entry.TheVariants.{Linear, Broken}
 use Rattle.linear_fold.specs.declared.parts.PartialForm.{PartialForm}
-use Rattle.linear_fold.specs.declared.parts.PartialForm.TheVariants.{Number as Constant, Variable as Multiple, Linear as Whole, Broken as Faulty}
+use Rattle.linear_fold.specs.declared.parts.PartialForm.TheVariants.{Number as Constant, Variable as Multiple, Linear as Whole, Opposite, Broken as Faulty}
 use Rattle.linear_program.specs.declared.form.Form.{Form}
 use Rattle.linear_program.specs.Forms.{IsWithin, form_line}
 use Rattle.linear_fold.specs.InsideOperates.{IsOperand, lines_of_parts, part_line}
@@ -57,6 +57,7 @@ abbrev pub IsPartFolded : (Point → Known) → ℕ → ℕ → Tree → Partial
 IsPartFolded known n i t (Constant k) = IsLined known n i t (part_line (Constant k))
 IsPartFolded known n i t (Multiple j k) = IsLined known n i t (part_line (Multiple j k))
 IsPartFolded known n i t (Whole f) = IsLined known n i t (form_line f)
+IsPartFolded known n i t (Opposite f) = IsLined known n i t (part_line (Opposite f))
 IsPartFolded known n i t (Faulty x) = tree_fault known n i t ≡ Some x
 
 abbrev pub ArePartsFolded : (Point → Known) → ℕ → ℕ → List Tree → List PartialForm → Type 0
@@ -78,6 +79,7 @@ first_broken [] = None
 first_broken (Constant k ∷ ps) = first_broken ps
 first_broken (Multiple j k ∷ ps) = first_broken ps
 first_broken (Whole f ∷ ps) = first_broken ps
+first_broken (Opposite f ∷ ps) = first_broken ps
 first_broken (Faulty x ∷ ps) = Some x
 
 -- a fault, or a part of n variables
@@ -85,6 +87,7 @@ abbrev pub IsPartWithin : ℕ → PartialForm → Type 0
 IsPartWithin n (Constant k) = IsOperand n (Constant k)
 IsPartWithin n (Multiple j k) = IsOperand n (Multiple j k)
 IsPartWithin n (Whole f) = IsOperand n (Whole f)
+IsPartWithin n (Opposite f) = IsOperand n (Opposite f)
 IsPartWithin n (Faulty x) = Unit {0}
 
 abbrev pub ArePartsWithin : ℕ → List PartialForm → Type 0
@@ -101,6 +104,7 @@ abbrev pub IsEntryOf : PartialForm → Entry → Type 0
 IsEntryOf (Constant k) e = ComesToLine (part_line (Constant k)) e
 IsEntryOf (Multiple j k) e = ComesToLine (part_line (Multiple j k)) e
 IsEntryOf (Whole f) e = e ≡ Linear f
+IsEntryOf (Opposite f) e = ComesToLine (part_line (Opposite f)) e
 IsEntryOf (Faulty x) e = e ≡ Broken x
 
 -- the form of an entry is of n variables

@@ -19,8 +19,8 @@ use Rattle.linear_program.specs.declared.form.Form.{Form}
 use Rattle.linear_fold.specs.declared.owners.Folder.{Folder}
 use Rattle.linear_fold.specs.InsideFolds.{AreKnown, AreSlotsWithin, HasLineOf, IsGiven}
 use Rattle.linear_fold.specs.FoldedFaults.{named_fault}
-use Rattle.linear_program.specs.Forms.{IsWithin, form_terms, place_count}
-use Rattle.linear_fold.specs.InsideOperates.{IsBlank}
+use Rattle.linear_program.specs.Forms.{IsWithin, form_terms}
+use Rattle.linear_fold.specs.InsideOperates.{IsPad}
 use Rattle.linear_program.specs.Programs.{IsFormOver}
 
 -- the file has the owner
@@ -78,8 +78,7 @@ pub record AreSlotsOf (f : File) (ds : List Definition) (slots : List (Option Fo
 -- a folder that holds the forms of definitions, and at most the greatest number of coefficients
 pub record HasFolded (f : File) (ds : List Definition) (folder : Folder) : Type 0 where
   pub variables : folder.variables ≡ f.counts.n_var
-  pub places : place_count folder.total ≡ f.counts.n_var
-  pub blank : IsBlank folder.total
+  pub pad : IsPad f.counts.n_var folder.room.pad
   pub few : folder.count ≤ most_coefficients
   pub slots : AreSlotsOf f ds folder.slots.items
 

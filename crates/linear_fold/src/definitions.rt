@@ -9,9 +9,10 @@ ghost use Rattle.program_meaning.specs.Elements.{elements_from};
 ghost use Rattle.linear_fold.specs.FoldedFaults.{HasFaultPlace};
 ghost use Rattle.linear_fold.specs.InsideOwnerFolds.{AreOwnersFolded, HasFolded, definitions_size, owned_at};
 
+use crate::fold::Room;
 use crate::fold_fault::FoldFault;
 use crate::owners::{Folder, fold_owner};
-use linear_program::{Form, Pad, Sum};
+use linear_program::{Form, Pad};
 use nl_model::{Def, NlFile, Owner, defined_count};
 use std::alloc::{AllocError, Global};
 use texts::{Ledger, Steps, Stop};
@@ -38,7 +39,10 @@ pub(crate) fn empty_folder(alloc: Global, file: &NlFile) -> Result<Folder, Alloc
     Ok(Folder {
         alloc,
         slots,
-        total: Sum::on_pad(pad),
+        room: Room {
+            pad: Some(pad),
+            open_at: 0,
+        },
         count: 0,
         variables: counts.n_var,
     })

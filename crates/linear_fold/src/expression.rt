@@ -9,17 +9,18 @@ ghost use Rattle.nl_model.specs.Rules.{AreTermsBelow};
 ghost use Rattle.file_meaning.specs.Expressions.{linear_term, linear_terms, tree_or_zero};
 ghost use Rattle.linear_fold.specs.InsideFolds.{AddsTerms, AreKnown, AreSlotsWithin, ComesToTerms, IsEntryWithin, IsExpressionFolded, IsFolded, IsTreeGiven};
 ghost use Rattle.linear_program.specs.Forms.{IsWithin, form_line, place_count, sum_line};
-ghost use Rattle.linear_fold.specs.InsideOperates.{IsBlank, StaysBlank};
+ghost use Rattle.linear_fold.specs.InsideOperates.{IsBlank, IsPad};
 
 use crate::ascending::{are_ascending, are_zero, form_of_ascending};
 use crate::entries::Entry;
-use crate::fold::fold_tree;
+use crate::fold::{Room, fold_tree};
 use crate::leaf_sums::leaf_sum;
 use exact_numbers::{Dec, Frac};
-use linear_program::{Form, Sum, Terms};
+use linear_program::{Form, Pad, Sum, Terms};
 use nl_meaning::{Fault, Reason};
 use nl_model::Expr;
 use std::alloc::{AllocError, Global};
+use std::mem;
 use texts::{Ledger, Steps, Stop};
 
 /// How many nodes an expression has; a missing one is the number 0.
@@ -38,15 +39,14 @@ fn tree_entry<L: Ledger>(
     alloc: Global,
     tree: Option<&Expr>,
     slots: &[Option<Form>],
-    total: &mut Sum,
+    room: &mut Room,
     steps: &mut Steps<L>,
     variables: u32,
 ) -> Result<Entry, AllocError>
     requires given { IfSome (option_copied tree) (IsTreeGiven variables slots.now) }
     requires slots { AreSlotsWithin variables slots.now }
-    requires places { place_count total.old ≡ variables }
-    requires blank { IsBlank total.old }
-    ensures blank { OnOk result (StaysBlank total.old total.new) }
+    requires pad { IsPad variables room.old.pad }
+    ensures pad { OnOk result (IsPad variables room.new.pad) }
     ensures entry { IfOk result
         (λ e. (known : Point → Known) → AreKnown variables known slots.now
         → IsFolded known variables 0 (tree_or_zero (option_copied tree.entry)) e) }
@@ -60,7 +60,7 @@ fn tree_entry<L: Ledger>(
             let nodes = expr.nodes();
             match leaf_sum(alloc, nodes, variables, steps)? {
                 Some(form) => Ok(Entry::Linear(form)),
-                None => fold_tree(alloc, nodes, slots, total, steps, variables),
+                None => fold_tree(alloc, nodes, slots, room, steps, variables),
             }
         }
         None => Ok(Entry::Linear(Form::new(alloc))),
@@ -128,27 +128,38 @@ fn put<L: Ledger>(total: &mut Sum, form: &Form, steps: &mut Steps<L>) -> Result<
     }
 }
 
-// The entry of a sum, which is 0 again.
+// The entry of a sum; its pad is free then.
 fn entry_of_sum(
-    alloc: Global,
-    total: &mut Sum,
+    total: Sum,
     summed: Result<(), Stop<Fault>>,
+    room: &mut Room,
 ) -> Result<Entry, AllocError>
-    ensures blank { OnOk result (StaysBlank total.old total.new) }
+    ensures pad { OnOk result (IfSome room.new.pad (λ p. p ≡ place_count total)) }
     ensures entry { IfOk result
         (λ e. (a : Line) (i : ℕ) (ts : List LinearTerm)
-        → AddsTerms a i ts (sum_line total.old) summed → ComesToTerms a i ts e) }
+        → AddsTerms a i ts (sum_line total) summed → ComesToTerms a i ts e) }
 {
+    let (form, pad) = total.close()?;
+    room.pad = Some(pad);
     match summed {
-        Ok(()) => {
-            let form = total.take(alloc)?;
-            Ok(Entry::Linear(form))
-        }
-        Err(Stop::Fault(fault)) => {
-            total.clear();
-            Ok(Entry::Broken(fault))
-        }
+        Ok(()) => Ok(Entry::Linear(form)),
+        Err(Stop::Fault(fault)) => Ok(Entry::Broken(fault)),
         Err(Stop::Memory) => Err(AllocError),
+    }
+}
+
+// The sum 0, on the pad.
+fn empty_sum(alloc: Global, room: &mut Room, variables: u32) -> Result<Sum, AllocError>
+    requires { IsPad variables room.old.pad }
+    ensures blank { IfOk result (λ s. IsBlank s) }
+    ensures places { IfOk result (λ s. place_count s ≡ variables) }
+{
+    match mem::replace(&mut room.pad, None) {
+        Some(pad) => Ok(Sum::on_pad(pad)),
+        None => {
+            let pad = Pad::new(alloc, variables)?;
+            Ok(Sum::on_pad(pad))
+        }
     }
 }
 
@@ -158,25 +169,27 @@ fn with_terms<L: Ledger>(
     form: &Form,
     terms: &[(u32, Dec)],
     first: usize,
-    total: &mut Sum,
+    room: &mut Room,
     steps: &mut Steps<L>,
+    variables: u32,
 ) -> Result<Entry, AllocError>
-    requires blank { IsBlank total.old }
-    requires within { IsWithin (place_count total.old) form.now }
-    requires below { AreTermsBelow (place_count total.old) terms.now }
+    requires pad { IsPad variables room.old.pad }
+    requires within { IsWithin variables form.now }
+    requires below { AreTermsBelow variables terms.now }
     requires first { first ≤ 2 ^ 22 }
-    ensures blank { OnOk result (StaysBlank total.old total.new) }
+    ensures pad { OnOk result (IsPad variables room.new.pad) }
     ensures entry { IfOk result
         (λ e. ComesToTerms (form_line form.now) first (linear_terms terms.now) e) }
     ensures above { steps.old ≤ steps.new }
-    ensures below { steps.new ≤ steps.old + (place_count total.old + 1) + length terms.now }
+    ensures below { steps.new ≤ steps.old + (variables + 1) + length terms.now }
 {
     if form.is_constant() && are_ascending(terms) {
         return form_of_ascending(alloc, form, terms, first, steps);
     }
-    put(total, form, steps)?;
-    let summed = add_linear_terms(total, terms, first, steps);
-    entry_of_sum(alloc, total, summed)
+    let mut total = empty_sum(alloc, room, variables)?;
+    put(&mut total, form, steps)?;
+    let summed = add_linear_terms(&mut total, terms, first, steps);
+    entry_of_sum(total, summed, room)
 }
 
 // The entry of a tree with terms, of which the first has a number.
@@ -185,16 +198,15 @@ fn sum_entry<L: Ledger>(
     entry: Entry,
     terms: &[(u32, Dec)],
     first: usize,
-    total: &mut Sum,
+    room: &mut Room,
     steps: &mut Steps<L>,
     variables: u32,
 ) -> Result<Entry, AllocError>
-    requires blank { IsBlank total.old }
-    requires places { place_count total.old ≡ variables }
+    requires pad { IsPad variables room.old.pad }
     requires within { IsEntryWithin variables entry }
     requires below { AreTermsBelow variables terms.now }
     requires first { first ≤ 2 ^ 22 }
-    ensures blank { OnOk result (StaysBlank total.old total.new) }
+    ensures pad { OnOk result (IsPad variables room.new.pad) }
     ensures entry { IfOk result
         (λ e. (known : Point → Known) (tree : Tree) → tree_size tree ≡ first
         → IsFolded known variables 0 tree entry
@@ -210,7 +222,7 @@ fn sum_entry<L: Ledger>(
             if are_zero(terms) {
                 return Ok(Entry::Linear(form));
             }
-            with_terms(alloc, &form, terms, first, total, steps)
+            with_terms(alloc, &form, terms, first, room, steps, variables)
         }
     }
 }
@@ -221,16 +233,15 @@ pub(crate) fn fold_expression<L: Ledger>(
     tree: Option<&Expr>,
     terms: &Terms,
     slots: &[Option<Form>],
-    total: &mut Sum,
+    room: &mut Room,
     steps: &mut Steps<L>,
     variables: u32,
 ) -> Result<Entry, AllocError>
     requires given { IfSome (option_copied tree) (IsTreeGiven variables slots.now) }
     requires below { AreTermsBelow variables terms.now }
     requires slots { AreSlotsWithin variables slots.now }
-    requires places { place_count total.old ≡ variables }
-    requires blank { IsBlank total.old }
-    ensures blank { OnOk result (StaysBlank total.old total.new) }
+    requires pad { IsPad variables room.old.pad }
+    ensures pad { OnOk result (IsPad variables room.new.pad) }
     ensures entry { IfOk result
         (λ e. (known : Point → Known) → AreKnown variables known slots.now
         → IsExpressionFolded known variables
@@ -242,7 +253,7 @@ pub(crate) fn fold_expression<L: Ledger>(
         ≤ steps.old + 2 * (variables + 1)
         * (option_map_or tree_size (option_copied tree.entry) 0 + length terms.now) }
 {
-    let entry = tree_entry(alloc, tree, slots, total, steps, variables)?;
+    let entry = tree_entry(alloc, tree, slots, room, steps, variables)?;
     let first = node_count(tree);
-    sum_entry(alloc, entry, terms.items(), first, total, steps, variables)
+    sum_entry(alloc, entry, terms.items(), first, room, steps, variables)
 }

@@ -16,6 +16,7 @@ mod operate;
 mod owners;
 mod parts;
 mod program;
+mod sums;
 
 pub use fold_fault::FoldFault;
 pub use linear_program::{Form, FormTerms, Linear, Pad, Wide};

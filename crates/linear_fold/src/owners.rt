@@ -15,9 +15,10 @@ ghost use Rattle.linear_fold.specs.InsideOwnerFolds.{AreOwnersFolded, HasFolded,
 
 use crate::entries::{Entry, Held};
 use crate::expression::{fold_expression, node_count};
+use crate::fold::Room;
 use crate::fold_fault::FoldFault;
 use crate::held::held_row;
-use linear_program::{Form, Sum, Terms};
+use linear_program::{Form, Terms};
 use nl_meaning::{Fault, Reason};
 use nl_model::{At, Expr, NlFile, Owner};
 use std::alloc::Global;
@@ -26,13 +27,13 @@ use texts::{Ledger, Steps, Stop};
 // The most coefficients of a folded file.
 const MOST_COEFFICIENTS: usize = 0x80_0000;
 
-/// What folding a file keeps: the forms of defined variables, a sum that is 0, and the coefficients
-/// so far.
+/// What folding a file keeps: the forms of defined variables, room for sums, and the coefficients so
+/// far.
 #[derive(Drop)]
 pub(crate) struct Folder {
     pub(crate) alloc: Global,
     pub(crate) slots: Vec<Option<Form>>,
-    pub(crate) total: Sum,
+    pub(crate) room: Room,
     pub(crate) count: usize,
     pub(crate) variables: u32,
 }
@@ -136,7 +137,7 @@ pub(crate) fn fold_owner<L: Ledger>(
         tree,
         terms,
         &folder.slots,
-        &mut folder.total,
+        &mut folder.room,
         steps,
         folder.variables,
     )?;

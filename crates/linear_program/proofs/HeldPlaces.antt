@@ -1,6 +1,5 @@
 -- All places, where none may be held.
-use Rattle.std.proofs.Common.{◌≡◌, ℕ, zero, suc, ◌∙◌, sym, refl, subst, arith, ◌==◌, true, false, List, [], ◌∷◌, length, replicate}
-use Rattle.std.proofs.lemmas.Bool.{eqb-true}
+use Rattle.std.proofs.Common.{◌≡◌, ℕ, zero, suc, ◌∙◌, sym, refl, subst, arith, List, [], ◌∷◌, length, replicate}
 use Rattle.exact_numbers.specs.declared.frac.Frac.{Frac}
 use Rattle.exact_numbers.specs.Values.{frac_value}
 use Rattle.fractions.specs.Rational.{zero_ℚ}
@@ -35,11 +34,3 @@ module _ (n : ℕ) (z : Frac) where
   as_many [] (q ∷ qs) e = absurd (omega (arith, e))
   as_many (p ∷ ps) [] e = absurd (omega (arith, e))
   as_many (p ∷ ps) (q ∷ qs) e = e
-
-  pub none_missing : (ps : List Frac) → (length ps == 0) ≡ false → all_places n z ps ≡ ps
-  none_missing [] e = absurd (let clash : true ≡ false = e in cc)
-  none_missing (p ∷ ps) e = refl
-
-  pub all_missing : (ps : List Frac) → (length ps == 0) ≡ true → replicate n z ≡ all_places n z ps
-  all_missing [] e = refl
-  all_missing (p ∷ ps) e = absurd (let h : length (p ∷ ps) ≡ 0 = eqb-true (length (p ∷ ps)) 0 e in omega (arith, h))

@@ -1,7 +1,6 @@
 -- Two ascending lists, merged by variable.
-use Rattle.std.proofs.Common.{◌≡◌, ◌≢◌, Ok, Err, ℕ, zero, suc, ◌+◌, ◌<◌, ◌≤◌, ⊎_elim, ◌∙◌, sym, ap, ap₂, refl, subst, arith, true, false, None, Some, List, [], ◌∷◌, ◌++◌, append-nil, append_assoc, drop, drop-cons, get_or, length}
+use Rattle.std.proofs.Common.{◌≡◌, ◌≢◌, Ok, Err, ℕ, suc, ◌+◌, ◌<◌, ◌≤◌, ⊎_elim, ◌∙◌, sym, ap, ap₂, refl, subst, arith, true, false, None, Some, List, [], ◌∷◌, ◌++◌, append_assoc, drop, drop-cons, get_or, length}
 use Rattle.std.proofs.lemmas.Bool.{cases_eq, cases_lt}
-use Rattle.exact_numbers.specs.Values.{frac_value}
 use Rattle.fractions.specs.Rational.{ℚ, zero_ℚ, ◌+ℚ◌, ◌*ℚ◌}
 use Rattle.fractions.proofs.Arithmetic.{+ℚ_zero, zero-+ℚ}
 use Rattle.fractions.specs.Fits.{fits, sum_fits}
@@ -58,26 +57,10 @@ left_from v n t left rest at up a =
     let here = subst (AreAscending n) at a in
     subst (AreAscending v) (sym at) (up, here.1, here.2)
 
-pub none_left : (ts : List Term) (i : ℕ) → length ts ≤ i → drop i ts ≡ []
-none_left [] zero h = refl
-none_left [] (suc i) h = refl
-none_left (t ∷ ts) zero h = absurd (omega arith)
-none_left (t ∷ ts) (suc i) h = none_left ts i (omega arith)
-
 -- ---- the coefficient of a variable that is not above the first that is left
 module _ (v : ℕ) (t : Term) (left rest : List Term) (at : left ≡ t ∷ rest) (a : AreAscending v left) where
   here : AreAscending v (t ∷ rest)
   here = subst (AreAscending v) at a
-
-  module _ (same : t.0 ≡ v) where
-    pub head_value : frac_value t.1 ≡ coef_in left v
-    head_value = sym (ap (λ l. coef_in l v) at ∙ ap value_or_zero (found_same t rest v (sym same)))
-
-    pub head_rest : AreAscending (suc v) rest
-    head_rest = subst (λ k. AreAscending (suc k) rest) same here.2
-
-    pub head_others : (i : ℕ) → i ≢ v → coef_in rest i ≡ coef_in left i
-    head_others i n = sym (ap (λ l. coef_in l i) at ∙ ap value_or_zero (found_apart t rest i (λ e. n (e ∙ same))))
 
   module _ (apart : t.0 ≢ v) where
     pub all_above : AreAscending (suc v) left
@@ -114,9 +97,6 @@ term_drop ts i t h e =
 
 pub one_pushed : (done now left rest : List Term) (t : Term) → now ≡ done ++ t ∷ [] → left ≡ t ∷ rest → now ++ rest ≡ done ++ left
 one_pushed done now left rest t e at = ap (λ xs. xs ++ rest) e ∙ append_assoc done (t ∷ []) rest ∙ ap (λ xs. done ++ xs) (sym at)
-
-pub none_more : (done list : List Term) (i : ℕ) → length list ≤ i → done ≡ done ++ drop i list
-none_more done list i h = sym (append-nil done) ∙ ap (λ xs. done ++ xs) (sym (none_left list i h))
 
 -- ---- a constant and a list with k times a form
 module _ (c sum k : ℚ) (list ts : List Term) (b : Line) (ascending : AreAscending 0 ts) (is : (j : ℕ) → b.coef j ≡ coef_in ts j) (p : fits (k *ℚ b.constant) ≡ true) (s : sum_fits c (k *ℚ b.constant) ≡ true) (e : sum ≡ c +ℚ k *ℚ b.constant) where

@@ -15,7 +15,7 @@ use Rattle.linear_program.specs.declared.form_terms.FormTerms.{FormTerms}
 use Rattle.linear_program.specs.declared.form_terms.TermSource.{TermSource}
 use Rattle.linear_program.specs.declared.form_terms.TermSource.TheVariants.{Fractions, Decimals, Places}
 use Rattle.linear_program.specs.declared.sum.Sum.{Sum}
-use Rattle.linear_program.specs.Coefs.{Term, AreBelow, coef_in}
+use Rattle.linear_program.specs.Coefs.{Term, coef_in}
 use Rattle.linear_program.specs.Decimals.{fraction_terms}
 use Rattle.linear_program.specs.Places.{place_in, terms_from}
 
@@ -83,7 +83,7 @@ IsWithin n f = IsZeroFrom n (form_line f)
 
 -- an open form has a place for each variable of another
 abbrev pub HasRoom : Form → Form → Type 0
-HasRoom f other = is_open f ≡ true → AreBelow (pad_places f) (form_terms other)
+HasRoom f other = is_open f ≡ true → IsWithin (pad_places f) other
 
 -- a + k * b fits: each product with k and each sum does, of the constants and of the coefficients
 -- of one variable

@@ -125,6 +125,12 @@ impl Accumulator {
         self.alloc
     }
 
+    // About how many coefficients are not 0.
+    #[inline]
+    pub(crate) fn room(&self) -> usize {
+        self.listed.items().len().max(self.places.touched())
+    }
+
     // The coefficients in order; the places hold 0 again.
     pub(crate) fn take(&mut self, alloc: Global) -> Result<Coefficients, AllocError>
         ensures coefficients { IfOk result

@@ -4,7 +4,7 @@ ghost use Rattle.texts.specs.Stopped.{IfFault};
 ghost use Rattle.exact_numbers.specs.Values.{frac_value};
 ghost use Rattle.fractions.specs.Rational.{zero_ℚ};
 ghost use Rattle.program_meaning.specs.Lines.{constant_line, is_constant};
-ghost use Rattle.linear_program.specs.Coefs.{AreAscending, AreDecimalsOf, AreProducts, HasWideProduct, coef_in};
+ghost use Rattle.linear_program.specs.Coefs.{AddsAt, AreAscending, AreDecimalsOf, AreProducts, HasWideProduct, coef_in};
 ghost use Rattle.linear_program.specs.Decimals.{AreDecimals, fraction_terms};
 ghost use Rattle.linear_program.specs.Forms.{AddsScaled, HasRoom, IsWithin, Multiplies, form_line, form_terms, is_open, pad_places, terms_left};
 
@@ -172,8 +172,10 @@ impl Form {
 
     /// The closed form of the same constant with these coefficients.
     pub fn with_coefficients(&self, coefficients: Coefficients) -> Form
-        ensures { form_line result
+        ensures line { form_line result
             ≡ record { constant = (form_line self.now).constant; coef = coef_in coefficients } }
+        ensures terms { form_terms result ≡ coefficients }
+        ensures closed { is_open result ≡ false }
     {
         Form::of_parts(self.constant(), coefficients)
     }
@@ -259,9 +261,18 @@ impl Form {
         }
     }
 
+    /// About how many terms there are, told at once: no promise is made.
+    pub fn room(&self) -> usize {
+        match &self.kept {
+            Kept::Closed(coefficients, _) => coefficients.len(),
+            Kept::Open(sum) => sum.room(),
+        }
+    }
+
     /// A closed copy.
     pub fn copied(&self, alloc: Global) -> Result<Form, AllocError>
-        ensures { IfOk result (λ f. form_line f ≡ form_line self.now) }
+        ensures line { IfOk result (λ f. form_line f ≡ form_line self.now) }
+        ensures closed { IfOk result (λ f. is_open f ≡ false) }
     {
         let coefficients = match &self.kept {
             Kept::Closed(coefficients, _) => coefficients.copied(alloc)?,
@@ -273,7 +284,7 @@ impl Form {
         Ok(self.with_coefficients(coefficients))
     }
 
-    /// k times the form, where k is not 0; a step for the constant and for each term.
+    /// k times the form, closed, where k is not 0; a step for the constant and for each term.
     pub fn times<L: Ledger>(
         &self,
         alloc: Global,
@@ -282,6 +293,7 @@ impl Form {
     ) -> Result<Form, Stop<Wide>>
         requires { frac_value k ≢ zero_ℚ }
         ensures product { Multiplies (form_line self.now) (frac_value k) result }
+        ensures closed { IfOk result (λ f. is_open f ≡ false) }
         ensures above { steps.old ≤ steps.new }
         ensures below { steps.new ≤ steps.old + length (form_terms self.now) + 1 }
         ensures ascending { AreAscending 0 (form_terms self.now) }
@@ -337,6 +349,23 @@ impl Form {
             Kept::Closed(coefficients, constant) => {
                 add_to_closed(constant, coefficients, other, k, steps)
             }
+        }
+    }
+
+    /// Adds a factor to the coefficient of a variable, which has a place. The form is open, and stays
+    /// so.
+    pub fn add_term(&mut self, variable: u32, factor: Frac) -> Result<(), Stop<Wide>>
+        requires open { is_open self.old ≡ true }
+        requires below { variable < pad_places self.old }
+        ensures adds { AddsAt (form_line self.old).coef variable (frac_value factor)
+            (form_line self.new).coef result }
+        ensures constant { (form_line self.new).constant ≡ (form_line self.old).constant }
+        ensures open { is_open self.new ≡ true }
+        ensures places { pad_places self.new ≡ pad_places self.old }
+    {
+        match &mut self.kept {
+            Kept::Open(sum) => sum.add_term(variable, factor),
+            Kept::Closed(_, _) => unreachable!(),
         }
     }
 

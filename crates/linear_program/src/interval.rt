@@ -5,7 +5,7 @@ ghost use Rattle.linear_program.specs.Intervals.{is_sided};
 use exact_numbers::Dec;
 
 /// The sides of a constraint or a variable; each may be missing.
-#[derive(Clone, Copy, Debug)]
+#[derive(Clone, Copy)]
 pub struct Interval {
     pub lo: Option<Dec>,
     pub hi: Option<Dec>,

@@ -1,7 +1,7 @@
 // Kinds of variables.
 
 /// Which values a variable may have; a binary variable is whole too.
-#[derive(Clone, Copy, Debug, PartialEq, Eq)]
+#[derive(Clone, Copy, PartialEq, Eq)]
 pub enum Kind {
     Continuous,
     Binary,

@@ -108,6 +108,12 @@ impl MarkedPlaces {
         self.touched.is_empty()
     }
 
+    // How many places are touched; one that held 0 again counts each time.
+    #[inline]
+    pub(crate) fn touched(&self) -> usize {
+        self.touched.len()
+    }
+
     /// Puts each term at its place.
     pub(crate) fn put_all(&mut self, terms: &[(u32, Frac)]) -> Result<(), AllocError>
         requires { AreBelow (length self.old) terms.now }

@@ -7,7 +7,7 @@ ghost use Rattle.linear_program.specs.Numbers.{number_value};
 use exact_numbers::{Dec, Frac};
 
 /// A number as it is written: a decimal, or a fraction.
-#[derive(Clone, Copy, Debug)]
+#[derive(Clone, Copy)]
 pub enum Number {
     Decimal(Dec),
     Fraction(Frac),

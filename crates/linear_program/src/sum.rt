@@ -166,8 +166,13 @@ impl Sum {
         Ok(form)
     }
 
+    // About how many coefficients are not 0.
+    pub(crate) fn room(&self) -> usize {
+        self.accumulator.room()
+    }
+
     /// The closed form of the sum, and the empty pad.
-    pub(crate) fn close(self) -> Result<(Form, Pad), AllocError>
+    pub fn close(self) -> Result<(Form, Pad), AllocError>
         ensures line { IfOk result (λ r. form_line r.0 ≡ sum_line self) }
         ensures terms { IfOk result (λ r. form_terms r.0 ≡ terms_from 0 self.accumulator.value) }
         ensures closed { IfOk result (λ r. is_open r.0 ≡ false) }

@@ -109,6 +109,8 @@ module _ (m : Mps ℚ) (xs : List ℚ) where
 
 pub mps_means : (m : Mps ℚ) → Means (linear_of m) (mps_problem m)
 mps_means m = record {
+  constraints = constraints_counted m;
+  variables = sym (count_lem m);
   feasible = λ xs. (to_feasible m xs, from_feasible m xs);
   relaxed = λ xs. (to_relaxed m xs, from_relaxed m xs);
   rows = rows_broken m;

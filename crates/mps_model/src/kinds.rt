@@ -1,7 +1,7 @@
 // Kinds of rows and of bounds.
 
 /// Kinds of rows: free (an objective), at most, at least, equal.
-#[derive(Clone, Copy, Debug, PartialEq, Eq)]
+#[derive(Clone, Copy, PartialEq, Eq)]
 pub enum RowKind {
     N,
     L,
@@ -11,7 +11,7 @@ pub enum RowKind {
 
 /// Kinds of bounds: lower, upper, fixed, free, no lower, no upper, binary, and the lower and upper
 /// ones of whole columns.
-#[derive(Clone, Copy, Debug, PartialEq, Eq)]
+#[derive(Clone, Copy, PartialEq, Eq)]
 pub enum BoundKind {
     Lo,
     Up,

@@ -1,8 +1,6 @@
 -- Which fault a program has.
-use Rattle.std.proofs.Common.{◌≡◌, ℕ, ◌+◌, ◌<◌, ◌≤◌, ◌^◌, ◌∙◌, sym, ap, ap₂, subst, Bool, true, false, nat_lt, ◌||◌, if◌then◌else◌, List, length, get_or, Option, Some, None, Result, Ok, Err, IfErr, IsErrAnd, drop, map}
+use Rattle.std.proofs.Common.{◌≡◌, ℕ, ◌≤◌, ◌^◌, ◌∙◌, sym, ap, ap₂, subst, Bool, true, false, nat_lt, ◌||◌, if◌then◌else◌, List, length, get_or, Option, Some, None, Result, Ok, Err, IfErr, IsErrAnd}
 use Rattle.std.proofs.lemmas.Bool.{ltb-false, or_parts}
-use Rattle.std.proofs.lemmas.List.{length-map}
-use Rattle.std.proofs.lemmas.List.Sums.{sum_by-cons}
 use Rattle.std.specs.Option.{option_map, option_or}
 use Rattle.std.specs.Ordering.{is_gt}
 use Rattle.texts.specs.Stopped.{IfFault}
@@ -12,8 +10,7 @@ use Rattle.program_meaning.specs.Linear.{Interval}
 use Rattle.exact_numbers.specs.declared.dec.Dec.{Dec}
 use Rattle.linear_program.specs.Intervals.{interval_of, no_sides}
 use Rattle.linear_program.specs.declared.interval.Interval.{Interval as Sides}
-use Rattle.mps_model.specs.Built.{entry_of}
-use Rattle.mps_model.specs.Mps.{Mps, Column, with_values, column_interval, objective_row}
+use Rattle.mps_model.specs.Mps.{Mps, with_values, column_interval, objective_row}
 use Rattle.mps_model.specs.Valid.{entry_count}
 use Rattle.mps_program.specs.declared.mps_fault.MpsFault.{MpsFault}
 use Rattle.mps_program.specs.declared.mps_fault.MpsFault.TheVariants.{EmptyInterval, TooWide, TooLarge}
@@ -22,7 +19,6 @@ use Rattle.mps_program.specs.Decimals.{sides_from}
 use Rattle.mps_program.specs.Places.{places, first, listed}
 use Rattle.mps_program.specs.Program.{values_of, constraints}
 use Rattle.mps_program.proofs.FirstLemmas.{listed_at, listed_length, places_same}
-use Rattle.mps_program.proofs.LoopLemmas.{drop_is}
 use Rattle.mps_program.proofs.SideLemmas.{sides_back, column_fits}
 
 -- ---- the first fault
@@ -92,9 +88,3 @@ is_small m e =
       columns = ltb-false (2 ^ 20) (length m.columns) inner.1;
       entries = ltb-false (2 ^ 23) (entry_count m.columns) outer.1;
     }
-
--- the entries of one column and of those that are left
-pub entries_step : (cs : List (Column Dec)) (k : ℕ) (c : Column Dec) (es : List (ℕ × Dec)) → k < length cs → c ≡ get_or cs k c → map entry_of es ≡ c.entries → entry_count (drop k cs) ≡ length es + entry_count (drop (k + 1) cs)
-entries_step cs k c es lt is read =
-    ap entry_count (drop_is cs k c lt is) ∙ sum_by-cons (λ (c : Column Dec). length c.entries) c (drop (k + 1) cs)
-    ∙ ap (λ n. n + entry_count (drop (k + 1) cs)) (ap length (sym read) ∙ length-map es entry_of)

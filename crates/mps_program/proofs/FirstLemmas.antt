@@ -29,10 +29,6 @@ module _ {A : Type 0} (f : ℕ → A) where
       (cases_lt i n)
 
 module _ (test : ℕ → Bool) where
-  pub none_yet : places test 0 ≡ []
-  unfolding places
-  none_yet = refl
-
   pub none_more : (i : ℕ) → places test i ≡ [] → test i ≡ false → places test (i + 1) ≡ []
   none_more i h e = places_more test i ∙ ap₂ (λ xs b. xs ++ one_where b i) h e
 

@@ -7,13 +7,12 @@ use Rattle.std.specs.Str.{bytes_eq}
 use Rattle.std.proofs.Math.Nat.{pow-le-pow_right}
 use Rattle.std.proofs.lemmas.Bool.Decides.{nat_tests}
 use Rattle.std.proofs.lemmas.Nat.{div-mul-add, mod-mul-add}
-use Rattle.std.proofs.lemmas.Grind.{pow_more, get_or_default_zero}
+use Rattle.std.proofs.lemmas.Grind.{get_or_default_zero}
 use Rattle.std.proofs.lemmas.List.{length-map, map-append, get_or-map, length-append, length-take-le, take_more, take_all, take-map, get_or-take, get_or_default, drop-set, append_assoc, append-nil, take-append-drop}
 use Rattle.std.proofs.lemmas.List.Elements.{All-head, All-tail, All-push, All-take, All-get_or}
-use Rattle.std.proofs.lemmas.List.Sums.{fold_push, fold_more, fails_before_first}
-use Rattle.std.proofs.lemmas.Option.{slice_get-map, slice_get-get_or}
+use Rattle.std.proofs.lemmas.List.Sums.{fold_push, fails_before_first}
+use Rattle.std.proofs.lemmas.Option.{slice_get-map}
 use Rattle.std.proofs.lemmas.List.Folds.{list_any_none}
-use Rattle.std.proofs.Math.ListN.{get_or-append}
 use Rattle.std.proofs.Math.Seq.{get_or-append_seam}
 use Rattle.texts.specs.Names.{IsName, is_name, has_name_bytes}
 use Rattle.mps_reader.specs.InsideCodes.{with_byte, bytes_code, code_of, last_bytes, name_of, AreBytes, HaveCodes, NoneOrLong}
@@ -25,18 +24,11 @@ use Rattle.std.proofs.lemmas.Bool.{and_parts, leb-true, lt-leb, le-leb, eq-eqb, 
 
 -- ---- sizes
 
--- one more byte
-pub code_grows : (code b place : ℕ) → code < 2 * 256 ^ place → b < 256 → code * 256 + b < 2 * 256 ^ (place + 1)
-code_grows code b place small byte = omega (arith, pow_more 256 place, small, byte)
-
 most : (n : ℕ) → n ≤ 6 → 256 ^ n ≤ 256 ^ 6
 most n le = pow-le-pow_right (omega arith) le
 
 pub code_fits : (code b place : ℕ) → code < 2 * 256 ^ place → b < 256 → place < 7 → code * 256 + b < 2 ^ 64
 code_fits code b place small byte le = omega (arith, small, byte, most place (omega (arith, le)))
-
-pub code_more : (name : List ℕ) (i : ℕ) → i < length name → bytes_code (take (i + 1) name) ≡ bytes_code (take i name) * 256 + get_or name i 0
-code_more name i lt = fold_more with_byte 1 name i 0 lt
 
 -- ---- the name of a code
 
@@ -259,15 +251,6 @@ none_behind short [] h first = sym (append-nil short)
 none_behind short (c ∷ behind) h first =
     let some : 0 < get_or (short ++ c ∷ behind) (length short) 0 = h (length short) 0 (omega (arith, length-append short (c ∷ behind))) in
     absurd (omega (arith, some, first, get_or-append_seam short c behind 0))
-
-pub get_before : (short behind : List ℕ) (place : ℕ) → place < length short → Some (get_or short place 0) ≡ slice_get (short ++ behind) place
-get_before short behind place lt =
-    ap Some (sym (get_or-append short behind 0 place lt)) ∙ sym (slice_get-get_or (short ++ behind) place 0 (omega (arith, lt, length-append short behind)))
-
-pub get_behind : (short behind : List ℕ) (place : ℕ) → length short ≤ place → slice_get behind (place - length short) ≡ slice_get (short ++ behind) place
-get_behind [] behind place le = ap (slice_get behind) (omega arith)
-get_behind (c ∷ short) behind zero le = absurd (omega (arith, le))
-get_behind (c ∷ short) behind (suc place) le = ap (slice_get behind) (omega arith) ∙ get_behind short behind place (omega (arith, le))
 
 -- what the place of a code says
 pub code_absent : (codes : List ℕ) (code : ℕ) → position (nat_eq code) codes ≡ None → All (λ c. c ≢ code) codes

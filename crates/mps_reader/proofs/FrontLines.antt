@@ -1,13 +1,11 @@
 -- Lines at the front of a piece that are taken at once.
-use Rattle.std.proofs.Common.{◌≡◌, ◌∙◌, ℕ, ◌+◌, ◌-◌, ◌<◌, ◌≤◌, ◌^◌, ◌&&◌, ◌==◌, not, Bool, true, false, inl, inr, List, [], ◌∷◌, ◌++◌, length, take, drop, get_or, Option, Some, None, Ok, refl, sym, ap, ap₂, subst, arith, append_assoc, length-append, length-drop, length-take, take-append-drop}
+use Rattle.std.proofs.Common.{◌≡◌, ◌∙◌, ℕ, ◌+◌, ◌-◌, ◌<◌, ◌≤◌, ◌^◌, ◌&&◌, ◌==◌, not, Bool, true, false, inl, inr, List, [], ◌∷◌, ◌++◌, length, take, drop, get_or, Option, Some, None, Ok, refl, sym, ap, ap₂, subst, arith, append_assoc, length-append, length-take, take-append-drop}
 use Rattle.std.specs.Prelude.{All, IfSome, nat_le}
-use Rattle.std.specs.List.{AllByRecursion}
-use Rattle.std.proofs.Math.Seq.{take-append_seam, take-append-add}
+use Rattle.std.proofs.Math.Seq.{take-append_seam}
 use Rattle.std.proofs.lemmas.List.{append-nil, drop_more, length-map}
 use Rattle.std.proofs.lemmas.List.Elements.{All-cons}
 use Rattle.std.proofs.lemmas.Bool.{le-leb}
 use Rattle.std.proofs.lemmas.Bool.Decides.{eqb_tells, nat_tests}
-use Rattle.std.proofs.lemmas.Grind.{flat_map-append}
 use Rattle.std.specs.Str.{bytes_eq}
 use Rattle.texts.specs.declared.grammar.Front.{Front}
 use Rattle.texts.specs.Cut.{IsTextLine}
@@ -16,6 +14,7 @@ use Rattle.texts.specs.Judged.{Open, IsClean, first_reason, Takes}
 use Rattle.texts.specs.Names.{IsName, has_name_bytes}
 use Rattle.texts.specs.Words.{IsUnmarked, row_of, word_at}
 use Rattle.texts.proofs.FirstReasons.{takes_after}
+use Rattle.texts.proofs.FrontLemmas.{front_joined}
 use Rattle.texts.proofs.JudgedLemmas.{clean_more}
 use Rattle.texts.proofs.NamePlaces.{bytes_self, place_some}
 use Rattle.exact_numbers.specs.Numbers.{dec_of}
@@ -34,7 +33,7 @@ use Rattle.mps_reader.specs.InsideLines.{GoesOn, IsAfterHead, IsBoundText, IsCol
 use Rattle.mps_reader.specs.InsideHeld.{HasPairs, Held, IsKept, IsSound, MayPair, TakesSoundly, program}
 use Rattle.mps_reader.specs.InsideHeldSteps.{if_held_entry, with_bound, with_held_bound_line, with_held_column, with_held_column_line, with_held_entries, with_held_entry, with_held_pairs, with_held_sides, with_set}
 use Rattle.mps_reader.specs.InsidePairs.{CanGive}
-use Rattle.mps_reader.specs.Saying.{Draft, bound_in, bound_kind_of, bound_value, column_names, entry_in, is_current, last_name, needs_number, no_number, place_of, row_names}
+use Rattle.mps_reader.specs.Saying.{Draft, bound_in, bound_kind_of, bound_value, column_names, entry_in, is_current, last_name, needs_number, place_of, row_names}
 use Rattle.mps_reader.specs.Sections.{is_data, is_left_out, last_of}
 use Rattle.mps_reader.specs.Steps.{after, after_data_in, after_words, set_after}
 use Rattle.mps_reader.specs.Tests.{Standing, Tests, bound_tests, column_name_tests, column_tests, data_tests, data_tests_in, entry_line_tests, has_entry, is_bad_set, is_free, is_full, is_refused_row, is_second_set, pair_tests, pairs_so_far, pairs_tests, set_tests, sets_again, side_tests}
@@ -53,11 +52,6 @@ use Rattle.mps_reader.proofs.StandingLemmas.{standing-more}
 
 pub first_parts : (text : List ℕ) (n byte : ℕ) → n < length text → get_or text n 0 ≡ byte → text ≡ take n text ++ byte ∷ drop (n + 1) text
 first_parts text n byte within is = sym (take-append-drop n text) ∙ ap (λ bs. take n text ++ bs) (drop_more text n 0 within ∙ ap (λ b. b ∷ drop (n + 1) text) is)
-
-pub first_is_name : (text : List ℕ) (n : ℕ) → n ≤ length text → 0 < n → n ≤ 255 → has_name_bytes (take n text) ≡ true → IsName (take n text)
-first_is_name text n within some most each =
-    let size : length (take n text) ≡ n = omega (arith, within, length-take n text) in
-    record { some = omega (arith, size, some); most = omega (arith, size, most); each = each }
 
 unmarked_bytes : (word : List ℕ) → IsUnmarked word → has_name_bytes word ≡ true
 unmarked_bytes [] all = refl
@@ -318,9 +312,6 @@ with_number kind text name value rest needs p =
     let n = p.of_number in
     record { words = n.word ∷ []; parts = p.parts ∙ ap (λ bs. name ++ 32 ∷ bs) n.parts; is_name = p.is_name; each = (n.is_word, tt); says = (needs, n.says) }
 
-pub without_number : (kind : BoundKind) (text name : List ℕ) (value : Dec) (rest : List ℕ) → needs_number kind ≡ false → text ≡ name ++ 10 ∷ rest → IsName name → no_number ≡ Some value → IsBoundText kind text name value rest
-without_number kind text name value rest needs parts named none = record { words = []; parts = parts; is_name = named; each = tt; says = (needs, none) }
-
 -- nothing is wrong with the words of a record, and what they say
 record SaysRecord (h : Held) (ws : List (List ℕ)) (kind : BoundKind) (j : ℕ) (d : Dec) : Type 0 where
   pub none : first_reason (bound_tests h.standing ws) ≡ None
@@ -372,23 +363,6 @@ module _ (h : Held) (kind : BoundKind) (text behind rest left : List ℕ) (j : �
 
 pub none_taken : (h new : Held) (piece : List ℕ) → new.standing ≡ h.standing → TakesLines h piece (record { len = 0; lines = 0 }) new
 none_taken h new piece same = record { lines = []; is = record { within = omega arith; text = refl; each = tt; count = refl }; goes = same }
-
-all_joined : (xs ys : List (List ℕ)) → AllByRecursion IsTextLine xs → AllByRecursion IsTextLine ys → AllByRecursion IsTextLine (xs ++ ys)
-all_joined [] ys h k = k
-all_joined (x ∷ xs) ys h k = (h.0, all_joined xs ys h.1 k)
-
-front_joined : (piece : List ℕ) (f g : Front) (xs ys : List (List ℕ)) → IsFront piece f xs → IsFront (drop f.len piece) g ys → IsFront piece (record { len = f.len + g.len; lines = f.lines + g.lines }) (xs ++ ys)
-front_joined piece f g xs ys h k =
-    let size : length (take f.len piece) ≡ f.len = omega (arith, h.within, length-take f.len piece) in
-    let both : take (f.len + g.len) piece ≡ take f.len piece ++ take g.len (drop f.len piece) =
-    ap (take (f.len + g.len)) (sym (take-append-drop f.len piece)) ∙ ap (λ (n : ℕ). take (n + g.len) (take f.len piece ++ drop f.len piece)) (sym size)
-    ∙ take-append-add (take f.len piece) (drop f.len piece) g.len in
-    record {
-      within = omega (arith, h.within, k.within, length-drop f.len piece);
-      text = both ∙ ap₂ (λ (a b : List ℕ). a ++ b) h.text k.text ∙ sym (flat_map-append (λ line. line ++ 10 ∷ []) xs ys);
-      each = all_joined xs ys h.each k.each;
-      count = omega (arith, h.count, k.count, length-append xs ys);
-    }
 
 goes_joined : (s m t : Standing) (xs ys : List (List ℕ)) → GoesOn s xs m → GoesOn m ys t → GoesOn s (xs ++ ys) t
 goes_joined s m t [] ys g k = subst (λ x. GoesOn x ys t) g k

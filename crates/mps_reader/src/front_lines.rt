@@ -101,7 +101,7 @@ impl State {
         let Some(pair) = self.row_pair(rest) else {
             return None;
         };
-        if !self.is_free_row(keyword, pair.row) {
+        if !self.may_take_row(keyword, pair.row) {
             return None;
         }
         Some(pair)
@@ -156,7 +156,7 @@ impl State {
         let Some(pair) = self.short_pair(rest) else {
             return None;
         };
-        if !self.is_free_row(Keyword::Columns, pair.row) {
+        if !self.may_take_row(Keyword::Columns, pair.row) {
             return None;
         }
         Some(pair)

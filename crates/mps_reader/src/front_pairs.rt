@@ -68,7 +68,7 @@ impl State {
 
     /// Whether a row may have a pair more.
     #[inline(always)]
-    pub(crate) fn is_free_row(&self, keyword: Keyword, row: u32) -> bool
+    pub(crate) fn may_take_row(&self, keyword: Keyword, row: u32) -> bool
         requires may { MayPair keyword self.now }
         requires within { row < length (program self.now).rows }
         ensures { result ≡ true → IsFreeRow keyword self.now row }

@@ -101,7 +101,7 @@ fn sole_name<'a>(words: &[&'a [u8]]) -> Option<&'a [u8]>
 impl NameGrammar {
     /// No lines of a file of so many names.
     #[tactic(auto, unfolding(crate::specs::Names::names_of))]
-    pub(crate) fn new(alloc: Global, used: u32, further: u32) -> NameGrammar
+    pub fn new(alloc: Global, used: u32, further: u32) -> NameGrammar
         ensures counts { result.counts ≡ record { used = used; further = further } }
         ensures standing { result.standing ≡ standing result.counts [] }
     {

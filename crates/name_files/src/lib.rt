@@ -9,6 +9,7 @@ mod reader;
 mod renaming;
 
 pub use fault::{NameFault, NameReason};
+pub use grammar::NameGrammar;
 pub use name_lists::{NameList, numbered};
 pub use reader::NameReader;
 pub use renaming::rename;

@@ -1,5 +1,5 @@
 -- A line that a text begins with, word by word.
-use Rattle.std.proofs.Common.{◌≡◌, ◌∙◌, ℕ, suc, ◌+◌, ◌<◌, ◌≤◌, ◌==◌, take, drop, Bool, true, false, List, [], ◌∷◌, ◌++◌, length, refl, sym, ap, ap₂, subst, arith, append_assoc, length-append, length-take, take-append-drop, take_all, get_or, Some, Option, slice_index}
+use Rattle.std.proofs.Common.{◌≡◌, ◌∙◌, ℕ, suc, ◌+◌, ◌<◌, ◌≤◌, ◌==◌, take, drop, Bool, true, false, List, [], ◌∷◌, ◌++◌, length, refl, sym, ap, ap₂, subst, arith, append_assoc, length-append, length-take, take-append-drop, take_all, get_or, Some, Option}
 use Rattle.std.proofs.Math.Seq.{drop-append_seam}
 use Rattle.std.proofs.lemmas.List.{drop_more}
 use Rattle.std.proofs.lemmas.Bool.Decides.{nat_tests}
@@ -160,14 +160,6 @@ pub two_first : (text : List ℕ) (first second : ℕ) → 2 ≤ length text →
 two_first [] first second some p q = absurd (omega (arith, some))
 two_first (a ∷ []) first second some p q = absurd (omega (arith, some))
 two_first (a ∷ b ∷ rest) first second some p q = ap₂ (λ x y. x ∷ y ∷ rest) p q
-
--- a text that begins with a letter, as its first byte and what follows
-pub letter_first : (text rest : List ℕ) (first letter : ℕ) (len : ℕ) (says : List (List ℕ) → Type 0) → first ≡ slice_index text 0 → first ≡ letter → rest ≡ drop 1 text → 0 < letter → IsFirstRow (letter ∷ rest) len says
-    → IsFirstRow text len says
-letter_first [] rest first letter len says begins is behind above r = absurd (omega (arith, begins, is, above))
-letter_first (b ∷ bytes) rest first letter len says begins is behind above r =
-    let same : letter ∷ rest ≡ b ∷ bytes = ap₂ (λ x xs. x ∷ xs) (sym is ∙ begins) behind in
-    subst (λ bs. IsFirstRow bs len says) same r
 
 -- a letter and a number
 pub letter_row : {V : Type 0} (read : List ℕ → Option V) (v : V) (rest : List ℕ) (len letter : ℕ) (says : List (List ℕ) → Type 0) → 35 < letter → ((words : List (List ℕ)) → says words → length words ≤ 12)

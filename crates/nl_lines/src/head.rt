@@ -1,7 +1,7 @@
 // Heads of segments.
 
 /// What the head of a segment says.
-#[derive(Clone, Copy, Debug, PartialEq, Eq)]
+#[derive(Clone, Copy, PartialEq, Eq)]
 pub enum Head {
     /// The expression of a constraint.
     Body(u32),

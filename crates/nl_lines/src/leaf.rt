@@ -2,7 +2,7 @@
 use exact_numbers::Dec;
 
 /// A letter of a node, and the number that follows it.
-#[derive(Clone, Copy, Debug)]
+#[derive(Clone, Copy)]
 pub enum Leaf {
     /// A number.
     Number(Dec),

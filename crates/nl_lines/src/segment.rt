@@ -8,7 +8,7 @@ ghost use Rattle.nl_lines.specs.declared.segment.Total.TheVariants.{Linear};
 use crate::head::Head;
 
 /// What a segment is of.
-#[derive(Clone, Copy, Debug)]
+#[derive(Clone, Copy)]
 pub enum Subject {
     File,
     Constraint(u32),
@@ -20,7 +20,7 @@ pub enum Subject {
 }
 
 /// Which lines follow a head, before any expression.
-#[derive(Clone, Copy, Debug)]
+#[derive(Clone, Copy)]
 pub enum Lines {
     /// So many lines of an index and a value.
     Pairs(u32),
@@ -33,7 +33,7 @@ pub enum Lines {
 }
 
 /// What the indices of pairs are of.
-#[derive(Clone, Copy, Debug)]
+#[derive(Clone, Copy)]
 pub enum Indices {
     Variables,
     Constraints,
@@ -42,7 +42,7 @@ pub enum Indices {
 }
 
 /// Which total pairs count for.
-#[derive(Clone, Copy, Debug)]
+#[derive(Clone, Copy)]
 pub enum Total {
     Neither,
     /// Linear terms.
@@ -52,7 +52,7 @@ pub enum Total {
 }
 
 /// What there is to know of a segment.
-#[derive(Clone, Copy, Debug)]
+#[derive(Clone, Copy)]
 pub struct Segment {
     /// The number of its letter, in the order in which segments are written.
     pub letter: u32,

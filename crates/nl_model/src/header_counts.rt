@@ -1,7 +1,7 @@
 // The counts of a header.
 
 /// The numbers of header lines 2 to 10, by their names (Gay 2005, "Writing .nl Files").
-#[derive(Clone, Copy, Debug)]
+#[derive(Clone, Copy)]
 pub struct Counts {
     pub n_var: u32,
     pub n_con: u32,

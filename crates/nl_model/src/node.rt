@@ -10,7 +10,7 @@ const _: () = prove!(size_of::<Node>() <= MOST_BYTES);
 const _: () = prove!(size_of::<(u32, Dec)>() <= MOST_BYTES);
 
 /// A node of an expression in prefix form.
-#[derive(Clone, Copy, Debug)]
+#[derive(Clone, Copy)]
 pub enum Node {
     Num(Dec),
     Var(u32),

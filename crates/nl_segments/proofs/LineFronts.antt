@@ -163,12 +163,6 @@ pub has_room : (first d : Draft) (of_constraint : Bool) (left : ℕ) (piece : Li
     → TakesLines h.body piece 1 front (with_lines h.body d h.body.columns h.current front.lines) → HasRoom d of_constraint
 has_room first d of_constraint left piece front h lt takes = subst (HasRoom d) h.is.same (interval_next first d of_constraint left piece front h lt takes).room
 
-pub few_left : (first d : Draft) (of_constraint : Bool) (left : ℕ) (piece : List ℕ) (front : Front) (h : HasIntervals first of_constraint left) → front.lines < left
-    → TakesLines h.body piece 1 front (with_lines h.body d h.body.columns h.current front.lines) → of_constraint ≡ false → left - front.lines ≤ d.counts.n_var
-few_left first d of_constraint left piece front h lt takes f =
-    let most = (interval_next first d of_constraint left piece front h lt takes).most (h.is.same ∙ f) in
-    omega (arith, most, h.is.awaits.same_left)
-
 pub same_counts : (d : Draft) (of_constraint : Bool) (i : Interval) → (with_interval d of_constraint i).counts ≡ d.counts
 same_counts d true i = refl
 same_counts d false i = refl

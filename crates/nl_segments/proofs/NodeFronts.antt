@@ -75,11 +75,6 @@ operand_can b piece len k line cur q a first few =
     can_take b words line q.line cur (Whole (Op q.opcode k)) a.held
     (count_read b words line cur q k a.here a.awaiting (whole_plain words k first.row) a.pending a.waits a.held (operand_fine words k first.row few) (operand_says words k first.row few))
 
-pub operand_few : (b : Body) (piece : List ℕ) (len k line : ℕ) (cur : Current) (q : Pending) → AwaitsOperands b cur q → IsFirstRow piece len (λ words. IsWholeRow words k) → (nat_lt 0 k && nat_le k (2 ^ 22)) ≡ true → b.nodes < 2 ^ 22
-operand_few b piece len k line cur q a first few =
-    let words = row_of (without_comment first.line) in
-    (count_read b words line cur q k a.here a.awaiting (whole_plain words k first.row) a.pending a.waits a.held (operand_fine words k first.row few) (operand_says words k first.row few)).few
-
 pub operand_first : (b : Body) (piece : List ℕ) (number len k : ℕ) (cur : Current) (q : Pending) (draft : Draft) (kept : Option Current) (places : PlaceLines) → AwaitsOperands b cur q → IsFirstRow piece len (λ words. IsWholeRow words k)
     → (nat_lt 0 k && nat_le k (2 ^ 22)) ≡ true → IfSome b.current (λ c. places ≡ with_row_line b.places q.line c.head (Whole (Op q.opcode k))) → IfSome b.current (λ c. IsSettled b.draft (with_node_row c q.line (Whole (Op q.opcode k))) kept draft)
     → TakesLines b piece number (record { len = len; lines = 1 }) (record b { draft = draft; current = kept; nodes = b.nodes + 1; places = places })

@@ -1,5 +1,5 @@
 -- What a line more does to what lines mean and to the whole reader, and what it answers; runs of lines, and terms that are taken at once.
-use Rattle.std.proofs.Common.{◌≡◌, ◌∙◌, ℕ, ◌+◌, ◌<◌, ◌≤◌, Bool, true, false, if◌then◌else◌, List, [], ◌∷◌, ◌++◌, length, take, drop, map, refl, sym, ap, ap₂, arith, nat_lt, not, ◌==◌, Bor, subst, suc, Some, None, Option, append-nil, length-append, ◌-◌, get_or, zero, append_assoc, ◌&&◌, length-drop, length-take, take-append-drop, slice_set, nat_le}
+use Rattle.std.proofs.Common.{◌≡◌, ◌∙◌, ℕ, ◌+◌, ◌<◌, ◌≤◌, Bool, true, false, if◌then◌else◌, List, [], ◌∷◌, ◌++◌, length, take, drop, map, refl, sym, ap, ap₂, arith, nat_lt, not, ◌==◌, Bor, subst, suc, Some, None, Option, append-nil, length-append, ◌-◌, get_or, zero, append_assoc, ◌&&◌, slice_set, nat_le}
 use Rattle.std.proofs.lemmas.Bool.{ltb-true, ltb-false, lt-ltb, eqb-true}
 use Rattle.std.proofs.lemmas.List.{length-map, length-take-le, map-append, take-append-le, take_all, drop_all, drop-append-le}
 use Rattle.std.proofs.lemmas.List.Sums.{fold-append}
@@ -30,15 +30,13 @@ use Rattle.texts.specs.Reading.{HasFaultSoFar, Reads}
 use Rattle.nl_lines.specs.declared.fault.NlFault.{NlFault}
 use Rattle.nl_segments.specs.Reader.{stop_of, ReadsNl, HasNlFaultSoFar, value_of}
 use Rattle.std.proofs.lemmas.Bool.Decides.{nat_tests}
-use Rattle.std.specs.List.{range_with_len, AllByRecursion}
+use Rattle.std.specs.List.{range_with_len}
 use Rattle.nl_segments.specs.declared.line_runs.LineRun.{LineRun}
 use Rattle.nl_segments.specs.InsideLineRuns.{follows, lines_in, run_lines}
-use Rattle.std.proofs.Math.Seq.{take-append-add}
-use Rattle.std.proofs.lemmas.Grind.{flat_map-append}
-use Rattle.texts.specs.Cut.{IsTextLine}
 use Rattle.texts.specs.Fronts.{IsFront, TakesFront}
 use Rattle.texts.specs.Judged.{Open, IsClean, first_reason}
 use Rattle.texts.specs.declared.grammar.Front.{Front}
+use Rattle.texts.proofs.FrontLemmas.{front_joined}
 use Rattle.texts.proofs.JudgedLemmas.{clean_more}
 use Rattle.nl_model.specs.declared.header_counts.Counts.{Counts}
 use Rattle.nl_model.specs.Draft.{Draft}
@@ -297,15 +295,6 @@ grown now earlier r s line n view next some first last =
     ap (λ a. range_with_len a (s.last + 1 - a)) first ∙ ap (range_with_len r.first) count ∙ range_parts r.first (r.last + 1 - r.first) n ∙ ap (λ a. lines_in r ++ range_with_len a n) end in
     ap (λ xs. run_lines earlier ++ xs) longer ∙ sym (append_assoc (run_lines earlier) (lines_in r) (range_with_len line n)) ∙ ap (λ xs. xs ++ range_with_len line n) view
 
--- its first lines
-pub first_lines : (now : List ℕ) (earlier : List LineRun) (r s : LineRun) (line n : ℕ) → run_lines earlier ++ lines_in r ≡ now → earlier ≡ [] → r.last < r.first → s.first ≡ line → s.last + 1 ≡ line + n
-    → run_lines earlier ++ lines_in s ≡ now ++ range_with_len line n
-unfolding run_lines
-first_lines now earlier r s line n view none empty first last =
-    let count : s.last + 1 - line ≡ n = omega (arith, last) in
-    ap (λ (xs : List LineRun). run_lines xs ++ lines_in s) none ∙ ap (λ a. range_with_len a (s.last + 1 - a)) first ∙ ap (range_with_len line) count
-    ∙ ap (λ xs. xs ++ range_with_len line n) (sym (none_there now earlier r view none empty))
-
 -- a line of its own after it
 runs-append : (xs : List LineRun) (r : LineRun) → run_lines (xs ++ r ∷ []) ≡ run_lines xs ++ lines_in r
 unfolding run_lines
@@ -368,25 +357,6 @@ pub nothing_there : (none : List ℕ) (i : ℕ) → none ≡ [] → slice_get no
 nothing_there [] zero e = refl
 nothing_there [] (suc i) e = refl
 nothing_there (x ∷ xs) i e = absurd cc
-
--- ---- lines at the front of a piece
-
-all-joined : (xs ys : List (List ℕ)) → AllByRecursion IsTextLine xs → AllByRecursion IsTextLine ys → AllByRecursion IsTextLine (xs ++ ys)
-all-joined [] ys h k = k
-all-joined (x ∷ xs) ys h k = (h.0, all-joined xs ys h.1 k)
-
-front_joined : (piece : List ℕ) (f g : Front) (xs ys : List (List ℕ)) → IsFront piece f xs → IsFront (drop f.len piece) g ys → IsFront piece (record { len = f.len + g.len; lines = f.lines + g.lines }) (xs ++ ys)
-front_joined piece f g xs ys h k =
-    let size : length (take f.len piece) ≡ f.len = omega (arith, h.within, length-take f.len piece) in
-    let both : take (f.len + g.len) piece ≡ take f.len piece ++ take g.len (drop f.len piece) =
-    ap (take (f.len + g.len)) (sym (take-append-drop f.len piece)) ∙ ap (λ (n : ℕ). take (n + g.len) (take f.len piece ++ drop f.len piece)) (sym size)
-    ∙ take-append-add (take f.len piece) (drop f.len piece) g.len in
-    record {
-      within = omega (arith, h.within, k.within, length-drop f.len piece);
-      text = both ∙ ap₂ (λ (a b : List ℕ). a ++ b) h.text k.text ∙ sym (flat_map-append (λ line. line ++ 10 ∷ []) xs ys);
-      each = all-joined xs ys h.each k.each;
-      count = omega (arith, h.count, k.count, length-append xs ys);
-    }
 
 -- ---- lines after one another
 

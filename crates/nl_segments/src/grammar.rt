@@ -82,7 +82,7 @@ impl Grammar for NlGrammar {
 
 impl NlGrammar {
     /// No lines.
-    pub(crate) fn new(alloc: Global) -> NlGrammar
+    pub fn new(alloc: Global) -> NlGrammar
         ensures { HoldsStanding (standing []) result }
     {
         NlGrammar {

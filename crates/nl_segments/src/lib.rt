@@ -27,7 +27,8 @@ mod places;
 mod seen;
 mod stage;
 
+pub use grammar::NlGrammar;
 pub use nl_lines::{NlFault, NlReason};
 pub use nl_read::NlRead;
-pub use nl_reader::{NlReader, read_nl};
+pub use nl_reader::{NlReader, fault_of, read_nl};
 pub use places::Places;

@@ -23,8 +23,8 @@ fn opcode_of(reason: NlReason) -> u32
     }
 }
 
-// The fault of a text at a line.
-fn fault_of(found: TextFault<NlReason>) -> NlFault
+/// The fault of a text at a line.
+pub fn fault_of(found: TextFault<NlReason>) -> NlFault
     ensures { result ≡ fault_of found }
 {
     NlFault {

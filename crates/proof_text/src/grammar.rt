@@ -145,11 +145,7 @@ fn subtrees_after(subtrees: u64, node: ProofNode) -> u64
 impl ProofGrammar {
     /// No lines of a proof over so many rows and these variables.
     #[tactic(auto, unfolding(tree_text::specs::Rows::rows_in))]
-    pub(crate) fn new(
-        alloc: Global,
-        rows: u32,
-        kinds: Vec<Kind>,
-    ) -> Result<ProofGrammar, AllocError>
+    pub fn new(alloc: Global, rows: u32, kinds: Vec<Kind>) -> Result<ProofGrammar, AllocError>
         ensures setting { IfOk result (λ g. g.setting
             ≡ record { rows = rows; kinds = kinds.items }) }
         ensures standing { IfOk result (λ g. g.standing ≡ proof_standing (rows_in [])) }

@@ -10,4 +10,5 @@ mod words;
 
 pub use certificates::proof::{Claim, Proof, ProofNode};
 pub use fault::{ProofFault, ProofReason};
+pub use grammar::ProofGrammar;
 pub use reader::{ProofReader, read_proof};

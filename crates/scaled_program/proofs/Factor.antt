@@ -1,14 +1,10 @@
 -- The least factor is the least common multiple of the cofactors.
 use Prim.Native.Nat.{◌∣◌}
-use Rattle.std.proofs.Common.{◌≡◌, ℕ, ◌<◌, ◌↔◌, refl, pos, List, All}
+use Rattle.std.proofs.Common.{ℕ, ◌<◌, ◌↔◌, pos, List, All}
 use Rattle.fractions.specs.Rational.{ℚ, whole, ◌*ℚ◌}
 use Rattle.scaled_program.specs.Factor.{IsFinite, IsLeastFactor, least_factor}
-use Rattle.scaled_program.specs.FactorLemmas.{factor_by_steps, steps_above, steps_multiples, steps_are_least}
+use Rattle.scaled_program.specs.FactorLemmas.{steps_above, steps_multiples, steps_are_least}
 pub use Rattle.scaled_program.specs.FactorLemmas.{is_lcm, cofactor_above, finite_multiple, only_cofactor}
-
-pub factor_is : (xs : List ℚ) → least_factor xs ≡ factor_by_steps xs
-unfolding least_factor
-factor_is xs = refl
 
 pub factor_above : (xs : List ℚ) → 0 < least_factor xs
 unfolding least_factor

@@ -11,7 +11,7 @@ use Rattle.scaled_program.proofs.Factor.{factor_multiples, factor_above}
 use Rattle.exact_numbers.specs.Values.{frac_value, dec_value, FitsDec}
 use Rattle.linear_program.specs.Coefs.{Term, coef_in, value_or_zero, AreAscending, AreBelow}
 use Rattle.linear_program.proofs.CoefLemmas.{found_same, found_apart}
-use Rattle.scaling.specs.Fitting.{coefficients_in, NumberFits, AreTermsTimes, listed, less_side, times_side, LessFits, ProductFits, AreSidesFit}
+use Rattle.scaling.specs.Fitting.{coefficients_in, NumberFits, AreTermsTimes, listed, less_side, times_side, LessFits, AreSidesFit}
 use Rattle.scaling.proofs.SharedLemmas.{zero_decimal, nothing_in, first_in, later_in, zero_fits}
 use Rattle.linear_program.specs.Decimals.{coefficient_of}
 use Rattle.exact_numbers.specs.declared.dec.Dec.{Dec}
@@ -179,9 +179,6 @@ pub all_map : {P Q : ℚ → Type 0} (xs : List ℚ) → ((x : ℚ) → P x → 
 all_map xs f h = λ k d l. f _ (h k d l)
 
 -- ---- sides
-side_map : (P Q : ℚ → Type 0) (o : Option ℚ) → ((x : ℚ) → P x → Q x) → IfSide P o → IfSide Q o
-side_map P Q None f h = tt
-side_map P Q (Some x) f h = f x h
 
 side_of_less : (P Q : ℚ → Type 0) (c : ℚ) (o : Option ℚ) → ((x : ℚ) → P x → Q (x -ℚ c)) → IfSide P o → IfSide Q (less_side c o)
 side_of_less P Q c None f h = tt
@@ -198,18 +195,6 @@ times_less q c (Some x) = refl
 listed_less : (c : ℚ) (o : Option ℚ) → side_less c o ≡ listed (less_side c o)
 listed_less c None = refl
 listed_less c (Some x) = refl
-
--- products and decimals of sides times q
-pub products : (q : ℚ) (o : Option ℚ) → IfSide (NumberFits q) o → IfSide (ProductFits q) o
-products q o h = side_map (NumberFits q) (ProductFits q) o (λ x n. n.frac) h
-
-pub decimals : (q : ℚ) (o : Option ℚ) → IfSide (NumberFits q) o → IfSide FitsDec (times_side q o)
-decimals q None h = tt
-decimals q (Some x) h = h.dec
-
-pub numbers_of : (q : ℚ) (o : Option ℚ) → IfSide (ProductFits q) o → IfSide FitsDec (times_side q o) → IfSide (NumberFits q) o
-numbers_of q None h g = tt
-numbers_of q (Some x) h g = record { frac = h; dec = g }
 
 module _ (n i : ℕ) (b : Form) (s : Interval) (up : AreAscending 0 (form_terms b)) (below : AreBelow n (form_terms b)) where
   abbrev row : Row
@@ -237,9 +222,6 @@ module _ (n i : ℕ) (b : Form) (s : Interval) (up : AreAscending 0 (form_terms 
       ∙ same_factor (xs ++ lo ++ hi) (ts ++ lo ++ hi)
       (λ k h. let first = all_left (Finite k) (xs ++ lo) hi h in All-append (Finite k) (ts ++ lo) hi (All-append (Finite k) ts lo (to_terms n (form_terms b) up below (Finite k) (all_left (Finite k) xs lo first)) (all_right (Finite k) xs lo first)) (all_right (Finite k) (xs ++ lo) hi h))
       (λ k h. let first = all_left (Finite k) (ts ++ lo) hi h in All-append (Finite k) (xs ++ lo) hi (All-append (Finite k) xs lo (from_terms n (form_terms b) up below (Finite k) (zero_finite k) (all_left (Finite k) ts lo first)) (all_right (Finite k) ts lo first)) (all_right (Finite k) (ts ++ lo) hi h))
-
-  pub no_sides_fit : ((IfSide (LessFits c) l × IfSide (LessFits c) u) → ⊥) → ¬ RowFits n row (factor_for n row)
-  no_sides_fit bad h = bad (side_map (SideFits (factor_for n row) c) (LessFits c) l (λ x f. record { side = f.side; less = f.less }) h.lower, side_map (SideFits (factor_for n row) c) (LessFits c) u (λ x f. record { side = f.side; less = f.less }) h.upper)
 
   module _ (lo hi : Option ℚ) (e : lo ≡ less_side c l) (f : hi ≡ less_side c u) where
     pub same_numbers : factor_for n row ≡ least_factor (numbers lo hi)

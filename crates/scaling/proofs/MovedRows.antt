@@ -1,14 +1,13 @@
 -- The rows of a linear program that is let go, one by one.
-use Rattle.std.proofs.Common.{◌≡◌, ℕ, ◌+◌, ◌<◌, ◌≤◌, ◌∙◌, sym, ap, subst, arith, List, [], ◌∷◌, ◌++◌, length, get_or, drop, Option, length-drop}
+use Rattle.std.proofs.Common.{◌≡◌, ℕ, ◌+◌, ◌<◌, ◌≤◌, ◌∙◌, sym, ap, subst, arith, List, [], ◌∷◌, ◌++◌, length, get_or, drop, Option}
 use Rattle.std.proofs.lemmas.List.{drop-drop, get_or-drop, get_or_default}
 use Rattle.linear_program.specs.declared.form.Form.{Form}
 use Rattle.linear_program.specs.declared.interval.Interval.{Interval}
 use Rattle.linear_program.specs.Forms.{form_terms}
 use Rattle.linear_program.specs.Programs.{LinearValue, linear_value}
 use Rattle.scaling.specs.declared.row.FactoredRow.{FactoredRow}
-use Rattle.scaling.specs.Factored.{AreScaledRows, IsScaledAt, body_term_count, term_count_of}
+use Rattle.scaling.specs.Factored.{AreScaledRows, IsScaledAt, term_count_of}
 use Rattle.scaling.specs.InsideMoves.{HasRows, IsRow}
-use Rattle.scaling.specs.Scaled.{row_term_count}
 use Rattle.scaling.proofs.LinearLemmas.{AreFirstRows, all_rows, one_row_more}
 
 pub first_left : {A : Type 0} (xs : List A) (j : ℕ) (x : A) (rest : List A) → drop j xs ≡ x ∷ rest → x ≡ get_or xs j x
@@ -16,9 +15,6 @@ first_left xs j x rest e = sym (ap (λ ys. get_or ys 0 x) e) ∙ get_or-drop j x
 
 pub others_left : {A : Type 0} (xs : List A) (j : ℕ) (x : A) (rest : List A) → drop j xs ≡ x ∷ rest → rest ≡ drop (j + 1) xs
 others_left xs j x rest e = ap (drop 1) (sym e) ∙ drop-drop 1 j xs
-
-pub none_left : {A : Type 0} (xs rest : List A) (j : ℕ) → j < length xs → rest ≡ drop j xs → rest ≡ [] → ⊥
-none_left xs rest j h e none = omega (arith, ap length e, length-drop j xs, ap length none, h)
 
 module _ (p : LinearValue) (bodies : List Form) (sides : List Interval) (h : HasRows p bodies sides) (i : ℕ) (b : Form) (rest : List Form) (s : Interval) (left : drop i bodies ≡ b ∷ rest) (within : i < length bodies) (at : s ≡ get_or sides i s) where
   pub row_there : IsRow p i b s
@@ -40,6 +36,3 @@ module _ (p : LinearValue) (bodies : List Form) (sides : List Interval) (h : Has
 
 pub all_moved : (p : LinearValue) (bodies : List Form) (sides : List Interval) (rows : List (Option FactoredRow)) (i : ℕ) → HasRows p bodies sides → AreFirstRows p rows i → i ≡ length bodies → AreScaledRows (linear_value p) rows
 all_moved p bodies sides rows i h first end = all_rows p rows i h.linear first (end ∙ ap length h.bodies_are)
-
-pub all_few : (p : LinearValue) (bodies : List Form) (sides : List Interval) (rows : List (Option FactoredRow)) (i : ℕ) → HasRows p bodies sides → AreFirstRows p rows i → row_term_count rows ≤ body_term_count p.bodies
-all_few p bodies sides rows i h first = let few = first.few in omega arith

@@ -3,7 +3,7 @@ ghost use Rattle.std.specs.Prelude.{◌≡◌};
 ghost use Rattle.shared_parts.specs.SuffixKinds.{has_same_objects, is_for_objectives, object_limit, objects_of, wants_whole};
 
 /// The objects of a file that a suffix is for.
-#[derive(Clone, Copy, PartialEq, Eq, Debug)]
+#[derive(Clone, Copy, PartialEq, Eq)]
 pub enum Objects {
     Variables,
     Constraints,

@@ -26,7 +26,7 @@ const MOST_LINES: usize = 65_536;
 /// What was read of a .sol text: what it says so far, the line that comes next, and what judging
 /// further lines needs.
 #[derive(Drop)]
-pub(crate) struct SolGrammar {
+pub struct SolGrammar {
     pub(crate) alloc: Global,
     pub(crate) draft: SolBuilder,
     pub(crate) awaited: Awaited,
@@ -111,7 +111,7 @@ fn is_message(awaited: Awaited) -> bool
 
 impl SolGrammar {
     /// No lines.
-    pub(crate) fn new(alloc: Global) -> Result<SolGrammar, AllocError>
+    pub fn new(alloc: Global) -> Result<SolGrammar, AllocError>
         ensures { IfOk result (λ g. g ≡ read []) }
     {
         let marks = Marks::new(alloc, 1)?;

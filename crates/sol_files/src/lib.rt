@@ -16,7 +16,8 @@ mod tail_lines;
 mod write;
 
 pub use builder::SolBuilder;
-pub use fault::{SolFault, SolReason};
+pub use fault::{Refusal, SolFault, SolReason, told};
+pub use grammar::SolGrammar;
 pub use reader::SolReader;
 pub use sol::Sol;
 pub use suffix::SolSuffix;

@@ -7,9 +7,6 @@ use Rattle.texts.specs.Judged.{Rules, Last, Open, last_reason, reason_after, rea
 module _ {R : Type 0} (rules : Rules R) where
   -- ---- one outcome
 
-  Fault : List (List ℕ) → Last → Type 0
-  Fault lines last = (i : ℕ) × (reason : R) × IsFirstFault rules lines last i reason
-
   clean_next : (lines : List (List ℕ)) (last : Last) (i : ℕ) → IsCleanBefore rules lines last i → reason_at rules lines last i ≡ None → IsCleanBefore rules lines last (i + 1)
   clean_next lines last i h e = record { clean = λ j lt. elim (cases_lt j i) [ inl below ↦ h.clean j below | inr up ↦ let same : j ≡ i = omega arith in rw same e ] }
 

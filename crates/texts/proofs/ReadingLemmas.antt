@@ -17,7 +17,7 @@ use Rattle.texts.proofs.WalkScan.{scan_is}
 use Rattle.texts.proofs.ScanLemmas.{scan-lines, scan-fault}
 use Rattle.texts.proofs.FrontLemmas.{steps-written}
 use Rattle.std.specs.List.{AllByRecursion}
-use Rattle.texts.proofs.JudgedLemmas.{clean_none, clean_last, clean_more, fault_last, fault_here, fault-append}
+use Rattle.texts.proofs.JudgedLemmas.{clean_last, clean_more, fault_last, fault_here, fault-append}
 
 -- the bytes of a piece
 pub parts_of : (piece front rest : List ℕ) (n : ℕ) → piece ≡ front ++ rest → piece ≡ (front ++ take n rest) ++ drop n rest
@@ -49,16 +49,9 @@ module _ {R : Type 0} (rules : Rules R) where
 
   -- ---- from piece to piece
 
-  pub going_new : (took : List (List ℕ) → Type 0) (lines : LinesState) → StandsFor [] lines → lines.fault ≡ None → took [] → IsGoing rules took lines []
-  unfolding scan
-  going_new took lines s none t = record { split = s; none = none; clean = clean_none rules; taken = t }
-
   -- what a reader that goes on after the bytes of `front` was before them
   abbrev pub Carries : (List (List ℕ) → Type 0) → (List (List ℕ) → Type 0) → LinesState → LinesState → List ℕ → Type 0
   Carries took now s t front = (text : List ℕ) → IsGoing rules took s text → IsGoing rules now t (text ++ front)
-
-  pub carries_none : (took : List (List ℕ) → Type 0) (s : LinesState) → Carries took took s s []
-  carries_none took s = λ text h. rw (append-nil text) h
 
   -- what a reader that goes on has taken of a piece, of which these bytes are left
   abbrev pub HasGone : (List (List ℕ) → Type 0) → (List (List ℕ) → Type 0) → LinesState → LinesState → List ℕ → List ℕ → Type 0
@@ -230,12 +223,6 @@ module _ {R : Type 0} (rules : Rules R) where
   stopped-fault o Memory took s piece e = tt
   stopped-fault o (Fault fault) took s piece e = λ text g. so_far-append text piece fault (rw e at g)
 
-  -- a fault that was found stands from then on
-  pub found-stands : (stop : Stop (TextFault R)) (o : Option (Stop (TextFault R))) (took now : List (List ℕ) → Type 0) (s t : LinesState) (piece : List ℕ)
-      → IfFault stop (λ fault. (text : List ℕ) → Stands o rules took s text → HasFaultSoFar rules (text ++ piece) fault) → (text : List ℕ) → Stands o rules took s text → Stands (Some stop) rules now t (text ++ piece)
-  found-stands Memory o took now s t piece h text g = tt
-  found-stands (Fault fault) o took now s t piece h text g = h text g
-
   -- ---- the end
 
   pub stopped-reads : {V : Type 0} (says : List (List ℕ) → V → Type 0) (o : Option (Stop (TextFault R))) (stop : Stop (TextFault R)) (took : List (List ℕ) → Type 0) (s : LinesState) (text : List ℕ) → o ≡ Some stop → Stands o rules took s text → Reads rules says text (Err stop)
@@ -321,12 +308,6 @@ module _ {R : Type 0} (rules : Rules R) where
 pub none_left : (n : ℕ) (b : Bool) → b ≡ false → (0 < n → b ≡ true) → n ≡ 0
 none_left zero b e h = refl
 none_left (suc n) b e h = let is = h (omega arith) in absurd cc
-
--- a fault that `feed` answers is the one of the whole text, whatever comes
-pub early : {R V : Type 0} (rules : Rules R) (says : List (List ℕ) → V → Type 0) (fed : List ℕ → Type 0) (before piece more : List ℕ) (stop : Stop (TextFault R)) → fed before
-    → IfFault stop (λ fault. (text : List ℕ) → fed text → HasFaultSoFar rules (text ++ piece) fault) → Reads rules says ((before ++ piece) ++ more) (Err stop)
-early rules says fed before piece more Memory is h = tt
-early rules says fed before piece more (Fault fault) is h = so_far-whole rules ((before ++ piece) ++ more) fault (so_far-append rules (before ++ piece) more fault (h before is))
 
 -- ---- a text that was written
 

@@ -9,7 +9,7 @@ use crate::lines::LineFault;
 use crate::stop::Stop;
 
 /// So many bytes at the front of a piece, which are so many lines, each with its LF.
-#[derive(Clone, Copy, Debug, PartialEq, Eq)]
+#[derive(Clone, Copy, PartialEq, Eq)]
 pub struct Front {
     pub len: usize,
     pub lines: u32,

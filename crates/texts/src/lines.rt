@@ -48,7 +48,7 @@ impl fmt::Display for LineFault {
 }
 
 /// What came of a piece.
-#[derive(Clone, Copy, Debug, PartialEq, Eq)]
+#[derive(Clone, Copy, PartialEq, Eq)]
 pub enum Taken {
     /// So many bytes were taken, and a line has ended.
     Line(usize),

@@ -25,9 +25,10 @@ class Optimum(NamedTuple):
 
     def bits(self) -> int:
         """Of the widest numerator or denominator."""
-        duals = (Fraction(y, self.den) for y in self.duals.values())
+        values = [*{id(v): v for v in self.point}.values(),
+                  *(Fraction(y, self.den) for y in self.duals.values())]
         return max((max(v.numerator.bit_length(), v.denominator.bit_length())
-                    for values in (self.point, duals) for v in values), default=0)
+                    for v in values), default=0)
 
 
 class Placed(NamedTuple):
@@ -72,35 +73,32 @@ def place(p: Model, basis: Basis, x: Sequence[float]) -> Placed:
     is_basic = [False] * p.n
     for j in basis.columns:
         is_basic[j] = True
-    at = [0 if basic else nearest(lo, hi, v * p.unit)
+    at = [0 if basic else nearest(lo, hi, v * p.unit) or 0
           for basic, lo, hi, v in zip(is_basic, p.lo, p.hi, x)]
     side = {}
+    ranged = [i for i in basis.rows if p.side_lo[i] is not None and p.side_hi[i] is not None
+              and p.side_lo[i] != p.side_hi[i]]
+    bodies = {i: sum([a * x[j] for j, a in row]) / p.scale
+              for i, row in p.terms.of_rows(ranged).items()}
     for i in basis.rows:
         lo, hi = p.side_lo[i], p.side_hi[i]
-        if lo is None or hi is None or lo == hi:
-            side[i] = hi if lo is None else lo
-        else:
-            body = sum([a * x[j] for j, a in p.rows[i]]) / p.scale
-            side[i] = nearest(lo, hi, body * p.unit)
+        side[i] = nearest(lo, hi, bodies.get(i, 0.0) * p.unit)
     rows = [i for i in basis.rows if side[i] is not None]
     return Placed(list(basis.columns), rows, at, {i: s for i, s in side.items() if s is not None})
 
 
-def nearest(lo: int | None, hi: int | None, value: float) -> int:
+def nearest(lo: int | None, hi: int | None, value: float) -> int | None:
     if lo is None or hi is None:
-        return lo if lo is not None else hi if hi is not None else 0
-    return lo if abs(lo - value) <= abs(hi - value) else hi
+        return hi if lo is None else lo
+    return lo if lo == hi or abs(lo - value) <= abs(hi - value) else hi
 
 
 def systems(p: Model, placed: Placed) -> tuple[Solution, Solution]:
     """The basic columns times `unit`, and the duals of tight rows times `cost_scale` over
     `scale`."""
-    place = {j: k for k, j in enumerate(placed.columns)}
-    inside, sides, at = [], [], placed.at
-    for i in placed.rows:
-        row = p.rows[i]
-        inside.append([(place[j], a) for j, a in row if j in place])
-        sides.append(placed.side[i] * p.scale - sum([a * at[j] for j, a in row if at[j]]))
+    inside = p.terms.inside(placed.rows, placed.columns)
+    taken = p.terms.sums(placed.at)
+    sides = [placed.side[i] * p.scale - taken[i] for i in placed.rows]
     costs, n = [p.costs[j] for j in placed.columns], len(placed.columns)
     with_scipy = tools()
     if with_scipy is not None and n:
@@ -140,10 +138,7 @@ def check_point(p: Model, full: Sequence[int], den: int) -> None:
         if lo is not None and v < lo * den or hi is not None and v > hi * den:
             raise NoSolution(f"bound {j} is broken")
     by = p.scale * den
-    for i, (row, lo, hi) in enumerate(zip(p.rows, p.side_lo, p.side_hi)):
-        if lo is None and hi is None:
-            continue
-        body = sum([a * full[j] for j, a in row])
+    for i, (body, lo, hi) in enumerate(zip(p.terms.sums(full), p.side_lo, p.side_hi)):
         if lo is not None and body < lo * by or hi is not None and body > hi * by:
             raise NoSolution(f"row {i} is broken")
 
@@ -155,11 +150,7 @@ def check_duals(p: Model, full: Sequence[int], den: int, y: dict[int, int], dual
     for i, v in y.items():
         if (p.side_lo[i] if v > 0 else p.side_hi[i]) != placed.side[i]:
             raise NoSolution(f"the dual of row {i} has no side")
-    reduced = [c * dual_den for c in p.costs]
-    for i, v in y.items():
-        for j, a in p.rows[i]:
-            reduced[j] -= a * v
-    for j, r in enumerate(reduced):
+    for j, r in enumerate(p.terms.without([c * dual_den for c in p.costs], y)):
         if r:
             end = p.lo[j] if r > 0 else p.hi[j]
             if end is None or full[j] != end * den:

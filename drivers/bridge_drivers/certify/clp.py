@@ -9,6 +9,8 @@ import math
 import time
 from typing import Any, NamedTuple, Optional, Sequence
 
+from .columns import Columns
+
 INFINITE = 1.7976931348623157e308       # COIN's own
 STATUS_BITS = 7
 STATUS_FREE, STATUS_BASIC, STATUS_UPPER, STATUS_LOWER = 0, 1, 2, 3
@@ -62,10 +64,7 @@ class Scaled(NamedTuple):
         ends = ([abs(end) for end in pair if end] for pair in zip(linear.lo, linear.hi))
         columns = [enlarging(max(sizes, default=1.0)) if None not in (lo, hi) else 1.0
                    for sizes, lo, hi in zip(ends, linear.lo, linear.hi)]
-        most = [0.0] * len(linear.sides)
-        for column, by in zip(linear.columns, columns):
-            for i, a in column:
-                most[i] = max(most[i], abs(a) / by)
+        most = linear.columns.greatest(len(linear.sides), columns)
         costs = [abs(c) / by for c, by in zip(linear.cost, columns)]
         return cls(columns, [enlarging(size) for size in most],
                    enlarging(max(costs, default=0.0)))
@@ -78,13 +77,13 @@ def enlarging(size: float) -> float:
 
 class Linear(NamedTuple):
     """A linear program in doubles, minimised: bounds of columns, costs, (lower, upper) sides of
-    rows, and each column's (row, coefficient). None is infinite."""
+    rows, and coefficients. None is infinite."""
 
     lo: list[End]
     hi: list[End]
     cost: list[float]
     sides: list[tuple[End, End]]
-    columns: list[list[tuple[int, float]]]
+    columns: Columns
 
 
 def library() -> ctypes.CDLL | None:
@@ -112,6 +111,11 @@ def doubles(values: Sequence[float]) -> Any:
     return (D * max(len(values), 1))(*values)
 
 
+def buffer(kind: Any, values: Any) -> Any:
+    """The numbers of an array, where they stand."""
+    return (kind * len(values)).from_buffer(values) if len(values) else (kind * 1)()
+
+
 def low(values: Sequence[End], by: Sequence[float]) -> Any:
     return doubles([-INFINITE if v is None else v * b for v, b in zip(values, by)])
 
@@ -131,6 +135,11 @@ class Clp:
     until = math.inf
     seconds = math.inf
 
+    @classmethod
+    def restrict(cls, seconds: float) -> None:
+        """All solves of all of them, from now on."""
+        cls.until = time.monotonic() + seconds
+
     def __init__(self, linear: Linear) -> None:
         lib = library()
         if lib is None:
@@ -138,20 +147,15 @@ class Clp:
         self.lib, self.model = lib, lib.Clp_newModel()
         self.n, self.m = len(linear.columns), len(linear.sides)
         self.scaled = scaled = Scaled.of(linear)
-        starts, index, value = [0], [], []
-        for column, by in zip(linear.columns, scaled.columns):
-            for i, a in column:
-                index.append(i)
-                value.append(a / by * scaled.rows[i])
-            starts.append(len(index))
+        columns = linear.columns.scaled(scaled.columns, scaled.rows)
         self.lo, self.hi = low(linear.lo, scaled.columns), high(linear.hi, scaled.columns)
         self.side_lo = low([a for a, _ in linear.sides], scaled.rows)
         self.side_hi = high([b for _, b in linear.sides], scaled.rows)
         costs = [c / by * scaled.cost for c, by in zip(linear.cost, scaled.columns)]
-        ints = (I * len(starts))(*starts), (I * max(len(index), 1))(*index)
+        given = [buffer(I, columns.starts), buffer(I, columns.index), buffer(D, columns.value)]
         lib.Clp_setLogLevel(self.model, 0)
         lib.Clp_setSmallElementValue(self.model, 0.0)
-        lib.Clp_loadProblem(self.model, self.n, self.m, *ints, doubles(value), self.lo, self.hi,
+        lib.Clp_loadProblem(self.model, self.n, self.m, *given, self.lo, self.hi,
                             doubles(costs), self.side_lo, self.side_hi)
 
     def __del__(self) -> None:

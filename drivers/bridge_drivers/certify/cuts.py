@@ -8,7 +8,7 @@ from __future__ import annotations
 
 import math
 from fractions import Fraction
-from typing import Callable, Dict, Iterator, List, NamedTuple, Sequence, Tuple
+from typing import Callable, Dict, Iterator, List, Mapping, NamedTuple, Sequence, Tuple
 
 from .clp import Clp
 from .factor import Factor, Singular
@@ -24,15 +24,17 @@ MOST_BASIC = 900
 MOST_COEFFICIENT = 10 ** 4
 MOST_IN_ROW = 100               # terms of a row whose conflicts are looked for
 MOST_CLIQUES = 200
-SIZES = (8, 4)                  # of cliques that a small tree proves
+LONGEST = 40                    # literals of a clique, each of which takes a row from 3 on
 
 
 class Proposal(NamedTuple):
-    """The form of `terms` at most `at`, violated by `depth`."""
+    """The form of `terms` at most `at`, violated by `depth`. `before` are those below which its
+    part beyond closes by a small tree, each below the ones before it."""
 
     depth: float
     terms: Dict[int, int]
     at: int
+    before: Sequence[Proposal] = ()
 
 
 class Side(NamedTuple):
@@ -145,8 +147,9 @@ def conflicts(m: Model, x: Sequence[float]) -> Dict[Literal, set[Literal]]:
 
 
 def cliques(m: Model, clp: Clp, x: Sequence[float]) -> Iterator[Proposal]:
-    """At most one literal of those of which each two are in conflict; from each literal the
-    clique that grows by the greatest values, and the first of its literals."""
+    """At most one literal of those of which each two are in conflict: from each literal the clique
+    that grows by the greatest values, literal by literal, since below the one before each closes
+    by one leaf."""
     near, value = conflicts(m, x), {}
     for literal in near:
         j, sign = literal
@@ -155,16 +158,19 @@ def cliques(m: Model, clp: Clp, x: Sequence[float]) -> Iterator[Proposal]:
     seen: set[frozenset[Literal]] = set()
     for first in order[:MOST_CLIQUES]:
         taken, left = [first], near[first]
-        while left:
+        while left and len(taken) < LONGEST:
             best = min(left, key=lambda literal: (-value[literal], literal))
             taken.append(best)
             left = left & near[best]
-        for size in dict.fromkeys((len(taken), *SIZES)):
-            few = taken[:size]
-            if len(few) == size > 2 and frozenset(few) not in seen:
-                seen.add(frozenset(few))
-                yield Proposal(sum(value[t] for t in few) - 1, {j: sign for j, sign in few},
-                               1 - sum(sign < 0 for _, sign in few))
+        if len(taken) > 2 and frozenset(taken) not in seen:
+            seen.add(frozenset(taken))
+            chain = [clique(taken[:k], value) for k in range(3, len(taken))]
+            yield clique(taken, value)._replace(before=chain)
+
+
+def clique(literals: Sequence[Literal], value: Mapping[Literal, float]) -> Proposal:
+    return Proposal(sum(value[t] for t in literals) - 1, {j: sign for j, sign in literals},
+                    1 - sum(sign < 0 for _, sign in literals))
 
 
 # rows that are divided and rounded ------------------------------------------------------

@@ -1,10 +1,10 @@
-"""Equations of whole columns without a whole solution: a plane both of whose parts close, by the
-Hermite form."""
+"""What has no whole solution: columns and rows without a whole number between their ends, equations
+by the Hermite form. Each is a plane both of whose parts close."""
 
 from __future__ import annotations
 
 from fractions import Fraction
-from math import floor, lcm
+from math import floor, gcd, lcm
 from typing import Dict, List, Mapping, NamedTuple
 
 from .model import Model
@@ -20,6 +20,23 @@ class Parity(NamedTuple):
     form: Dict[int, int]
     at: int
     multipliers: Dict[int, Fraction]
+
+
+def hollow(p: Model) -> Parity | None:
+    """A whole column, or a row of whole columns, between whose ends there is no value: the plane
+    there."""
+    for j, (lo, hi) in enumerate(zip(p.lo, p.hi)):
+        if p.whole[j] and lo is not None and hi is not None and -(-lo // p.unit) > hi // p.unit:
+            return Parity({j: 1}, hi // p.unit, {})
+    for i, (row, lo, hi) in enumerate(zip(p.rows, p.side_lo, p.side_hi)):
+        if not row or lo is None or hi is None or not all(p.whole[j] for j, _ in row):
+            continue
+        step = Fraction(gcd(*(a for _, a in row)), p.scale)
+        at = floor(Fraction(hi, p.unit) / step)
+        if Fraction(lo, p.unit) / step > at:
+            form = {j: int(Fraction(a, p.scale) / step) for j, a in row}
+            return Parity(form, at, {i: 1 / step})
+    return None
 
 
 class Equality(NamedTuple):

@@ -72,14 +72,12 @@ class Closer:
         kc = 1 if leaf.weights else p.cost_scale
         reduced = [0] * p.n if leaf.weights else [c * ten for c in p.costs]
         bound = 0 if leaf.weights else p.start * ten * p.unit
-        step, rows = kc * p.scale, p.rows
+        step = kc * p.scale
         for i, y in leaf.numbers.items():
             side = p.side_lo[i] if y > 0 else p.side_hi[i]
             assert side is not None
             bound += y * side * step
-            share = y * kc
-            for j, a in rows[i]:
-                reduced[j] -= share * a
+        reduced = p.terms.without(reduced, leaf.numbers, kc)
         sideless = []
         for j, r in enumerate(reduced):
             if r:
@@ -136,12 +134,13 @@ class Closer:
         p, y = self.model, leaf.numbers
         kc = 1 if leaf.weights else p.cost_scale
         cost = 0 if leaf.weights else p.costs[column] * leaf.den * p.scale
-        rest = cost - kc * sum(y.get(i, 0) * a for i, a in p.by_column[column])
+        entries, lengths = p.terms.column(column), p.terms.lengths
+        rest = cost - kc * sum(y.get(i, 0) * a for i, a in entries)
         lo, hi = box.lo[column], box.hi[column]
         if not rest or (lo if rest > 0 else hi) is not None:
             return leaf
         is_free = lo is None and hi is None
-        for i, a in sorted(p.by_column[column], key=lambda t: (t[0] not in y, len(p.rows[t[0]]))):
+        for i, a in sorted(entries, key=lambda t: (t[0] not in y, lengths[t[0]])):
             found = self.with_share(leaf, i, rest, kc * a, is_free)
             if found is not None:
                 return found

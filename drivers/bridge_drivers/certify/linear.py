@@ -22,7 +22,7 @@ class Optima:
 
     def __init__(self, p: Model) -> None:
         self.p, self.wide, self.refused = p, "", ""
-        self.size = sum(map(len, p.rows))
+        self.size = p.terms.count()
         self.faults: list[str] = []
 
     def is_large(self) -> bool:
@@ -56,7 +56,11 @@ class Optima:
 
     def note(self) -> str:
         if self.wide:
-            return f"the exact optimum needs numbers of {self.wide}; a certificate holds {WIDTH}"
+            return wide_note(self.wide)
         if self.refused:
             return f"the exact optimum: {self.refused.partition(': ')[2]}"
         return "no basis was found that is exactly optimal"
+
+
+def wide_note(bits: str) -> str:
+    return f"the exact optimum needs numbers of {bits}; a certificate holds {WIDTH}"

@@ -5,17 +5,22 @@ from __future__ import annotations
 
 import copy
 import os
+from array import array
 from fractions import Fraction
+from functools import cached_property
 from math import gcd, lcm
 from typing import Iterable, List, Mapping, NamedTuple, Optional, Sequence
 
 from ..bridge import Bridge
 from ..files import naming
 from ..nl import header
-from ..program import Program
-from ..sections import Sections
+from ..mps_reader import OBJECTIVE, Text
+from ..program import TIED, TIED_ROW, Program
 from ..sol import duals_of
+from ..terms import Pairs, Terms, entries_of, numbers_used, terms_of
+from ..values import reduced, wholes_of
 from .clp import Clp, Linear, enlarging
+from .columns import Columns, columns_of
 
 Side = Optional[int]
 Sides = List[Optional[int]]
@@ -56,81 +61,115 @@ class Model:
     `scale`; costs and `start` (the constant) over `cost_scale`; sides and bounds over `unit`.
     Rows from `n_con` on were added."""
 
-    def __init__(self, text: bytes, factors: Mapping[int, int], constraints: int) -> None:
+    def __init__(self, given: Program | bytes, factors: Mapping[int, int],
+                 constraints: int) -> None:
         """`factors` are what `export` multiplied rows by, where that is not 1, `constraints` how
         many the file has: those without sides are not exported, and have no terms here."""
-        s = Sections(text)
-        constant = s.untie()
-        self.maximise = s.maximise
-        self.sign = sign = -1 if s.maximise else 1
-        self.n, self.m = len(s.bounds), constraints
+        program = Program(given) if isinstance(given, bytes) else given
+        is_tied = TIED in program.kinds or TIED in program.columns
+        self.maximise = program.maximise
+        self.sign = -1 if program.maximise else 1
+        self.n, self.m = len(program.columns) - is_tied, constraints
         self.n_con = self.m
-        if list(s.bounds) != [f"x{j}" for j in range(self.n)]:
+        if program.columns[:self.n] != [f"x{j}" for j in range(self.n)]:
             raise Unfit("the exported program has other columns than the file")
-        self.whole = [name in s.whole for name in s.bounds]
-        zero = Fraction(0)
-        costs = [s.costs.get(name, zero) for name in s.bounds]
-        different = {key: sign * c for key, c in {id(c): c for c in costs}.items()}
-        self.cost = [different[id(c)] for c in costs]
-        self.constant = sign * constant
-        self.cost_scale = scale = lcm(self.constant.denominator,
-                                      *{c.denominator for c in different.values()})
-        over = {key: c.numerator * (scale // c.denominator) for key, c in different.items()}
-        self.costs = [over[id(c)] for c in costs]
-        self.start = int(self.constant * self.cost_scale)
-        self.set_rows(s, factors)
-        self.set_sides(s, factors)
+        self.whole = program.read.whole[:self.n]
+        places = [-1 if name == TIED_ROW else int(name[1:]) for name in program.constraints]
+        self.set_cost(program, places.index(-1) if is_tied else OBJECTIVE)
+        self.set_terms(program.read, places, factors)
+        self.set_sides(program.read, places, factors)
 
-    def set_rows(self, s: Sections, factors: Mapping[int, int]) -> None:
-        place = {f"c{i}": i for i in range(self.m)}
+    def set_cost(self, program: Program, row: int) -> None:
+        """Where the objective stands in the row zdef, as its factor g times (objective - z) = 0,
+        it is put back."""
+        read = program.read
+        entries = program.objective if row == OBJECTIVE else entries_of(read.entries(), row)
+        used = sorted({k for _, k in entries})
+        known, factor = wholes_of([read.rhs.get(row, b"0"), *(read.numbers[k] for k in used)])
+        over = dict(zip(used, known[1:]))
+        numbers = [known[0], *(over[k] for _, k in entries)]
+        if row != OBJECTIVE:
+            factor = -numbers.pop()             # of z, the last column
+        sign = self.sign if factor > 0 else -self.sign
+        numbers, self.cost_scale = reduced([sign * v for v in numbers], abs(factor))
+        self.start, self.costs = -numbers[0], [0] * self.n
+        for (j, _), v in zip(entries, numbers[1:]):
+            self.costs[j] = v
+
+    def set_terms(self, read: Text, places: Sequence[int], factors: Mapping[int, int]) -> None:
+        number, to = read.number, [*places, -1, -1]         # rows that are N stand last
+        used = numbers_used(read.row, number, to)
+        by = [factors.get(i, 1) for i in to]
+        pairs: dict[tuple[int, int], int] = {}
         if factors:
-            s.entries = {column: [(row, a / factors.get(place[row], 1)) for row, a in entries]
-                         for column, entries in s.entries.items()}
-        different = {id(a): a for entries in s.entries.values() for _, a in entries}
-        self.scale = lcm(1, *{a.denominator for a in different.values()})
-        over = {key: a.numerator * (self.scale // a.denominator)
-                for key, a in different.items()}
-        self.rows: list[list[tuple[int, int]]] = [[] for _ in range(self.m)]
-        for j, entries in enumerate(s.entries.values()):
-            for row, a in entries:
-                self.rows[place[row]].append((j, over[id(a)]))
-        s.entries = {}                  # the most room that reading takes
-        self.set_columns()
-
-    def set_columns(self) -> None:
-        self.by_column: list[list[tuple[int, int]]] = [[] for _ in range(self.n)]
-        for i, row in enumerate(self.rows):
-            for j, a in row:
-                self.by_column[j].append((i, a))
-
-    def set_sides(self, s: Sections, factors: Mapping[int, int]) -> None:
-        names = [f"c{i}" for i in range(self.m)]
-        sides = [s.sides(name) if name in s.kinds else (None, None) for name in names]
+            pairs = {pair: k for k, pair in enumerate(dict.fromkeys(
+                (k, by[i]) for i, k in zip(read.row, number)))}
+            number = array("i", [pairs[k, by[i]] for i, k in zip(read.row, number)])
+        whole, scale = wholes_of([read.numbers[k] for k in used])
+        table = [0] * len(read.numbers)
+        for k, v in zip(used, whole):
+            table[k] = v
         if factors:
-            sides = [(lo and lo / factors.get(i, 1), hi and hi / factors.get(i, 1))
-                     for i, (lo, hi) in enumerate(sides)]
-        bounds = [(lo, hi) for lo, hi in s.bounds.values()]
-        different = {id(end): end for pair in sides + bounds for end in pair if end is not None}
-        self.unit = unit = lcm(1, *{end.denominator for end in different.values()})
-        over: dict[int, Side] = {key: end.numerator * (unit // end.denominator)
-                                 for key, end in different.items()}
-        over[id(None)] = None
-        self.side_lo: Sides = [over[id(lo)] for lo, _ in sides]
-        self.side_hi: Sides = [over[id(hi)] for _, hi in sides]
-        self.lo: Sides = [over[id(lo)] for lo, _ in bounds]
-        self.hi: Sides = [over[id(hi)] for _, hi in bounds]
+            least = lcm(*by)
+            table, scale = [table[k] * (least // f) for k, f in pairs], scale * least
+        table, self.scale = reduced(table, scale)
+        self.terms = terms_of(self.m, self.n, (read.row, read.column, number), table, to)
+
+    def set_sides(self, read: Text, places: Sequence[int], factors: Mapping[int, int]) -> None:
+        low, high = (texts[:self.n] for texts in read.bounds())
+        texts = list({*low, *high} - {b""})
+        ends, scale = wholes_of(texts)
+        *sides, side_scale = read.sides()
+        least = lcm(1, *factors.values())
+        unit = lcm(scale, side_scale * least)
+        by = [unit // (side_scale * factors.get(i, 1)) for i in places]
+        made = [[side * u for side, u in zip(part, by) if side is not None] for part in sides]
+        common = gcd(unit, *(v * (unit // scale) for v in ends), *made[0], *made[1])
+        self.unit = unit // common
+        over: dict[bytes, Side] = {text: v * (unit // scale) // common
+                                   for text, v in zip(texts, ends)}
+        over[b""] = None
+        self.lo, self.hi = list(map(over.__getitem__, low)), list(map(over.__getitem__, high))
+        self.side_lo: Sides = [None] * self.m
+        self.side_hi: Sides = [None] * self.m
+        for target, part in zip((self.side_lo, self.side_hi), sides):
+            for i, side, u in zip(places, part, by):
+                if i >= 0 and side is not None:
+                    target[i] = side * u // common
+
+    @cached_property
+    def cost(self) -> list[Fraction]:
+        known = {c: Fraction(c, self.cost_scale) for c in set(self.costs)}
+        return list(map(known.__getitem__, self.costs))
+
+    @cached_property
+    def constant(self) -> Fraction:
+        return Fraction(self.start, self.cost_scale)
+
+    @property
+    def rows(self) -> Pairs:
+        return self.terms.rows
+
+    @cached_property
+    def columns(self) -> Columns:
+        """In doubles."""
+        return columns_of(self.terms, self.m, self.scale)
+
+    @property
+    def by_column(self) -> Pairs:
+        return self.terms.columns
 
     # other programs ----------------------------------------------------------------
 
     def with_rows(self, added: Iterable[Added]) -> Model:
         new = copy.copy(self)
-        new.rows, new.side_lo, new.side_hi = self.rows[:], self.side_lo[:], self.side_hi[:]
+        new.side_lo, new.side_hi, rows = self.side_lo[:], self.side_hi[:], self.rows[:]
         for terms, lo, hi in added:
-            new.rows.append([(j, a * self.scale) for j, a in sorted(terms.items())])
+            rows.append([(j, a * self.scale) for j, a in sorted(terms.items())])
             new.side_lo.append(None if lo is None else lo * self.unit)
             new.side_hi.append(None if hi is None else hi * self.unit)
-        new.m = len(new.rows)
-        new.set_columns()
+        new.m, new.terms = len(rows), Terms(self.n, rows)
+        vars(new).pop("columns", None)
         return new
 
     def with_bounds(self, lo: Sides, hi: Sides) -> Model:
@@ -150,6 +189,14 @@ class Model:
         new.cost_scale = lcm(constant.denominator, *(c.denominator for c in cost))
         new.costs = [int(c * new.cost_scale) for c in cost]
         new.start = int(constant * new.cost_scale)
+        return new
+
+    def with_form(self, form: Mapping[int, int]) -> Model:
+        """A whole form as the objective, minimised."""
+        new = self.with_costs([])
+        new.cost, new.costs = [Fraction(0)] * self.n, [0] * self.n
+        for j, a in form.items():
+            new.cost[j], new.costs[j] = Fraction(a), a
         return new
 
     def without_cost(self) -> Model:
@@ -172,10 +219,9 @@ class Model:
     def linear(self, has_cost: bool = True) -> Linear:
         """The relaxation, without the constant."""
         return Linear([self.double(v) for v in self.lo], [self.double(v) for v in self.hi],
-                      [float(c) if has_cost else 0.0 for c in self.cost],
+                      [c / self.cost_scale if has_cost else 0.0 for c in self.costs],
                       [(self.double(a), self.double(b))
-                       for a, b in zip(self.side_lo, self.side_hi)],
-                      [[(i, a / self.scale) for i, a in column] for column in self.by_column])
+                       for a, b in zip(self.side_lo, self.side_hi)], self.columns)
 
     def relaxation(self, has_cost: bool = True) -> Clp:
         return Clp(self.linear(has_cost))
@@ -184,10 +230,10 @@ class Model:
         """Minimises by how much rows are missed, each in its own unit: two more columns a row take
         that up."""
         linear, m = self.linear(False), self.m
-        missing = [[(i, float(one * self.row_unit(i)))] for one in (1, -1) for i in range(m)]
+        missing = [(i, float(one * self.row_unit(i))) for one in (1, -1) for i in range(m)]
         clp = Clp(Linear(linear.lo + [0.0] * (2 * m), linear.hi + [None] * (2 * m),
                          [0.0] * self.n + [1.0] * (2 * m), linear.sides,
-                         linear.columns + missing))
+                         linear.columns.with_units(missing)))
         clp.tighten(TIGHT)
         return clp
 
@@ -207,18 +253,19 @@ class Model:
             if is_outside(value * self.unit, scaled(lo, den), scaled(hi, den)):
                 return False
         den *= self.scale
-        for row, lo, hi in zip(self.rows, self.side_lo, self.side_hi):
-            if lo is None and hi is None:
-                continue
-            at = sum([a * over[j] for j, a in row]) * self.unit
-            if is_outside(at, scaled(lo, den), scaled(hi, den)):
+        for at, lo, hi in zip(self.terms.sums(over), self.side_lo, self.side_hi):
+            if is_outside(at * self.unit, scaled(lo, den), scaled(hi, den)):
                 return False
         return True
 
     def value(self, x: Point) -> Fraction:
         """Minimised."""
-        over, den = over_one([x[j] for j, c in enumerate(self.costs) if c])
-        costs = [c for c in self.costs if c]
+        costs, values = [], []
+        for c, v in zip(self.costs, x):
+            if c and v:
+                costs.append(c)
+                values.append(v)
+        over, den = over_one(values)
         total = sum([c * v for c, v in zip(costs, over)])
         return self.constant + Fraction(total, den * self.cost_scale)
 
@@ -260,9 +307,9 @@ def model_of(bridge: Bridge, nl: str, folder: str,
     """The model of a file, and what its rows were multiplied by where that is not 1."""
     names = [name for name in program.constraints if name != "zdef"]
     if not program.is_exported:
-        return Model(program.text, {}, len(names)), {}
+        return Model(program, {}, len(names)), {}
     known = factors(bridge, nl, folder, names)
-    return Model(program.text, known, header(nl).constraints), known
+    return Model(program, known, header(nl).constraints), known
 
 
 def factors(bridge: Bridge, nl: str, folder: str, constraints: Sequence[str]) -> dict[int, int]:

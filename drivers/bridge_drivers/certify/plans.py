@@ -10,23 +10,28 @@ from __future__ import annotations
 
 import math
 import os
+from dataclasses import dataclass
 from fractions import Fraction
 from typing import Callable, Iterator, NamedTuple, Sequence
 
 from .directions import directions
 from .model import Added, Model, Point
-from .search import MOST_NODES, Pending, Search
+from .crowd import Pendings
+from .pending import Pending
+from .pool import Pool
+from .portion import Problem
+from .search import MOST_NODES
+from .shared import Shared
 from .short import trivial
 from .spine import Figures, Maker, Row, Spined, Value
 from .tree import Spool
-from .watch import Stopped, Watch
+from .turns import KINDS, LEAST_GAIN, TINY, Turns
+from .watch import Paused, Stopped, Watch
 from ..files import naming
 
 SHORT = 40                      # nodes of a tree that needs no other plan
 WHOLE_TIME = 60.0               # seconds that the shares of plans are of
 PLAIN, THIN, CUTS, FEWER_CUTS, AGAIN = 4.0, 15.0, 12.0, 5.0, 15.0
-FIRST = 0.6                     # of the time that is left, for a spine that is not the last
-LEAST_GAIN = 0.01               # of the gap, that a spine closes
 LEAST_AGAIN = 2.0
 RESERVE = 0.93                  # of the time, for plans; the rest is for a bound
 MOST_THIN = 45                  # whole columns
@@ -55,13 +60,31 @@ class Spine(NamedTuple):
     gain: float
 
 
+@dataclass
+class Plan:
+    """A search that can go on. `is_dead`: where it cannot."""
+
+    name: str
+    rows: Sequence[Row]
+    search: Shared
+    spent: float = 0.0
+    guessed: float = math.inf       # seconds that it takes, before it says so itself
+    factor: float = 1.0             # by which forecasts were too low
+    told: str = ""                  # why it was stopped last
+    is_dead: bool = False
+
+    def expected(self) -> float:
+        """Seconds that are left, by the share of the tree that is closed."""
+        closed = self.search.closed()
+        rest = self.spent * (1 - closed) / closed if closed else self.guessed
+        return max(rest, TINY) * self.factor
+
+
 class Partial(NamedTuple):
     """A search that was stopped, and what it has."""
 
-    search: Search
-    pending: Pending
-    searched: Model
-    rows: Sequence[Row]
+    plan: Plan
+    pending: Pending | Pendings
 
 
 def written(path: str, lines: Iterator[str]) -> int:
@@ -78,9 +101,9 @@ class Plans:
     `told` says what was tried."""
 
     def __init__(self, model: Model, value: Fraction, exact: Exact, folder: str,
-                 watch: Watch, shortens: bool = False) -> None:
+                 watch: Watch, shortens: bool = False, pool: Pool | None = None) -> None:
         self.model, self.exact, self.folder, self.watch = model, exact, folder, watch
-        self.shortens = shortens
+        self.shortens, self.pool = shortens, pool
         self.step = model.step()
         self.value = Value(model, value, self.step)
         self.spool = Spool()
@@ -88,6 +111,7 @@ class Plans:
         self.best: Shaped | None = None
         self.partial: Partial | None = None
         self.told: list[str] = []
+        self.going: list[Plan] = []             # those that went on in turns
         self.share = min(watch.seconds or WHOLE_TIME, 10 * WHOLE_TIME) / WHOLE_TIME
 
     def left(self) -> float:
@@ -98,38 +122,58 @@ class Plans:
 
     # one plan ----------------------------------------------------------------------
 
+    def begun(self, name: str, rows: Sequence[Row] = (),
+              forms: Sequence[dict[int, int]] = ()) -> Plan:
+        above = [Added(added.terms) for added in self.value.added()]
+        above += [row.added() for row in rows]
+        goal = self.value.goal(self.exact)
+        problem = Problem(self.model, above, list(forms), goal.target, goal.strict)
+        return Plan(name, rows, Shared(problem, self.exact, self.spool, self.watch, self.pool))
+
     def run(self, name: str, rows: Sequence[Row], seconds: float,
             forms: Sequence[dict[int, int]] = (), most: int = MOST_NODES) -> bool:
         """Whether it has a tree."""
-        seen = [Added(added.terms) for added in self.value.added()]
-        above = seen + [row.added() for row in rows]
-        searched = self.model.with_rows(above + [Added(form) for form in forms])
-        base, began = self.model.m + len(above), self.watch.spent()
-        search = Search(searched, self.value.goal(self.exact), self.spool, self.watch,
-                        self.until(seconds), most, forms=range(base, searched.m))
-        try:
-            tree = search.run()
-        except Stopped as fault:
-            self.told.append(f"{name}: {fault}")
-            self.keep(search, searched, rows)
+        return self.ends(self.begun(name, rows, forms), seconds, most)
+
+    def ends(self, plan: Plan, seconds: float, most: int = MOST_NODES) -> bool:
+        if self.goes(plan, seconds, most):
+            return True
+        self.keep(plan)
+        return False
+
+    def goes(self, plan: Plan, seconds: float, most: int = MOST_NODES) -> bool:
+        """Goes on with a plan; whether it has a tree."""
+        if plan.is_dead:
             return False
-        spined = Spined(self.model, searched, self.value, rows, tree, self.spool)
-        path = os.path.join(self.folder, name.replace(" ", "-") + ".tree")
+        began = self.watch.spent()
+        try:
+            tree = plan.search.resume(self.until(seconds), most)
+        except Stopped as fault:
+            plan.told, plan.is_dead = f"{plan.name}: {fault}", not isinstance(fault, Paused)
+            return False
+        finally:
+            plan.spent += self.watch.spent() - began
+        plan.is_dead = True
+        spined = Spined(self.model, plan.search.search.model, self.value, plan.rows, tree,
+                        self.spool)
+        path = os.path.join(self.folder, plan.name.replace(" ", "-") + ".tree")
         size, figures = written(path, spined.lines()), spined.figures()
         cuts = f", {figures.rows} of {figures.made} rows" if figures.made else ""
-        self.told.append(f"{name}: {figures.nodes} nodes, {size} bytes{cuts}")
+        self.told.append(f"{plan.name}: {figures.nodes} nodes, {size} bytes{cuts}")
         if self.best is None or size < self.best.size:
-            self.best = Shaped(path, size, figures, name, self.watch.spent() - began)
+            self.best = Shaped(path, size, figures, plan.name, plan.spent)
         return True
 
-    def keep(self, search: Search, searched: Model, rows: Sequence[Row]) -> None:
-        """The stopped search with the best bound, while there is no tree."""
+    def keep(self, plan: Plan) -> None:
+        """What is told of a stopped search; that with the best bound, while there is no tree."""
+        self.told += [plan.told] if plan.told else []
         if self.best is not None:
             return
-        pending = search.best_bound(self.watch.spent() + (1 - RESERVE) * self.watch.seconds)
+        seconds = (1 - RESERVE) * self.watch.seconds
+        pending = plan.search.best_bound(self.watch.spent() + seconds)
         if pending is not None and (self.partial is None
                                     or pending.bound > self.partial.pending.bound):
-            self.partial = Partial(search, pending, searched, rows)
+            self.partial = Partial(plan, pending)
 
     def is_short(self) -> bool:
         """Whether no other tree is looked for."""
@@ -139,22 +183,27 @@ class Plans:
     # all plans ---------------------------------------------------------------------
 
     def try_all(self) -> None:
-        p, share = self.model, self.share
-        self.run("plain", [], PLAIN * share)
-        if self.is_short():
-            return
-        if self.step is not None and all(p.whole) and sum(p.whole) <= MOST_THIN:
-            self.thin(self.more(THIN, min(self.left() / 3, THIN * share)))
+        turns = Turns(self)
+        self.going = turns.live
+        if not turns.run():
+            for plan in self.going:
+                self.keep(plan)
+        elif not self.is_short():
+            self.shorter()
+
+    # a shorter one -----------------------------------------------------------------
+
+    def shorter(self) -> None:
+        self.thin(self.more(THIN, min(self.left() / 3, THIN * self.share)))
         if self.is_short() or self.left() <= 0:
             return
-        spines = self.spines()
-        for k, spine in enumerate(spines):
+        for spine in self.spines():
             if self.left() < 1 or self.is_short():
                 break
-            last = 1.0 if k + 1 == len(spines) else FIRST
-            self.run(spine.name, spine.rows, self.more(AGAIN, self.left() * last))
-        if self.best is None and not spines:
-            self.run("plain again", [], self.left())
+            plan = next((plan for plan in self.going if plan.name == spine.name
+                         and len(plan.rows) >= len(spine.rows)), None)
+            plan = plan or self.begun(spine.name, spine.rows)
+            self.ends(plan, self.more(AGAIN, self.left()))
 
     def more(self, again: float, first: float) -> float:
         """Seconds for what might give a shorter text: not more than the one that there is took;
@@ -164,14 +213,19 @@ class Plans:
         return min(again * self.share, max(self.best.seconds, LEAST_AGAIN))
 
     def thin(self, seconds: float) -> None:
-        """The objective's form has the width between the relaxation and the value."""
-        if self.step is None or self.maker.relaxed([]) is None:
-            return
-        units = (self.maker.base - float(self.model.constant)) / float(self.step.size)
-        width = Fraction(max(self.value.at - units, 0.5))
-        forms = directions(self.model, self.step.form, width)
-        if forms:
-            self.run("thin", [], seconds, forms)
+        if self.maker.relaxed([]) is not None:
+            forms = self.forms()
+            if forms:
+                self.run("thin", [], seconds, forms)
+
+    def forms(self) -> list[dict[int, int]]:
+        """Those of the plan `thin`. The objective's form has the width between the relaxation, the
+        last that was made, and the value."""
+        p = self.model
+        if self.step is None or not all(p.whole) or sum(p.whole) > MOST_THIN:
+            return []
+        units = (self.maker.base - float(p.constant)) / float(self.step.size)
+        return directions(p, self.step.form, Fraction(max(self.value.at - units, 0.5)))
 
     def spines(self) -> list[Spine]:
         """Those with rows, by how much of the gap they close; of two that are near, the one with
@@ -187,12 +241,11 @@ class Plans:
             if rows and gain >= LEAST_GAIN and all(len(rows) > len(s.rows) or name == "lemma"
                                                    for s in found):
                 found.append(Spine(name, rows, gain))
-        few = self.maker.cuts(("cover", "clique", "row"), [], self.until(seconds))
+        few = self.maker.cuts(KINDS["cover"], [], self.until(seconds))
         made("cover", few)
-        more = self.maker.cuts(("tableau", "cover", "clique", "row"), few, self.until(seconds))
+        more = self.maker.cuts(KINDS["tableau"], few, self.until(seconds))
         made("tableau", more)
-        if not all(self.model.whole):
-            made("lemma", self.maker.lemmas(self.until(seconds)))
+        made("lemma", self.maker.lemmas([], self.until(seconds)))
         return sorted(found, key=lambda s: (-round(s.gain / CLOSED), len(s.rows)))
 
     # a bound -----------------------------------------------------------------------
@@ -202,19 +255,21 @@ class Plans:
         of its tree: the best that closes."""
         if self.partial is None:
             return None
-        search, pending, searched, rows = self.partial
+        plan, pending = self.partial
         tried = set()
         for room in LOOSER:
-            low = pending.bound - room * max(1.0, abs(pending.bound))
+            size = max(1.0, abs(pending.bound)) if pending.bound < math.inf else 1.0
+            low = pending.bound - room * size
             value = Value(self.model, self.rounded(low), self.step)
             if value.value in tried:
                 continue
             tried.add(value.value)
             goal = value.goal(self.exact)
             assert goal.target is not None
-            tree = search.closed_at(pending, goal.target, goal.strict)
+            tree = plan.search.closed_at(pending, goal.target, goal.strict)
             if tree is not None:
-                spined = Spined(self.model, searched, value, rows, tree, self.spool)
+                spined = Spined(self.model, plan.search.search.model, value, plan.rows, tree,
+                                self.spool)
                 path = os.path.join(self.folder, "bound.tree")
                 written(path, spined.lines())
                 return value.value, path

@@ -14,7 +14,6 @@ from .numbers import is_narrow
 NEAR_WHOLE = 1e-3               # how far from whole numbers a point may be
 NEAR = Fraction(1, 10 ** 9)     # of a bound: the bound itself
 APART = Fraction(1, 10 ** 5)    # how far from x they may be
-NO_GAIN = 1e-9                  # of a ray
 DENOMINATORS = (1, 2, 12, 100, 1000, 10 ** 6)
 ZERO, ONE = Fraction(0), Fraction(1)
 
@@ -204,7 +203,7 @@ def ray(model: Model) -> Point | None:
     """An improving direction without end, in short fractions where they do."""
     cone = model.cone()
     clp = cone.relaxation()
-    if clp.solve() is not State.OPTIMAL or clp.objective() > -NO_GAIN:
+    if clp.solve() is not State.OPTIMAL or clp.objective() >= 0:
         return None
     x = clp.values()
     for most in DENOMINATORS:

@@ -93,8 +93,7 @@ class Refining:
         cost += [self.y[i] / one for i in self.open]
         lo += [sides[i][0] for i in self.open]
         hi += [sides[i][1] for i in self.open]
-        columns = [[(i, c / p.scale) for i, c in column] for column in p.by_column]
-        columns += [[(i, -1.0)] for i in self.open]
+        columns = p.columns.with_units((i, -1.0) for i in self.open)
         missed = max(most(lo, hi), max((abs(a) for a, b in sides if a is not None and a == b),
                                        default=0.0))
         for i in self.open:

@@ -1,24 +1,22 @@
 """Branch and bound, depth first, whose tree is the certificate.
 
-Splits that no leaf below needs are left out, with what stands in their other part. A form is a row
-of the model without sides, which is split as a whole column is: each part gives it a side.
+Splits that no leaf below needs are left out, with what stands in their other part.
 """
 
 from __future__ import annotations
 
-import contextlib
 import math
-from dataclasses import dataclass, field
 from fractions import Fraction
-from typing import Callable, Iterator, NamedTuple, Sequence
+from typing import Callable, Iterable, NamedTuple, Sequence
 
 from . import tree as trees
 from .choice import Choice
 from .clp import Clp, State
 from .leaves import Closed, Closer, Multipliers
-from .model import TIGHT, Box, Model, Point, Side
-from .tree import Cut, Empty, Leaf, Split, Spool, Tree
-from .watch import Stopped, Watch
+from .model import TIGHT, Model, Point
+from .parts import Better, Branch, Done, Owner, Parts
+from .tree import Empty, Leaf, Spool, Tree
+from .watch import Paused, Stopped, Watch
 
 NEAR = 1e-6                     # of a whole number: not split first
 CLOSE = 1e-7                    # of the goal: a leaf is tried
@@ -29,42 +27,6 @@ MOST_NODES = 2 ** 22            # of `bridge verify`
 MOST_DEPTH = 3000
 STRONG = 16
 LEAST_SECONDS = 0.1             # of a relaxation
-
-Owner = int                     # the number of a split
-
-
-class Better(Exception):
-    """An exact point that is better than the value, or that should not be."""
-
-    def __init__(self, point: Point, value: Fraction) -> None:
-        super().__init__(str(value))
-        self.point, self.value = point, value
-
-
-class Done(NamedTuple):
-    """A part with a tree, and the splits that it needs."""
-
-    tree: Tree
-    needs: set[Owner]
-
-
-@dataclass
-class Branch:
-    """A split whose parts are being worked, `part` the one that is. `lo`, `hi` and `owners` are
-    the column's before it."""
-
-    number: Owner
-    column: int
-    at: int
-    part: int
-    value: float
-    base: float
-    lo: Side
-    hi: Side
-    owners: tuple[Owner | None, Owner | None]
-    basis: bytes
-    parts: list[Tree | None] = field(default_factory=lambda: [None, None])
-    needs: set[Owner] = field(default_factory=set)
 
 
 class Goal(NamedTuple):
@@ -77,109 +39,50 @@ class Goal(NamedTuple):
     exact: Callable[[Sequence[float]], Point | None] = lambda x: None
 
 
-class Search:
-    """`until` is in seconds of the watch, `most` how many nodes there may be. `forms` are rows of
-    the model, whose sides change."""
+class Search(Parts):
+    """`until` is in seconds of the watch, `most` how many nodes there may be."""
 
-    def __init__(self, model: Model, goal: Goal, spool: Spool, watch: Watch, until: float,
-                 most: int = MOST_NODES, strong: int = STRONG, forms: Sequence[int] = ()) -> None:
-        self.model, self.aim, self.spool = model, goal, spool
-        self.watch, self.until, self.most = watch, until, most
-        self.forms = list(forms)
-        self.form_terms = [[(j, a // model.scale) for j, a in model.rows[i]] for i in self.forms]
-        self.form_owners: dict[int, tuple[Owner | None, Owner | None]] = {}
-        self.box = Box(list(model.lo), list(model.hi))
-        self.owner_lo: list[Owner | None] = [None] * model.n
-        self.owner_hi: list[Owner | None] = [None] * model.n
-        self.closer = Closer(model, goal.target, goal.strict)
+    def __init__(self, model: Model, goal: Goal, spool: Spool, watch: Watch,
+                 until: float = math.inf, most: int = MOST_NODES, strong: int = STRONG,
+                 forms: Sequence[int] = ()) -> None:
         has_cost = goal.target is not None
-        self.clp: Clp = model.relaxation(has_cost)
+        super().__init__(model, model.relaxation(has_cost), forms)
+        self.aim, self.spool = goal, spool
+        self.watch, self.until, self.most = watch, until, most
+        self.closer = Closer(model, goal.target, goal.strict)
         self.missing: Clp | None = None
         self.constant = float(model.constant) if has_cost else 0.0
         self.goal = math.inf if goal.target is None else float(goal.target)
         self.choice = Choice(strong)
-        self.open: list[Branch] = []
-        self.splits = self.nodes = 0
         self.base = -math.inf
         self.tells = most == MOST_NODES         # small searches tell no progress
-
-    # bounds ------------------------------------------------------------------------
-
-    def size(self, column: int) -> int:
-        p = self.model
-        return len(p.by_column[column] if column < p.n else self.form_terms[column - p.n])
-
-    def ends(self, column: int) -> tuple[Side, Side]:
-        """Bounds of a column, sides of a form."""
-        p = self.model
-        if column < p.n:
-            return self.box.lo[column], self.box.hi[column]
-        row = self.forms[column - p.n]
-        return p.side_lo[row], p.side_hi[row]
-
-    def set_ends(self, column: int, lo: Side, hi: Side) -> None:
-        p = self.model
-        if column < p.n:
-            self.box.lo[column], self.box.hi[column] = lo, hi
-            self.clp.bound(column, p.double(lo), p.double(hi))
-        else:
-            row = self.forms[column - p.n]
-            p.side_lo[row], p.side_hi[row] = lo, hi
-            self.clp.side(row, p.double(lo), p.double(hi))
-
-    def part_ends(self, column: int, at: int, part: int) -> tuple[Side, Side]:
-        (lo, hi), unit = self.ends(column), self.model.unit
-        if part == 0:
-            return lo, at * unit if hi is None else min(hi, at * unit)
-        return (at + 1) * unit if lo is None else max(lo, (at + 1) * unit), hi
-
-    @contextlib.contextmanager
-    def within(self, column: int, at: int, part: int) -> Iterator[None]:
-        """In one part of a split, for a trial."""
-        old = self.ends(column)
-        self.set_ends(column, *self.part_ends(column, at, part))
-        try:
-            yield
-        finally:
-            self.set_ends(column, *old)
-
-    def owners(self, column: int) -> tuple[Owner | None, Owner | None]:
-        if column < self.model.n:
-            return self.owner_lo[column], self.owner_hi[column]
-        return self.form_owners.get(self.forms[column - self.model.n], (None, None))
-
-    def set_owners(self, column: int, owners: tuple[Owner | None, Owner | None]) -> None:
-        if column < self.model.n:
-            self.owner_lo[column], self.owner_hi[column] = owners
-        else:
-            self.form_owners[self.forms[column - self.model.n]] = owners
-
-    def enter(self, b: Branch) -> None:
-        self.set_ends(b.column, *self.part_ends(b.column, b.at, b.part))
-        low, high = b.owners
-        self.set_owners(b.column, (low, b.number) if b.part == 0 else (b.number, high))
-
-    def leave(self, b: Branch) -> None:
-        self.set_ends(b.column, b.lo, b.hi)
-        self.set_owners(b.column, b.owners)
 
     # the tree ----------------------------------------------------------------------
 
     def run(self) -> Tree:
         """The tree. Stopped or Better where there is none."""
-        found = self.visit(None)
+        return self.worked().tree
+
+    def resume(self, until: float, most: int = MOST_NODES) -> Tree:
+        """Goes on after Paused."""
+        self.until, self.most = until, most
+        return self.run()
+
+    def worked(self) -> Done:
+        """Of the part that `begin` said, else of all."""
+        found = self.visit(self.last())
         while True:
             if isinstance(found, Branch):
                 self.open.append(found)
                 self.enter(found)
             else:
-                tree = self.folded(found)
-                if tree is not None:
-                    return tree
+                done = self.folded(found)
+                if done is not None:
+                    return done
             found = self.visit(self.open[-1])
 
-    def folded(self, done: Done) -> Tree | None:
-        """The whole tree; None where a part of a branch is to be worked next."""
+    def folded(self, done: Done) -> Done | None:
+        """All of it; None where a part of a branch is to be worked next."""
         tree, needs = done
         while self.open:
             b = self.open[-1]
@@ -200,21 +103,14 @@ class Search:
             low, high = b.parts
             assert low is not None and high is not None
             tree, needs = self.node(b, (low, high)), b.needs - {b.number}
-        return tree
-
-    def node(self, b: Branch, parts: tuple[Tree, Tree]) -> Tree:
-        low, high = parts
-        if b.column < self.model.n:
-            return Split(b.column, b.at, low, high)
-        return Cut(self.forms[b.column - self.model.n], b.at, low, high)
+        return Done(tree, needs)
 
     def visit(self, born: Branch | None) -> Branch | Done:
         """One node: a leaf, or a split."""
         self.look()
-        if born is not None and born.column < self.model.n:
-            lo, hi = self.ends(born.column)
-            if lo is not None and hi is not None and lo > hi:
-                return self.empty(born.column)
+        hollow = self.hollow(range(self.model.n) if born is None else [born.column])
+        if hollow is not None:
+            return self.empty(hollow)
         self.clp.limit(max(self.until - self.watch.spent(), LEAST_SECONDS))
         state = self.clp.solve()
         done = self.by_contradiction() if state is State.INFEASIBLE else None
@@ -227,6 +123,7 @@ class Search:
             x = [self.nearest_zero(j) for j in range(self.model.n)]
             return self.branched(x, self.goal, state)
         if state is not State.OPTIMAL:
+            self.watch.look(self.nodes, self.until)     # CLP stops where the time is over
             raise Stopped(f"a relaxation is {state.name.lower()}")
         self.base = base = self.clp.objective() + self.constant
         if born is not None:
@@ -236,11 +133,21 @@ class Search:
             done = self.by_duals()
         return done or self.branched(self.clp.values(), base, state)
 
+    def hollow(self, columns: Iterable[int]) -> int | None:
+        """The first whole column of these with no whole number between its bounds."""
+        p = self.model
+        for j in columns:
+            if j < p.n and p.whole[j]:
+                lo, hi = self.ends(j)
+                if lo is not None and hi is not None and -(-lo // p.unit) > hi // p.unit:
+                    return j
+        return None
+
     def look(self) -> None:
         self.watch.look(self.nodes, self.until)
         if self.nodes >= self.most:
-            raise Stopped(f"more than {self.most} nodes")
-        if len(self.open) > MOST_DEPTH:
+            raise (Paused if self.most < MOST_NODES else Stopped)(f"more than {self.most} nodes")
+        if len(self.above) + len(self.open) > MOST_DEPTH:
             raise Stopped("the tree is too deep")
         if self.tells and self.watch.is_due():
             known = {"nodes": float(self.nodes), "open": float(len(self.open) + 1)}
@@ -419,98 +326,3 @@ class Search:
             if form_owner is not None:
                 needed.add(form_owner)
         return needed
-
-    # a bound, where the time is over -----------------------------------------------
-
-    def best_bound(self, until: float = math.inf) -> Pending | None:
-        """What is not worked yet, with the bounds of its relaxations, or of the one above where it
-        has none; None with forms, where the root has none, or after `until`, in seconds of the
-        watch."""
-        if self.forms or self.aim.target is None:
-            return None
-        boxes: list[Unworked] = []
-        box, part = self.own_box(), self.unworked()
-        for b in reversed(self.open):
-            if self.watch.spent() > until:
-                return None
-            self.leave(b)
-            if not boxes:
-                part = part or self.as_above(b, box)
-                if part is None:
-                    return None
-                boxes.append(part)
-            if b.parts[1 - b.part] is None:
-                self.clp.restore(b.basis)
-                self.set_ends(b.column, *self.part_ends(b.column, b.at, 1 - b.part))
-                box, part = self.own_box(), self.unworked()
-                self.set_ends(b.column, b.lo, b.hi)
-                part = part or self.as_above(b, box)
-                if part is None:
-                    return None
-                boxes.append(part)
-        if not boxes and part is not None:
-            boxes.append(part)
-        return Pending(min(box.base for box in boxes), boxes) if boxes else None
-
-    def own_box(self) -> Box:
-        return Box(list(self.box.lo), list(self.box.hi))
-
-    def unworked(self) -> Unworked | None:
-        box = self.own_box()
-        for lo, hi, is_whole, j in zip(box.lo, box.hi, self.model.whole, range(self.model.n)):
-            if is_whole and lo is not None and hi is not None and lo > hi:
-                return Unworked(math.inf, box, {}, Empty(j, hi // self.model.unit))
-        state = self.clp.solve()
-        if state is State.INFEASIBLE:
-            done = self.by_contradiction()
-            return None if done is None else Unworked(math.inf, box, {}, done.tree)
-        return self.relaxed(box, state)
-
-    def as_above(self, b: Branch, box: Box) -> Unworked | None:
-        """A part of a branch with the bound of both."""
-        self.clp.restore(b.basis)
-        return self.relaxed(box, self.clp.solve())
-
-    def relaxed(self, box: Box, state: State) -> Unworked | None:
-        if state is not State.OPTIMAL:
-            return None
-        duals = {i: y for i, y in enumerate(self.clp.duals()) if y}
-        return Unworked(self.clp.objective() + self.constant, box, duals, None)
-
-    def closed_at(self, pending: Pending, target: Fraction, strict: bool) -> Tree | None:
-        """The tree for another target, not better than what the worked leaves reach: each part
-        that is not worked becomes a leaf."""
-        closer = Closer(self.model, target, strict)
-        boxes = iter(pending.boxes)
-        tree = self.leaf_at(closer, next(boxes))
-        for b in reversed(self.open):
-            other = b.parts[1 - b.part]
-            if other is None:
-                other = self.leaf_at(closer, next(boxes))
-            if tree is None or other is None:
-                return None
-            tree = self.node(b, (tree, other) if b.part == 0 else (other, tree))
-        return tree
-
-    def leaf_at(self, closer: Closer, unworked: Unworked) -> Tree | None:
-        if unworked.tree is not None:
-            return unworked.tree
-        closed = closer.close(unworked.duals, False, unworked.box)
-        return None if closed is None else self.spooled(closer.thinned(closed, unworked.box))
-
-
-class Unworked(NamedTuple):
-    """A part that was not worked: its relaxation's bound and duals, or its tree where it is
-    closed."""
-
-    base: float
-    box: Box
-    duals: dict[int, float]
-    tree: Tree | None
-
-
-class Pending(NamedTuple):
-    """The best bound, and the parts from the deepest."""
-
-    bound: float
-    boxes: list[Unworked]

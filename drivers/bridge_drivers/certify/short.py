@@ -20,6 +20,7 @@ from .numbers import is_narrow
 
 PLACES = (9, 8, 7, 6, 5)         # decimals of a point
 MOST_PLACES = 14                # digits of its largest value
+MOST_MORE = 12                  # decimals that a column has beyond others
 MOVED = 1e-6                    # of the greatest dual, from which on others move
 SHARES = (0.0, 1e-9, 1e-7, 1e-5)        # room of costs, of the largest one
 NEAR = 1e-6                     # of the objective: a bound that is good enough
@@ -54,9 +55,12 @@ class ShortDuals(NamedTuple):
 class Rounding:
     """Points of one program in decimals. `alone` has by equation a column that stands in it and
     nowhere else. `exact` has the sides that other rows meet exactly: those of equations, and of
-    rows that have no room. `tight` are the rows that get room, None for all of them."""
+    rows that have no room. `tight` are the rows that get room, None for all of them. `more` are the
+    decimals that a column has beyond all others, or fewer of, where each is rounded by the size of
+    its rows."""
 
-    def __init__(self, p: Model, kept: bytes, x: Sequence[float], seconds: float) -> None:
+    def __init__(self, p: Model, kept: bytes, x: Sequence[float], seconds: float,
+                 by_rows: bool = False) -> None:
         self.p, self.kept, self.seconds = p, kept, seconds
         self.size = max([abs(v) for v in x], default=0.0)
         self.alone = alone(p)
@@ -64,12 +68,15 @@ class Rounding:
                           and side == p.side_hi[i] and i not in self.alone}
         self.exact = dict(self.equations)
         self.tight: set[int] | None = None
+        self.more = decimals_by_rows(p, x) if by_rows else [0] * p.n
+        self.most = max(self.more, default=0)
 
     def points(self) -> Iterator[ShortPoint]:
         """Those that fit, of many decimals first; then with room where rounding breaks rows
         alone."""
         left = MOST_PLACES - max(0, math.ceil(math.log10(max(self.size, 1.0))))
-        wanted = list(dict.fromkeys(min(places, left) for places in PLACES))
+        wanted = list(dict.fromkeys(min(places, left) for places in PLACES)) \
+            if not any(self.more) else list(PLACES)
         for places in wanted:
             found = self.solved(places)
             if found is not None and self.fits(found):
@@ -127,8 +134,8 @@ class Rounding:
         """Rows that a point breaks, with the side."""
         p, (over, den) = self.p, over_one(x)
         found = {}
-        for i, (row, lo, hi) in enumerate(zip(p.rows, p.side_lo, p.side_hi)):
-            at = sum([a * over[j] for j, a in row]) * p.unit
+        for i, (at, lo, hi) in enumerate(zip(p.terms.sums(over), p.side_lo, p.side_hi)):
+            at *= p.unit
             if lo is not None and at < lo * den * p.scale:
                 found[i] = lo
             elif hi is not None and at > hi * den * p.scale:
@@ -140,19 +147,19 @@ class Rounding:
         rest."""
         p, linear = self.p, self.p.linear()
         sides, lo, hi = linear.sides, linear.lo, linear.hi
-        rooms = [(sum([abs(a) for _, a in row]) / p.scale + 1) * unit for row in p.rows]
+        weights, least = [10 ** (self.most - by) for by in self.more], unit * 10.0 ** -self.most
+        rooms = [(size / p.scale + 1) * least for size in p.terms.sizes(weights)]
         for i, room in enumerate(rooms):
             if self.tight is None or i in self.tight:
                 sides[i] = inner(*sides[i], room)
-        for i, j in self.alone.items():
-            a = abs(p.by_column[j][0][1]) / p.scale
-            lo[j], hi[j] = inner(lo[j], hi[j], 2 * rooms[i] / a)
+        for i, (j, a) in self.alone.items():
+            lo[j], hi[j] = inner(lo[j], hi[j], 2 * rooms[i] / (abs(a) / p.scale))
         return linear
 
     def point(self, x: Sequence[float], places: int) -> ShortPoint | None:
-        """Rounded, over 10^places times `unit`; None where rows are not met exactly."""
-        p, ten = self.p, 10 ** places
-        over = [round(v * ten) * p.unit for v in x]
+        """Rounded, over a power of ten times `unit`; None where rows are not met exactly."""
+        p, ten = self.p, 10 ** max(places + self.most, 0)
+        over = [nearest(v, places + by, ten) * p.unit for v, by in zip(x, self.more)]
         for j, (lo, hi) in enumerate(zip(p.lo, p.hi)):
             if lo is not None and over[j] < lo * ten:
                 over[j] = lo * ten
@@ -165,10 +172,10 @@ class Rounding:
             if found is None:
                 return None
             moved = found
-        for i, j in self.alone.items():
+        for i, (j, a) in self.alone.items():
             side = p.side_lo[i]
             assert side is not None
-            moved[j] = self.rest(i, side, over, ten, moved) / p.by_column[j][0][1]
+            moved[j] = self.rest(i, side, over, ten, moved) / a
         shared: dict[int, Fraction] = {}
         point = []
         for j, v in enumerate(over):
@@ -199,9 +206,10 @@ class Rounding:
     def by_basis(self, over: Sequence[int], ten: int) -> dict[int, Fraction] | None:
         """By how much columns move that stand far enough from their bounds: those that the
         elimination leaves free stay. None where others would have to."""
-        p, far = self.p, FREE * self.p.unit
-        free = [(lo is None or v - lo * ten > far) and (hi is None or hi * ten - v > far)
-                for v, lo, hi in zip(over, p.lo, p.hi)]
+        p = self.p
+        far = [FREE * p.unit * 10 ** (self.most - by) for by in self.more]
+        free = [(lo is None or v - lo * ten > room) and (hi is None or hi * ten - v > room)
+                for v, lo, hi, room in zip(over, p.lo, p.hi, far)]
         system = []
         for i, side in self.exact.items():
             terms = {j: a for j, a in p.rows[i] if free[j]}
@@ -212,21 +220,43 @@ class Rounding:
         return None if found is None else {j: v for j, v in found.items() if v}
 
 
+def nearest(value: float, places: int, ten: int) -> int:
+    """A double with so many decimals, which may stand left of the point, over `ten`."""
+    power: int = 10 ** abs(places)
+    if places < 0:
+        return round(value / power) * power * ten
+    return round(value * power) * (ten // power)
+
+
+def decimals_by_rows(p: Model, x: Sequence[float]) -> list[int]:
+    """By column the decimals by which a rounding of its value is as small beside each of its rows
+    as that of 1 beside 1."""
+    share = [0.0] * p.n
+    for row, lo, hi in zip(p.rows, p.side_lo, p.side_hi):
+        sizes = [abs(a * x[j]) / p.scale for j, a in row]
+        sizes += [abs(side) / p.unit for side in (lo, hi) if side is not None]
+        size = max(sizes, default=0.0) * p.scale
+        for j, a in row if size else ():
+            share[j] = max(share[j], abs(a) / size)
+    return [max(-MOST_MORE, min(math.ceil(math.log10(v)), MOST_MORE)) if v else 0 for v in share]
+
+
 def counted(number: int, word: str) -> str:
     return f"{number} {word}{'' if number == 1 else 's'}"
 
 
-def alone(p: Model) -> dict[int, int]:
-    """By equation a column that stands in it and nowhere else, with a coefficient of 1 where there
-    is one."""
-    found: dict[int, int] = {}
-    for j, column in enumerate(p.by_column):
-        if len(column) != 1 or p.lo[j] is not None and p.lo[j] == p.hi[j]:
-            continue
-        (i, a), = column
+def alone(p: Model) -> dict[int, tuple[int, int]]:
+    """By equation a column that stands in it and nowhere else, with its coefficient: 1 where there
+    is such a one."""
+    starts = p.columns.starts
+    single = [j for j in range(p.n) if starts[j + 1] - starts[j] == 1
+              and (p.lo[j] is None or p.lo[j] != p.hi[j])]
+    found: dict[int, tuple[int, int]] = {}
+    for j in single:
+        (i, a), = p.terms.column(j)
         if p.side_lo[i] is not None and p.side_lo[i] == p.side_hi[i]:
-            if i not in found or abs(a) == p.scale != abs(p.by_column[found[i]][0][1]):
-                found[i] = j
+            if i not in found or abs(a) == p.scale != abs(found[i][1]):
+                found[i] = j, a
     return found
 
 
@@ -296,7 +326,7 @@ def met_exactly(closer: Closer, leaf: Multipliers, judged: Judged) -> ShortDuals
     free = [lo is not None and lo == hi or abs(leaf.numbers.get(i, 0)) > far
             for i, (lo, hi) in enumerate(zip(p.side_lo, p.side_hi))]
     for _ in range(ROUNDS):
-        system = [({i: a * p.cost_scale for i, a in p.by_column[j] if free[i]}, base[j])
+        system = [({i: a * p.cost_scale for i, a in p.terms.column(j) if free[i]}, base[j])
                   for j in columns]
         moves = solved(system)
         if moves is None:

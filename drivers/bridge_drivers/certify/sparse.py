@@ -8,6 +8,8 @@ from __future__ import annotations
 
 from typing import Any, List, NamedTuple, Sequence
 
+from ..interrupts import SIGNALS
+
 STEPS = (48, 32, 20, 10)        # digits of a step at most: fewer where numbers get too wide
 LEAST_STEP = 3
 FIRST = 192                     # digits before the first try for fractions
@@ -39,15 +41,16 @@ class Tools(NamedTuple):
 
 
 def tools() -> Tools | None:
-    """None where SciPy is not there."""
+    """None where SciPy is not there. What ends a search waits: half of it would stay."""
     if not LOADED:
-        try:
-            import numpy
-            import scipy.sparse
-            import scipy.sparse.linalg
-            LOADED.append(Tools(numpy, scipy.sparse, scipy.sparse.linalg))
-        except ImportError:
-            LOADED.append(None)
+        with SIGNALS.kept(True):
+            try:
+                import numpy
+                import scipy.sparse
+                import scipy.sparse.linalg
+                LOADED.append(Tools(numpy, scipy.sparse, scipy.sparse.linalg))
+            except ImportError:
+                LOADED.append(None)
     found: Tools | None = LOADED[0]
     return found
 

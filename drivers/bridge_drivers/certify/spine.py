@@ -16,7 +16,8 @@ from .clp import Clp, State
 from .cuts import KINDS, Proposal
 from .lemmas import Proof
 from .model import Added, Model, Step
-from .search import Better, Goal, Search
+from .parts import Better
+from .search import Goal, Search
 from .text import Naming, Plane
 from .tree import Spool, Tree, count, rows_used
 from .watch import Stopped, Watch
@@ -144,11 +145,19 @@ class Maker:
             seen.add(key(cut.terms, cut.at))
             if any(is_parallel(cut.terms, other) for other in used):
                 continue
-            tree = self.beyond(cut, rows)
-            if tree is not None:
-                rows.append(Row(cut.terms, cut.at, tree))
+            if self.is_proved(cut, rows):
                 used.append(cut.terms)
         return len(used)
+
+    def is_proved(self, cut: Proposal, rows: list[Row]) -> bool:
+        """With what comes before it; as far as that goes, it is among the rows."""
+        for one in (*cut.before, cut):
+            if one is cut or all(row.terms != one.terms or row.at != one.at for row in rows):
+                tree = self.beyond(one, rows)
+                if tree is None:
+                    return False
+                rows.append(Row(one.terms, one.at, tree))
+        return True
 
     def beyond(self, cut: Proposal, rows: Sequence[Row]) -> Tree | None:
         """The tree of the part beyond a cut, under the plane on the objective."""
@@ -162,11 +171,10 @@ class Maker:
 
     # lemmas ------------------------------------------------------------------------
 
-    def lemmas(self, until: float) -> list[Row]:
-        """Mixed-integer rounding of the file's rows."""
-        rows: list[Row] = []
-        bounds = lemmas.variable_bounds(self.model)
-        seen: set[object] = set()
+    def lemmas(self, before: Sequence[Row], until: float) -> list[Row]:
+        """The rows of before, and mixed-integer rounding of the file's rows."""
+        rows, seen = list(before), {key(row.terms, row.at) for row in before}
+        source = lemmas.Rows(self.model)
         stalled, last = 0, -math.inf
         for _ in range(ROUNDS):
             relaxed = self.relaxed(rows)
@@ -177,9 +185,9 @@ class Maker:
             if stalled > LEMMA_STALLED:
                 break
             last = relaxed.base
-            before = len(rows)
-            for found in lemmas.proposals(self.model, relaxed.x, bounds):
-                if len(rows) - before >= EACH_LEMMA or self.is_over(until):
+            count = len(rows)
+            for found in source.proposals(relaxed.x):
+                if len(rows) - count >= EACH_LEMMA or self.is_over(until):
                     break
                 if key(found.terms, found.at) in seen:
                     continue
@@ -187,7 +195,7 @@ class Maker:
                 proof = lemmas.proved(self.model, found, self.spool, self.watch)
                 if proof is not None:
                     rows.append(Row(found.terms, found.at, proof))
-            if len(rows) == before:
+            if len(rows) == count:
                 break
         return rows
 

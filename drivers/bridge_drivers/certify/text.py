@@ -86,7 +86,7 @@ def tree_lines(model: Model, tree: Tree, spool: Spool, naming: Naming) -> Iterat
         elif isinstance(node, Split):
             yield f"split {node.column} {written(node.at)}"
             stack += [(node.high, names, row), (node.low, names, row)]
-        else:
+        elif isinstance(node, Cut):
             yield from plane_lines(form_of(model, node), node.at)
             old = names.get(node.row, (-1, -1))
             low, high = {**names, node.row: (old[0], row)}, {**names, node.row: (row, old[1])}

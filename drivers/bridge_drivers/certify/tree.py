@@ -4,7 +4,7 @@ from __future__ import annotations
 
 import os
 import tempfile
-from typing import Iterator, NamedTuple, Tuple, Union
+from typing import Iterator, List, Mapping, NamedTuple, Tuple, Union
 
 from .leaves import Multipliers
 from ..files import naming
@@ -42,7 +42,15 @@ class Cut(NamedTuple):
     high: Tree
 
 
-Tree = Union[Leaf, Empty, Split, Cut]
+class Held(NamedTuple):
+    """A tree that somebody else has: a search elsewhere gets it as this."""
+
+    key: int
+    nodes: int
+
+
+Tree = Union[Leaf, Empty, Split, Cut, Held]
+Flat = List[Tuple[int, ...]]            # nodes in the order of the text, without their parts
 
 
 class Spool:
@@ -62,6 +70,24 @@ class Spool:
         self.end += len(line)
         return place
 
+    def append(self, lines: bytes) -> int:
+        """Those of another spool; by how much their places move."""
+        place = self.end
+        with naming(os.path.join(tempfile.gettempdir(), "certify")):
+            self.file.seek(place)
+            self.file.write(lines)
+        self.end += len(lines)
+        return place
+
+    def taken(self) -> bytes:
+        """All lines, which are gone then."""
+        self.file.seek(0)
+        lines = self.file.read(self.end)
+        self.end = 0
+        self.file.seek(0)
+        self.file.truncate()
+        return lines
+
     def get(self, place: int) -> Multipliers:
         self.file.seek(place)
         words = [int(word) for word in self.file.readline().split()]
@@ -80,9 +106,49 @@ def parts(tree: Tree) -> Iterator[Tree]:
 
 def count(tree: Tree) -> int:
     """The nodes of its text: a plane closes an empty box, with two leaves."""
-    return sum(3 if isinstance(node, Empty) else 1 for node in parts(tree))
+    return sum(node.nodes if isinstance(node, Held) else 3 if isinstance(node, Empty) else 1
+               for node in parts(tree))
 
 
 def rows_used(tree: Tree) -> set[int]:
     """The added rows that its leaves use."""
     return {row for node in parts(tree) if isinstance(node, Leaf) for row in node.added}
+
+
+# for other processes: pickles of deep trees are refused -----------------------------
+
+LEAF, EMPTY, SPLIT, CUT, HELD = range(5)
+
+
+def flat(tree: Tree) -> Flat:
+    found: Flat = []
+    for node in parts(tree):
+        if isinstance(node, Leaf):
+            found.append((LEAF, node.place, *node.added))
+        elif isinstance(node, Empty):
+            found.append((EMPTY, node.column, node.at))
+        elif isinstance(node, Split):
+            found.append((SPLIT, node.column, node.at))
+        elif isinstance(node, Cut):
+            found.append((CUT, node.row, node.at))
+        else:
+            found.append((HELD, node.key, node.nodes))
+    return found
+
+
+def rebuilt(nodes: Flat, moved: int, held: Mapping[int, Tree]) -> Tree:
+    """The tree, its leaves' places moved, what is held put in."""
+    stack: list[Tree] = []
+    for kind, first, *rest in reversed(nodes):
+        if kind == LEAF:
+            stack.append(Leaf(first + moved, tuple(rest)))
+        elif kind == EMPTY:
+            stack.append(Empty(first, rest[0]))
+        elif kind == HELD:
+            stack.append(held[first])
+        else:
+            low, high = stack.pop(), stack.pop()
+            stack.append(Split(first, rest[0], low, high) if kind == SPLIT
+                         else Cut(first, rest[0], low, high))
+    tree, = stack
+    return tree

@@ -22,6 +22,10 @@ class Stopped(Exception):
     """A search ended without a tree; the text says why."""
 
 
+class Paused(Stopped):
+    """The time or the nodes that it had are over: it can go on."""
+
+
 class Over(Exception):
     """The time of a certificate is over: it comes in the middle of whatever goes on."""
 
@@ -70,12 +74,12 @@ class Watch:
         return left if self.of_processor else min(self.left(), left)
 
     def look(self, nodes: int, until: float) -> None:
-        """At each node: Stopped after the limit, after `until` (in seconds of this watch) or an
-        interrupt."""
+        """At each node: Paused after the limit or `until` (in seconds of this watch), Stopped after
+        an interrupt."""
         if self.is_stopped:
             raise Stopped("interrupted")
         if self.spent() > until or self.left() < 0:
-            raise Stopped(f"time ({nodes} nodes)")
+            raise Paused(f"time ({nodes} nodes)")
 
     def is_due(self) -> bool:
         """Whether the progress is to be told."""

@@ -1,61 +1,39 @@
-"""The call: `nl-bridge explain MODEL CERTIFICATE [--html FILE] [--svg FILE]`."""
+"""The call: `nl-bridge explain MODEL CERTIFICATE [--html FILE] [--svg FILE] [overwrite=1]`."""
 
 from __future__ import annotations
 
 import hashlib
 import os
-import sys
 import tempfile
 from fractions import Fraction
 from typing import Callable, NamedTuple, Sequence
 
-from .. import colour, explaining, verdicts
-from ..bridge import Bridge, Refused
+from .. import verdicts
+from ..bridge import Refused
 from ..certify.model import Model, Unfit, model_of
-from ..files import write
+from ..files import Places
 from ..printable import in_a_line
-from ..subjects import Subject, subject
+from ..subjects import Subject
 from .bounds import Bounds
 from .page import Page, Used, text_of
 from .picture import Picture
 from .reading import Certificate, read
+from .sums import both, sums
 from .words import Wording, claim_words, tally
 
 MOST_USED = 200                 # rows on a page
-REFUSED, UNWRITTEN = 2, 5
+UNWRITTEN = 5
+TALLIED = ("nodes", "splits", "planes", "lemmas", "leaves", "weights", "depth", "added")
 
 
 class Files(NamedTuple):
     """What is asked about, and where pages go; empty where none are wanted."""
 
-    nl: str
+    model: str
     certificate: str
     html: str = ""
     svg: str = ""
-
-
-class BadWords(Exception):
-    """Words that are none of this call."""
-
-
-def files_of(words: Sequence[str]) -> Files:
-    """`--html FILE` and `--svg FILE`, also with `=`, before or behind the two files."""
-    wanted = {"--html": "", "--svg": ""}
-    plain, left = [], list(words)[::-1]
-    while left:
-        word = left.pop()
-        name, equal, value = word.partition("=")
-        if name in wanted:
-            if not equal and not left:
-                raise BadWords(f"{name} takes a FILE")
-            wanted[name] = value if equal else left.pop()
-        elif word.startswith("--"):
-            raise BadWords(f"unknown word {word}")
-        else:
-            plain.append(word)
-    if len(plain) != 2:
-        raise BadWords("explain takes MODEL CERTIFICATE")
-    return Files(plain[0], plain[1], wanted["--html"], wanted["--svg"])
+    overwrite: bool = False
 
 
 def sum_of(path: str) -> str:
@@ -68,6 +46,7 @@ class Explaining:
 
     def __init__(self, model: Subject, files: Files, verdict: str, holds: bool) -> None:
         self.files, self.verdict, self.holds = files, verdict, holds
+        self.shown, self.path = model.given.shown, model.path
         self.certificate: Certificate = read(files.certificate)
         self.names, constraints = model.names(), model.constraints()
         self.note = ""
@@ -106,76 +85,107 @@ class Explaining:
 
     def lines(self) -> list[str]:
         word = "holds of" if self.holds else "does not hold of"
-        told = [f"{self.files.certificate} {word} {self.files.nl}: {self.verdict}",
+        told = [f"{self.files.certificate} {word} {self.shown}: {self.verdict}",
                 f"claim     {self.said()}"]
         if not self.holds:
             told += self.wording.failure(self.verdict)
         told += self.wording.lines()
         return told + ([self.note] if self.note else [])
 
-    def picture(self, alone: bool) -> str:
-        if self.drawn is None:
+    def object(self) -> dict[str, object]:
+        """The same for programs."""
+        t, c, node = self.tally, self.certificate, None
+        if self.fails is not None:
+            node = c.nodes[self.fails]
+        points = {name: None if of is None else {self.wording.column(j): str(value)
+                                                 for j, value in of.items()}
+                  for name, of in (("point", c.point), ("ray", c.ray))}
+        return {"holds": self.holds, "claim": self.claim, **points,
+                "tree": {key: getattr(t, key) for key in TALLIED} if c.nodes else None,
+                "uses": {self.wording.row(i): times for i, times in sorted(t.rows.items())},
+                "failure": None if self.holds else self.wording.failure(self.verdict)[0][10:],
+                "leaf": None if node is None else node.leaf,
+                "line": None if node is None else node.line,
+                "path": [] if self.fails is None else self.wording.path(self.fails)}
+
+    def tree(self) -> Picture | None:
+        """None where the certificate has none."""
+        if self.drawn is None and self.certificate.nodes:
             self.drawn = Picture(self.certificate, self.wording, self.bounds, self.fails,
                                  self.holds)
-        return self.drawn.svg(alone)
+        return self.drawn
+
+    def picture(self, alone: bool) -> str:
+        drawn = self.tree() or Picture(self.certificate, self.wording, self.bounds)
+        return drawn.svg(alone)
 
     def page(self) -> str:
         lines = [line.partition(" ") for line in self.wording.lines()]
         facts = [(head, text.strip()) for head, _, text in lines if head != "uses"]
-        facts += [("model's sum", f"SHA-256 {sum_of(self.files.nl)}"),
+        facts += [("model's sum", f"SHA-256 {sum_of(self.path)}"),
                   ("certificate's sum", f"SHA-256 {sum_of(self.files.certificate)}")]
         failure = self.wording.failure(self.verdict) if not self.holds else []
         texts = [line[10:] for line in failure]
         path = self.wording.path(self.fails) if self.fails is not None else []
         used = sorted(self.tally.rows.items(), key=lambda item: (-item[1], item[0]))
         more = f"and {len(used) - MOST_USED} rows more" if len(used) > MOST_USED else ""
+        drawn = self.tree()
         return text_of(Page(
-            os.path.basename(self.files.nl), os.path.basename(self.files.certificate),
+            os.path.basename(self.shown), os.path.basename(self.files.certificate),
             self.verdict, self.holds, self.said(), facts, texts[0] if texts else "", path,
             [Used(self.wording.row(i), times) for i, times in used[:MOST_USED]],
-            self.tally.leaves, more, self.picture(False) if self.certificate.nodes else ""))
+            self.tally.leaves, more, self.picture(False) if self.certificate.nodes else "",
+            self.points(), drawn.parts() if drawn else (), self.sums(drawn)))
+
+    def points(self) -> list[tuple[str, str]]:
+        """The values of the point that are not 0, by name."""
+        point = self.certificate.point or {}
+        return [(self.wording.column(j), both(value)) for j, value in point.items()]
+
+    def sums(self, drawn: Picture | None) -> list[tuple[str, Sequence[str], str]]:
+        """Those of the leaves that are drawn."""
+        nodes = self.certificate.nodes
+        places = [d.place for d in drawn.drawn if nodes[d.place].is_leaf()] if drawn else []
+        return [(f"line {nodes[found.place].line}, leaf {nodes[found.place].leaf}: "
+                 + (", ".join(self.wording.cuts(found.place)) or "all points"), found.lines,
+                 found.shows) for found in sums(self.bounds, self.wording, places)]
 
 
-def explained(bridge: Bridge, files: Files) -> int:
-    """Prints what a certificate says, and writes the pages that are asked for. The status is that
-    of `verify`; 5 where a page cannot be written. Refused or mps_file.Damaged where an MPS file is
-    none."""
-    with subject(bridge, files.nl) as model:
-        return explained_of(model, files)
+class Told(NamedTuple):
+    """What is said of a certificate: the status, that of `verify`, or 5 where a page could not be
+    written; the verdict, the lines, the same for programs."""
+
+    status: int
+    verdict: str
+    lines: list[str]
+    object: dict[str, object]
 
 
-def explained_of(model: Subject, files: Files) -> int:
+def explained(model: Subject, files: Files) -> Told:
+    """What a certificate says, and the pages that are asked for. Refused where it is none."""
     bridge = model.bridge
     reply = bridge.call("verify", model.path, files.certificate)
     if reply.status not in (0, 1):
-        words = bridge.in_full(("verify", model.path, files.certificate))
-        print(Refused(words[0], reply, words, bridge.shown).line())
-        if reply.status == REFUSED:
-            more = explaining.Refusal(words, reply.told, bridge.shown).more()
-            print("".join(f"  {line}\n" for line in more), end="")
-        return reply.status
+        raise bridge.refused(("verify", model.path, files.certificate), reply)
     verdict = reply.out.decode("utf-8", "replace").strip()
     told = Explaining(model, files, verdict, reply.status == 0)
-    first, *lines = map(in_a_line, told.lines())
-    colour.tell(first, sys.stdout, verdict)
-    print("\n".join([*lines, *model.notes]))
+    lines = [*map(in_a_line, told.lines()), *model.notes]
+    status = reply.status
+    places = Places([model.given.path, model.given.shown, files.certificate], files.overwrite)
     pages: Sequence[tuple[str, Callable[[], str]]] = (
         (files.html, told.page), (files.svg, lambda: told.picture(True)))
     for path, text in pages:
-        if path and not is_put(path, text, files):
-            return UNWRITTEN
-    return reply.status
+        if path:
+            fault = put(path, text, places)
+            status = UNWRITTEN if fault else status
+            lines.append(f"{path} is not written: {fault}" if fault else f"{path} is written")
+    return Told(status, verdict, lines, told.object())
 
 
-def is_put(path: str, text: Callable[[], str], files: Files) -> bool:
-    """Writes a page, and tells it; whether it could be."""
-    if any(os.path.exists(path) and os.path.samefile(path, given) for given in files[:2]):
-        print(f"{path} is not written: it is what is explained")
-        return False
+def put(path: str, text: Callable[[], str], places: Places) -> str:
+    """Writes a page; why it could not be, or nothing."""
     try:
-        write(path, text().encode("utf-8", "backslashreplace"))
+        places.write(path, text().encode("utf-8", "backslashreplace"))
     except OSError as fault:
-        print(f"{path} is not written: {fault.strerror}")
-        return False
-    print(f"{path} is written")
-    return True
+        return fault.strerror or str(fault)
+    return ""

@@ -2,6 +2,7 @@
 
 from __future__ import annotations
 
+import re
 from html import escape
 from typing import NamedTuple, Sequence
 
@@ -26,6 +27,20 @@ th { color: var(--pale); font-weight: 500; white-space: nowrap; }
 .bar { display: inline-block; height: .6rem; background: var(--bar); border-radius: 2px; }
 .share { width: 35%; min-width: 5rem; }
 ol { padding-left: 1.5rem; margin: .5rem 0; }
+pre { font: .875rem/1.45 ui-monospace, monospace; overflow-x: auto; margin: .25rem 0 .75rem;
+  padding: .5rem .75rem; background: var(--soft); border-radius: 6px; }
+h3 { font-size: .9375rem; margin: 1rem 0 .25rem; overflow-wrap: anywhere; }
+summary { cursor: pointer; margin: .5rem 0; }
+.legend { display: flex; flex-wrap: wrap; gap: .25rem 1.25rem; padding: 0; margin: .5rem 0;
+  list-style: none; font-size: .875rem; }
+.legend i { display: inline-block; width: 1rem; height: .75rem; margin-right: .4rem;
+  border: 1px solid; border-radius: 3px; }
+.duals i { background: #2da44e33; border-color: #2da44e; }
+.weights i { background: #218bff33; border-color: #218bff; }
+.cut i { border-color: #8c959f; } .folded i { border-style: dashed; border-color: #8c959f; }
+.broken i { background: #cf222e33; border-color: #cf222e; }
+.number { font-family: ui-monospace, monospace; }
+.hint { display: none; }
 .fails { border-left: 4px solid var(--no); background: var(--soft); padding: .5rem .75rem; }
 """
 
@@ -37,8 +52,19 @@ class Used(NamedTuple):
     times: int
 
 
+class Part(NamedTuple):
+    """A node that is drawn: its line, what is true there, the bound, how it goes on or closes."""
+
+    line: int
+    depth: int
+    part: str
+    bound: str
+    way: str
+
+
 class Page(NamedTuple):
-    """What is on it. `failure` and `path` are empty where the certificate holds."""
+    """What is on it. `failure` and `path` are empty where the certificate holds; `point` has names
+    and values, `sums` heads, lines and what they show."""
 
     model: str
     certificate: str
@@ -52,6 +78,9 @@ class Page(NamedTuple):
     leaves: int
     more: str
     svg: str
+    point: Sequence[tuple[str, str]] = ()
+    parts: Sequence[Part] = ()
+    sums: Sequence[tuple[str, Sequence[str], str]] = ()
 
 
 def row(head: str, text: str) -> str:
@@ -72,18 +101,66 @@ def text_of(page: Page) -> str:
     parts += failure_of(page)
     parts += ["<h2>The certificate</h2>", "<table>", *(row(*fact) for fact in page.facts),
               "</table>"]
-    if page.svg:
-        parts += ["<h2>Its tree</h2>",
-                  '<p class="pale">Each part follows from the one on its left by a split; what is '
-                  "claimed is shown where all parts on the right close. Point at a part to see it "
-                  "in full.</p>",
-                  f'<div class="scroll" tabindex="0" role="region" aria-label="the tree">{page.svg}'
-                  "</div>"]
+    parts += [*point_of(page), *tree_of(page), *sums_of(page)]
     parts += used_of(page)
     parts += ['<p class="pale">The verdict is that of the proved program. What is told beside it '
               "is worked out by the drivers, and not proved.</p>",
               "</main>", "</body>", "</html>", ""]
     return "\n".join(parts)
+
+
+AROUND = 60                     # what a page has beside the picture, in its units
+LEGEND = (("duals", "closes: its duals show the bound"), ("weights", "closes: its rows contradict"),
+          ("cut", "goes on by a split, a plane or a lemma"), ("folded", "goes on, not drawn"),
+          ("broken", "does not close"))
+
+
+def tree_of(page: Page) -> list[str]:
+    """The picture, its colours, and each part that is drawn, in full."""
+    if not page.svg:
+        return []
+    found = re.search(r'width="(\d+)"', page.svg)
+    width = int(found[1]) + AROUND if found else 0
+    legend = "".join(f'<li class="{name}"><i></i>{text}</li>' for name, text in LEGEND)
+    rows = [f'<tr><td>{part.line}</td><td style="padding-left: {0.5 + min(part.depth, 12)}rem">'
+            f"{escape(part.part)}</td><td>{escape(part.bound)}</td><td>{escape(part.way)}</td></tr>"
+            for part in page.parts]
+    return ["<h2>Its tree</h2>",
+            '<p class="pale">Each part follows from the one on its left by a split; what is '
+            "claimed is shown where all parts on the right close. The number in a box is its line "
+            "in the certificate.</p>", f'<ul class="legend">{legend}</ul>',
+            f"<style>@media (max-width: {width}px) {{ .hint {{ display: block; }} }}</style>",
+            '<p class="pale hint">The picture is wider than this page: scroll it sideways, or read '
+            "the list of its parts below.</p>",
+            f'<div class="scroll" tabindex="0" role="region" aria-label="the tree">{page.svg}'
+            "</div>",
+            "<details><summary>Its parts in words</summary>", "<table>",
+            "<thead><tr><th>line</th><th>part</th><th>bound</th><th></th></tr></thead>", "<tbody>",
+            *rows, "</tbody>", "</table>", "</details>"]
+
+
+def point_of(page: Page) -> list[str]:
+    """The whole point."""
+    if not page.point:
+        return []
+    rows = [f'<tr><td>{escape(name)}</td><td class="number">{escape(value)}</td></tr>'
+            for name, value in page.point]
+    return ["<details><summary>The whole point (what is not listed is 0)</summary>", "<table>",
+            *rows, "</table>", "</details>"]
+
+
+def sums_of(page: Page) -> list[str]:
+    """How the leaves that are drawn close."""
+    if not page.sums:
+        return []
+    found = []
+    for head, lines, shows in page.sums:
+        text = "\n".join([*lines, shows])
+        found.append(f'<h3>{escape(head)}</h3>\n<pre tabindex="0">{escape(text)}</pre>')
+    return ["<h2>The sums of its leaves</h2>",
+            '<p class="pale">Each number times the side of a row or bound that holds in that part; '
+            "on the left what the sum of the rows is, which is the objective, or nothing.</p>",
+            *found]
 
 
 def failure_of(page: Page) -> list[str]:

@@ -10,6 +10,7 @@ from typing import Iterator, NamedTuple
 
 from ..values import exact_decimal
 from .bounds import Bounds
+from .page import Part
 from .reading import DUALS, LEMMA, PLANE, ROOT, SPLIT, WEIGHTS, Certificate
 from .words import Wording
 
@@ -17,11 +18,12 @@ MOST_SHOWN = 64                 # nodes before a tree is folded
 MOST_DEPTH = 8
 MOST_PATH = 40                  # levels down to a leaf that fails, which are shown unfolded
 SECONDS = 5.0                   # in which bounds are worked out
-WIDTH, HEIGHT, ACROSS, DOWN, MARGIN = 196, 58, 236, 70, 12
-MOST_TEXT, MOST_PART = 26, 24   # characters of a line in a node, of its first, which is bold
+WIDTH, HEIGHT, ACROSS, DOWN, MARGIN = 204, 58, 240, 70, 12
+MOST_TEXT, MOST_PART = 27, 21   # characters of a line in a node, of its first, which is bold
 STYLE = """
 .tree text { font: 12px system-ui, sans-serif; fill: #1b1f24; }
 .tree .part { font-weight: 600; }
+.tree text.line { fill: #59636e; text-anchor: end; font-size: 10px; }
 .tree rect { fill: #f6f8fa; stroke: #8c959f; stroke-width: 1; }
 .tree path { fill: none; stroke: #8c959f; stroke-width: 1.2; }
 .tree .duals rect { fill: #dafbe1; stroke: #2da44e; }
@@ -33,6 +35,7 @@ STYLE = """
 DARK = """
 @media (prefers-color-scheme: dark) {
   .tree text { fill: #e6edf3; }
+  .tree text.line { fill: #9198a1; }
   .tree rect { fill: #21262d; stroke: #6e7681; }
   .tree path { stroke: #6e7681; }
   .tree .duals rect { fill: #12361f; stroke: #3fb950; }
@@ -137,8 +140,8 @@ class Picture:
         if node.parent == ROOT:
             return "all points"
         above = self.certificate.nodes[node.parent]
-        is_up = above.kind != LEMMA and node.part == 1
-        side = f" \u2265 {Fraction(above.at) + 1}" if is_up else f" \u2264 {above.at}"
+        is_below, number = self.wording.side(above, node.part)
+        side = f" {chr(0x2264) if is_below else chr(0x2265)} {number}"
         left = self.wording.left_side(above)
         if above.kind == LEMMA:
             left = ("with " if node.part else "proof: ") + left
@@ -178,7 +181,7 @@ class Picture:
             if not closes:
                 return f"leaf {node.leaf} " + ("is not judged" if closes is None
                                                else "does not close")
-            count, how = len(node.pairs), "closes: rows contradict" if node.kind == WEIGHTS \
+            count, how = len(node.pairs), "rows contradict" if node.kind == WEIGHTS \
                 else "closes by duals"
             return f"{how} ({count})" if count else "closes by bounds alone"
         if self.is_folded(place):
@@ -193,6 +196,12 @@ class Picture:
         if node.is_leaf() and not self.closes(place):
             return "fails" if self.closes(place) is False else "cut"
         return node.kind if node.kind in (DUALS, WEIGHTS) else "cut"
+
+    def parts(self) -> list[Part]:
+        """Each node that is drawn, in words."""
+        nodes = self.certificate.nodes
+        return [Part(nodes[d.place].line, nodes[d.place].depth, self.part_text(d.place),
+                     self.bound_text(d.place), self.way_text(d.place)) for d in self.drawn]
 
     # svg -----------------------------------------------------------------------------
 
@@ -233,6 +242,7 @@ class Picture:
             whole = escape("\n".join([*filter(None, texts), f"line {line}"]))
             yield (f'<g class="{self.css_class(d.place)}"><title>{whole}</title>'
                    f'<rect x="{d.x}" y="{d.y}" width="{WIDTH}" height="{HEIGHT}" rx="6"/>')
+            yield f'<text class="line" x="{d.x + WIDTH - 8}" y="{d.y + 18}">{line}</text>'
             for k, text in enumerate([self.part_text(d.place, MOST_PART), *texts[1:]]):
                 mark = ' class="part"' if k == 0 else ""
                 yield (f'<text{mark} x="{d.x + 8}" y="{d.y + 18 + 16 * k}">'

@@ -99,21 +99,48 @@ class Wording:
         return text + (f" + .. ({len(pairs)} terms)" if len(pairs) > MOST_TERMS else "")
 
     def left_side(self, node: Node) -> str:
-        return self.column(node.column) if node.kind == SPLIT else self.form(node.pairs)
+        if node.kind == SPLIT:
+            return self.column(node.column)
+        return self.form(node.pairs) if self.factor(node) is None else "objective"
+
+    def factor(self, node: Node) -> Fraction | None:
+        """By which the form of a node is multiplied to the objective; None where it is none."""
+        if self.bounds is None or node.kind == SPLIT or not node.pairs:
+            return None
+        costs, form = self.bounds.goal.costs, {j: Fraction(a) for j, a in node.pairs}
+        first = node.pairs[0][0]
+        if costs.keys() != form.keys() or not form[first]:
+            return None
+        factor = costs[first] / form[first]
+        return factor if all(costs[j] == factor * a for j, a in form.items()) else None
+
+    def side(self, node: Node, part: int) -> tuple[bool, Fraction]:
+        """Whether a part is below, and the number there: of the objective for a form of it."""
+        is_above = node.kind != LEMMA and part == 1
+        at, factor = Fraction(node.at) + (1 if is_above else 0), self.factor(node)
+        if factor is None or self.bounds is None:
+            return not is_above, at
+        return is_above == (factor < 0), factor * at + self.bounds.goal.constant
 
     def cut(self, node: Node, part: int) -> str:
         """One part of a node, as `z at most 0`."""
+        is_below, number = self.side(node, part)
+        at = f"at {'most' if is_below else 'least'} {number}"
         if node.kind == LEMMA:
             how = "by the lemma" if part else "in the proof of the lemma"
-            return f"{how}: {self.left_side(node)} at most {node.at}"
-        at = f"at least {Fraction(node.at) + 1}" if part else f"at most {node.at}"
+            return f"{how}: {self.left_side(node)} {at}"
         return f"{self.left_side(node)} {at}" + (" (plane)" if node.kind == PLANE else "")
 
     def path(self, place: int) -> list[str]:
         """The cuts from the root to a node, each with its line."""
+        nodes = self.certificate.nodes
+        return [f"{cut} (line {nodes[above].line})"
+                for cut, above in zip(self.cuts(place), self.certificate.path(place))]
+
+    def cuts(self, place: int) -> list[str]:
+        """The same without lines."""
         nodes, path = self.certificate.nodes, self.certificate.path(place)
-        return [f"{self.cut(nodes[above], nodes[below].part)} (line {nodes[above].line})"
-                for above, below in zip(path, path[1:])]
+        return [self.cut(nodes[above], nodes[below].part) for above, below in zip(path, path[1:])]
 
     # what holds ----------------------------------------------------------------------
 

@@ -10,6 +10,7 @@ from typing import TYPE_CHECKING, Mapping, Sequence
 from ..codes import Code
 from ..options import Option
 from ..values import Number
+from .statuses import Says
 
 if TYPE_CHECKING:
     from ..job import Job
@@ -19,6 +20,7 @@ if TYPE_CHECKING:
 BASIC, SUPERBASIC, LOWER, UPPER, EQUAL = 1, 2, 3, 4, 5
 
 
+LONGEST = 200                           # of a line of a log that is told
 NONE_YET = 1e40                         # what stands for an incumbent where there is none
 
 
@@ -28,9 +30,11 @@ class Unclear(Exception):
 
 @dataclass
 class Outcome:
-    """What a solver answered, its values by name of column or row.
+    """What a solver answered, its values by name of column or row. The code is what its status
+    says by itself.
 
-    `text` says the code in words. `duals` and `costs` are rates of change of the objective, for
+    `text` says the code in words, `is_gap` that the search stopped at a gap that was asked for.
+    `duals` and `costs` are rates of change of the objective, for
     both senses, as AMPL wants them. The basis is in AMPL's statuses, for all columns and rows.
     """
 
@@ -43,6 +47,7 @@ class Outcome:
     row_basis: Mapping[str, int] | None = None
     objective: Number | None = None
     notes: list[str] = field(default_factory=list)
+    is_gap: bool = False
 
 
 class Solver:
@@ -122,6 +127,25 @@ def stopped(why: str, has_point: bool) -> tuple[Code, str]:
     return Code.LIMIT, f"stopped at {why} without a feasible solution"
 
 
+def outcome(says: Says | None, status: str, has_point: bool) -> Outcome:
+    """Code and words of a status. A status that is not known, or that says little, is a point
+    where there is one; else Unclear."""
+    if says is None or says.code in (Code.UNSURE, Code.NO_ANSWER):
+        if not has_point:
+            raise Unclear(f"it ended with `{status}`")
+        if says is not None and says.is_gap:
+            return Outcome(says.code, says.text, is_gap=True)
+        return Outcome(Code.UNSURE, f"a point, and it ended with `{status}`")
+    if says.code == Code.LIMIT:
+        return Outcome(*stopped(says.text, has_point))
+    return Outcome(says.code, says.text)
+
+
+def has_values(code: Code) -> bool:
+    """Whether a point comes with that code."""
+    return code in (Code.SOLVED, Code.UNSURE, Code.LIMIT_WITH_POINT)
+
+
 def read_lines(path: str) -> list[str] | None:
     """The lines of an answer, None where the solver wrote none."""
     try:
@@ -132,8 +156,10 @@ def read_lines(path: str) -> list[str] | None:
 
 
 def first_line(log: str, pattern: str) -> str:
-    """The first line of a log that has the pattern: the solver's own complaint."""
-    for line in log.splitlines():
+    """The first line of a log that has the pattern: the solver's own complaint. Else its last
+    words."""
+    lines = [line.strip() for line in log.splitlines() if line.strip()]
+    for line in lines:
         if re.search(pattern, line, re.I):
-            return line.strip()
-    return "it wrote no answer"
+            return line
+    return "it wrote no answer" + (f"; its last words: {lines[-1][:LONGEST]}" if lines else "")

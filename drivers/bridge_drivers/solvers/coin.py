@@ -2,20 +2,20 @@
 
 from __future__ import annotations
 
+import os
 import struct
 from typing import TYPE_CHECKING, NamedTuple
 
 from ..codes import Code
-from .base import (BASIC, LOWER, UPPER, Outcome, Solver, Unclear, first_line, read_lines, row_side,
-                   stopped)
+from .base import (BASIC, LOWER, UPPER, Outcome, Solver, Unclear, first_line, has_values, outcome,
+                   read_lines, row_side, stopped)
+from .statuses import COIN, NO_POINT, row_of
 
 if TYPE_CHECKING:
     from ..job import Job
     from ..program import Program
 
 COMPLAINT = r"Bad image|No match|Unknown|Unable to open|errors? on input|infeasible bound"
-LIMITS = {"time": "the time limit", "iterations": "the iteration limit", "nodes": "the node limit",
-          "gap": "the gap limit", "solutions": "the solution limit"}
 
 
 class Saved(NamedTuple):
@@ -44,7 +44,7 @@ class Coin(Solver):
     def model(self, job: Job) -> list[str]:
         """The words that name the model. To CoinUtils a `NAME nl` line means fixed columns, and
         OBJSENSE it ignores."""
-        path = job.write("coin.mps", self.text(job.program))
+        path = job.write("coin.mps", self.text(job.given))
         return [path, "-max"] if job.program.maximise else [path]
 
     def text(self, program: Program) -> bytes:
@@ -87,29 +87,20 @@ class Coin(Solver):
                 return Outcome(*stopped("the time limit", False))
             raise Unclear(first_line(log, COMPLAINT))
         status, _, figure = lines[0].strip().partition(" - objective value ")
-        low = status.lower()
-        objective = float(figure) if figure else None
-        linear = not job.program.whole or bool(job.options.relax)
-        if low == "optimal":
-            saved = self.saved(job)
-            if not linear:
-                return Outcome(Code.SOLVED, "optimal solution", saved.values, objective=objective)
-            columns, rows = basis(job.program, job.path("answer.bas"))
-            return Outcome(Code.SOLVED, "optimal solution", *saved, columns, rows, objective)
-        if low.startswith("integer infeasible"):
-            if "infeasible or unbounded" in log and "Continuous objective value is" not in log:
-                return Outcome(Code.INFEASIBLE_OR_UNBOUNDED, "infeasible or unbounded")
-            return Outcome(Code.INFEASIBLE, "integer infeasible")
-        if low.startswith("infeasible"):
-            return Outcome(Code.INFEASIBLE, "infeasible")
-        if low.startswith("unbounded"):
-            return Outcome(Code.UNBOUNDED, "unbounded")
-        if low.startswith("stopped on ") and "difficult" not in low:
-            why = LIMITS.get(low.split()[2], "a limit")
-            if linear or "no integer solution" in low:
-                return Outcome(*stopped(why, False))
-            return Outcome(*stopped(why, True), self.saved(job).values, objective=objective)
-        raise Unclear(f"it ended with `{lines[0].strip()}`")
+        has_point = NO_POINT not in status and os.path.exists(job.path("answer.bin"))
+        status = status.replace(NO_POINT, "").strip()
+        found = outcome(row_of(COIN, status), status, has_point)
+        if status.lower() == "integer infeasible" and "infeasible or unbounded" in log \
+                and "Continuous objective value is" not in log:
+            return Outcome(Code.INFEASIBLE_OR_UNBOUNDED, "infeasible or unbounded")
+        if not has_values(found.code):
+            return found
+        saved = self.saved(job)
+        found.values, found.objective = saved.values, float(figure) if figure else None
+        if found.code == Code.SOLVED and (not job.program.whole or job.options.relax):
+            found.duals, found.costs = saved.duals, saved.costs
+            found.column_basis, found.row_basis = basis(job.program, job.path("answer.bas"))
+        return found
 
 
 def basis(program: Program, path: str) -> tuple[dict[str, int] | None, dict[str, int] | None]:

@@ -8,8 +8,9 @@ from fractions import Fraction
 from ..codes import Code
 from ..job import Job
 from ..program import Program
-from .base import Outcome, Solver, Unclear, first_line, read_lines, stopped
+from .base import Outcome, Solver, Unclear, first_line, outcome, read_lines, stopped
 from .coin import basis
+from .statuses import ESOLVER, row_of
 
 SECTIONS = ("VARS", "REDUCED COST", "PI", "SLACK")
 
@@ -23,7 +24,7 @@ class Esolver(Solver):
     def solve(self, job: Job) -> Outcome:
         p, options = job.program, job.options
         out, basis_file = job.path("answer.sol"), job.path("answer.bas")
-        path = job.write("esolver.mps", self.text(p))
+        path = job.write("esolver.mps", self.text(job.given))
         words = [job.solver]
         if options.timelim:
             words += ["-R", f"{options.timelim:g}"]
@@ -33,15 +34,11 @@ class Esolver(Solver):
             if ran.killed:
                 return Outcome(*stopped("the time limit", False))
             raise Unclear(first_line(ran.log, "error"))
-        status = status_of(lines)
-        if status == "INFEASIBLE":
-            return Outcome(Code.INFEASIBLE, "infeasible")
-        if status == "UNBOUNDED":
-            return Outcome(Code.UNBOUNDED, "unbounded")
-        if status != "OPTIMAL":
-            if ran.killed or options.timelim:
+        says = row_of(ESOLVER, status_of(lines))
+        if says is None or says.code != Code.SOLVED:
+            if (says is None or says.code == Code.NO_ANSWER) and (ran.killed or options.timelim):
                 return Outcome(*stopped("a limit", False))
-            raise Unclear(f"it ended with `{lines[0] if lines else ''}`")
+            return outcome(says, lines[0] if lines else "", False)
         value, parts = parsed(lines)
         columns, rows = basis(p, basis_file)
         return Outcome(Code.SOLVED, "optimal solution", complete(p.columns, parts["VARS"]),

@@ -6,21 +6,13 @@ import math
 
 from ..codes import Code
 from ..job import Job, Ran
-from ..options import Option
+from ..options import SHARE, SWITCH, Option
 from ..program import Program
 from .base import (BASIC, EQUAL, LOWER, SUPERBASIC, UPPER, Outcome, Solver, Unclear, first_line,
-                   read_lines, stopped)
+                   has_values, outcome, read_lines, stopped)
+from .statuses import GLPK, GLPK_FILE, row_in, row_of
 
 LETTERS = {"b": BASIC, "l": LOWER, "u": UPPER, "f": SUPERBASIC, "s": EQUAL}
-# After its presolve the answer of an infeasible or unbounded program is `undefined`.
-SENTENCES = (
-    ("NO PRIMAL FEASIBLE SOLUTION", Code.INFEASIBLE, "infeasible"),
-    ("NO FEASIBLE SOLUTION", Code.INFEASIBLE, "infeasible"),
-    ("NO INTEGER FEASIBLE SOLUTION", Code.INFEASIBLE, "integer infeasible"),
-    ("UNBOUNDED PRIMAL SOLUTION", Code.UNBOUNDED, "unbounded"),
-    ("HAS UNBOUNDED SOLUTION", Code.UNBOUNDED, "unbounded"),
-    ("NO DUAL FEASIBLE SOLUTION", Code.INFEASIBLE_OR_UNBOUNDED, "infeasible or unbounded"),
-)
 
 
 class Glpsol(Solver):
@@ -33,12 +25,12 @@ class Glpsol(Solver):
              r"\((?P<open>\d+);",
              r"^[ *#] *(?P<iterations>\d+): obj = +(?P<objective>\S+)")
     version = r"GLPSOL.*?Solver,? v?(\S+)"
-    options = (Option("mipgap", 0.0, float, "relative gap at which the search stops"),
-               Option("xcheck", 0, int, "1: glpsol checks its final basis in exact arithmetic"))
+    options = (Option("mipgap", 0.0, SHARE, "relative gap at which the search stops"),
+               Option("xcheck", 0, SWITCH, "1: glpsol checks its final basis in exact arithmetic"))
 
     def solve(self, job: Job) -> Outcome:
         options, program = job.options, job.program
-        words = [job.solver, *self.reading(program, job.write("glpsol.mps", self.text(program))),
+        words = [job.solver, *self.reading(program, job.write("glpsol.mps", self.text(job.given))),
                  "-w", job.path("answer.txt")]
         if options.relax:
             words += ["--nomip"]
@@ -66,32 +58,33 @@ class Glpsol(Solver):
 
 
 def answer(job: Job, ran: Ran) -> Outcome:
-    for sentence, code, text in SENTENCES:
-        if sentence in ran.log:
-            return Outcome(code, text)
-    lines = read_lines(job.path("answer.txt"))
+    """By the file where it says optimal, else by the log."""
+    says, lines = row_in(GLPK, ran.log), read_lines(job.path("answer.txt"))
     if lines is None:
         if ran.killed:
             return Outcome(*stopped("the time limit", False))
-        raise Unclear(first_line(ran.log, r"glpsol\.mps:"))
+        if says is not None:
+            return outcome(says, says.words, False)
+        raise Unclear(first_line(ran.log, r"glpsol\.mps:|glp_\w+:"))
     words = [line.split() for line in lines]
     head = next((w for w in words if w[:1] == ["s"]), None)
     if head is None:
         raise Unclear("no status line")
-    whole = head[1] == "mip"
-    status = head[4] if whole else head[4] + head[5]    # mip: one letter; bas: primal and dual
-    if status in ("n", "nf", "nu", "nn", "ni"):
-        return Outcome(Code.INFEASIBLE, "infeasible")
-    if status == "fn":
-        return Outcome(Code.UNBOUNDED, "unbounded")
-    why = "the time limit" if "TIME LIMIT" in ran.log or ran.killed else "a limit"
-    if status not in ("o", "ff", "f"):
-        return Outcome(*stopped(why, False))
-    if not whole:
+    is_whole = head[1] == "mip"
+    status = head[4] if is_whole else head[4] + head[5]     # mip: one letter; bas: primal and dual
+    of_file = row_of(GLPK_FILE, status)
+    has_point = of_file is None or of_file.code in (Code.SOLVED, Code.UNSURE, Code.LIMIT)
+    if of_file is None or of_file.code != Code.SOLVED:
+        of_file = says or of_file
+    found = outcome(of_file, of_file.words if of_file else status, has_point)
+    if not has_values(found.code):
+        return found
+    if found.code == Code.SOLVED and not is_whole:
         return basic_answer(job.program, words, float(head[-1]))
-    values = {job.program.columns[int(w[1]) - 1]: float(w[-1]) for w in words if w[:1] == ["j"]}
-    code, text = stopped(why, True) if status == "f" else (Code.SOLVED, "optimal solution")
-    return Outcome(code, text, values, objective=float(head[-1]))
+    found.values = {job.program.columns[int(w[1]) - 1]: float(w[-1 if is_whole else 3])
+                    for w in words if w[:1] == ["j"]}
+    found.objective = float(head[-1])
+    return found
 
 
 def basic_answer(program: Program, words: list[list[str]], objective: float) -> Outcome:

@@ -5,18 +5,23 @@ from __future__ import annotations
 
 import json
 import os
+import re
 import shutil
 import subprocess
 from typing import Any
 
 from ..codes import Code
 from ..job import Job
-from ..options import Option
+from ..options import SHARE, Option
 from ..program import Program
-from .base import Outcome, Solver, Unclear, first_line, read_lines, stopped
+from .base import (Outcome, Solver, Unclear, first_line, has_values, outcome, read_lines,
+                   stopped)
+from .statuses import HIGHS, row_of
 
 PLACES = ("/usr/bin/python3", "python3")
 SCRIPT = os.path.join(os.path.dirname(os.path.abspath(__file__)), "highs_script.py")
+SCIPY = {0: "7", 1: "13", 2: "8", 3: "10"}      # its statuses, as HiGHS's
+CLOSED = 1e-9                   # a gap that is none
 LOOKS = "import importlib.util as u, sys; sys.exit(u.find_spec('scipy') is None)"
 
 
@@ -26,7 +31,7 @@ class Highs(Solver):
     version = r"HiGHS of SciPy (\S+)"
     again = "without presolve"
     infinite = "1e20"
-    options = (Option("mipgap", 0.0, float, "relative gap at which the search stops"),)
+    options = (Option("mipgap", 0.0, SHARE, "relative gap at which the search stops"),)
 
     def place(self, named: str = "") -> str | None:
         for word in (named,) if named else PLACES:
@@ -46,13 +51,14 @@ class Highs(Solver):
                             "relax": bool(options.relax), "presolve": not job.again,
                             "disp": bool(options.outlev)})
         target = job.path("answer.json")
-        ran = job.run([job.solver, SCRIPT, job.write("highs.mps", self.text(p)), target, words])
+        path = job.write("highs.mps", self.text(job.given))
+        ran = job.run([job.solver, SCRIPT, path, target, words])
         lines = read_lines(target)
         if lines is None:
             if ran.killed:
                 return Outcome(*stopped("the time limit", False))
             raise Unclear(first_line(ran.log, "Error"))
-        return outcome(job, json.loads(lines[0]))
+        return answered(job, json.loads(lines[0]))
 
 
 def has_scipy(path: str) -> bool:
@@ -62,25 +68,23 @@ def has_scipy(path: str) -> bool:
         return False
 
 
-def outcome(job: Job, answer: dict[str, Any]) -> Outcome:
-    """By SciPy's status: 0 optimal, 1 a limit, 2 infeasible, 3 unbounded, 4 others."""
-    p, status, message = job.program, answer["status"], answer["message"]
+def answered(job: Job, answer: dict[str, Any]) -> Outcome:
+    """By HiGHS's own status, whose number is in SciPy's message, else by SciPy's."""
+    p, message = job.program, answer["message"].strip().split("\n")[0]
+    own = re.search(r"HiGHS Status (\d+)", answer["message"])
+    number = own.group(1) if own else SCIPY.get(answer["status"], "")
     values = answer["values"] and dict(zip(p.columns, answer["values"]))
-    if status == 0:
-        duals, costs = answer.get("duals"), answer.get("costs")
-        return Outcome(Code.SOLVED, "optimal solution", values,
-                       duals and dict(zip(p.constraints, duals)),
-                       costs and dict(zip(p.columns, costs)))
-    if status == 1:
-        why = "the time limit" if "ime limit" in message else "a limit"
-        return Outcome(*stopped(why, values is not None), values)
-    if status == 2:
-        return Outcome(Code.INFEASIBLE, "infeasible")
-    if status == 3:
-        return Outcome(Code.UNBOUNDED, "unbounded")
-    if "nfeasible" in message and "nbounded" in message:
-        return Outcome(Code.INFEASIBLE_OR_UNBOUNDED, "infeasible or unbounded")
-    raise Unclear(message.strip().split("\n")[0])
+    found = outcome(row_of(HIGHS, number), message, bool(values))
+    if not has_values(found.code):
+        return found
+    found.values = values
+    duals, costs = answer.get("duals"), answer.get("costs")
+    found.duals = duals and dict(zip(p.constraints, duals))
+    found.costs = costs and dict(zip(p.columns, costs))
+    if found.code == Code.SOLVED and job.options.own["mipgap"] \
+            and (answer.get("gap") or 0.0) > CLOSED:
+        found.code, found.text, found.is_gap = Code.UNSURE, "solution within the gap", True
+    return found
 
 
 SOLVER = Highs()

@@ -8,49 +8,55 @@ import math
 from ..codes import Code
 from ..job import Job
 from ..program import Program
-from ..sections import Sections
-from .base import Outcome, Solver, Unclear, first_line, stopped
+from .base import Outcome, Solver, Unclear, first_line, has_values, outcome, stopped
+from .statuses import LP_SOLVE, OPTIMAL, TIME, Says, row_in
 
 INFINITE = 1e30
 NOTE = "lp_solve prints six digits"
+SOLVED, SUBOPTIMAL = Says("", Code.SOLVED, OPTIMAL), "Suboptimal solution"
 
 
 class LpSolve(Solver):
     name, program, title = "lp_solve", "lp_solve", "lp_solve"
     package = "lp-solve"
+    again = "without scaling"
     infinite = "1e30"
 
     def solve(self, job: Job) -> Outcome:
         options, p = job.options, job.program
         # Without -mps_negobjconst it adds the RHS of the objective row.
-        words = [job.solver, *self.reading(p, job.write("lp_solve.mps", p.text))]
+        words = [job.solver, *self.reading(p, job.write("lp_solve.mps", job.given.text))]
         if options.relax:
             words += ["-noint"]
+        if job.again:
+            words += ["-s0"]
         if options.timelim:
             words += ["-timeout", str(math.ceil(options.timelim))]
         ran = job.run(words + job.extra)
-        if "problem is infeasible" in ran.log:
-            return Outcome(Code.INFEASIBLE, "infeasible")
-        if "problem is unbounded" in ran.log:
-            return Outcome(Code.UNBOUNDED, "unbounded")
-        if "\nActual values of the variables:\n" not in ran.log:
+        head, heading, _ = ran.log.partition("\nActual values of the variables:\n")
+        says = row_in(LP_SOLVE, head) or (SOLVED if heading else None)
+        if says is None:
             if ran.killed or options.timelim:
                 return Outcome(*stopped("a limit", False))
             raise Unclear(first_line(ran.log, r"\S"))
-        parts = parsed(ran.log)
-        objective = objective_of(ran.log)
-        values = parts["values"]
-        if set(values) != set(p.columns):
+        if says.words == SUBOPTIMAL and options.timelim:
+            says = says._replace(code=Code.LIMIT, text=TIME)
+        found = outcome(says, says.words, bool(heading))
+        if not has_values(found.code):
+            return found
+        parts, found.objective = parsed(ran.log), objective_of(ran.log)
+        found.values = parts["values"]
+        if set(found.values) != set(p.columns):
             raise Unclear("not all columns have a value")
-        if abs(objective) >= INFINITE and has_no_end(p, values):
+        if abs(found.objective) >= INFINITE and has_no_end(p, parts["values"]):
             return Outcome(Code.UNBOUNDED, "unbounded")
+        found.notes.append(NOTE)
         duals = {name: y for name, y in parts["duals"].items() if name in p.kinds}
         costs = {name: d for name, d in parts["duals"].items() if name not in p.kinds}
-        if p.whole and not options.relax or set(duals) != set(p.constraints):
-            return Outcome(Code.SOLVED, "optimal solution", values, objective=objective,
-                           notes=[NOTE])
-        return Outcome(Code.SOLVED, "optimal solution", values, duals, costs, objective=objective,
-                       notes=[NOTE])
+        if found.code == Code.SOLVED and (not p.whole or options.relax) \
+                and set(duals) == set(p.constraints):
+            found.duals, found.costs = duals, costs
+        return found
 
     def reading(self, program: Program, path: str) -> list[str]:
         return ["-fmps", path, "-S4", "-mps_negobjconst"]
@@ -59,9 +65,8 @@ class LpSolve(Solver):
 def has_no_end(program: Program, values: dict[str, float]) -> bool:
     """Whether a column at 1e30 is at no bound of its own."""
     far = [name for name, value in values.items() if abs(value) >= INFINITE]
-    bounds = Sections(program.text).bounds if far else {}
-    return any(values[name] not in [float(end) for end in bounds[name] if end is not None]
-               for name in far)
+    ends = dict(zip(program.columns, zip(*program.read.bounds()))) if far else {}
+    return any(values[name] not in [float(end) for end in ends[name] if end] for name in far)
 
 
 def objective_of(log: str) -> float:

@@ -1,7 +1,7 @@
 use Rattle.std.proofs.Common.{◌≡◌, subst}
 use Rattle.program_meaning.specs.Linear.{Linear}
 use Rattle.certificates.specs.Certificates.{IsCertificateOf, claim_outcome}
-use Rattle.certificate_walk.specs.Outcomes.{outcome_of}
+use Rattle.certificate_judge.specs.Outcomes.{outcome_of}
 use Rattle.bridge_tool.proofs.verify.outcome_on.Goals as goal
 
 pub returns : goal.returns

@@ -1,12 +1,14 @@
-use Rattle.certificates.specs.Setting.{Setting}
+use Rattle.certificates.specs.Setting.{IsCertificateFor, Setting}
+use Rattle.certificate_text.specs.Reader.{IsCertificateText}
+use Rattle.command_parts.specs.Refusal.{IsCertificateRefused}
+use Rattle.command_parts.specs.SeveralFiles.{itself}
+use Rattle.command_parts.proofs.Opened.{certificate_known, known_of}
 use Rattle.command_parts.proofs.certificate_input.open_certificate_over.Goals as goal
 
-pub returns-in-Ok-clause-reads : goal.returns-in-Ok-clause-reads
-returns-in-Ok-clause-reads g c =
-    let s : Setting = record { rows = c.args.rows; kinds = c.args.kinds.items } in
-    c.open.ensures.reads_so s c.in-Ok.ensures.fed.same
+pub returns-clause-reads : goal.returns-clause-reads
+returns-clause-reads g c = c.open.ensures.reads_so (record { rows = c.args.rows; kinds = c.args.kinds.items }) c.in_ok-grammar.ensures.setting
 
-pub returns-in-Ok-clause-certificate : goal.returns-in-Ok-clause-certificate
-returns-in-Ok-clause-certificate g c =
+pub returns-clause-certificate : goal.returns-clause-certificate
+returns-clause-certificate g c =
     let s : Setting = record { rows = c.args.rows; kinds = c.args.kinds.items } in
-    c.open.ensures.keeps_so s c.in-Ok.ensures.fed.same
+    known_of itself (IsCertificateText s) (IsCertificateRefused s c.args.number) (IsCertificateFor s) (certificate_known s) c.args.name.now _ _ c.open.result (c.open.ensures.reads_so s c.in_ok-grammar.ensures.setting)

@@ -21,10 +21,10 @@ returns-then-count-eq0-clause-text g c =
 pub reading-preserved : goal.reading-preserved
 reading-preserved g c = record {
   within = search rules;
-  feeds = fed_further _ _ _ _ _ _ _ _ _ _ _ c.reading.invariant.feeds c.in_ok-count.ensures.bytes.0 c.in_ok-count.ensures.bound (search rules) (search rules) c.take.ensures.fed;
+  feeds = fed_further _ _ _ _ _ _ _ _ _ _ _ c.reading.invariant.feeds c.in_ok-count.ensures.bytes.0 c.in_ok-count.ensures.bound (search rules) (search rules) c.feed.ensures.stands;
   count = search rules;
   rest = OnlyInput-then _ _ _ c.reading.invariant.rest c.in_ok-count.ensures.rest;
-  setting = c.take.ensures.setting ∙ c.reading.invariant.setting;
+  setting = c.feed.ensures.setting ∙ c.reading.invariant.setting;
 }
 
 pub returns-clause-text : goal.returns-clause-text

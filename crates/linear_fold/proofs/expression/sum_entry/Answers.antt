@@ -33,4 +33,4 @@ returns-else-are_zero-clause-within g c =
 pub returns-else-are_zero-clause-below : goal.returns-else-are_zero-clause-below
 returns-else-are_zero-clause-below g c =
     sum_bound c.args.variables c.with_terms.new.steps c.args.steps.now (length c.args.terms.now) (some_term c.args.terms.now (λ z. (let clash = c.are_zero.ensures.1 z in let k = c.if-are_zero.false in cc)))
-    (let h = c.with_terms.ensures.below in let k = c.requires.places in omega arith)
+    (let h = c.with_terms.ensures.below in omega arith)

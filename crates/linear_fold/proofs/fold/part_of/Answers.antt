@@ -1,25 +1,38 @@
-use Rattle.std.proofs.Common.{◌≡◌, ◌≤◌, ◌∷◌, ◌∙◌, ◌+◌, ◌*◌, ◌-◌, drop, length, reverse, sym, ap, subst, take, arith, vec_len}
-use Rattle.std.proofs.lemmas.List.{length-reverse}
-use Rattle.nl_meaning.specs.Trees.{operator}
+use Rattle.std.proofs.Common.{◌≡◌, ◌≤◌, ◌∷◌, ◌∙◌, ◌+◌, ◌-◌, drop, length, refl, reverse, sym, ap, subst, take, arith, vec_len}
+use Rattle.std.proofs.lemmas.List.{length-reverse, length-take-le}
+use Rattle.nl_meaning.specs.Trees.{Takes, operator, rule_of}
 use Rattle.nl_model.specs.Nodes.{with_node}
 use Rattle.linear_fold.specs.InsideFolds.{ArePartsFolded, ArePartsWithin, IsPartFolded, NodeFinds}
-use Rattle.linear_fold.proofs.Operators.{if_ok, back_is, front_is}
-use Rattle.linear_fold.proofs.Folding.{entry_steps, from_start, operator_size, operator_step, within_take, within_parts_drop}
+use Rattle.linear_fold.proofs.Folding.{entry_steps, operator_size, operator_step, within_take, within_parts_drop}
+use Rattle.linear_fold.proofs.StackLemmas.{left_within, parts_folded, parts_length, parts_within, rest_of}
+use Rattle.linear_fold.proofs.SumLemmas.{left_shorter}
 use Rattle.linear_fold.proofs.fold.part_of.Goals as goal
-use Rattle.linear_fold.proofs.fold.part_of.Goals.{After-len}
+use Rattle.linear_fold.proofs.fold.part_of.Goals.{After-make_way, After-operation_part, In_ok-let_go-in-Op}
 
--- the stack holds the operands
-sizes : (g : _) (c : After-len g) → (c.in-Op.count ≤ length c.args.stack.now.items) × (c.in-Op.count + (c.len.result - c.in-Op.count) ≡ length c.args.stack.now.items)
-sizes g c =
-    let found = subst (NodeFinds c.args.variables c.args.slots.now (vec_len c.args.stack.now)) c.in-Op.is c.requires.finds in
-    (omega (arith, found.1, c.args.stack.now.ok.0), omega (arith, found.1, c.len.ensures, c.args.stack.now.ok.0))
+-- the operator has its operands on the stack
+found : (g : _) (c : After-make_way g) → Takes (rule_of c.class_of-class.result) c.in-Op.count × (c.in-Op.count ≤ length c.args.stack.now.items)
+found g c =
+    let at = subst (NodeFinds c.args.variables c.args.slots.now (vec_len c.args.stack.now)) c.in-Op.is c.requires.finds in
+    (subst (λ class. Takes (rule_of class) c.in-Op.count) (sym c.class_of-class.ensures) at.0, (let h = at.1 in let k = c.args.stack.now.ok.0 in omega arith))
 
-pub operation_part-made-requires-clause-within : goal.operation_part-made-requires-clause-within
-operation_part-made-requires-clause-within g c =
-    let items = c.args.stack.now.items in
-    let s = sizes g (goal.at.operation_part-made-requires-clause-within g c).After-len in
-    let back : reverse c.split_at.result.1.now ≡ take c.in-Op.count (reverse items) = ap reverse (c.split_at.ensures.back ∙ ap (drop (c.len.result - c.in-Op.count)) c.deref.ensures.value) ∙ back_is items (c.len.result - c.in-Op.count) c.in-Op.count s.1 in
-    subst (ArePartsWithin c.args.variables) (sym back) (within_take c.args.variables c.in-Op.count (reverse items) c.requires.parts)
+-- after the open part is closed, where it has to be
+within_now : (g : _) (c : After-operation_part g) → ArePartsWithin c.args.variables (reverse c.make_way.new.stack.items)
+within_now g c = parts_within c.args.variables (reverse c.args.stack.now.items) (reverse c.make_way.new.stack.items) c.in_ok-make_way-in-Op.ensures.same c.requires.parts
+
+size_now : (g : _) (c : After-operation_part g) → length c.make_way.new.stack.items ≡ length c.args.stack.now.items
+size_now g c = sym (length-reverse c.make_way.new.stack.items) ∙ parts_length (reverse c.args.stack.now.items) (reverse c.make_way.new.stack.items) c.in_ok-make_way-in-Op.ensures.same ∙ length-reverse c.args.stack.now.items
+
+-- what is left at the end
+left : (g : _) (c : In_ok-let_go-in-Op g) → reverse c.let_go.new.stack.items ≡ drop c.in-Op.count (reverse c.make_way.new.stack.items)
+left g c =
+    let at = subst (NodeFinds c.args.variables c.args.slots.now (vec_len c.args.stack.now)) c.in-Op.is c.requires.finds in
+    let same : length c.make_way.new.stack.items ≡ length c.args.stack.now.items =
+    sym (length-reverse c.make_way.new.stack.items)
+    ∙ parts_length (reverse c.args.stack.now.items) (reverse c.make_way.new.stack.items) c.in_ok-make_way-in-Op.ensures.same
+    ∙ length-reverse c.args.stack.now.items in
+    rest_of c.make_way.new.stack.items c.operation_part.new.stack.items c.let_go.new.stack.items c.in-Op.count (c.len.result - c.in-Op.count) c.in_ok-part-in-Op.ensures.left
+    (let h = at.1 in let l = c.len.ensures in let k = c.args.stack.now.ok.0 in omega arith)
+    c.in_ok-let_go-in-Op.ensures.front
 
 pub returns-in-Num-clause-within : goal.returns-in-Num-clause-within
 returns-in-Num-clause-within g c = (c.number_part.ensures.within c.args.variables, c.requires.parts)
@@ -29,53 +42,75 @@ returns-in-Num-clause-part g c known trees are folded = rw c.in-Num.is (c.number
 
 pub returns-in-Var-clause-part : goal.returns-in-Var-clause-part
 returns-in-Var-clause-part g c known trees are folded =
-    let found = subst (NodeFinds c.args.variables c.args.slots.now (vec_len c.args.stack.now)) c.in-Var.is c.requires.finds in
-    rw c.in-Var.is (c.variable_part.ensures.part c.args.variables c.args.place known found, folded)
+    let at = subst (NodeFinds c.args.variables c.args.slots.now (vec_len c.args.stack.now)) c.in-Var.is c.requires.finds in
+    rw c.in-Var.is (c.variable_part.ensures.part c.args.variables c.args.place known at, folded)
 
-pub returns-in-Op-clause-within : goal.returns-in-Op-clause-within
-returns-in-Op-clause-within g c =
-    let items = c.args.stack.now.items in
-    let s = sizes g (goal.at.returns-in-Op-clause-within g c).After-len in
-    let front : reverse c.truncate.new.self.items ≡ drop c.in-Op.count (reverse items) = ap reverse c.truncate.ensures.items ∙ front_is items (c.len.result - c.in-Op.count) c.in-Op.count s.1 in
-    if_ok c.operation_part-made.result _ _
-    (λ p h. (h, subst (ArePartsWithin c.args.variables) (sym front) (within_parts_drop c.args.variables c.in-Op.count (reverse items) c.requires.parts)))
-    c.operation_part-made.ensures.within
+pub returns-in-Var-clause-within : goal.returns-in-Var-clause-within
+returns-in-Var-clause-within g c =
+    let at = subst (NodeFinds c.args.variables c.args.slots.now (vec_len c.args.stack.now)) c.in-Var.is c.requires.finds in
+    (c.variable_part.ensures.within c.args.variables at, c.requires.parts)
 
-pub returns-in-Op-clause-size : goal.returns-in-Op-clause-size
-returns-in-Op-clause-size g c =
-    let items = c.args.stack.now.items in
-    let s = sizes g (goal.at.returns-in-Op-clause-size g c).After-len in
-    let front : reverse c.truncate.new.self.items ≡ drop c.in-Op.count (reverse items) = ap reverse c.truncate.ensures.items ∙ front_is items (c.len.result - c.in-Op.count) c.in-Op.count s.1 in
-    if_ok c.operation_part-made.result _ _
-    (λ p h trees same.
-    subst (λ node. length (with_node node trees) ≡ 1 + length c.truncate.new.self.items) (sym c.in-Op.is)
-    (operator_size c.in-Op.opcode c.in-Op.count trees items c.truncate.new.self.items s.0 same front))
-    c.operation_part-made.ensures.part
+pub operation_part-requires-clause-count : goal.operation_part-requires-clause-count
+operation_part-requires-clause-count g c =
+    let at = goal.at.operation_part-requires-clause-count g c in
+    let h = (found g at.After-make_way).1 in
+    let s = sym (length-reverse c.make_way.new.stack.items) ∙ parts_length (reverse c.args.stack.now.items) (reverse c.make_way.new.stack.items) c.in_ok-make_way-in-Op.ensures.same ∙ length-reverse c.args.stack.now.items in
+    let k = c.make_way.new.stack.ok.0 in
+    omega arith
 
-pub returns-in-Op-clause-part : goal.returns-in-Op-clause-part
-returns-in-Op-clause-part g c =
-    let items = c.args.stack.now.items in
-    let s = sizes g (goal.at.returns-in-Op-clause-part g c).After-len in
-    let front : reverse c.truncate.new.self.items ≡ drop c.in-Op.count (reverse items) = ap reverse c.truncate.ensures.items ∙ front_is items (c.len.result - c.in-Op.count) c.in-Op.count s.1 in
-    let back : reverse c.split_at.result.1.now ≡ take c.in-Op.count (reverse items) = ap reverse (c.split_at.ensures.back ∙ ap (drop (c.len.result - c.in-Op.count)) c.deref.ensures.value) ∙ back_is items (c.len.result - c.in-Op.count) c.in-Op.count s.1 in
-    if_ok c.operation_part-made.result _ _
-    (λ p h known trees are folded.
-    subst (λ node. ArePartsFolded known c.args.variables c.args.place (with_node node trees) (p ∷ reverse c.truncate.new.self.items)) (sym c.in-Op.is)
-    (operator_step known c.args.variables c.args.place c.in-Op.opcode c.in-Op.count trees (reverse items) (reverse c.truncate.new.self.items) (reverse c.split_at.result.1.now) p (omega (arith, s.0, length-reverse items)) back front
-    (λ ts w. subst (λ class. IsPartFolded known c.args.variables c.args.place (operator class ts) p) c.class_of-class.ensures (h known ts w)) folded))
-    c.operation_part-made.ensures.part
+pub operation_part-requires-clause-within : goal.operation_part-requires-clause-within
+operation_part-requires-clause-within g c =
+    within_take c.args.variables c.in-Op.count (reverse c.make_way.new.stack.items) (parts_within c.args.variables (reverse c.args.stack.now.items) (reverse c.make_way.new.stack.items) c.in_ok-make_way-in-Op.ensures.same c.requires.parts)
 
-pub returns-in-Op-clause-below : goal.returns-in-Op-clause-below
-returns-in-Op-clause-below g c =
-    let found = subst (NodeFinds c.args.variables c.args.slots.now (vec_len c.args.stack.now)) c.in-Op.is c.requires.finds in
-    entry_steps (c.args.variables + 1) c.args.steps.now c.operation_part-made.new.steps (length c.split_at.result.1.now) (vec_len c.truncate.new.self) (vec_len c.args.stack.now) c.operation_part-made.ensures.below
-    (omega (arith, found.1, c.len.ensures, c.deref.ensures.len, c.split_at.ensures.back_len, c.truncate.ensures.len))
+pub let_go-requires-clause-rest : goal.let_go-requires-clause-rest
+let_go-requires-clause-rest g c =
+    let at = goal.at.let_go-requires-clause-rest g c in
+    let s = size_now g at.After-operation_part in
+    let few = c.in_ok-part-in-Op.ensures.left.few in
+    let h = (found g at.After-make_way).1 in
+    let l = c.len.ensures in
+    let k = c.args.stack.now.ok.0 in
+    let m = c.operation_part.new.stack.ok.0 in
+    omega arith
 
-pub returns-in-Num-clause-below : goal.returns-in-Num-clause-below
-returns-in-Num-clause-below g c = from_start (c.args.steps.now + (c.args.variables + 1) * vec_len c.args.stack.now) (c.args.variables + 1)
+pub let_go-requires-clause-parts : goal.let_go-requires-clause-parts
+let_go-requires-clause-parts g c =
+    let at = goal.at.let_go-requires-clause-parts g c in
+    left_within c.args.variables c.in-Op.count c.make_way.new.stack.items c.operation_part.new.stack.items c.in_ok-part-in-Op.ensures.left (left_shorter c.in-Op.count c.make_way.new.stack.items c.operation_part.new.stack.items c.in_ok-part-in-Op.ensures.left) (within_now g at.After-operation_part)
 
-pub returns-in-Var-clause-below : goal.returns-in-Var-clause-below
-returns-in-Var-clause-below g c = from_start (c.args.steps.now + (c.args.variables + 1) * vec_len c.args.stack.now) (c.args.variables + 1)
+pub returns-in_ok-let_go-in-Op-clause-within : goal.returns-in_ok-let_go-in-Op-clause-within
+returns-in_ok-let_go-in-Op-clause-within g c =
+    let at = goal.at.returns-in_ok-let_go-in-Op-clause-within g c in (
+      c.in_ok-part-in-Op.ensures.within,
+      subst (ArePartsWithin c.args.variables) (sym (left g at.In_ok-let_go-in-Op)) (within_parts_drop c.args.variables c.in-Op.count (reverse c.make_way.new.stack.items) (within_now g at.After-operation_part)),
+    )
 
-pub returns-in-Defined-clause-below : goal.returns-in-Defined-clause-below
-returns-in-Defined-clause-below g c = from_start (c.args.steps.now + (c.args.variables + 1) * vec_len c.args.stack.now) (c.args.variables + 1)
+pub returns-in_ok-let_go-in-Op-clause-size : goal.returns-in_ok-let_go-in-Op-clause-size
+returns-in_ok-let_go-in-Op-clause-size g c trees same =
+    let at = goal.at.returns-in_ok-let_go-in-Op-clause-size g c in
+    let s = size_now g at.After-operation_part in
+    let h = (found g at.After-make_way).1 in
+    subst (λ node. length (with_node node trees) ≡ 1 + length c.let_go.new.stack.items) (sym c.in-Op.is)
+    (operator_size c.in-Op.opcode c.in-Op.count trees c.make_way.new.stack.items c.let_go.new.stack.items (omega arith) (same ∙ sym s) (left g at.In_ok-let_go-in-Op))
+
+pub returns-in_ok-let_go-in-Op-clause-part : goal.returns-in_ok-let_go-in-Op-clause-part
+returns-in_ok-let_go-in-Op-clause-part g c known trees are folded =
+    let at = goal.at.returns-in_ok-let_go-in-Op-clause-part g c in
+    let s = size_now g at.After-operation_part in
+    let h = (found g at.After-make_way).1 in
+    let now = reverse c.make_way.new.stack.items in
+    subst (λ node. ArePartsFolded known c.args.variables c.args.place (with_node node trees) (c.in_ok-part-in-Op.part ∷ reverse c.let_go.new.stack.items)) (sym c.in-Op.is)
+    (operator_step known c.args.variables c.args.place c.in-Op.opcode c.in-Op.count trees now (reverse c.let_go.new.stack.items) (take c.in-Op.count now) c.in_ok-part-in-Op.part (omega (arith, h, s, length-reverse c.make_way.new.stack.items)) refl (left g at.In_ok-let_go-in-Op)
+    (λ ts w. subst (λ class. IsPartFolded known c.args.variables c.args.place (operator class ts) c.in_ok-part-in-Op.part) c.class_of-class.ensures (c.in_ok-part-in-Op.ensures.part known ts w))
+    (parts_folded known c.args.variables (c.args.place + 1) trees (reverse c.args.stack.now.items) now c.in_ok-make_way-in-Op.ensures.same folded))
+
+pub returns-in_ok-let_go-in-Op-clause-used : goal.returns-in_ok-let_go-in-Op-clause-used
+returns-in_ok-let_go-in-Op-clause-used g c =
+    let at = goal.at.returns-in_ok-let_go-in-Op-clause-used g c in
+    let s = size_now g at.After-operation_part in
+    let h = (found g at.After-make_way).1 in
+    let l = c.len.ensures in
+    let k = c.args.stack.now.ok.0 in
+    let m = c.let_go.new.stack.ok.0 in
+    let front : length c.let_go.new.stack.items ≡ c.len.result - c.in-Op.count = ap length c.in_ok-let_go-in-Op.ensures.front ∙ length-take-le (c.len.result - c.in-Op.count) c.operation_part.new.stack.items (let few = c.in_ok-part-in-Op.ensures.left.few in omega arith) in
+    entry_steps (c.args.variables + 1) c.args.steps.now c.operation_part.new.steps c.in-Op.count (vec_len c.let_go.new.stack) (vec_len c.args.stack.now) c.in_ok-part-in-Op.ensures.below (omega arith)

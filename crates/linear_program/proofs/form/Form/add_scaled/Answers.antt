@@ -1,17 +1,12 @@
 use Rattle.std.proofs.Common.{◌∙◌, ap, subst, subst₂, sym}
 use Rattle.exact_numbers.specs.Values.{frac_value}
 use Rattle.program_meaning.specs.Lines.{Line}
-use Rattle.linear_program.specs.Coefs.{AreBelow, value_or_zero}
-use Rattle.linear_program.specs.Forms.{AddsScaled, form_line, form_terms, is_kept_open, kept_constant, kept_places, kept_terms, parts_line}
-use Rattle.linear_program.proofs.CoefLemmas.{found_beyond}
+use Rattle.linear_program.specs.Forms.{AddsScaled, IsWithin, form_line, is_kept_open, kept_constant, kept_places, kept_terms, parts_line}
 use Rattle.linear_program.proofs.PlaceTerms.{lines_after, open_line}
 use Rattle.linear_program.proofs.form.Form.add_scaled.Goals as goal
 
 pub add_scaled-requires : goal.add_scaled-requires
-add_scaled-requires g c j h =
-    let room = c.requires (ap is_kept_open c.in-Open.is) in
-    let below = subst (λ n. AreBelow n (form_terms c.args.other.now)) (ap kept_places c.in-Open.is) room in
-    ap value_or_zero (found_beyond _ (form_terms c.args.other.now) j below h)
+add_scaled-requires g c = subst (λ n. IsWithin n c.args.other.now) (ap kept_places c.in-Open.is) (c.requires (ap is_kept_open c.in-Open.is))
 
 pub returns-in-Open-clause-sums : goal.returns-in-Open-clause-sums
 returns-in-Open-clause-sums g c =

@@ -1,6 +1,0 @@
-use Rattle.linear_program.specs.Numbers.{number_value}
-use Rattle.dual_bounds.proofs.Numbers.{zero_test}
-use Rattle.dual_bounds.proofs.number.is_zero_number.Goals as goal
-
-pub returns : goal.returns
-returns c = zero_test (number_value c.args.a.now) c.is_zero.result c.is_zero.ensures

@@ -1,5 +1,0 @@
-use Rattle.dual_bounds.proofs.PartRows.{OnSides}
-use Rattle.dual_bounds.proofs.pairs.first_lacking_side.Given as goal
-
-abbrev pub invariant-loop-pair : goal.invariant-loop-pair
-invariant-loop-pair l = OnSides l.program l.planes l.fn.maximise l.pairs l.pair-index

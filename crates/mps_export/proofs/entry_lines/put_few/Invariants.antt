@@ -1,0 +1,19 @@
+use Rattle.std.proofs.Common.{◌≡◌, ◌≤◌, ◌-◌, ◌*◌, ◌<◌, All, length, map, drop}
+use Rattle.exact_numbers.specs.Values.{value_text}
+use Rattle.mps_model.specs.Text.{entry_lines}
+use Rattle.texts.specs.WordLines.{lines_text}
+use Rattle.mps_export.specs.InsideColumns.{entry_value}
+use Rattle.mps_export.specs.InsideHeads.{AreNumbers}
+use Rattle.mps_export.specs.InsideSections.{all_rows}
+use Rattle.scaling.specs.Scaled.{ScaledValue}
+use Rattle.mps_export.proofs.entry_lines.put_few.Given as goal
+
+abbrev pub invariant-entries : goal.invariant-entries
+invariant-entries l = record {
+  within : l.left ≤ length l.entries;
+  text : (s : ScaledValue) → AreNumbers s l.numbers → All (λ t. t.0 < length (all_rows s)) l.entries → l.lines ≡ lines_text (entry_lines value_text (all_rows s) l.column (map entry_value (drop l.left l.entries)));
+  size : length l.lines ≤ (length l.entries - l.left) * 100;
+}
+
+abbrev pub decreases-entries : goal.decreases-entries
+decreases-entries l = l.left

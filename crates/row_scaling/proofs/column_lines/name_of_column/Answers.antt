@@ -1,5 +1,0 @@
-use Rattle.row_scaling.proofs.LineLemmas.{name_is}
-use Rattle.row_scaling.proofs.column_lines.name_of_column.Goals as goal
-
-pub returns : goal.returns
-returns c = λ s h. name_is s c.args.heads.now h c.args.j c.requires _ c.column_name.ensures

@@ -1,0 +1,276 @@
+"""What is known of one model, and how it is judged: a point, a bound, a contradiction, each as a
+text that `bridge verify` accepts. What is known is never thrown away: the last line has the best
+point and the closest bound."""
+
+from __future__ import annotations
+
+import itertools
+import os
+import shutil
+from fractions import Fraction
+from typing import Callable, Iterator, Mapping, NamedTuple, Sequence
+
+from . import points, text
+from .clp import Clp, State, library
+from .leaves import Closed, Closer, Judged, Multipliers
+from .model import Box, Model, Point, model_of
+from .numbers import is_narrow
+from .plans import Plans, written
+from .points import Basis
+from .pool import Pool
+from .portion import Problem
+from .shared import Shared
+from .short import shortened
+from .spine import Row
+from .text import Naming
+from .tree import Spool
+from .watch import Watch
+from ..bridge import Bridge, Late, Refused
+from ..files import naming
+from ..program import Program
+
+WITHOUT = "not proved: "
+NO_POINT = WITHOUT + "no exact point was found near the answer"
+ONE_LEAF = 1.0                  # seconds for it
+MOST_CLP_SECONDS = 30.0
+TREE = 0.75                     # of the seconds that are left, to judge a tree
+MOST_POINTS = 4                 # that are known at a time
+MOST_DIGITS = 15                # of a bound that is told as it is
+
+
+class Given(NamedTuple):
+    """What a solver answered, by position: values, the duals of the exported rows (rates of
+    change of the objective in its own sense), and the basis. None where it did not tell."""
+
+    values: Sequence[float | Fraction] | None = None
+    duals: Mapping[int, float | Fraction] | None = None
+    basis: Basis | None = None
+
+
+class Verdict(NamedTuple):
+    """The last line of a message, with the point that it speaks of and its objective in the
+    file's own sense, `path` where the accepted text is, a line of figures, and the duals of the
+    exported rows where one leaf has them. `contradicted`: CLP finds no point that has the answer's
+    whole variables. `note` says why it is not `optimal`, where that is known. `by_doubles`: the
+    answer's duals, rounded to the safe side, bound its objective to 1e-6."""
+
+    line: str
+    point: Point | None = None
+    path: str | None = None
+    figures: str = ""
+    value: Fraction | None = None
+    duals: Mapping[int, Fraction] = {}
+    contradicted: bool = False
+    note: str = ""
+    by_doubles: bool = False
+
+    def is_proved(self) -> bool:
+        return self.path is not None
+
+    def claim(self) -> str:
+        """The first word of a line that is proved, nothing of another one."""
+        return self.line.split()[0] if self.is_proved() else ""
+
+    def bound(self) -> Fraction:
+        """That of `bound` and `within`."""
+        return Fraction(self.line.split()[1])
+
+
+class Bound(NamedTuple):
+    """That no point is better than the value, minimised: the lines that show it, or the file that
+    has them, a line of figures, and the duals where one leaf has them."""
+
+    value: Fraction
+    lines: Callable[[], Iterator[str]]
+    path: str | None = None
+    figures: str = ""
+    duals: Mapping[int, Fraction] = {}
+
+
+class Judging:
+    """One model: `nl` is its path, `folder` one for files, `objective` counts from 0. `proves`:
+    searches may be long; else one leaf is tried. `relaxed`: the answer is of the relaxation.
+    `bounds`: a bound of the relaxation is wanted too. `shortens`: after a tree, a shorter one.
+    `pool`: other processes that search."""
+
+    model: Model
+    factors: Mapping[int, int]
+
+    def __init__(self, bridge: Bridge, nl: str, folder: str, program: Program, objective: int,
+                 watch: Watch, proves: bool = True, relaxed: bool = False,
+                 bounds: bool = False, shortens: bool = False, pool: Pool | None = None) -> None:
+        self.bridge, self.nl, self.folder, self.objective = bridge, nl, folder, objective
+        self.watch, self.proves, self.relaxed, self.bounded = watch, proves, relaxed, bounds
+        self.program, self.figures, self.shortens, self.pool = program, "", shortens, pool
+        self.point: Point | None = None         # the best that is known
+        self.points: list[Point] = []           # all of them, the best first
+        self.shown: Bound | None = None         # the closest bound that is known
+        self.note = ""                          # why they are apart
+        self.plans: Plans | None = None
+        self.contradicted = False               # the answer's whole variables are
+        self.linear = False
+        self.path = os.path.join(folder, "certificate")
+
+    def shared(self, p: Model, rows: Sequence[Row] = (), forms: Sequence[Mapping[int, int]] = (),
+               spool: Spool | None = None) -> Shared:
+        """The search for a point or a contradiction below rows."""
+        problem = Problem(p, [row.added() for row in rows], [dict(form) for form in forms], None,
+                          False)
+        return Shared(problem, self.exact, spool or Spool(), self.watch, self.pool)
+
+    def load(self) -> None:
+        if not hasattr(self, "model"):
+            self.model, self.factors = model_of(self.bridge, self.nl, self.folder, self.program)
+            self.linear = not any(self.model.whole)
+            if not self.proves:
+                self.watch.restart()
+                Clp.restrict(self.watch.until_over())
+
+    # the text and its verdict ------------------------------------------------------
+
+    def judged(self, lines: Iterator[str], tree: str | None = None,
+               point: Point | None = None) -> Verdict:
+        """Writes the lines, and a tree from its file; asks `bridge verify`."""
+        written(self.path, lines)
+        if tree is not None:
+            with naming(self.path), open(self.path, "ab") as f, open(tree, "rb") as source:
+                shutil.copyfileobj(source, f)
+        self.bridge.limit = self.watch.for_verdict(1.0 if tree is None else TREE)
+        try:
+            self.watch.progress.tell("bridge verify")
+            with self.watch.judging():
+                reply = self.bridge.call("verify", self.nl, self.path)
+        except Late:
+            return Verdict(WITHOUT + "time: bridge verify was ended before its verdict", point)
+        finally:
+            self.bridge.limit = None
+        if reply.status not in (0, 1):
+            raise Refused("verify", reply)
+        line = reply.out.decode("utf-8", "replace").strip()
+        if reply.status == 0:
+            value = None if point is None else self.model.sign * self.model.value(point)
+            return Verdict(line, point, self.path, self.figures, value)
+        return Verdict(f"{WITHOUT}bridge verify says `{line}`", point)
+
+    def best(self, verdicts: Iterator[Verdict]) -> Verdict:
+        """The first that is accepted, else the first."""
+        first = None
+        for verdict in verdicts:
+            if verdict.is_proved():
+                return verdict
+            first = first or verdict
+        return first or Verdict(WITHOUT + "no certificate was found")
+
+    def where_it_fits(self, verdicts: Callable[[], Iterator[Verdict]]) -> Iterator[Verdict]:
+        """Where numbers are too wide for a certificate, others go on."""
+        try:
+            yield from verdicts()
+        except Refused as fault:
+            yield Verdict(WITHOUT + fault.line())
+
+    # what is known -----------------------------------------------------------------
+
+    def know_point(self, point: Point) -> None:
+        """An exact point that a certificate can hold; the best stays."""
+        if all(map(is_narrow, point)) and point not in self.points:
+            self.points = sorted([*self.points, point], key=self.model.value)[:MOST_POINTS]
+            self.point = self.points[0]
+
+    def know_bound(self, bound: Bound) -> None:
+        """The closest stays."""
+        if self.shown is None or bound.value > self.shown.value:
+            self.shown = bound
+
+    def know_leaf(self, leaf: Multipliers, judged: Judged) -> None:
+        """The bound of one leaf: in few digits, but where they are few anyway."""
+        if judged.sideless or not leaf.is_narrow():
+            return
+        value = Fraction(judged.bound, judged.scale)
+        if not is_narrow(value) or max(len(str(value.numerator)),
+                                       len(str(value.denominator))) > MOST_DIGITS:
+            value = shortened(self.model, value)
+        self.know_bound(Bound(value, lambda: self.leaf_lines(leaf), None,
+                              f"one leaf, {len(leaf.numbers)} duals", self.duals_of(leaf)))
+
+    def know_exact_leaf(self, leaf: Multipliers) -> None:
+        """The bound of exact duals, as it is."""
+        p = self.model
+        judged = Closer(p, None).judge(leaf, Box(p.lo, p.hi))
+        value = Fraction(judged.bound, judged.scale)
+        if not judged.sideless and leaf.is_narrow() and is_narrow(value):
+            self.know_bound(Bound(value, lambda: self.leaf_lines(leaf), None,
+                                  f"one leaf, {len(leaf.numbers)} duals", self.duals_of(leaf)))
+
+    def told(self) -> Iterator[Verdict]:
+        """What is known, the strongest claim first: a better point may be too wide where another
+        one is not."""
+        bound = self.shown
+        claims: list[tuple[str, Point | None]] = []
+        if bound is not None:
+            for point in self.points:
+                is_met = bound.value >= self.model.value(point)
+                claims += [("optimal", point)] if is_met else [("within", point)]
+            claims.append(("bound", None))
+        claims += [("feasible", point) for point in self.points]
+        for claim, at in claims:
+            yield from self.where_it_fits(lambda: self.claimed(claim, bound, at))
+
+    def claimed(self, claim: str, bound: Bound | None, point: Point | None) -> Iterator[Verdict]:
+        """One claim of what is known."""
+        if bound is None or claim == "feasible":
+            self.figures = "a point"
+            yield self.judged(text.head("feasible", self.objective, None, point), None,
+                              point)._replace(note=self.note)
+            return
+        value = None if claim == "optimal" else self.model.sign * bound.value
+        self.figures = bound.figures
+        lines = itertools.chain(text.head(claim, self.objective, value, point), bound.lines())
+        yield self.judged(lines, bound.path, point)._replace(
+            duals=bound.duals, note="" if claim == "optimal" else self.note)
+
+    # one leaf ----------------------------------------------------------------------
+
+    def leaf_lines(self, leaf: Multipliers) -> Iterator[str]:
+        yield from text.leaf_lines(leaf, Naming({}, 0, self.model.sign), {})
+
+    def duals_of(self, leaf: Multipliers) -> dict[int, Fraction]:
+        """By row of the exported text."""
+        y = dict.fromkeys(range(self.model.m), Fraction(0))
+        for i, v in leaf.numbers.items():
+            y[i] = Fraction(self.model.sign * v, leaf.den * self.factors.get(i, 1))
+        return y
+
+    def one_leaf(self, closed: Closed, claim: str, value: Fraction | None,
+                 point: Point | None) -> Verdict:
+        def lines() -> Iterator[str]:
+            yield from text.head(claim, None if claim == "infeasible" else self.objective, value,
+                                 point)
+            yield from self.leaf_lines(closed.leaf)
+        self.figures = f"one leaf, {len(closed.leaf.numbers)} duals"
+        return self.judged(lines(), None, point)._replace(duals=self.duals_of(closed.leaf))
+
+    def feasible(self, point: Point) -> Verdict:
+        self.figures = "a point"
+        return self.judged(text.head("feasible", self.objective, None, point), None, point)
+
+    # what CLP says -----------------------------------------------------------------
+
+    def clp_seconds(self) -> float:
+        return min(max(self.watch.left(), ONE_LEAF), MOST_CLP_SECONDS)
+
+    def relaxation(self, given: Given = Given()) -> tuple[Clp | None, State]:
+        """None where CLP is not there. It starts from the answer's basis."""
+        if library() is None:
+            return None, State.OTHER
+        self.watch.progress.tell("the relaxation by CLP")
+        clp = self.model.relaxation()
+        if given.basis is not None and given.values is not None:
+            clp.start(*given.basis, [float(v) for v in given.values])
+        clp.limit(self.clp_seconds() if self.proves or self.linear else ONE_LEAF)
+        state = clp.solve()
+        if state is not State.OPTIMAL:
+            state = clp.solve(again=True)
+        return clp, state
+
+    def exact(self, x: Sequence[float | Fraction]) -> Point | None:
+        return points.whole_point(self.model, x, self.clp_seconds())

@@ -1,0 +1,139 @@
+"""Plans that go on in turns, each where it was paused, until one has a tree.
+
+The one that seems to end first goes on. What else is tried, rows that are made and plans below
+them, has a share of the time that this one seems to need in all.
+"""
+
+from __future__ import annotations
+
+import math
+from dataclasses import dataclass, field
+from typing import TYPE_CHECKING, List
+
+from .spine import Row
+
+if TYPE_CHECKING:
+    from .plans import Plan, Plans
+
+FIRST_NODES = 100               # of the plain search, before all else
+OTHERS = 0.12                   # of the time of all, for what is not the first plan
+FARTHEST = 4.0                  # of the time so far, that a forecast counts for this
+LEAST_SLICE = 0.05              # seconds that rows are made
+LEAST_MAKING = 0.5              # seconds that they may be made at once
+LEAST_TURN = 0.25               # seconds that a plan goes on
+LATE = 2.0                      # seconds, before which no lattice is reduced
+LEAST_GAIN = 0.01               # of the gap, that rows close
+TINY = 1e-9                     # seconds
+WORTH = 2.0                     # of the share of a gap that is left: that of the time
+KINDS = {"cover": ("cover", "clique", "row"), "tableau": ("tableau", "cover", "clique", "row")}
+
+
+@dataclass
+class Making:
+    """Rows of one kind, which are made as there is time."""
+
+    name: str
+    rows: List[Row] = field(default_factory=list)
+    gain: float = 0.0               # what they close of the gap
+
+
+class Turns:
+    """Of the plans for one value."""
+
+    def __init__(self, plans: Plans) -> None:
+        self.plans, self.began = plans, plans.watch.spent()
+        self.live: list[Plan] = []
+        self.makings = [Making(name) for name in ("lemma", "cover", "thin", "tableau")]
+
+    def run(self) -> bool:
+        """Whether there is a tree."""
+        plans, plain = self.plans, self.plans.begun("plain")
+        self.live.append(plain)
+        if plans.goes(plain, plans.left(), FIRST_NODES):
+            return True
+        while plans.left() > 0 and not plans.watch.is_stopped:
+            live = [plan for plan in self.live if not plan.is_dead]
+            first = min(live, key=lambda plan: plan.expected(), default=None)
+            room = self.room(first)
+            making = self.due(room)
+            if making is not None:
+                self.make(making, room)
+            elif first is None:
+                return False
+            elif self.turn(self.second(first, room) or first, first, room):
+                return True
+        return False
+
+    def total(self) -> float:
+        return self.plans.watch.spent() - self.began
+
+    def room(self, first: Plan | None) -> float:
+        """Seconds for what is not the first plan: not more than might be saved."""
+        total = self.total()
+        if first is None:
+            return math.inf
+        rest, others = min(first.expected(), FARTHEST * total), total - first.spent
+        return min(OTHERS * (total + rest) - others, rest / 2)
+
+    # rows --------------------------------------------------------------------------
+
+    def due(self, room: float) -> Making | None:
+        if room < LEAST_SLICE or not self.makings:
+            return None
+        if self.makings[0].name == "thin" and self.total() < LATE and room < math.inf:
+            return None
+        return self.makings[0]
+
+    def make(self, making: Making, room: float) -> None:
+        """Some seconds of it; where it is done, or closes much of the gap, there is a plan."""
+        plans, maker = self.plans, self.plans.maker
+        if making.name == "thin" or maker.relaxed([]) is None:
+            self.makings.remove(making)
+            forms = plans.forms() if making.name == "thin" else []
+            if forms:
+                self.live.append(plans.begun("thin", [], forms))
+            return
+        root = maker.base
+        until = plans.until(min(room, max(self.total(), LEAST_MAKING)))
+        if making.name == "lemma":
+            making.rows = maker.lemmas(making.rows, until)
+        else:
+            few = making.rows or self.rows("cover")
+            making.rows = maker.cuts(KINDS[making.name], few, until)
+        gain, before = (maker.base - root) / max(maker.goal - root, 1e-9), making.gain
+        making.gain = gain
+        if not maker.is_over(until) or gain < before + LEAST_GAIN or WORTH * (1 - gain) <= 1:
+            self.makings.remove(making)
+            if making.rows and gain >= LEAST_GAIN:
+                self.begin(making, gain)
+
+    def rows(self, name: str) -> list[Row]:
+        return next((list(plan.rows) for plan in self.live if plan.name == name), [])
+
+    def begin(self, making: Making, gain: float) -> None:
+        """A plan, whose time is first guessed by that of the plain one."""
+        plan = self.plans.begun(making.name, making.rows)
+        plain = self.live[0]
+        plan.guessed = min(plain.expected(), FARTHEST * self.total()) * WORTH * max(1 - gain, 0.0)
+        self.live.append(plan)
+
+    # plans -------------------------------------------------------------------------
+
+    def second(self, first: Plan, room: float) -> Plan | None:
+        """Another plan, of which little is known, where there is time for it."""
+        others = [plan for plan in self.live if not plan.is_dead and plan is not first]
+        if room < LEAST_TURN or not others:
+            return None
+        return min(others, key=lambda plan: plan.spent)
+
+    def turn(self, plan: Plan, first: Plan, room: float) -> bool:
+        """One plan goes on; whether it has a tree."""
+        expected = plan.expected()
+        seconds = max(min(plan.spent, 2 * expected), LEAST_TURN)
+        if plan is not first:
+            seconds = min(seconds, room)
+        if self.plans.goes(plan, seconds):
+            return True
+        if seconds > expected:
+            plan.factor *= 2 * seconds / max(expected, TINY)
+        return False

@@ -1,0 +1,154 @@
+"""What is claimed of an integer program: by trees over it, and by its relaxation."""
+
+from __future__ import annotations
+
+import itertools
+from fractions import Fraction
+from typing import Iterator, Sequence
+
+from . import points, short, text
+from .clp import NoClp, State
+from .judging import ONE_LEAF, WITHOUT, Bound, Verdict
+from .leaves import Closed, Closer, Multipliers
+from .linear_claims import LinearClaims
+from .model import Box, Point
+from .parts import Better
+from .plans import Plans, Shaped
+from .watch import Stopped
+
+NO_EXACT = "no exact point has the answer's whole variables"
+ZERO, ROUNDING = Fraction(0), Fraction(1, 10 ** 12)     # of the largest term of a row
+MOST_BETTER = 100               # points that a search may find
+MOST_MENDED = 200               # nodes of a search beside an answer
+
+
+class WholeClaims(LinearClaims):
+    """Of an integer program."""
+
+    def of_values(self, x: Sequence[float | Fraction]) -> Verdict:
+        """Of an answer."""
+        point, by = self.exact(x), ZERO
+        if point is None:
+            by = points.broken(self.model, x)
+            self.contradicted = by > ROUNDING or points.is_contradicted(self.model, x,
+                                                                        self.clp_seconds())
+            if by > ROUNDING:
+                point = self.mended(x)
+        if point is not None:
+            return self.best(self.whole_optimum(point))
+        return self.without_exact(x, by)
+
+    def mended(self, x: Sequence[float | Fraction]) -> Point | None:
+        """A point beside an answer some of whose whole values are off by the digits that a solver
+        prints, or are given by equations."""
+        for frees in (False, True):
+            near = points.loosened(self.model, x, frees)
+            try:
+                until = self.watch.spent() + self.watch.left() / 4
+                self.shared(near).resume(until, MOST_MENDED)
+            except Better as better:
+                return better.point
+            except (NoClp, Stopped):
+                pass
+        return None
+
+    def without_exact(self, x: Sequence[float | Fraction], by: Fraction) -> Verdict:
+        """Where no exact point has the answer's whole variables, which miss rows by that share: a
+        contradiction, or whatever the search finds. An answer that breaks rows by rounding alone
+        is meant: only with `proves` more is tried, and no worse point takes its place."""
+        p, verdict = self.model, Verdict(WITHOUT + NO_EXACT)
+        if 0 < by <= ROUNDING:
+            verdict = Verdict(f"{WITHOUT}rows of whole variables are missed by {float(by):.2g} of "
+                              "their largest term, which is rounding")
+        if self.proves or self.contradicted or not by:
+            found = self.best(self.infeasible())
+            is_worse = found.point is not None and found.claim() != "optimal" and \
+                p.value(found.point) > p.value([Fraction(v) for v in x])
+            if found.is_proved() and (self.contradicted or not is_worse):
+                return found
+        return verdict._replace(contradicted=self.contradicted)
+
+    def whole_optimum(self, point: Point) -> Iterator[Verdict]:
+        """A tree at the value of a point, then of each better one that the search finds."""
+        p = self.model
+        self.know_point(point)
+        if short.trivial(p) == p.value(point):      # bounds of columns alone say it
+            nothing = Closed(Multipliers({}, 1, False), [], 0)
+            yield self.one_leaf(nothing, "optimal", None, point)._replace(duals={})
+        plans = self.planned(point)
+        point = self.point or point
+        if plans is None:
+            yield from self.told()
+            return
+        if plans.best is not None:
+            yield self.by_tree(plans.best, point)
+        if self.proves or self.bounded:
+            bounded = plans.bounded()
+            if bounded is not None:
+                value, path = bounded
+                self.know_bound(Bound(value, lambda: iter(()), path, "; ".join(plans.told)))
+            self.know_root()
+        yield from self.told()
+        yield Verdict(WITHOUT + (plans.told[-1] if plans.told else "no plan was tried"), point)
+
+    def planned(self, point: Point) -> Plans | None:
+        """The plans that were tried at the best point; None where better ones do not end."""
+        p = self.model
+        for _ in range(MOST_BETTER):
+            plans = Plans(p, p.value(point), self.exact, self.folder, self.watch, self.shortens,
+                          self.pool)
+            self.know_point(point)
+            self.point, self.plans = point, plans
+            self.watch.incumbent = float(p.sign * p.value(point))
+            try:
+                if self.proves:
+                    plans.try_all()
+                else:
+                    plans.run("plain", [], ONE_LEAF)
+                return plans
+            except Better as better:
+                point = better.point
+            except NoClp as fault:
+                plans.told.append(str(fault))
+                return plans
+        self.know_point(point)
+        return None
+
+    def by_tree(self, shaped: Shaped, point: Point) -> Verdict:
+        self.figures = f"{shaped.name} plan, {shaped.figures.nodes} nodes, " \
+                       f"{shaped.figures.rows} rows, {shaped.size} bytes"
+        return self.judged(text.head("optimal", self.objective, None, point), shaped.path, point)
+
+    def know_root(self) -> None:
+        """The bound of the relaxation: that of its exact optimum where it is had."""
+        clp, state = self.relaxation()
+        if clp is None or state is not State.OPTIMAL or not any(self.model.costs):
+            return
+        self.know_loose(clp)
+        p = self.model
+        closer = Closer(p, None)
+        leaf = closer.exactly(closer.basis_duals(*clp.basis()), False, Box(p.lo, p.hi))
+        if leaf is not None:
+            self.know_exact_leaf(leaf.leaf)
+
+    def bounds(self) -> Iterator[Verdict]:
+        """Of the relaxation, by one leaf."""
+        clp, state = self.relaxation()
+        if state is State.INFEASIBLE:
+            yield from self.infeasible()
+        if self.linear and clp is not None and state is State.OPTIMAL:
+            self.know_loose(clp)
+        elif not self.linear:
+            self.know_root()
+        trivial = short.trivial(self.model)
+        if trivial is not None:
+            nothing = Multipliers({}, 1, False)
+            self.know_bound(Bound(trivial, lambda: self.leaf_lines(nothing), None, "bounds alone"))
+        yield from self.told()
+        yield Verdict(WITHOUT + "there is no point")
+
+    def whole_without_point(self) -> Iterator[Verdict]:
+        """Where the solver has no point: a plane, with `proves` a contradiction or a point where a
+        search finds it, else a bound."""
+        yield from self.planes()
+        yield from itertools.chain(self.infeasible() if self.proves else (), self.bounds())

@@ -1,0 +1,145 @@
+"""The simplex method in fractions, duals in doubles, and planes, over random programs: what they
+say is judged by other means."""
+
+from __future__ import annotations
+
+import itertools
+import random
+from fractions import Fraction as F
+from unittest import TestCase, main
+
+import support  # noqa: F401  (the path of the package)
+from bridge_drivers.certify import doubles, equations, points
+from bridge_drivers.certify.leaves import Closer
+from bridge_drivers.certify.model import Box, Model
+from bridge_drivers.certify.simplex import Ended, Simplex
+
+MOST_STEPS = 3000
+
+
+def program(rng: random.Random, n: int, m: int) -> Model:
+    """Of n columns and m rows of all kinds, with ranges, free columns, and small numbers."""
+    text = ["NAME nl", *(["OBJSENSE", " MAX"] if rng.random() < 0.5 else []), "ROWS", " N obj"]
+    text += [f" {rng.choice('EGL')} c{i}" for i in range(m)] + ["COLUMNS"]
+    for j in range(n):
+        cost = rng.choice(["1", "-2", "0.5", "3", "-1e-12", "0"])
+        text += [f" x{j} obj {cost}"]
+        text += [f" x{j} c{i} {rng.choice(['1', '-1', '2', '0.3', '-7', '1e-9'])}"
+                 for i in range(m) if rng.random() < 0.6]
+    text += ["RHS"]
+    text += [f" RHS c{i} {rng.choice(['0', '1', '5', '-2', '2.5'])}" for i in range(m)]
+    ranged = [i for i in range(m) if rng.random() < 0.3]
+    text += ["RANGES", *(f" RNG c{i} {rng.choice(['1', '3'])}" for i in ranged)] if ranged else []
+    text += ["BOUNDS"]
+    for j in range(n):
+        kind = rng.random()
+        if kind < 0.2:
+            text += [f" FR BND x{j}"]
+        elif kind < 0.5:
+            text += [f" UP BND x{j} {rng.choice(['4', '1e20', '0.5'])}"]
+        elif kind < 0.6:
+            text += [f" LO BND x{j} -3", f" UP BND x{j} 7"]
+    return Model("\n".join([*text, "ENDATA", ""]).encode(), {}, m)
+
+
+def ended(p: Model, rng: random.Random) -> Ended:
+    """From a basis of any columns, and any values."""
+    steps = itertools.count()
+
+    def look() -> None:
+        assert next(steps) < MOST_STEPS
+    tableau = Simplex(p, look)
+    columns = rng.sample(range(p.n), min(p.n, rng.randint(0, p.m)))
+    tableau.start(columns, [rng.uniform(-2, 6) for _ in range(p.n)])
+    return tableau.run()
+
+
+class Fractions(TestCase):
+    def test_random_programs(self) -> None:
+        """A point with duals that close at it, weights that close, or a point and a ray."""
+        claims = set()
+        for seed in range(400):
+            rng = random.Random(seed)
+            p = program(rng, rng.randint(1, 8), rng.randint(1, 7))
+            found, box = ended(p, rng), Box(p.lo, p.hi)
+            claims.add(found.claim)
+            with self.subTest(seed=seed, claim=found.claim):
+                if found.claim == "infeasible":
+                    closer = Closer(p, None)
+                    leaf = closer.attempt(closer.of_fractions(found.rows, True), box)
+                    self.assertIsNotNone(leaf)
+                    continue
+                assert found.point is not None
+                self.assertTrue(p.fits(found.point))
+                if found.claim == "unbounded":
+                    self.assertTrue(points.is_ray(p, found.ray))
+                else:
+                    closer = Closer(p, p.value(found.point))
+                    leaf = closer.attempt(closer.of_fractions(found.rows, False), box)
+                    self.assertIsNotNone(leaf)
+        self.assertEqual(claims, {"optimal", "infeasible", "unbounded"})
+
+    def test_any_start_ends_alike(self) -> None:
+        for seed in range(100):
+            p = program(random.Random(seed), 6, 5)
+            found = [ended(p, random.Random(start)) for start in range(3)]
+            self.assertEqual(len({one.claim for one in found}), 1)
+            if found[0].claim == "optimal":
+                self.assertEqual(len({p.value(one.point) for one in found}), 1)
+
+
+class Doubles(TestCase):
+    def test_optimal_ones_and_others(self) -> None:
+        """The exact optimum in doubles closes, other points and other duals do not."""
+        closed = 0
+        for seed in range(400):
+            rng = random.Random(seed)
+            p = program(rng, rng.randint(2, 8), rng.randint(1, 7))
+            found = ended(p, rng)
+            if found.claim != "optimal" or not any(found.rows.values()):
+                continue
+            x = [float(v) for v in found.point]
+            y = {i: float(v) for i, v in found.rows.items()}
+            closed += doubles.closes(p, x, y)
+            box = Box(p.lo, p.hi)
+            if Closer(p, p.value(found.point) - 1).exactly({}, False, box) is None:
+                is_told = max(map(abs, x)) < 1e9 and not any(0 < abs(c) < 1e-6 for c in p.cost)
+                self.assertFalse(is_told and doubles.closes(p, x, {}), seed)
+            broken = [v + 1e-6 * max(1.0, abs(v)) for v in x]
+            self.assertFalse(doubles.closes(p, broken, y) and doubles.misses(p, broken))
+        self.assertGreater(closed, 40)
+
+
+class Planes(TestCase):
+    """Columns and rows of whole numbers between whose ends there is none."""
+
+    def model(self, lo: str, hi: str, row: "tuple[str, str] | None" = None) -> Model:
+        side = [" RHS c0 " + row[0], "RANGES", " RNG c0 " + row[1]] if row else [" RHS c0 0"]
+        return Model("\n".join([
+            "NAME nl", "ROWS", " N obj", " G c0", "COLUMNS", " M0 'MARKER' 'INTORG'",
+            " x0 obj 1", " x0 c0 3", " x1 c0 -6", " M1 'MARKER' 'INTEND'", "RHS", *side, "BOUNDS",
+            f" LO BND x0 {lo}", f" UP BND x0 {hi}", " FR BND x1", "ENDATA", ""]).encode(), {}, 1)
+
+    def test_columns_and_rows(self) -> None:
+        for lo, hi, row, form, at in (
+                ("1.0000001", "1.9999999", None, {0: 1}, 1), ("1", "1.5", None, None, 0),
+                ("-0.5", "-0.25", None, {0: 1}, -1), ("0", "9", ("0.1", "2.8"), {0: 1, 1: -2}, 0),
+                ("0", "9", ("0.1", "2.9"), None, 0),
+                ("0", "9", ("-2.9", "2.8"), {0: 1, 1: -2}, -1)):
+            found = equations.hollow(self.model(lo, hi, row))
+            self.assertEqual(found is None, form is None, (lo, hi, row))
+            if found is not None:
+                self.assertEqual((found.form, found.at), (form, at))
+
+    def test_against_all_values(self) -> None:
+        """Where a column has no value, and there alone."""
+        rng = random.Random(1)
+        for _ in range(200):
+            lo, by = F(rng.randint(-20, 20), 4), F(rng.randint(0, 7), 4)
+            p = self.model(str(float(lo)), str(float(lo + by)))
+            values = [v for v in range(-30, 30) if lo <= v <= lo + by]
+            self.assertEqual(equations.hollow(p) is not None, not values)
+
+
+if __name__ == "__main__":
+    main()

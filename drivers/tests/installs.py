@@ -1,0 +1,79 @@
+"""What installs, and what stands in several places."""
+
+from __future__ import annotations
+
+import importlib
+import json
+import os
+import re
+import subprocess
+import sys
+import unittest
+
+from support import HERE, Case
+
+from bridge_drivers import VERSION
+
+DRIVERS = os.path.join(HERE, "..")
+BIN = os.path.join(DRIVERS, "bin")
+
+
+class Installing(Case):
+    def install(self, *words: str) -> "subprocess.CompletedProcess[str]":
+        return subprocess.run([sys.executable, os.path.join(DRIVERS, "install"), *words],
+                              capture_output=True, text=True, check=False,
+                              env={**os.environ, "HOME": self.folder})
+
+    def paths(self) -> set[str]:
+        return {os.path.join(place, name) for place, _, names in os.walk(self.folder)
+                for name in names}
+
+    def test_below_home_and_away_again(self) -> None:
+        """Other files stay."""
+        prefix = os.path.join(self.folder, ".local")
+        other = os.path.join(prefix, "bin", "bridge-other")
+        os.makedirs(os.path.dirname(other))
+        open(other, "w", encoding="ascii").close()
+        ran = self.install(prefix)
+        self.assertEqual(ran.returncode, 0, ran.stderr)
+        own = os.path.join(self.folder, ".minizinc", "solvers", "bridge-cbc.msc")
+        with open(own, encoding="utf-8") as f:
+            self.assertEqual(json.load(f)["executable"][0],
+                             os.path.join(prefix, "bin", "bridge-cbc"))
+        self.assertNotIn("MZN_SOLVER_PATH", ran.stdout)
+        for shell, name in (("bash-completion/completions", "bridge-certify"),
+                            ("fish/vendor_completions.d", "bridge-cbc.fish"),
+                            ("zsh/site-functions", "_nl-bridge")):
+            self.assertTrue(os.path.isfile(os.path.join(prefix, "share", shell, name)), name)
+        self.assertEqual(self.install(prefix, "--remove").returncode, 0)
+        self.assertEqual(self.paths(), {other})
+        self.assertEqual({place for place, _, _ in os.walk(self.folder)},
+                         {self.folder, prefix, os.path.dirname(other)})
+        self.assertEqual(self.install(prefix, "--remove").returncode, 1)
+
+
+class Package(unittest.TestCase):
+    """What stands in several places agrees."""
+
+    def scripts(self) -> dict[str, str]:
+        with open(os.path.join(DRIVERS, "pyproject.toml"), encoding="utf-8") as f:
+            part = f.read().split("[project.scripts]\n")[1].split("\n\n")[0]
+        return dict(re.findall(r'^(\S+) = "(\S+)"$', part, re.M))
+
+    def test_scripts(self) -> None:
+        """Each has its file in bin/, and starts a function that is there."""
+        scripts = self.scripts()
+        self.assertEqual(sorted(scripts), sorted(os.listdir(BIN)))
+        for entry in scripts.values():
+            module, _, function = entry.partition(":")
+            self.assertTrue(callable(getattr(importlib.import_module(module), function)), entry)
+
+    def test_configurations(self) -> None:
+        """MiniZinc's name commands that are there, and this version."""
+        folder = os.path.join(DRIVERS, "minizinc")
+        scripts = self.scripts()
+        for name in os.listdir(folder):
+            with open(os.path.join(folder, name), encoding="utf-8") as f:
+                told = json.load(f)
+            self.assertEqual((told["version"], told["name"] + ".msc"), (VERSION, name))
+            self.assertIn(os.path.basename(told["executable"][0]), scripts)

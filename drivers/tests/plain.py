@@ -1,0 +1,113 @@
+"""MPS texts read line by line, in fractions: what the reader of the package is held against; and
+random ones in the written form."""
+
+from __future__ import annotations
+
+import random
+from fractions import Fraction as F
+
+KINDS = {"LO": "l", "LI": "l", "UP": "u", "UI": "u", "FX": "lu", "MI": "-", "PL": "+", "FR": "-+"}
+
+
+class Plain:
+    """By name: kinds of rows, right sides, ranges, entries, ends of columns (None: not set), and
+    which columns are whole."""
+
+    def __init__(self, text: bytes) -> None:
+        self.maximise, self.kinds, self.rhs, self.ranges = False, {}, {}, {}
+        self.entries, self.low, self.high, self.whole = {}, {}, {}, {}
+        part, in_whole = "", False
+        for line in text.decode().split("\n"):
+            words = line.split(" ")[1:]
+            if not line.startswith(" "):
+                part = line.split(" ")[0]
+            elif part == "OBJSENSE":
+                self.maximise = words == ["MAX"]
+            elif part == "ROWS":
+                self.kinds[words[1]] = words[0]
+            elif part == "COLUMNS" and words[2] in ("'INTORG'", "'INTEND'"):
+                in_whole = words[2] == "'INTORG'"
+            elif part == "COLUMNS":
+                self.entries[words[1], words[0]] = F(words[2])
+                self.low.setdefault(words[0])
+                self.high.setdefault(words[0])
+                self.whole.setdefault(words[0], in_whole)
+            elif part in ("RHS", "RANGES"):
+                (self.rhs if part == "RHS" else self.ranges)[words[1]] = F(words[2])
+            elif part == "BOUNDS":
+                self.bound(words[0], words[2], *words[3:])
+
+    def bound(self, kind: str, column: str, value: str = "0") -> None:
+        infinite = F(10) ** 1000
+        if kind in ("BV", "LI", "UI"):
+            self.whole[column] = True
+        for letter in KINDS.get(kind, ""):
+            ends, end = {"l": (self.low, F(value)), "u": (self.high, F(value)),
+                         "-": (self.low, -infinite), "+": (self.high, infinite)}[letter]
+            ends[column] = end
+        if kind == "BV":
+            self.low[column], self.high[column] = F(0), F(1)
+
+    def bounds(self) -> dict[str, tuple[F | None, F | None]]:
+        """None where there are none."""
+        found = {}
+        for column, low in self.low.items():
+            high = self.high[column]
+            if low is None and (high is None or high >= 0):
+                low = F(0)
+            found[column] = tuple(None if end is None or abs(end) >= F(10) ** 1000 else end
+                                  for end in (low, high))
+        return found
+
+    def objective(self) -> str:
+        return next((row for row, kind in self.kinds.items() if kind == "N"), "")
+
+    def constraints(self) -> list[str]:
+        return [row for row, kind in self.kinds.items() if kind != "N"]
+
+    def sides(self) -> dict[str, tuple[F | None, F | None]]:
+        found = {}
+        for row in self.constraints():
+            kind, at, width = self.kinds[row], self.rhs.get(row, F(0)), self.ranges.get(row)
+            ends = [None if kind == "L" else at, None if kind == "G" else at]
+            if width is not None:
+                up = kind == "G" or kind == "E" and width >= 0
+                ends[int(up)] = at + abs(width) if up else at - abs(width)
+            found[row] = tuple(ends)
+        return found
+
+
+def number(chance: random.Random) -> str:
+    return chance.choice(["0", "1", "-1", str(chance.randint(-99, 99)), "0.000001", "1e30",
+                          f"{chance.uniform(-9, 9):.2f}", "-12345678901234567890.5",
+                          str(10 ** chance.randint(0, 25)), repr(chance.random())])
+
+
+def random_text(seed: int, most: int = 8) -> bytes:
+    """A text in the written form, with all that it may have."""
+    chance = random.Random(seed)
+    rows = [(chance.choice("LGEN"), f"r{i}") for i in range(chance.randint(0, most))]
+    rows.insert(chance.randint(0, len(rows)), ("N", "cost"))
+    columns = [f"col{j}" for j in range(chance.randint(0, most))]
+    lines, marks = ["NAME p", *(["OBJSENSE", " MAX"] if chance.random() < .3 else [])], 0
+    lines += ["ROWS", *(f" {kind} {row}" for kind, row in rows), "COLUMNS"]
+    for column in columns:
+        if chance.random() < .3:
+            lines.append(f" M{marks} 'MARKER' '{('INTORG', 'INTEND')[marks % 2]}'")
+            marks += 1
+        lines += [f" {column} {row} {number(chance)}"
+                  for _, row in chance.sample(rows, chance.randint(1, len(rows)))]
+    lines += [f" M{marks} 'MARKER' 'INTEND'"] if marks % 2 else []
+    lines += ["RHS", *(f" RHS {row} {number(chance)}" for _, row in rows if chance.random() < .6)]
+    ranges = [f" RNG {row} {number(chance)}" for kind, row in rows
+              if kind != "N" and chance.random() < .3]
+    lines += ["RANGES", *ranges] if ranges else []
+    bounds = [f" {kind} BND {column}" + (f" {number(chance)}" if kind in LEFT else "")
+              for column in columns for kind in chance.choice(TYPES).split()]
+    chance.shuffle(bounds)
+    lines += ["BOUNDS", *bounds] if bounds else []
+    return "\n".join([*lines, "ENDATA", ""]).encode()
+
+
+LEFT = ("LO", "UP", "FX", "LI", "UI")
+TYPES = ("", "", "UP", "LO", "LO UP", "FX", "MI", "MI UP", "PL", "FR", "BV", "UI", "LI", "LI UI")

@@ -1,0 +1,223 @@
+"""Refusals in words: expressions, places, names, and what a file is that is no model."""
+
+from __future__ import annotations
+
+import os
+import unittest
+
+from support import Case
+
+from bridge_drivers import explaining, kinds
+from bridge_drivers.bridge import Refused, Reply
+from bridge_drivers.expressions import Expression
+from bridge_drivers.names import Names
+from bridge_drivers.options import BadOption, Options
+
+HEAD = b"g3 1 1 0\n 3 1 1 0 0\n" + b" 0 0\n" * 8
+PRODUCT = HEAD + (b"C0\no54\n3\no2\nn5\nv1\no2\nv0\no0\nv1\nn3\nv2\nO0 0\nn0\nr\n1 4\n"
+                  b"b\n0 0 1\n0 0 1\n0 0 1\n")
+
+
+def in_words(text: str, names: Names | None = None, mark: int = -1) -> str:
+    """An expression of words that stand for lines."""
+    return Expression(names or Names(""), mark).text([w.encode() + b"\n" for w in text.split()])
+
+
+class Expressions(unittest.TestCase):
+    def test_operators(self) -> None:
+        for text, words in (("o2 v0 v1", "(x0 * x1)"), ("o41 v2", "sin(x2)"),
+                            ("o16 o0 v0 n2.5", "-((x0 + 2.5))"), ("o54 3 v0 v1 n-1",
+                                                                  "(x0 + x1 + -1)"),
+                            ("o35 o22 v0 n3 n1 n2", "if((x0 < 3), 1, 2)"),
+                            ("o11 2 v0 o5 v1 n2", "min(x0, (x1 ^ 2))"), ("o93 v0",
+                                                                         "opcode 93(x0)"),
+                            ("o48 v0 v1", "atan2(x0, x1)"), ("n7", "7")):
+            self.assertEqual(in_words(text), words)
+
+    def test_what_is_no_expression(self) -> None:
+        self.assertEqual([in_words(text) for text in ("", "C0", "3")], ["", "", ""])
+        self.assertEqual(in_words("o2 v0"), "(x0 * ..)")
+
+    def test_comments_and_functions(self) -> None:
+        lines = [b"f0 2\t#gamma\n", b"v0 # speed of sound\n", b"h3:abc\n"]
+        self.assertEqual(Expression(Names("")).text(lines), "gamma(speed of sound, 'abc')")
+
+    def test_defined_variables(self) -> None:
+        self.assertEqual(in_words("o2 v0 v3", Names("", 3)), "(x0 * v3)")
+
+    def test_the_mark(self) -> None:
+        self.assertEqual(in_words("o54 2 v0 o2 v1 v1", mark=3), "(x0 + >>(x1 * x1)<<)")
+
+    def test_long_sums(self) -> None:
+        """The first parts stand, and the marked one."""
+        terms = [f"v{j}" for j in range(1000)]
+        self.assertEqual(in_words("o54 1000 " + " ".join(terms)),
+                         "(x0 + x1 + x2 + x3 + x4 + x5 + ..)")
+        terms[500] = "o2 v7 v8"
+        self.assertIn(" + >>(x7 * x8)<< + ..", in_words("o54 1000 " + " ".join(terms), mark=502))
+
+    def test_deep_ones(self) -> None:
+        """No recursion, and no line of a million characters."""
+        text = in_words("o16 " * 100000 + "o2 v0 v1")
+        self.assertLess(len(text), 100)
+        text = in_words("o16 " * 100000 + "o2 v0 v1", mark=100000)
+        self.assertIn(">>(x0 * x1)<<", text)
+        self.assertLess(len(text), 200)
+
+
+class Refusals(Case):
+    def line(self, told: str, *words: str) -> str:
+        return explaining.in_words(words, told, {self.stub + ".nl": "m.nl"})
+
+    def export(self, told: str) -> str:
+        return self.line(told, "export", self.stub + ".nl")
+
+    def test_expression_and_place(self) -> None:
+        self.put(PRODUCT)
+        self.assertEqual(self.export("refused line 17: nonlinear"),
+                         "m.nl line 17: constraint 0: (x0 * (x1 + 3)) is nonlinear")
+
+    def test_names_beside_the_model(self) -> None:
+        self.put(PRODUCT)
+        self.put(b"Cap\nProfit\n", ".row")
+        self.put(b"a\nb\n\nz\n", ".col")
+        told = "refused line 17: nonlinear"
+        self.assertEqual(explaining.in_words(["export", self.stub + ".nl"], told, {}),
+                         f"{self.stub}.nl line 17: constraint 0 (Cap): (a * (b + 3)) is nonlinear")
+        told = "refused objective 0: objective too wide"
+        self.assertIn(".nl: objective 0 (Profit): objective too wide (",
+                      explaining.in_words(["export", self.stub + ".nl"], told, {}))
+
+    def test_operators_by_name(self) -> None:
+        self.put(PRODUCT.replace(b"o2\nv0", b"o6\nv0"))
+        self.assertEqual(self.export("refused line 17: refused opcode 6"),
+                         "m.nl line 17: constraint 0: less(x0, (x1 + 3)) is not linear "
+                         "(refused opcode 6)")
+
+    def test_places(self) -> None:
+        self.put(PRODUCT)
+        for line, place in ((2, "header"), (23, "objective 0"), (26, "constraint 0"),
+                            (25, "sides of constraints"), (29, "variable 1"), (27, "bounds")):
+            self.assertIn(f"m.nl line {line}: {place}: ", self.export(f"refused line {line}: x"))
+
+    def test_rows_and_objectives(self) -> None:
+        self.put(PRODUCT)
+        self.assertEqual(self.export("refused row 4: row too wide"),
+                         "m.nl: constraint 4: row too wide (the row's exact values do not fit 128 "
+                         "bits)")
+        self.assertEqual(self.export("refused objective 1: no such objective"),
+                         "m.nl: objective 1: no such objective (the file has fewer objectives; "
+                         "they count from 0 here)")
+
+    def test_other_files(self) -> None:
+        """They count among the files of the words."""
+        nl = self.stub + ".nl"
+        for words, told, line in (
+                (("export", nl, "0", "r", "c"), "refused file 3 line 3: repeated name",
+                 "c line 3: repeated name (an earlier line has it)"),
+                (("return", nl, "a"), "refused file 2 line 4: unknown name",
+                 "a line 4: unknown name (no column, or no row that was exported, has it)"),
+                (("check", nl, "s"), "refused file 2: other counts",
+                 "s: other counts (it is of another model)"),
+                (("import", "p.mps"), "refused column 2: empty interval",
+                 "p.mps: column 2: empty interval (a lower bound is above its upper bound, so "
+                 "nothing satisfies the model)"),
+                (("mps", "p.mps"), "refused line 7: unknown row",
+                 "p.mps line 7: unknown row (no line of ROWS has it)")):
+            self.assertEqual(self.line(told, *words), line)
+
+    def test_input_faults(self) -> None:
+        self.put(PRODUCT)
+        missing = os.path.join(self.folder, "missing.sol")
+        fault = Refused("check", Reply(4, b"", "input fault"), ["check", self.stub + ".nl",
+                                                                missing], {missing: "x.sol"})
+        self.assertEqual(fault.line(), "x.sol: input fault (No such file or directory)")
+
+    def test_controls_of_a_terminal(self) -> None:
+        """Of names, comments, paths and lines around: they are shown and not obeyed."""
+        self.put(PRODUCT.replace(b"v0\no0", b"v0\t# \x1b[2Jspeed\no0"))
+        self.put(b"Cap\x1b]0;title\x07\n", ".row")
+        self.put("a\x1b[31m\x9b1m\nb\rc\nz\n".encode(), ".col")
+        nl = self.stub + ".nl"
+        told = "refused line 17: nonlinear"
+        line = explaining.in_words(["export", nl], told, {})
+        self.assertEqual(line, nl + " line 17: constraint 0 (Cap\\x1b]0;title\\x07): "
+                               "(a\\x1b[31m\\x9b1m * (b\\x0dc + 3)) is nonlinear")
+        self.assertEqual(explaining.in_words(["export", nl], told, {nl: "m\x1b[1m.nl"}),
+                         "m\\x1b[1m.nl line 17: constraint 0: (\\x1b[2Jspeed * (x1 + 3)) is "
+                         "nonlinear")
+        more = "\n".join(explaining.Refusal(["export", nl], told, {}).more())
+        self.assertIn("\\x1b[2Jspeed", more)
+        self.assertNotRegex(line + more, "[\x00-\x08\x0b-\x1f\x7f-\x9f]")
+
+    def test_more(self) -> None:
+        """The whole expression, what helps, the lines around."""
+        self.put(PRODUCT)
+        more = explaining.Refusal(["export", self.stub + ".nl"], "refused line 17: nonlinear",
+                                  {}).more()
+        self.assertEqual(more[0], "in: ((5 * x1) + >>(x0 * (x1 + 3))<< + x2)")
+        self.assertTrue(more[1].startswith("what helps: "))
+        self.assertEqual(more[4], ">     17 o2")
+        self.assertEqual(len(more), 8)
+
+
+class Kinds(Case):
+    """Files that are no .nl, by what is in them and by their names."""
+
+    def told(self, name: str, data: bytes) -> str:
+        path = os.path.join(self.folder, name)
+        with open(path, "wb") as f:
+            f.write(data)
+        text = kinds.no_model(path)
+        os.unlink(path)
+        return text.replace(self.folder + os.sep, "")
+
+    def test_named_ones(self) -> None:
+        for name, data, told in (
+                ("model.mps", b"* made\nNAME x\nROWS\n", "is an MPS file: `bridge-certify "
+                 "model.mps` and the drivers take it, `nl-bridge import model.mps model.nl` makes "
+                 "model.nl of it"),
+                ("model.txt", b"NAME\nROWS\n", "is an MPS file: "),
+                ("model.lp", b"\\ made\nMinimize\n obj: x\n", "is an LP file, which no command "
+                 "here reads: save the model as .nl (AMPL `write gmodel`, "),
+                ("model.lp", b"/* made */\nmax: 3x;\n", "is an LP file"),
+                ("knap.nl.gz", b"\x1f\x8b\x08", "is a compressed file: `gunzip -k knap.nl.gz`"),
+                ("model.mod", b"var x;\n", "is a text of AMPL: in AMPL, `write gmodel;` writes "
+                                            "model.nl"),
+                ("diet.mzn", b"var 1..2: x;\n", "is a text of MiniZinc: `minizinc --solver "
+                                                 "bridge-cbc diet.mzn`"),
+                ("k.certificate", b"certificate 1\n", "is a certificate: `nl-bridge verify "),
+                ("notes", b"\n", "is no .nl file by its name")):
+            self.assertTrue(self.told(name, data).startswith(f"{name} {told}"),
+                            self.told(name, data))
+
+    def test_others(self) -> None:
+        self.assertEqual(kinds.no_model(self.stub), self.stub + ".nl: no such file")
+        self.assertEqual(kinds.no_model(self.folder), self.folder + " is a folder")
+        for end in (".mps", ".mps.gz"):
+            self.assertEqual(kinds.no_model("missing" + end), f"missing{end}: no such file")
+        self.put(b"\x7fELF\x02", ".mps")
+        self.assertFalse(kinds.is_mps(self.stub + ".mps"))
+        self.assertIn("is a program (ELF)", kinds.no_model(self.stub + ".mps"))
+        self.put(b"NAME\nROWS\n", ".mps")
+        self.assertTrue(kinds.no_model(self.stub).startswith(
+            f"{self.stub}.nl: no such file; {self.stub}.mps is an MPS file: "))
+
+    def test_in_a_refusal(self) -> None:
+        self.put(b"NAME\nROWS\n")
+        self.assertEqual(explaining.in_words(["export", self.stub + ".nl"],
+                                             "refused line 1: bad first line",
+                                             {self.stub + ".nl": "m.nl"}),
+                         "m.nl line 1: bad first line: it is an MPS file: `bridge-certify m.nl` "
+                         "and the drivers take it, `nl-bridge import m.nl m-2.nl` makes m-2.nl of "
+                         "it")
+
+
+class UnknownWords(unittest.TestCase):
+    def test_unknown_words(self) -> None:
+        """They are told as unknown, also where no value follows."""
+        for words in (["foo"], ["foo=1"], ["-foo"], ["timelim=1", "foo", "2"]):
+            with self.assertRaisesRegex(BadOption, "^unknown option foo; -= lists the options$"):
+                Options().take(words)
+        with self.assertRaisesRegex(BadOption, "^no value for timelim$"):
+            Options().take(["timelim"])

@@ -1,0 +1,49 @@
+"""Models that make solvers stop at a limit or a gap, with the options that do it."""
+
+from __future__ import annotations
+
+import random
+from typing import NamedTuple, Sequence
+
+from models import nl
+
+
+class Real(NamedTuple):
+    """A run: the codes that it may have, and what its message says."""
+
+    name: str
+    driver: str
+    size: tuple[int, int]
+    options: Sequence[str]
+    codes: Sequence[int]
+    told: str
+
+    def text(self) -> bytes:
+        return knapsacks(*self.size, self.driver == "clp")
+
+
+def knapsacks(columns: int, rows: int, linear: bool = False) -> bytes:
+    """Of several rows, in whole numbers, or relaxed."""
+    rng = random.Random(f"{columns} {rows}")
+    terms = [{j: rng.randint(10, 99) for j in range(columns)} for _ in range(rows)]
+    sides = [sum(row.values()) // 3 for row in terms]
+    kind = ("C", 0, 1) if linear else ("B", 0, 1)
+    return nl([kind] * columns, [(None, side, row) for side, row in zip(sides, terms)],
+              [("max", 0, {j: rng.randint(10, 99) for j in range(columns)})])
+
+
+SMALL, LARGE, HARD = (20, 5), (60, 20), (100, 30)
+GAP = "stopped at the gap of 40.00 % that was asked for"
+REAL = (
+    Real("cbc gap", "cbc", SMALL, ["mipgap=0.4"], (0, 100), GAP),
+    Real("cbc time", "cbc", LARGE, ["timelim=1"], (400,), "the time limit with a feasible"),
+    Real("cbc nodes", "cbc", LARGE, ["extra=-maxN 1"], (400,),
+         "the limit of iterations, nodes or solutions with a feasible"),
+    Real("glpsol gap", "glpsol", SMALL, ["mipgap=0.4"], (0, 100), GAP),
+    Real("glpsol time", "glpsol", HARD, ["timelim=1"], (400,), "the time limit with a feasible"),
+    Real("highs gap", "highs", SMALL, ["mipgap=0.4"], (0, 100), GAP),
+    Real("highs time", "highs", LARGE, ["timelim=1"], (400,), "the time limit with a feasible"),
+    Real("lp_solve time", "lp_solve", HARD, ["timelim=1"], (400,),
+         "the time limit with a feasible"),
+    Real("clp iterations", "clp", LARGE, ["extra=-maxIt 1"], (0, 100, 400, 450), ""),
+)

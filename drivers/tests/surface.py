@@ -1,0 +1,249 @@
+"""One way to say it: help, options in any order, what a model may be, exit statuses."""
+
+from __future__ import annotations
+
+import bz2
+import contextlib
+import gzip
+import io
+import lzma
+import os
+import re
+import subprocess
+import sys
+import unittest
+
+from support import HERE, NEEDS_CLP, NEEDS_PROGRAM, Case
+from models import MODELS
+
+from bridge_drivers import commands, front, solvers, words
+from bridge_drivers.certify.command import Command
+from bridge_drivers.codes import STATUSES, Status
+from bridge_drivers.driver import Driver
+from bridge_drivers.inputs import Absent, Inputs
+from bridge_drivers.near import near
+from bridge_drivers.options import BadOption, Option, Options, Range
+
+TOP = os.path.join(HERE, "..", "..")
+BIN = os.path.join(HERE, "..", "bin")
+EXAMPLES = os.path.join(TOP, "packaging", "examples")
+
+
+def called(run: "front.Callable[[], int]") -> tuple[int, str, str]:
+    """Status, standard output and error of a call in this process."""
+    out, err = io.StringIO(), io.StringIO()
+    with contextlib.redirect_stdout(out), contextlib.redirect_stderr(err):
+        status = run()
+    return int(status), out.getvalue(), err.getvalue()
+
+
+class Help(unittest.TestCase):
+    def test_of_each_word(self) -> None:
+        """In three ways the same, on standard output, with an example that is a call of it."""
+        for word in set(commands.WORDS) - {"help"}:
+            texts = [called(lambda: front.command(call)) for call in (
+                ["help", word], [word, "--help"], [word, "-h"], [word, "x", "json=1", "-h"])]
+            self.assertEqual(len(set(texts)), 1, word)
+            status, out, err = texts[0]
+            self.assertEqual((status, err), (0, ""))
+            self.assertTrue(out.startswith("usage: nl-bridge "), out)
+            for line in re.findall(r"(?m)^example: nl-bridge (.*)$", out):
+                self.assertEqual(line.split()[0], word)
+                front.read(line.split())
+            self.assertLessEqual(max(map(len, out.split("\n"))), 100)
+
+    def test_of_each_driver(self) -> None:
+        """Options with their values."""
+        for name in (*solvers.NAMES, "certify"):
+            driver = Command("cbc") if name == "certify" else Driver(name)
+            texts = [called(lambda: driver.main(call)) for call in (
+                ["-h"], ["--help"], ["help"], ["knap", "timelim=9", "-?"])]
+            texts.append(called(lambda: front.command(["help", "bridge-" + name])))
+            self.assertEqual(len(set(texts)), 1, name)
+            status, out, err = texts[0]
+            self.assertEqual((status, err), (0, ""))
+            for option in driver.options.known.values():
+                self.assertRegex(out, rf"(?m)^  {option.name} ")
+                told = called(lambda: driver.main(["help", option.name]))
+                self.assertEqual(told, (0, option.line() + "\n", ""))
+            flat = re.sub(r"\s+", " ", out)
+            self.assertIn("(0, 1 or 2; 0)", flat)
+            self.assertIn("a number from 0 on", flat)
+
+    def test_scripts(self) -> None:
+        """What a clone has tells what it is, on standard output."""
+        for script, word in (("drivers/install", "--help"), ("dev/try", "--help"),
+                             ("dev/try", "-h"), ("dev/lint", "-h"), ("dev/setup", "--help"),
+                             ("packaging/build", "-h"), ("dev/map.py", "--help")):
+            ran = subprocess.run([os.path.join(TOP, script), word], capture_output=True,
+                                 text=True, check=False, timeout=300)
+            self.assertEqual((ran.returncode, ran.stderr), (0, ""), script)
+            self.assertIn(os.path.basename(script), ran.stdout)
+
+
+class Options_(unittest.TestCase):
+    def test_did_you_mean(self) -> None:
+        known = Command("cbc").options
+        for word, meant in (("gap", "mipgap"), ("timeout", "timelim"), ("quiet", "wantsol=8"),
+                            ("o", "certificate"), ("timelimit", "timelim"), ("proove", "prove")):
+            with self.assertRaisesRegex(BadOption, f"did you mean `{meant}`\\?"):
+                known.take([word + "=1"])
+        self.assertEqual(near("veryfy", commands.WORDS), " did you mean `verify`?")
+        self.assertEqual(near("gap", commands.WORDS), "")
+
+    def test_certify_takes_those_of_each_driver(self) -> None:
+        for name in solvers.NAMES:
+            for option in Driver(name).options.known.values():
+                Command(name).options.find(option.name)
+
+    def test_ranges(self) -> None:
+        """Each default is in its range, and what is not is told with what is."""
+        for name in solvers.NAMES:
+            for option in Driver(name).options.known.values():
+                if option.default != "":
+                    self.assertEqual(option.read(str(option.default)), option.default)
+                if isinstance(option.kind, Range):
+                    for bad in ("-1", "x", "nan", "1e400"):
+                        with self.assertRaisesRegex(BadOption, f"{option.kind} is wanted"):
+                            option.read(bad)
+        for name, word in (("prove", "2"), ("outlev", "3"), ("wantsol", "16"), ("objno", "0"),
+                           ("only", "lp"), ("format", "nl")):
+            with self.assertRaisesRegex(BadOption, f"^{name}={word}: .* is wanted$"):
+                Options().take([f"{name}={word}"])
+        self.assertEqual(str(Option("x", 0, int, "").kind), "a whole number from 0 on")
+
+    def test_any_order(self) -> None:
+        for call in (["knap", "-AMPL", "prove=1", "timelim", "3"], ["prove=1", "knap", "-AMPL",
+                     "timelim", "3"], ["-AMPL", "prove=1", "timelim=3", "--", "knap"],
+                     ["prove", "=", "1", "timelim=", "3", "-AMPL", "knap"],
+                     ["-prove", "1", "-AMPL", "--timelim", "3", "knap"]):
+            found = words.read(call)
+            options = Options()
+            options.take(found.options)
+            self.assertEqual((found.stub, found.ampl, options.prove, options.timelim),
+                             ("knap", True, 1, 3.0), call)
+        self.assertEqual(words.read(["--", "-x=1"]).stub, "-x=1")
+        self.assertEqual(words.read(["-"]).stub, "-")
+        self.assertEqual(words.read(["./a=b"]).stub, "./a=b")
+
+    def test_any_order_of_the_front(self) -> None:
+        wanted = front.Call("explain", ["m", "c"], False, True, {"svg": "s"})
+        for call in (["explain", "m", "c", "--svg", "s", "json=1"], ["json=1", "--svg=s", "explain",
+                     "m", "c"], ["explain", "json=1", "m", "--svg", "s", "--", "c"]):
+            self.assertEqual(front.read(call), wanted)
+        self.assertEqual(front.read(["export", "--", "-x"]).rest, ["-x"])
+        self.assertEqual(front.read(["export", "-"]).rest, ["-"])
+        for call in (["export", "m", "-x"], ["export", "m", "json=1"], ["stats", "m", "--html=h"]):
+            self.assertRaises(front.BadWords, front.read, call)
+
+
+class Models(Case):
+    """What a model may be."""
+
+    def test_files(self) -> None:
+        nl, mps = MODELS["knap"].text, b"NAME\nROWS\n N o\nCOLUMNS\nRHS\nENDATA\n"
+        packers = (("", lambda data: data), (".gz", gzip.compress), (".bz2", bz2.compress),
+                   (".xz", lzma.compress))
+        for data, end in ((nl, ".nl"), (mps, ".mps")):
+            for packed, pack in packers:
+                self.put(pack(data), end + packed)
+                with Inputs() as inputs:
+                    given = inputs.model(self.stub + end + packed)
+                    with open(given.path, "rb") as f:
+                        self.assertEqual(f.read(), data)
+                self.assertEqual((given.stub, given.is_mps, bool(given.notes)),
+                                 (self.stub, end == ".mps", bool(packed)))
+                self.assertEqual(os.path.exists(inputs.folder), False)
+        with Inputs() as inputs:
+            self.assertEqual(inputs.model(self.stub).path, self.stub + ".nl")
+            self.assertEqual(inputs.folder, "")
+            os.rename(self.stub + ".nl", self.stub + ".txt")
+            self.assertEqual(inputs.model(self.stub + ".txt").is_mps, False)
+            for word in (self.stub, self.folder, "/nonexistent"):
+                self.assertRaises(Absent, inputs.model, word)
+
+    def test_a_pipe_by_its_name(self) -> None:
+        os.mkfifo(self.stub + ".mps")
+        with subprocess.Popen(["sh", "-c", f"printf 'NAME\\n' > {self.stub}.mps"]):
+            with Inputs() as inputs:
+                given = inputs.model(self.stub + ".mps")
+                with open(given.path, "rb") as f:
+                    self.assertEqual((f.read(), given.is_mps, given.stub),
+                                     (b"NAME\n", True, self.stub))
+
+    @NEEDS_PROGRAM
+    def test_each_command(self) -> None:
+        """Of one model in each form each command says the same."""
+        with open(os.path.join(EXAMPLES, "knap.certificate"), "rb") as f:
+            self.put(f.read(), ".certificate")
+        with open(os.path.join(EXAMPLES, "knap.nl"), "rb") as f:
+            data = f.read()
+        self.put(data)
+        self.put(gzip.compress(data), ".nl.gz")
+        for word, end, line in (("verify", [self.stub + ".certificate"], "optimal 17"),
+                                ("stats", [], "sense         maximise"), ("export", [], "NAME nl"),
+                                ("explain", [], "X: is not refused"), ("nl", [], "g3 1 1 0")):
+            for model, given in ((self.stub, b""), (self.stub + ".nl", b""), ("-", data),
+                                 (self.stub + ".nl.gz", b""), ("/dev/stdin", gzip.compress(data))):
+                ran = subprocess.run([sys.executable, os.path.join(BIN, "nl-bridge"), word, model,
+                                      *end], input=given, capture_output=True, check=False)
+                told = ran.stdout.decode().replace(self.stub + ".nl: ", "X: ").replace(
+                    model + ": ", "X: ")
+                self.assertEqual((ran.returncode, f"\n{line}" in "\n" + told), (0, True),
+                                 (word, model, told, ran.stderr))
+
+    @NEEDS_PROGRAM
+    @NEEDS_CLP
+    def test_a_driver(self) -> None:
+        """Of standard input, packed; what is written beside it is called stdin."""
+        if not solvers.load("cbc").place():
+            self.skipTest("no cbc")
+        for driver, end in (("certify", "certificate"), ("cbc", "sol")):
+            ran = subprocess.run([sys.executable, os.path.join(BIN, "bridge-" + driver), "-",
+                                  *(["-s"] if driver == "cbc" else [])], cwd=self.folder,
+                                 input=gzip.compress(MODELS["knap"].text), capture_output=True,
+                                 check=False)
+            self.assertEqual(ran.returncode, 0, ran.stderr)
+            self.assertIn(b"what is judged is the text that - unpacks to\n", ran.stdout)
+            self.assertTrue(os.path.exists(os.path.join(self.folder, "stdin." + end)))
+
+
+class Statuses(Case):
+    def test_the_table(self) -> None:
+        """One meaning each; `documents` looks after that of the README."""
+        self.assertEqual(set(STATUSES), set(Status))
+        for status in commands.PROVED:
+            self.assertIn(STATUSES[status], commands.usage().replace("\n        ", " "))
+
+    @NEEDS_PROGRAM
+    def test_each(self) -> None:
+        """By calls that end so."""
+        self.put(MODELS["knap"].text)
+        with open(self.stub + ".txt", "wb") as f:
+            f.write(MODELS["nonlinear"].text)
+        self.put(b"certificate 1\nbound 0 16\nduals 0\n", ".certificate")
+        nl, bad, of = self.stub, self.stub + ".txt", self.stub + ".certificate"
+        for call, status in (
+                (["nl-bridge", "export", nl], 0), (["nl-bridge", "verify", nl, of], 1),
+                (["nl-bridge", "export", bad], 2), (["nl-bridge", "stats", bad], 2),
+                (["nl-bridge", "explain", bad], 2), (["bridge-cbc", bad, "solver=/bin/true"], 2),
+                (["nl-bridge", "export"], 3), (["nl-bridge", "exprt", nl], 3),
+                (["bridge-cbc", nl, "prove=2"], 3), (["bridge-certify", nl, "x=1"], 3),
+                (["bridge-certify", nl, "driver=x"], 3), (["bridge-cbc"], 3), (["nl-bridge"], 3),
+                (["nl-bridge", "verify", nl, "/nonexistent"], 4), (["bridge-cbc", "/no/m"], 4),
+                (["nl-bridge", "stats", "/no/m"], 4), (["bridge-certify", "/no/m.mps"], 4),
+                (["nl-bridge", "explain", nl, of, "--svg", "/no/x"], 5),
+                (["bridge-cbc", nl, "solver=/no/cbc"], 127),
+                (["bridge-cbc", nl, "solver=/bin/true"], 1),
+                (["bridge-certify", nl, "bridge=/no/bridge"], 127)):
+            ran = subprocess.run([sys.executable, os.path.join(BIN, call[0]), *call[1:]],
+                                 stdin=subprocess.DEVNULL, capture_output=True, check=False)
+            self.assertEqual(ran.returncode, status, (call, ran.stdout, ran.stderr))
+
+    @NEEDS_PROGRAM
+    def test_a_refusal_points_to_explain(self) -> None:
+        self.put(MODELS["nonlinear"].text)
+        ran = subprocess.run([sys.executable, os.path.join(BIN, "nl-bridge"), "export",
+                              self.stub + ".nl"], capture_output=True, text=True, check=False)
+        self.assertEqual(ran.stderr, "refused line 12: nonlinear\nnl-bridge: `nl-bridge explain "
+                                     f"{self.stub}.nl` says more\n")

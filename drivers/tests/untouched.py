@@ -1,0 +1,201 @@
+"""Nothing of the user's is touched: what stands at a place where a command writes stays, unless
+`overwrite=1`, and a model stays always, by whatever path."""
+
+from __future__ import annotations
+
+import contextlib
+import io
+import os
+import unittest
+from typing import Callable, Dict
+from unittest import mock
+
+from support import NEEDS_PROGRAM, PROGRAM, Case
+from models import MODELS
+
+from bridge_drivers import front, solvers
+from bridge_drivers.bridge import Bridge
+from bridge_drivers.files import Places, own_folder
+
+OLDER = b"letters\n"
+Files = Dict[str, bytes]
+
+
+def quietly(call: Callable[[], object]) -> str:
+    """What a call prints, on both streams."""
+    out = io.StringIO()
+    with contextlib.redirect_stdout(out), contextlib.redirect_stderr(out):
+        call()
+    return out.getvalue()
+
+
+class Rule(Case):
+    """Of one place."""
+
+    def place(self, end: str) -> str:
+        return self.stub + end
+
+    def text(self, end: str) -> bytes:
+        with open(self.place(end), "rb") as f:
+            return f.read()
+
+    def test_what_stays(self) -> None:
+        """By what stands there, and whether overwrite=1 is said."""
+        self.put(b"model")
+        os.symlink(self.place(".nl"), self.place(".link"))
+        os.link(self.place(".nl"), self.place(".hard"))
+        os.symlink(self.place(".none"), self.place(".dangling"))
+        self.put(OLDER, ".other")
+        self.put(b"", ".empty")
+        self.put(b"new", ".same")
+        for end, stays, always in ((".nl", True, True), (".link", True, True),
+                                   (".hard", True, True), (".other", True, False),
+                                   (".empty", False, False), (".same", False, False),
+                                   (".new", False, False), (".dangling", False, False)):
+            for overwrite in (False, True):
+                places = Places([self.place(".nl"), self.place(".gone")], overwrite)
+                wanted = always if overwrite else stays
+                self.assertEqual(bool(places.stays(self.place(end), b"new")), wanted, end)
+                if wanted:
+                    with self.assertRaises(FileExistsError):
+                        places.write(self.place(end), b"new")
+                else:
+                    places.write(self.place(end), b"new")
+                    self.assertEqual(self.text(end), b"new")
+        self.assertEqual(self.text(".nl"), b"model")
+        with self.assertRaises(FileExistsError):
+            Places([self.place(".nl")]).remove(self.place(".link"))
+
+    def test_nothing_beside_is_lost(self) -> None:
+        """A name that a new file could have while it is written."""
+        self.put(OLDER, f".sol.{os.getpid()}.part")
+        Places([]).write(self.place(".sol"), b"new")
+        self.assertEqual((self.text(".sol"), self.text(f".sol.{os.getpid()}.part")),
+                         (b"new", OLDER))
+        self.assertEqual(len(os.listdir(self.folder)), 2)
+
+    def test_folders(self) -> None:
+        kept = os.path.join(self.folder, "a", "b")
+        self.assertEqual(own_folder(kept, "x"), kept)
+        self.assertEqual(own_folder(kept, "x"), kept)
+        for number in (1, 2):
+            with open(os.path.join(kept, "file"), "wb") as f:
+                f.write(OLDER)
+            self.assertEqual(own_folder(kept, "x"), os.path.join(kept, f"x-{number}"))
+
+
+@NEEDS_PROGRAM
+class Commands(Case):
+    """Each command that writes, with a file at each place that it writes to."""
+
+    def tree(self) -> Files:
+        found = {}
+        for folder, _, names in os.walk(self.folder):
+            for name in names:
+                path = os.path.join(folder, name)
+                with open(path, "rb") as f:
+                    found[os.path.relpath(path, self.folder)] = f.read()
+        return found
+
+    def unchanged(self, before: Files, *but: str) -> None:
+        after = self.tree()
+        for name, text in before.items():
+            if name not in but:
+                self.assertEqual(after.get(name), text, name)
+
+    def test_kept_folders(self) -> None:
+        """Also the folder of the model, with files of each name that a run writes."""
+        for driver in solvers.NAMES:
+            with self.subTest(driver=driver):
+                self.put(MODELS["product"].text)
+                for name in ("text.nl", "model.mps", "answer.txt", "bridge.sol", "solver.log",
+                             "certificate", "stub.mps"):
+                    with open(os.path.join(self.folder, name), "wb") as f:
+                        f.write(OLDER)
+                before = self.tree()
+                with mock.patch("os.getcwd", lambda: self.folder):
+                    ended = self.replay(driver, "product", self.stub, "keep=" + self.folder)
+                self.unchanged(before)
+                own = os.path.join(self.folder, f"bridge-{driver}-1")
+                self.assertIn(f"the files in between are in {own}\n", ended.stdout)
+                self.assertIn("bridge.sol", os.listdir(own))
+
+    def test_only_mps(self) -> None:
+        self.put(MODELS["product"].text)
+        for driver in solvers.NAMES:
+            path = f"{self.stub}.{driver}.mps"
+            self.put(OLDER, f".{driver}.mps")
+            ended = self.replay(driver, "product", self.stub, "only=mps")
+            self.assertEqual(ended.returncode, 5)
+            self.assertIn(f"{path}: it stands there", ended.stderr)
+            with open(path, "rb") as f:
+                self.assertEqual(f.read(), OLDER)
+            for words in (["overwrite=1"], []):     # the same text again is no loss
+                ended = self.replay(driver, "product", self.stub, "only=mps", *words)
+                self.assertEqual(ended.returncode, 0, ended.stderr)
+
+    def test_only_mps_of_whole_variables(self) -> None:
+        """What a solver would relax without a word is not written for it."""
+        self.put(MODELS["knap"].text)
+        for driver in ("clp", "esolver"):
+            for words, status in (([], 2), (["relax=1"], 0)):
+                ended = self.replay(driver, "knap", self.stub, "only=mps", *words)
+                self.assertEqual((ended.returncode, os.path.exists(f"{self.stub}.{driver}.mps")),
+                                 (status, not status), ended.stderr)
+
+    def test_answers(self) -> None:
+        """An older .sol goes once the model can be read, and stays where it is missing or is the
+        model."""
+        self.put(OLDER, ".sol")
+        for words in ([], ["speed=9"]):
+            self.replay("cbc", "knap", self.stub, "-AMPL", *words)
+            self.assertEqual(self.tree(), {"stub.sol": OLDER})
+        self.put(MODELS["knap"].text)
+        os.unlink(self.stub + ".sol")
+        os.link(self.stub + ".nl", self.stub + ".sol")
+        ended = self.replay("cbc", "knap", self.stub, "-AMPL")
+        self.assertIn("stub.sol: it is what this command reads", ended.stderr)
+        self.assertEqual(self.tree()["stub.nl"], MODELS["knap"].text)
+
+    def test_import(self) -> None:
+        """All three files or none."""
+        bridge, text = Bridge(PROGRAM, lambda argv: None), MODELS["product"].text
+        self.put(text)
+        self.put(bridge.text("export", self.stub + ".nl"), ".mps")
+        mps, target = self.stub + ".mps", os.path.join(self.folder, "new")
+        for end in (".nl", ".row", ".col"):
+            for name in os.listdir(self.folder):
+                if name.startswith("new"):
+                    os.unlink(os.path.join(self.folder, name))
+            with open(target + end, "wb") as f:
+                f.write(OLDER)
+            before = self.tree()
+            told = quietly(lambda: front.command(["import", mps, target + ".nl"]))
+            self.assertIn(f"{target}{end}: it stands there", told)
+            self.assertEqual(self.tree(), before)
+            told = quietly(lambda: front.command(["overwrite=1", "import", mps, target]))
+            self.assertIn("is written", told)
+        for words in ([], ["overwrite=1"]):             # onto itself
+            with open(target + ".nl", "wb") as f, open(mps, "rb") as source:
+                f.write(source.read())
+            before = self.tree()
+            told = quietly(lambda: front.command(["import", target + ".nl", target,
+                                                          *words]))
+            self.assertIn("it is what this command reads", told)
+            self.assertEqual(self.tree(), before)
+
+    def test_pages(self) -> None:
+        self.put(MODELS["product"].text)
+        self.put(b"certificate 1\nfeasible 0\npoint 0\n", ".certificate")
+        for word in ("--html", "--svg"):
+            self.put(OLDER, ".page")
+            words = ["explain", self.stub, self.stub + ".certificate", word, self.stub + ".page"]
+            told = quietly(lambda: front.command(words))
+            self.assertIn("is not written: it stands there", told)
+            self.assertEqual(self.tree()["stub.page"], OLDER)
+            self.assertIn(".page is written",
+                          quietly(lambda: front.command([*words, "overwrite=1"])))
+
+
+if __name__ == "__main__":
+    unittest.main()

@@ -1,0 +1,60 @@
+"""What the man pages say of commands, options and statuses, made of the tables that their help is
+made of."""
+
+from __future__ import annotations
+
+from typing import Iterable
+
+from bridge_drivers import commands, solvers
+from bridge_drivers.certify.command import OPTIONS
+from bridge_drivers.codes import STATUSES, Status
+from bridge_drivers.completion import DASHED
+from bridge_drivers.options import COMMON, Option
+
+
+def roff(text: str) -> str:
+    """A text as it is to be read."""
+    escaped = text.replace("\\", "\\e").replace("-", "\\-")
+    return "\\&" + escaped if escaped[:1] in (".", "'") else escaped
+
+
+def item(head: str, text: str) -> str:
+    """A paragraph with a head in bold type."""
+    return f".TP\n.B {roff(head)}\n{roff(text[:1].upper() + text[1:])}."
+
+
+def of_commands(rows: Iterable[commands.Command]) -> str:
+    parts = []
+    for row in rows:
+        parts.append(item(row.call(), f"{row.text}: {row.more}" if row.more else row.text))
+        parts += [f".RS\n{item(name, said)}\n.RE" for name, said in row.options]
+    return "\n".join(parts)
+
+
+def of_options(options: Iterable[Option]) -> str:
+    return "\n".join(item(option.name, f"{option.text} {option.values()}") for option in options)
+
+
+def of_statuses(statuses: Iterable[Status]) -> str:
+    return "\n".join(item(str(int(status)), STATUSES[status]) for status in statuses)
+
+
+def drivers_options() -> list[Option]:
+    """The common ones, and those of some drivers, with whose they are."""
+    own: dict[str, list[str]] = {}
+    found = {option.name: option for option in COMMON}
+    for name in solvers.NAMES:
+        for option in solvers.load(name).options:
+            own.setdefault(option.name, []).append("bridge-" + name)
+            found[option.name] = Option(option.name, option.default, option.kind,
+                                        f"{', '.join(own[option.name])}: {option.text}")
+    return [found[name] for name in sorted(found)]
+
+
+def parts() -> dict[str, str]:
+    """What stands for each mark of a page."""
+    return {"@COMMANDS@": of_commands(commands.COMMANDS), "@OWN@": of_commands(commands.OWN),
+            "@MODEL@": roff(commands.MODEL[:1].upper() + commands.MODEL[1:]) + ".",
+            "@STATUS@": of_statuses(STATUSES), "@OPTIONS@": of_options(drivers_options()),
+            "@CERTIFY@": of_options(OPTIONS),
+            "@DASHED@": "\n".join(item(word, text) for word, text in DASHED.items())}
