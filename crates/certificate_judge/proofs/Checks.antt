@@ -1,5 +1,5 @@
 -- The parts of a certificate, and its outcome.
-use Rattle.std.proofs.Common.{◌≡◌, ℕ, ◌≤◌, ◌∙◌, sym, ap, List, ◌++◌, length, take, drop, Option, Some, None, refl}
+use Rattle.std.proofs.Common.{◌≡◌, ℕ, ◌∙◌, sym, ap, List, ◌++◌, drop, Option, Some, None, refl}
 use Rattle.fractions.specs.Rational.{zero_ℚ}
 use Rattle.program_meaning.specs.Linear.{Linear, row_count, value_at, variable_count}
 use Rattle.duality.specs.Branch.{proof_fault}
@@ -11,7 +11,7 @@ use Rattle.certificates.specs.declared.certificate.Claim.TheVariants.{Optimal, W
 use Rattle.certificates.specs.Certificates.{CertificateTree, CertificateValue, Given, HasTree, HasWeights, IsCertificateOf, certificate_over, pairs_in, nodes_in, tree_over}
 use Rattle.linear_program.specs.Numbers.{Pair, spread, number_value}
 use Rattle.certificate_judge.specs.Walks.{IsWritten}
-use Rattle.certificate_judge.proofs.WalkSteps.{back_is, front_is, front_there, walkable}
+use Rattle.certificate_judge.proofs.WalkSteps.{back_is, walkable}
 
 given_tree : (P : Option CertificateTree → Type 0) (o : Option CertificateTree) → HasTree o → ((tree : CertificateTree) → o ≡ Some tree → P (Some tree)) → P o
 given_tree P None has each = absurd has
@@ -21,25 +21,9 @@ module _ (f : Linear) (c : CertificateValue) (h : IsCertificateOf f c) where
   later : List Pair
   later = h.given.ray ++ pairs_in h.given.tree
 
-  pub point_there : c.point ≤ length c.pairs
-  unfolding later
-  point_there = front_there h.given.point later c.pairs c.point (sym h.pairs) h.point
-
-  pub point_is : take c.point c.pairs ≡ h.given.point
-  unfolding later
-  point_is = front_is h.given.point later c.pairs c.point (sym h.pairs) h.point
-
   later_is : drop c.point c.pairs ≡ later
   unfolding later
   later_is = back_is h.given.point later c.pairs c.point (sym h.pairs) h.point
-
-  pub ray_there : c.ray ≤ length (drop c.point c.pairs)
-  unfolding later
-  ray_there = front_there h.given.ray (pairs_in h.given.tree) (drop c.point c.pairs) c.ray later_is h.ray
-
-  pub ray_is : take c.ray (drop c.point c.pairs) ≡ h.given.ray
-  unfolding later
-  ray_is = front_is h.given.ray (pairs_in h.given.tree) (drop c.point c.pairs) c.ray later_is h.ray
 
   rest_is : drop c.ray (drop c.point c.pairs) ≡ pairs_in h.given.tree
   unfolding later

@@ -69,9 +69,6 @@ module _ (n : ℕ) (old new : Path) where
   path_lemma s l p w t lo hi added lemmas steps =
       path_with p (ap length lo) (ap length hi) (step_more s p w steps) (rows_kept p added) (subst (All (IsLemmaWithin n)) (sym lemmas) (All-push (IsLemmaWithin n) old.lemmas.items l p.lemmas t))
 
-  pub path_up : (s : Step) → IsPath n old → length new.lo.items ≡ length old.lo.items → length new.hi.items ≡ length old.hi.items → new.added.items ≡ old.added.items → new.lemmas.items ≡ old.lemmas.items → old.steps.items ≡ new.steps.items ++ s ∷ [] → IsPath n new
-  path_up s p lo hi added lemmas steps = path_with p lo hi (step_less s p steps) (rows_kept p added) (lemmas_kept p lemmas)
-
   pub path_off : (s : Step) (r : Row) → IsPath n old → new.lo.items ≡ old.lo.items → new.hi.items ≡ old.hi.items → old.added.items ≡ new.added.items ++ r ∷ [] → new.lemmas.items ≡ old.lemmas.items → old.steps.items ≡ new.steps.items ++ s ∷ [] → IsPath n new
   path_off s r p lo hi added lemmas steps =
       path_with p (ap length lo) (ap length hi) (step_less s p steps) (within_less n new.added.items r (subst (AreWithin n) added p.added)) (lemmas_kept p lemmas)

@@ -2,15 +2,13 @@
 use Rattle.std.proofs.Common.{◌↔◌, ℕ, sym, subst, refl, List}
 use Rattle.std.proofs.lemmas.Option.{same_Some}
 use Rattle.fractions.specs.Rational.{ℚ}
-use Rattle.program_meaning.specs.Linear.{Linear, IsInside, IsRelaxed as IsRelaxedProgram, RowHolds, form_value, no_row, row_at, variable_count}
+use Rattle.program_meaning.specs.Linear.{Linear, IsInside, IsRelaxed as IsRelaxedProgram, RowHolds, no_row, row_at, variable_count}
 use Rattle.duality.specs.Means.{Means, problem_in}
 use Rattle.duality.specs.Problem.{IsConstraintBroken, IsRelaxed}
 use Rattle.duality.specs.Says.{IsRowBroken}
 use Rattle.duality.proofs.Feasible.{all_rows}
 
 module _ (f : Linear) where
-  at_point : List ℚ → ℕ → ℚ
-  at_point xs i = form_value (row_at f i).body (variable_count f) xs
 
   relaxed : (xs : List ℚ) → IsRelaxed (problem_in f) xs ↔ IsRelaxedProgram f xs
   relaxed xs = (

@@ -9,13 +9,12 @@ use Rattle.duality.specs.Checked.{run}
 use Rattle.duality.specs.Parts.{maximising}
 use Rattle.duality.specs.Points.{Box, Numbers}
 use Rattle.duality.specs.Verdict.{Fault as Cause, BoundVerdict as Answer, at_cost, bound_side_missing, bound_or_fault, bound_total, no_bound, cost_check, cost_fault, dual_bound, dual_fault, first_fault, has_needed, IsDualFault, reduced_cost, row_part, side_fault, too_wide}
-use Rattle.exact_numbers.specs.Values.{frac_value}
 use Rattle.linear_program.specs.Coefs.{Term, coef_in}
 use Rattle.linear_program.specs.Numbers.{Pair, spread}
 use Rattle.exact_checks.specs.declared.program.Program.{Program}
 use Rattle.exact_checks.specs.declared.form.Row.{Row}
 use Rattle.exact_checks.specs.declared.verdict.Goal.{Goal}
-use Rattle.exact_checks.specs.declared.verdict.Goal.TheVariants.{Objective, Zero}
+use Rattle.exact_checks.specs.declared.verdict.Goal.TheVariants.{Zero}
 use Rattle.exact_checks.specs.Leaves.{AreIndices, HasRows, IsGoal, IsOver, cost_act, run_pairs}
 use Rattle.exact_checks.specs.Programs.{asked}
 use Rattle.exact_checks.specs.Sums.{bound_by, bound_from}
@@ -80,9 +79,6 @@ no_terms n = tt
 
 pub zero_goal : (f : Linear) (z : ℚ) → z ≡ zero_ℚ → IsGoal false z [] (asked Zero f)
 zero_goal f z e = record { sense = refl; sum = ap (λ (x : ℚ). record { constant = x; coefficient = λ j. zero_ℚ }) (sym e) }
-
-pub own_goal : (c : Program) (planes : List Row) (f : Linear) → IsOver c planes f → IsGoal c.maximise (frac_value c.objective.constant) c.objective.terms.items (asked Objective f)
-own_goal c planes f over = record { sense = over.maximise; sum = over.objective }
 
 pub sum_goal : (f : Linear) (terms : List Term) (z : ℚ) → z ≡ zero_ℚ → IsGoal true z terms (maximising f (record { constant = zero_ℚ; coefficient = coef_in terms }))
 sum_goal f terms z e = record { sense = refl; sum = ap (λ (x : ℚ). record { constant = x; coefficient = coef_in terms }) (sym e) }

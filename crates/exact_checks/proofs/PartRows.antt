@@ -56,9 +56,6 @@ row_still : (f : Linear) → IsStillAtZero (row_act f) (λ s. Unit {0})
 unfolding whole
 row_still f = record { still = λ s i g. refl; kept = λ s r i v g e. tt }
 
-Fits : ℚ → Type 0
-Fits s = fits s ≡ true
-
 cost_still : (f : Linear) (j : ℕ) → IsStillAtZero (cost_act f j) (λ s. fits s ≡ true)
 cost_still f j =
     record {

@@ -1,16 +1,14 @@
 -- Running sums after a write, and which of them are touched.
-use Rattle.std.proofs.Common.{◌≡◌, ◌≢◌, ℕ, zero, suc, ◌<◌, ◌∙◌, sym, ap, refl, subst, arith, ⊎_elim, ◌==◌, List, [], ◌∷◌, ◌++◌, length, get_or, slice_set, Option, Result, Ok, Err, IfOk}
-use Rattle.std.specs.Prelude.{if◌then◌else◌}
+use Rattle.std.proofs.Common.{◌≡◌, ◌≢◌, ℕ, zero, suc, ◌<◌, ◌∙◌, sym, ap, refl, subst, arith, ⊎_elim, List, [], ◌∷◌, ◌++◌, length, get_or, slice_set, Result, Ok, Err, IfOk}
 use Rattle.std.specs.List.{Contains}
 use Rattle.std.specs.List.Sorted.{IsPermutation}
-use Rattle.std.proofs.lemmas.Bool.{cases_eq, eq-eqb, ne_eqb}
+use Rattle.std.proofs.lemmas.Bool.{cases_eq}
 use Rattle.std.proofs.lemmas.List.{get_or_default, length-set}
 use Rattle.std.proofs.lemmas.List.Elements.{Contains-append_left, Contains-append_right, Contains-append_cases}
 use Rattle.std.proofs.lemmas.List.Sorted.{Contains-permutation, IsPermutation-sym}
-use Rattle.fractions.specs.Rational.{ℚ}
 use Rattle.exact_checks.specs.declared.sums.RunningSum.{RunningSum}
 use Rattle.exact_checks.specs.declared.sums.RunningSum.TheVariants.{Untouched, Short, Exact, TooWide}
-use Rattle.exact_checks.specs.Sums.{AreTouched, sum_at, sum_value}
+use Rattle.exact_checks.specs.Sums.{AreTouched, sum_at}
 
 -- ---- sums
 pub sum_there : (ss : List RunningSum) (i : ℕ) (s : RunningSum) → i < length ss → s ≡ get_or ss i s → sum_at ss i ≡ s
@@ -71,13 +69,6 @@ touched_within ss touched rest i e m = m.there i (subst (λ l. Contains l i) (sy
 pub untouched_zero : (ss : List RunningSum) (touched : List ℕ) → touched ≡ [] → AreTouched ss touched → (j : ℕ) → sum_at ss j ≡ Untouched
 untouched_zero ss touched e m j = untouched_or_not (sum_at ss j) (λ n. let c = subst (λ l. Contains l j) e (m.among j n) in (let within = c.1 in omega arith))
 
-pub no_marks : (ss : List RunningSum) (touched : List ℕ) → touched ≡ [] → ((j : ℕ) → sum_at ss j ≡ Untouched) → AreTouched ss touched
-no_marks ss touched e z =
-    record {
-      among = λ j n. absurd (n (z j));
-      there = λ j c. let d = subst (λ l. Contains l j) e c in (let within = d.1 in omega arith);
-    }
-
 pub zero_more : (ss : List RunningSum) → ((j : ℕ) → sum_at ss j ≡ Untouched) → (j : ℕ) → sum_at (ss ++ Untouched ∷ []) j ≡ Untouched
 zero_more [] z zero = refl
 zero_more [] z (suc j) = refl
@@ -92,18 +83,6 @@ kept_in_order ss touched ordered moved m =
     }
 
 -- ---- what a call says
--- the sum of one variable is changed
-pub term_taken : (old new : List RunningSum) (j : ℕ) (s r : RunningSum) (change : Option ℚ → Option ℚ) → j < length old → s ≡ get_or old j s → sum_value r ≡ change (sum_value s) → new ≡ slice_set old j r
-    → (i : ℕ) → sum_value (sum_at new i) ≡ (if i == j then change (sum_value (sum_at old i)) else sum_value (sum_at old i))
-term_taken old new j s r change l is h e i =
-    ap (λ ss. sum_value (sum_at ss i)) e
-    ∙ ⊎_elim
-    (λ (a : i ≡ j).
-    ap (λ k. sum_value (sum_at (slice_set old j r) k)) a
-    ∙ ap sum_value (sum_set_same old j r l) ∙ h ∙ ap (λ x. change (sum_value x)) (sym (sum_there old j s l is) ∙ ap (sum_at old) (sym a))
-    ∙ sym (ap (λ b. if b then change (sum_value (sum_at old i)) else sum_value (sum_at old i)) (eq-eqb i j a)))
-    (λ (n : i ≢ j). ap sum_value (sum_set_other old j r i n) ∙ sym (ap (λ b. if b then change (sum_value (sum_at old i)) else sum_value (sum_at old i)) (ne_eqb i j n)))
-    (cases_eq i j)
 
 pub if_put : {A E : Type 0} {P Q : A → Type 0} (r : Result A E) → IfOk r P → ((a : A) → P a → Q a) → IfOk r Q
 if_put (Ok a) p f = f a p

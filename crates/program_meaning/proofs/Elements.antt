@@ -1,5 +1,5 @@
 -- Lists of the first elements of a sequence.
-use Rattle.std.proofs.Common.{◌≡◌, ℕ, zero, suc, ◌+◌, ◌-◌, ◌<◌, ◌≤◌, ◌∙◌, List, [], ◌∷◌, ◌++◌, sym, ap, refl, subst, arith, length, get_or, All, append-nil, append_assoc}
+use Rattle.std.proofs.Common.{◌≡◌, ℕ, zero, suc, ◌+◌, ◌-◌, ◌<◌, ◌∙◌, sym, ap, refl, subst, arith, length, get_or, All}
 use Rattle.program_meaning.specs.Elements.{elements_from}
 
 module _ {A : Type 0} (g : ℕ → A) where
@@ -23,21 +23,3 @@ module _ {A : Type 0} (g : ℕ → A) where
   pub elements_all : (P : A → Type 0) (n : ℕ) → All P (elements_from g 0 n) → (j : ℕ) → j < n → P (g j)
   elements_all P n h j lt =
       subst P (elements_at 0 n j (g 0) lt ∙ ap g (omega arith)) (h j (g 0) (subst (λ m. j < m) (sym (elements_length 0 n)) lt))
-
-  -- the elements so far, and those that are left
-  pub more_elements : (n i : ℕ) (done now : List A) → i < n → done ++ elements_from g i (n - i) ≡ elements_from g 0 n → now ≡ done ++ g i ∷ [] → now ++ elements_from g (i + 1) (n - (i + 1)) ≡ elements_from g 0 n
-  unfolding elements_from
-  more_elements n i done now h e is =
-      let same : n - i ≡ suc (n - (i + 1)) = omega arith in
-      let next : suc i ≡ i + 1 = omega arith in
-      ap (λ xs. xs ++ elements_from g (i + 1) (n - (i + 1))) is ∙ append_assoc done (g i ∷ []) (elements_from g (i + 1) (n - (i + 1)))
-      ∙ ap (λ j. done ++ g i ∷ elements_from g j (n - (i + 1))) (sym next) ∙ ap (λ m. done ++ elements_from g i m) (sym same) ∙ e
-
-  pub last_elements : (n i : ℕ) (done : List A) → n ≤ i → done ++ elements_from g i (n - i) ≡ elements_from g 0 n → done ≡ elements_from g 0 n
-  unfolding elements_from
-  last_elements n i done h e =
-      let none : n - i ≡ 0 = omega arith in
-      sym (append-nil done) ∙ ap (λ m. done ++ elements_from g i m) (sym none) ∙ e
-
-  pub first_elements : (n : ℕ) → [] ++ elements_from g 0 (n - 0) ≡ elements_from g 0 n
-  first_elements n = (let same : n - 0 ≡ n = omega arith in ap (elements_from g 0) same)
