@@ -1,8 +1,7 @@
 -- Lists of names: each text says one list, or is refused with one line; and how many names there are.
-use Rattle.std.proofs.Common.{◌≡◌, ◌∙◌, inl, inr, ℕ, ◌+◌, ◌==◌, ◌≤◌, Bool, true, false, List, length, Option, Some, None, Result, Ok, Err, refl, sym, ap, arith, eqb-true, length-take-le, take_all}
+use Rattle.std.proofs.Common.{◌≡◌, ◌∙◌, inl, inr, ℕ, ◌+◌, ◌==◌, ◌≤◌, Bool, true, false, List, length, Option, Some, None, Result, Ok, Err, refl, sym, ap, arith, eqb-true, length-take-le}
 use Rattle.std.specs.Prelude.{IfOk, if◌then◌else◌}
 use Rattle.std.proofs.lemmas.Bool.{or_cases}
-use Rattle.std.proofs.lemmas.List.{drop_all}
 use Rattle.desk.specs.Desk.{Meaning, Texts}
 use Rattle.texts.specs.Reading.{lines_of}
 use Rattle.texts.proofs.ReadingLemmas.{text_ends}

@@ -1,10 +1,9 @@
 -- What each answer keeps: its numbers are small, its message is lines of a text, none of them
 -- `Options`, and its suffixes are within their limits.
-use Rattle.std.proofs.Common.{◌≡◌, ◌∙◌, ℕ, zero, suc, ◌<◌, ◌≤◌, Bool, true, false, ◌^◌, nat_le, cond, eqb, List, [], ◌∷◌, ◌++◌, length, take, get_or, Option, Some, None, refl, sym, ap, subst, arith, ◌&&◌, ltb, ◌+◌, ◌/◌, ◌%◌, ◌==◌, not, ◌||◌, nat_lt, is_none, append_assoc, append-nil, length-append, length-drop}
+use Rattle.std.proofs.Common.{◌≡◌, ◌∙◌, ℕ, suc, ◌<◌, ◌≤◌, Bool, true, false, ◌^◌, nat_le, cond, eqb, List, [], ◌∷◌, ◌++◌, length, get_or, Option, Some, None, refl, sym, ap, subst, arith, ◌&&◌, ltb, ◌+◌, ◌/◌, ◌%◌, ◌==◌, not, ◌||◌, nat_lt, is_none, append_assoc, append-nil, length-append, length-drop}
 use Rattle.std.specs.Prelude.{option_map, codes, IfSome, unwrap_or, option_and_then}
 use Rattle.std.specs.List.{AllByRecursion}
 use Rattle.std.specs.Str.{bytes_eq}
-use Rattle.std.proofs.lemmas.List.{take_all}
 use Rattle.texts.specs.Judged.{first_reason}
 use Rattle.texts.specs.Reading.{lines_of, last_of}
 use Rattle.texts.specs.Words.{row_of, without_blanks, word_at, is_blank}
@@ -40,7 +39,6 @@ use Rattle.shared_parts.proofs.ObjectLemmas.{same_objects}
 use Rattle.answer_file.proofs.TableLemmas.{one_value_more}
 use Rattle.sol_files.specs.Tests.{has_index}
 use Rattle.sol_files.specs.Written.{IsSaidLine, are_values}
-use Rattle.std.proofs.Math.Seq.{drop-cons, take-suc}
 use Rattle.texts.proofs.AllLemmas.{all_here, all_push}
 use Rattle.texts.proofs.JudgedLemmas.{clean_keeps}
 

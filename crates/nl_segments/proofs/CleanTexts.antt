@@ -2,11 +2,9 @@
 use Rattle.std.proofs.Common.{◌≡◌, ◌∙◌, ℕ, ◌+◌, ◌<◌, ◌≤◌, Bool, true, false, List, [], ◌∷◌, ◌++◌, length, refl, sym, ap, subst, arith, Option, Some, None, All, append_assoc, append-nil, zero, suc, ◌==◌, slice_set, get_or, ◌⊎◌, inl, inr}
 use Rattle.std.specs.Prelude.{IsSome, IsSomeAnd, Ok, ℤ, slice_get, option_map, unwrap_or}
 use Rattle.std.proofs.lemmas.Bool.{not-false, eqb-true, cond_both}
-use Rattle.std.proofs.lemmas.List.{drop_all, drop_at, length-append, take_all, take_at}
+use Rattle.std.proofs.lemmas.List.{length-append}
 use Rattle.std.proofs.lemmas.List.Elements.{All-push, All-contains, Contains-append_left, Contains-push}
-use Rattle.texts.specs.declared.lines.LineFault.{LineFault}
 use Rattle.texts.specs.Judged.{Last, IsClean}
-use Rattle.texts.specs.Lines.{scan}
 use Rattle.texts.specs.Reading.{last_of as last_line, lines_of, Reads}
 use Rattle.texts.specs.Words.{without_comment}
 use Rattle.texts.proofs.FirstReasons.{none_each}

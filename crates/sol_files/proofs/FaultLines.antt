@@ -2,7 +2,7 @@
 -- for the line before is not found at the first.
 use Rattle.std.proofs.Common.{◌≡◌, ℕ, ◌<◌, Bool, false, List, [], ◌∷◌, Some, inl, inr, refl, arith}
 use Rattle.std.specs.Prelude.{if◌then◌else◌}
-use Rattle.texts.specs.Judged.{Last, Open, Bad, End, HasFaultAt, first_fault, first_reason, last_reason}
+use Rattle.texts.specs.Judged.{Last, Open, Bad, End, HasFaultAt, first_fault_of, first_reason, last_reason}
 use Rattle.texts.specs.Reading.{IsLineOf, last_of, lines_of}
 use Rattle.texts.proofs.JudgedLemmas.{fault_at, fault_behind, fault_line, fault_place}
 use Rattle.sol_files.specs.Grammar.{sol_rules}
@@ -29,7 +29,7 @@ unfolding line_tests_at
 first_late line e = let h = rw no_lines at e in absurd cc
 
 -- a late fault is not at the first line
-behind_first : (lines : List (List ℕ)) (last : Last) (line : ℕ) → first_fault sol_rules lines last ≡ Some (line, Late) → 1 < line
+behind_first : (lines : List (List ℕ)) (last : Last) (line : ℕ) → first_fault_of sol_rules lines last ≡ Some (line, Late) → 1 < line
 behind_first [] last line e = absurd (none_late last (fault_behind sol_rules last [] line Late e).1)
 behind_first (next ∷ more) last line e =
     elim (fault_at sol_rules last next more [] line Late e) [

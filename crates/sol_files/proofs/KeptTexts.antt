@@ -1,8 +1,7 @@
 -- A value that was read keeps the rules of values.
-use Rattle.std.proofs.Common.{◌≡◌, ◌∙◌, ℕ, zero, suc, ◌≤◌, Bool, true, false, cond, List, [], ◌∷◌, ◌++◌, length, take, drop, Option, Some, None, refl, sym, ap, subst, arith, ◌==◌, get_or, drop-cons}
+use Rattle.std.proofs.Common.{◌≡◌, ◌∙◌, ℕ, Bool, true, false, cond, List, [], ◌∷◌, ◌++◌, length, None, refl, sym, ap, subst, arith, ◌==◌}
 use Rattle.std.proofs.lemmas.Bool.{not-false}
 use Rattle.std.specs.List.{AllByRecursion}
-use Rattle.std.proofs.lemmas.List.{take_all, drop_all}
 use Rattle.texts.specs.Cut.{IsTextLine}
 use Rattle.texts.specs.Judged.{first_reason}
 use Rattle.texts.specs.Reading.{lines_of, last_of}
@@ -20,7 +19,7 @@ use Rattle.sol_files.specs.Parts.{is_tail}
 use Rattle.sol_files.specs.Standing.{Standing, standing}
 use Rattle.sol_files.specs.Progress.{Progress, kind_of, seen, start}
 use Rattle.sol_files.specs.Tests.{line_tests, line_tests_at, row_tests, row_line_tests, end_tests}
-use Rattle.sol_files.specs.Steps.{after, after_at, after_row, after_row_line, read}
+use Rattle.sol_files.specs.Steps.{after_at, after_row, after_row_line, read}
 use Rattle.sol_files.specs.Grammar.{sol_rules}
 use Rattle.sol_files.specs.Reader.{IsSol}
 use Rattle.sol_files.specs.Written.{KeepsRules}
@@ -28,8 +27,6 @@ use Rattle.sol_files.proofs.StandingLemmas.{standing-read, read-more, read-none,
 use Rattle.sol_files.proofs.Kept.{KeptAt, KeepsAt, Keeps}
 use Rattle.sol_files.proofs.KeptRows.{kept_count, kept_option, kept_constraints, kept_dual_count, kept_variables, kept_primal_count, kept_dual, kept_primal}
 use Rattle.sol_files.proofs.KeptTail.{kept_message, kept_tail, kept_name, kept_table, kept_value}
-use Rattle.std.proofs.lemmas.List.Elements.{All-from_recursion}
-use Rattle.std.proofs.Math.Seq.{take-suc}
 
 -- ---- a line more
 

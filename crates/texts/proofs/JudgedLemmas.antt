@@ -1,7 +1,7 @@
 -- Each list of lines is clean or has exactly one first fault; and how it is judged while it grows.
 use Rattle.std.proofs.Common.{◌≡◌, ◌∙◌, ℕ, ◌+◌, ◌<◌, ◌≤◌, List, [], ◌∷◌, ◌++◌, length, Option, Some, None, ◌⊎◌, inl, inr, refl, sym, ap, subst, arith, append-nil, append_assoc, length-append}
 use Rattle.std.specs.Option.{option_or}
-use Rattle.texts.specs.Judged.{Rules, Last, Open, last_reason, next_fault, first_fault_from, first_fault, IsClean, HasFaultAt, HasOneOutcome}
+use Rattle.texts.specs.Judged.{Rules, Last, Open, last_reason, next_fault, first_fault_from, first_fault_of, IsClean, HasFaultAt, HasOneOutcome}
 
 module _ {R : Type 0} (rules : Rules R) where
   -- ---- one outcome
@@ -11,12 +11,12 @@ module _ {R : Type 0} (rules : Rules R) where
 
   pub one_outcome : (lines : List (List ℕ)) (last : Last) → HasOneOutcome rules lines last
   one_outcome lines last = record {
-    some = by (first_fault rules lines last) refl;
+    some = by (first_fault_of rules lines last) refl;
     not_both = λ c line reason f. let none = c.none in let some = f.first in absurd cc;
     one_fault = λ i j r s f g. same_fault (i, r) (j, s) (sym f.first ∙ g.first);
   }
     where
-      by : (o : Option (ℕ × R)) → first_fault rules lines last ≡ o → IsClean rules lines last ⊎ ((line : ℕ) × (reason : R) × HasFaultAt rules lines last line reason)
+      by : (o : Option (ℕ × R)) → first_fault_of rules lines last ≡ o → IsClean rules lines last ⊎ ((line : ℕ) × (reason : R) × HasFaultAt rules lines last line reason)
       by None e = inl (record { none = e })
       by (Some fault) e = inr (fault.0, fault.1, record { first = e })
 
@@ -56,12 +56,12 @@ module _ {R : Type 0} (rules : Rules R) where
   -- ---- a list that grows
 
   -- the first fault of lines and more: that of the lines, or else what comes behind them
-  first_fault-append : (last : Last) (done before more : List (List ℕ))
+  first_fault_from-append : (last : Last) (done before more : List (List ℕ))
       → first_fault_from rules last before (done ++ more) ≡ option_or (first_fault_from rules Open before done) (first_fault_from rules last (before ++ done) more)
-  first_fault-append last [] before more = ap (λ ls. first_fault_from rules last ls more) (sym (append-nil before))
-  first_fault-append last (line ∷ done) before more =
+  first_fault_from-append last [] before more = ap (λ ls. first_fault_from rules last ls more) (sym (append-nil before))
+  first_fault_from-append last (line ∷ done) before more =
       by (rules.at_line before line)
-      (first_fault-append last done (before ++ line ∷ []) more ∙ ap (λ ls. option_or later (first_fault_from rules last ls more)) (append_assoc before (line ∷ []) done))
+      (first_fault_from-append last done (before ++ line ∷ []) more ∙ ap (λ ls. option_or later (first_fault_from rules last ls more)) (append_assoc before (line ∷ []) done))
     where
       later : Option (ℕ × R)
       later = first_fault_from rules Open (before ++ line ∷ []) done
@@ -75,11 +75,11 @@ module _ {R : Type 0} (rules : Rules R) where
       by (Some r) e = refl
 
   -- behind lines without a fault
-  behind_clean : (done more : List (List ℕ)) (last : Last) → IsClean rules done Open → first_fault rules (done ++ more) last ≡ first_fault_from rules last done more
-  behind_clean done more last h = first_fault-append last done [] more ∙ ap (λ o. option_or o (first_fault_from rules last done more)) h.none
+  behind_clean : (done more : List (List ℕ)) (last : Last) → IsClean rules done Open → first_fault_of rules (done ++ more) last ≡ first_fault_from rules last done more
+  behind_clean done more last h = first_fault_from-append last done [] more ∙ ap (λ o. option_or o (first_fault_from rules last done more)) h.none
 
-  at_last : (done : List (List ℕ)) (last : Last) → IsClean rules done Open → first_fault rules done last ≡ next_fault done (last_reason rules last done)
-  at_last done last h = ap (λ ls. first_fault rules ls last) (sym (append-nil done)) ∙ behind_clean done [] last h
+  at_last : (done : List (List ℕ)) (last : Last) → IsClean rules done Open → first_fault_of rules done last ≡ next_fault done (last_reason rules last done)
+  at_last done last h = ap (λ ls. first_fault_of rules ls last) (sym (append-nil done)) ∙ behind_clean done [] last h
 
   pub clean_none : IsClean rules [] Open
   clean_none = record { none = refl }
@@ -102,7 +102,7 @@ module _ {R : Type 0} (rules : Rules R) where
 
   -- the first fault stays the first, whatever follows its line
   pub fault-append : (done more : List (List ℕ)) (last : Last) (line : ℕ) (r : R) → HasFaultAt rules done Open line r → HasFaultAt rules (done ++ more) last line r
-  fault-append done more last line r f = record { first = first_fault-append last done [] more ∙ ap (λ o. option_or o (first_fault_from rules last done more)) f.first }
+  fault-append done more last line r f = record { first = first_fault_from-append last done [] more ∙ ap (λ o. option_or o (first_fault_from rules last done more)) f.first }
 
   -- ---- where a first fault stands
 
@@ -130,9 +130,9 @@ module _ {R : Type 0} (rules : Rules R) where
       elim (fault_at last next lines before line r e) [
         | inl here ↦ (omega (arith, here.0), omega (arith, here.0))
         | inr later ↦
-          let more = fault_place last lines (before ++ next ∷ []) line r later in
-          let len = length-append before (next ∷ []) in
-          (omega (arith, more.0, len), omega (arith, more.1, len))
+            let more = fault_place last lines (before ++ next ∷ []) line r later in
+            let len = length-append before (next ∷ []) in
+            (omega (arith, more.0, len), omega (arith, more.1, len))
       ]
 
   -- at a line of the text, or behind the last

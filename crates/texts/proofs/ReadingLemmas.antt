@@ -9,7 +9,7 @@ use Rattle.texts.specs.declared.stop.Stop.TheVariants.{Fault, Memory}
 use Rattle.texts.specs.declared.fault.TextFault.{TextFault}
 use Rattle.texts.specs.Stopped.{IfFault, IsFaultAnd, MatchStop}
 use Rattle.texts.specs.Lines.{trimmed, scan, LinesState, StandsFor, GoesOn, EndsLine, number_of}
-use Rattle.texts.specs.Judged.{Rules, Last, Open, Bad, End, last_reason, first_fault, IsClean, HasFaultAt}
+use Rattle.texts.specs.Judged.{Rules, Last, Open, Bad, End, last_reason, first_fault_of, IsClean, HasFaultAt}
 use Rattle.texts.specs.Cut.{IsTextLine, ended_lines}
 use Rattle.texts.specs.Reading.{rest_line, lines_by, last_by, lines_of, last_of, lines_so_far, last_so_far, HasFault, IsRead, Reads, IsFreeSoFar, HasFaultSoFar, IsGoing, Stands, IsAtEnd}
 use Rattle.texts.proofs.Walk.{no_lines, walk}
@@ -50,11 +50,11 @@ module _ {R : Type 0} (rules : Rules R) where
   -- ---- texts without faults
 
   -- they have no line fault
-  pub text_clean : (text : List ℕ) → IsClean rules (lines_of text) (last_of text) → (last_of text ≡ End) × (first_fault rules (lines_of text) End ≡ None)
+  pub text_clean : (text : List ℕ) → IsClean rules (lines_of text) (last_of text) → (last_of text ≡ End) × (first_fault_of rules (lines_of text) End ≡ None)
   unfolding last_of
   text_clean text h = by (scan text).fault h.none (end_clean rules (last_of text) (lines_of text) [] h.none)
     where
-      by : (o : Option LineFault) → first_fault rules (lines_of text) (last_by o End) ≡ None → last_reason rules (last_by o End) (lines_of text) ≡ None → (last_by o End ≡ End) × (first_fault rules (lines_of text) End ≡ None)
+      by : (o : Option LineFault) → first_fault_of rules (lines_of text) (last_by o End) ≡ None → last_reason rules (last_by o End) (lines_of text) ≡ None → (last_by o End ≡ End) × (first_fault_of rules (lines_of text) End ≡ None)
       by None e ends = (refl, e)
       by (Some fault) e ends = absurd cc
 

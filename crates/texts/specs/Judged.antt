@@ -61,21 +61,21 @@ abbrev pub first_fault_from : {R : Type 0} → Rules R → Last → List (List �
 first_fault_from rules last before [] = next_fault before (last_reason rules last before)
 first_fault_from rules last before (line ∷ more) =
     option_or (next_fault before (rules.at_line before line))
-        (first_fault_from rules last (before ++ line ∷ []) more)
+    (first_fault_from rules last (before ++ line ∷ []) more)
 
 -- the first fault: its line, counted from 1, and its reason
-abbrev pub first_fault : {R : Type 0} → Rules R → List (List ℕ) → Last → Option (ℕ × R)
-first_fault rules lines last = first_fault_from rules last [] lines
+abbrev pub first_fault_of : {R : Type 0} → Rules R → List (List ℕ) → Last → Option (ℕ × R)
+first_fault_of rules lines last = first_fault_from rules last [] lines
 
 -- no line has a fault, nor has what follows
 pub record IsClean {R : Type 0} (rules : Rules R) (lines : List (List ℕ)) (last : Last) : Type 0
-    where
-  pub none : first_fault rules lines last ≡ None
+  where
+    pub none : first_fault_of rules lines last ≡ None
 
 -- the first fault is at this line, for this reason
 pub record HasFaultAt {R : Type 0} (rules : Rules R) (lines : List (List ℕ)) (last : Last)
     (line : ℕ) (reason : R) : Type 0 where
-  pub first : first_fault rules lines last ≡ Some (line, reason)
+  pub first : first_fault_of rules lines last ≡ Some (line, reason)
 
 -- exactly one of both holds, with one place and one reason
 pub record HasOneOutcome {R : Type 0} (rules : Rules R) (lines : List (List ℕ))
