@@ -1,13 +1,10 @@
 -- Lists of names: each text says one list, or is refused with one line; and how many names there are.
-use Rattle.std.proofs.Common.{◌≡◌, ◌∙◌, inl, inr, ℕ, ◌+◌, ◌==◌, ◌≤◌, Bool, true, false, List, length, Option, Some, None, Result, Ok, Err, refl, sym, ap, arith, eqb-true, length-take-le, take_all}
+use Rattle.std.proofs.Common.{◌≡◌, ◌∙◌, inl, inr, ℕ, ◌+◌, ◌==◌, ◌≤◌, Bool, true, false, List, length, Option, Some, None, Result, Ok, Err, refl, sym, ap, arith, eqb-true, length-take-le}
 use Rattle.std.specs.Prelude.{IfOk, if◌then◌else◌}
 use Rattle.std.proofs.lemmas.Bool.{or_cases}
-use Rattle.std.proofs.lemmas.List.{drop_all}
 use Rattle.desk.specs.Desk.{Meaning, Texts}
-use Rattle.texts.specs.Judged.{End, IsClean, Last, Rules, last_reason, reason_at}
-use Rattle.texts.specs.Reading.{last_by, last_of, lines_of}
-use Rattle.texts.specs.Lines.{scan}
-use Rattle.texts.specs.declared.lines.LineFault.{LineFault}
+use Rattle.texts.specs.Reading.{lines_of}
+use Rattle.texts.proofs.ReadingLemmas.{text_ends}
 use Rattle.name_files.specs.Names.{Counts, SaysNames, end_reason, is_full, name_rules, names_of, used_names}
 use Rattle.name_files.specs.declared.fault.NameReason.{NameReason}
 use Rattle.name_files.specs.declared.fault.NameReason.TheVariants.{OtherCount}
@@ -30,13 +27,6 @@ list_read counts file = read_by (name_rules counts) (SaysNames counts) (name_lin
 
 -- ---- how many names there are
 
-at_end : {R : Type 0} (rules : Rules R) (lines : List (List ℕ)) (last : Last) → reason_at rules lines last (length lines) ≡ last_reason rules lines last
-at_end rules lines last = rw (take_all (length lines) lines (omega arith), drop_all (length lines) lines (omega arith)) refl
-
--- the end of clean lines has no fault
-end_fine : {R : Type 0} (rules : Rules R) (lines : List (List ℕ)) (last : Last) → IsClean rules lines last → last_reason rules lines last ≡ None
-end_fine rules lines last clean = sym (at_end rules lines last) ∙ clean.clean (length lines) (omega arith)
-
 no_reason : (b : Bool) (r : NameReason) → ◌≡◌ {A = Option NameReason} (if b then None else Some r) None → b ≡ true
 no_reason true r e = refl
 no_reason false r e = absurd cc
@@ -48,16 +38,13 @@ enough counts n e = elim (or_cases (n == counts.used) (n == counts.used + counts
 ]
 
 -- a text that ends without a fault has enough names
-full_so : (counts : Counts) (lines : List (List ℕ)) (fault : Option LineFault) → last_reason (name_rules counts) lines (last_by fault End) ≡ None → counts.used ≤ length (names_of lines)
+full_so : (counts : Counts) (lines : List (List ℕ)) → (name_rules counts).at_end lines ≡ None → counts.used ≤ length (names_of lines)
 unfolding end_reason
-full_so counts lines None e = enough counts (length (names_of lines)) (no_reason (is_full counts (length (names_of lines))) OtherCount e)
-full_so counts lines (Some fault) e = absurd cc
+full_so counts lines e = enough counts (length (names_of lines)) (no_reason (is_full counts (length (names_of lines))) OtherCount e)
 
 pub listed_count : (counts : Counts) (text : List ℕ) (names : List (List ℕ)) → AreListed counts text names → length names ≡ counts.used
-unfolding last_of
 listed_count counts text names h =
-    let fine = end_fine (name_rules counts) (lines_of text) (last_of text) h.clean in
-    ap length h.said ∙ length-take-le counts.used (names_of (lines_of text)) (full_so counts (lines_of text) (scan text).fault fine)
+    ap length h.said ∙ length-take-le counts.used (names_of (lines_of text)) (full_so counts (lines_of text) (text_ends (name_rules counts) text h.clean))
 
 -- what was read is a list of so many names
 pub count_so : (counts : Counts) (file : ℕ) (name : List ℕ) (old new : Meaning) (r : Result (List (List ℕ)) Answer) → ReadsFile itself (AreListed counts) (IsListRefused counts file) name old new r → IfOk r (λ names. length names ≡ counts.used)

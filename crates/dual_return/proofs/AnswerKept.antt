@@ -1,11 +1,10 @@
 -- What each answer keeps: its numbers are small, its message is lines of a text, none of them
 -- `Options`, and its suffixes are within their limits.
-use Rattle.std.proofs.Common.{◌≡◌, ◌∙◌, ℕ, zero, suc, ◌<◌, ◌≤◌, Bool, true, false, ◌^◌, nat_le, cond, eqb, List, [], ◌∷◌, ◌++◌, length, take, get_or, Option, Some, None, refl, sym, ap, subst, arith, ◌&&◌, ltb, ◌+◌, ◌/◌, ◌%◌, ◌==◌, not, ◌||◌, nat_lt, is_none, append_assoc, append-nil, length-append, length-drop}
+use Rattle.std.proofs.Common.{◌≡◌, ◌∙◌, ℕ, suc, ◌<◌, ◌≤◌, Bool, true, false, ◌^◌, nat_le, cond, eqb, List, [], ◌∷◌, ◌++◌, length, get_or, Option, Some, None, refl, sym, ap, subst, arith, ◌&&◌, ltb, ◌+◌, ◌/◌, ◌%◌, ◌==◌, not, ◌||◌, nat_lt, is_none, append_assoc, append-nil, length-append, length-drop}
 use Rattle.std.specs.Prelude.{option_map, codes, IfSome, unwrap_or, option_and_then}
 use Rattle.std.specs.List.{AllByRecursion}
 use Rattle.std.specs.Str.{bytes_eq}
-use Rattle.std.proofs.lemmas.List.{take_all}
-use Rattle.texts.specs.Judged.{Last, IsClean, first_reason, reason_after}
+use Rattle.texts.specs.Judged.{first_reason}
 use Rattle.texts.specs.Reading.{lines_of, last_of}
 use Rattle.texts.specs.Words.{row_of, without_blanks, word_at, is_blank}
 use Rattle.exact_numbers.specs.declared.dec.Dec.{Dec}
@@ -40,8 +39,8 @@ use Rattle.shared_parts.proofs.ObjectLemmas.{same_objects}
 use Rattle.answer_file.proofs.TableLemmas.{one_value_more}
 use Rattle.sol_files.specs.Tests.{has_index}
 use Rattle.sol_files.specs.Written.{IsSaidLine, are_values}
-use Rattle.std.proofs.Math.Seq.{drop-cons, take-suc}
-use Rattle.texts.proofs.AllLemmas.{all_push}
+use Rattle.texts.proofs.AllLemmas.{all_here, all_push}
+use Rattle.texts.proofs.JudgedLemmas.{clean_keeps}
 
 -- ---- values of a suffix
 
@@ -343,24 +342,11 @@ nothing_kept s = subst (Kept s) (sym (standing_none s)) (record { status = tt; o
 
 -- ---- all lines
 
-line_at : (lines : List (List ℕ)) (n : ℕ) → AllByRecursion IsTextLine lines → n < length lines → IsTextLine (get_or lines n [])
-line_at [] n all h = absurd (omega arith)
-line_at (l ∷ lines) zero all h = all.0
-line_at (l ∷ lines) (suc n) all h = line_at lines n all.1 (omega arith)
-
-lines_kept : (s : Setting) (lines : List (List ℕ)) (last : Last) → AllByRecursion IsTextLine lines → IsClean (answer_rules s) lines last → (n : ℕ) → n ≤ length lines → Kept s (standing s (take n lines))
-lines_kept s lines last all clean zero h = nothing_kept s
-lines_kept s lines last all clean (suc n) h =
-    let line = get_or lines n [] in
-    let within : n < length lines = omega arith in
-    let fine : first_reason (line_tests s (standing s (take n lines)) line) ≡ None = sym (ap (reason_after (answer_rules s) last (take n lines)) (drop-cons lines n [] within)) ∙ clean.clean n (omega arith) in
-    subst (Kept s) (sym (ap (standing s) (take-suc lines n [] within) ∙ standing_more s (take n lines) line))
-    (line_kept s (standing s (take n lines)) line (line_at lines n all within) fine (lines_kept s lines last all clean n (omega arith)))
-
 pub answer_kept : (s : Setting) (text : List ℕ) (a : AnswerValue) → IsAnswer s text a → Kept s (standing s (lines_of text))
 answer_kept s text a h =
-    subst (λ (lines : List (List ℕ)). Kept s (standing s lines)) (take_all (length (lines_of text)) (lines_of text) (omega arith))
-    (lines_kept s (lines_of text) (last_of text) (lines_of-lines text) h.clean (length (lines_of text)) (omega arith))
+    clean_keeps (answer_rules s) (λ ls. Kept s (standing s ls)) (last_of text) (lines_of text)
+    (λ before rest line is fine kept. subst (Kept s) (sym (standing_more s before line))
+    (line_kept s (standing s before) line (all_here IsTextLine before rest line (subst (AllByRecursion IsTextLine) (sym is) (lines_of-lines text))) fine kept)) (nothing_kept s) h.clean
 
 pub message-lines : (s : Setting) (text : List ℕ) (a : AnswerValue) → IsAnswer s text a → AllByRecursion IsMessageLine a.message
 message-lines s text a h = subst (AllByRecursion IsMessageLine) (sym (ap (λ (v : AnswerValue). v.message) h.said)) (by (standing s (lines_of text)).message (answer_kept s text a h).message.each)

@@ -1,14 +1,14 @@
 -- The names that a text lists can be the names of a program.
-use Rattle.std.proofs.Common.{◌≡◌, ◌∙◌, ℕ, ◌+◌, ◌==◌, ◌<◌, ◌^◌, Bool, true, false, not, List, [], ◌∷◌, ◌++◌, length, Option, Some, None, refl, sym, subst, arith, append_assoc, length-append}
+use Rattle.std.proofs.Common.{◌≡◌, ℕ, ◌+◌, ◌==◌, ◌<◌, ◌^◌, Bool, true, false, not, List, [], ◌∷◌, ◌++◌, length, Option, Some, None, refl, sym, subst, arith}
 use Rattle.std.specs.Prelude.{is_some, nat_le, nat_lt, if◌then◌else◌}
 use Rattle.std.proofs.lemmas.Bool.{ltb-true, not-false}
-use Rattle.std.proofs.lemmas.List.{append-nil, take_all}
+use Rattle.std.proofs.lemmas.List.{take_all}
 use Rattle.std.proofs.lemmas.List.Elements.{All-nil}
-use Rattle.std.proofs.Math.Seq.{take_at, drop_at}
-use Rattle.texts.specs.Judged.{IsClean, Last, first_reason, reason_at}
+use Rattle.texts.specs.Judged.{IsClean, Last, first_reason}
 use Rattle.texts.specs.Names.{IsName, is_name, place_of}
 use Rattle.texts.specs.Words.{word_at, words_of}
 use Rattle.texts.proofs.FirstReasons.{none_head}
+use Rattle.texts.proofs.JudgedLemmas.{clean_keeps}
 use Rattle.texts.proofs.NameTests.{tested_name}
 use Rattle.exact_numbers.specs.SpelledLemmas.{second_of_both}
 use Rattle.name_lists.specs.Names.{AreNames, is_reserved}
@@ -51,23 +51,10 @@ step c before line room are fine = by (length (words_of line) == 0) refl fine
     by true e h = subst (λ (s : Standing). AreNames s.names) (sym (standing-same c before line e)) are
     by false e h = subst (λ (s : Standing). AreNames s.names) (sym (standing-more c before line e)) (with_more c (standing c before) (words_of line) room are h)
 
-here_none : (c : Counts) (before : List (List ℕ)) (line : List ℕ) (rest : List (List ℕ)) (last : Last) → IsClean (name_rules c) (before ++ line ∷ rest) last → line_reason c (standing c before) (words_of line) ≡ None
-here_none c before line rest last clean =
-    let here : reason_at (name_rules c) (before ++ line ∷ rest) last (length before) ≡ line_reason c (standing c before) (words_of line) =
-    rw (take_at before (line ∷ rest) (length before) refl, drop_at before (line ∷ rest) (length before) refl) refl in
-    sym here ∙ clean.clean (length before) (omega (arith, length-append before (line ∷ rest)))
-
-all_lines : (c : Counts) (before rest : List (List ℕ)) (last : Last) → c.used < 2 ^ 32 → IsClean (name_rules c) (before ++ rest) last → AreNames (standing c before).names → AreNames (standing c (before ++ rest)).names
-all_lines c before [] last room clean are = subst (λ ls. AreNames (standing c ls).names) (sym (append-nil before)) are
-all_lines c before (line ∷ rest) last room clean are =
-    let one : (before ++ line ∷ []) ++ rest ≡ before ++ line ∷ rest = append_assoc before (line ∷ []) rest in
-    let next = step c before line room are (here_none c before line rest last clean) in
-    subst (λ ls. AreNames (standing c ls).names) one (all_lines c (before ++ line ∷ []) rest last room (subst (λ ls. IsClean (name_rules c) ls last) (sym one) clean) next)
-
 no_names : (c : Counts) → AreNames (standing c []).names
 unfolding names_of
 no_names c = subst AreNames (sym (take_all c.used [] (omega arith))) (record { few = omega arith; named = All-nil IsName; apart = λ i j d lt within. absurd (omega arith); free = All-nil (λ n. is_reserved n ≡ false) })
 
 -- lines that have no fault list names
 pub listed_names : (c : Counts) (lines : List (List ℕ)) (last : Last) → c.used < 2 ^ 32 → IsClean (name_rules c) lines last → AreNames (used_names c lines)
-listed_names c lines last room clean = all_lines c [] lines last room clean (no_names c)
+listed_names c lines last room clean = clean_keeps (name_rules c) (λ ls. AreNames (standing c ls).names) last lines (λ before rest line is fine are. step c before line room are fine) (no_names c) clean

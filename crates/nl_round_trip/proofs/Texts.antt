@@ -12,6 +12,7 @@ use Rattle.texts.specs.Judged.{IsClean, first_reason}
 use Rattle.texts.specs.Reading.{last_of as last_line, lines_of}
 use Rattle.texts.specs.Words.{without_comment, words_of}
 use Rattle.texts.proofs.FirstReasons.{none_each}
+use Rattle.texts.proofs.ReadingLemmas.{text_ends}
 use Rattle.exact_numbers.specs.Numbers.{has_31_bits}
 use Rattle.nl_header.specs.Head.{counts_in, header_line, header_line_fault, number_line_fault, options_in, lacks_number, rule_tests, words_fault}
 use Rattle.code_tables.specs.Header.{header_rows}
@@ -38,7 +39,7 @@ use Rattle.nl_segments.proofs.EndLemmas.{all_given, short_parts}
 use Rattle.nl_lines.proofs.FreshLaw.{none_before}
 use Rattle.nl_segments.proofs.HeadLaw.{all_complete}
 use Rattle.nl_segments.proofs.PairHeld.{never}
-use Rattle.nl_segments.proofs.CleanTexts.{all_lines, none_missing}
+use Rattle.nl_segments.proofs.CleanTexts.{all_lines}
 use Rattle.nl_segments.proofs.PairLines.{front_apart}
 use Rattle.nl_round_trip.proofs.Heads.{no_mark, options_small}
 use Rattle.nl_round_trip.proofs.Rows.{AreGood, AreKept, IsGoodPiece, kept_none, kept_row}
@@ -205,4 +206,4 @@ whole_by s h e = by (is_in_header s) refl
 pub whole_text : (text : List ℕ) → IsClean nl_rules (lines_of text) (last_line text) → IsWhole (options_in (standing (lines_of text)).header) (counts_of (standing (lines_of text))) (standing (lines_of text)).pieces (said (standing (lines_of text)))
 whole_text text c =
     let lines = lines_of text in
-    whole_by (standing lines) (all_lines IsKeptStanding (length lines) (λ s n line more most h fine. step s n line h fine) [] lines (last_line text) (omega arith) c start) (none_missing text c)
+    whole_by (standing lines) (all_lines IsKeptStanding lines (last_line text) (λ s n line more most h fine. step s n line h fine) start c) (text_ends nl_rules text c)

@@ -2,14 +2,14 @@
 use Rattle.std.proofs.Common.{◌≡◌, ◌∙◌, ℕ, ◌+◌, ◌<◌, ◌≤◌, Bool, true, false, List, [], ◌∷◌, ◌++◌, length, refl, sym, ap, subst, arith, Option, Some, None, All, append_assoc, append-nil, zero, suc, ◌==◌, slice_set, get_or, ◌⊎◌, inl, inr}
 use Rattle.std.specs.Prelude.{IsSome, IsSomeAnd, Ok, ℤ, slice_get, option_map, unwrap_or}
 use Rattle.std.proofs.lemmas.Bool.{not-false, eqb-true, cond_both}
-use Rattle.std.proofs.lemmas.List.{drop_all, drop_at, length-append, take_all, take_at}
+use Rattle.std.proofs.lemmas.List.{length-append}
 use Rattle.std.proofs.lemmas.List.Elements.{All-push, All-contains, Contains-append_left, Contains-push}
-use Rattle.texts.specs.declared.lines.LineFault.{LineFault}
-use Rattle.texts.specs.Judged.{Last, IsClean, last_reason, reason_at}
-use Rattle.texts.specs.Lines.{scan}
+use Rattle.texts.specs.Judged.{Last, IsClean}
 use Rattle.texts.specs.Reading.{last_of as last_line, lines_of, Reads}
 use Rattle.texts.specs.Words.{without_comment}
 use Rattle.texts.proofs.FirstReasons.{none_each}
+use Rattle.texts.proofs.JudgedLemmas.{clean_keeps}
+use Rattle.texts.proofs.ReadingLemmas.{text_ends}
 use Rattle.nl_header.specs.Head.{options_in}
 use Rattle.nl_model.specs.declared.header_counts.Counts.{Counts}
 use Rattle.nl_model.specs.FilePlaces.{HasPlace, tree_at}
@@ -94,39 +94,14 @@ step P s n line here h fine = by (holds_words line) (is_in_header s) refl refl
           lines = row_lines P (counts_of s) s.pieces row here h.lines;
         })
 
-here_none : (before : List (List ℕ)) (line : List ℕ) (rest : List (List ℕ)) (last : Last) → IsClean nl_rules (before ++ line ∷ rest) last → line_refusal (standing before) line ≡ None
-here_none before line rest last c =
-    let here : reason_at nl_rules (before ++ line ∷ rest) last (length before) ≡ line_refusal (standing before) line =
-    rw (take_at before (line ∷ rest) (length before) refl, drop_at before (line ∷ rest) (length before) refl) refl in
-    sym here ∙ c.clean (length before) (omega (arith, length-append before (line ∷ rest)))
-
 -- what each line without a fault keeps holds after all lines
-pub all_lines : (K : Standing → Type 0) (count : ℕ) → ((s : Standing) (n : ℕ) (line : List ℕ) → 0 < n → n ≤ count → K s → line_refusal s line ≡ None → K (after s n line))
-    → (before rest : List (List ℕ)) (last : Last) → length before + length rest ≤ count → IsClean nl_rules (before ++ rest) last → K (standing before) → K (standing (before ++ rest))
-all_lines K count each before [] last room c h = subst (λ ls. K (standing ls)) (sym (append-nil before)) h
-all_lines K count each before (line ∷ rest) last room c h =
-    let one : (before ++ line ∷ []) ++ rest ≡ before ++ line ∷ rest = append_assoc before (line ∷ []) rest in
-    let next = subst K (sym (standing-more before line)) (each (standing before) (length before + 1) line (omega arith) (omega (arith, room)) h (here_none before line rest last c)) in
-    subst (λ ls. K (standing ls)) one
-    (all_lines K count each (before ++ line ∷ []) rest last (omega (arith, room, length-append before (line ∷ []))) (subst (λ ls. IsClean nl_rules ls last) (sym one) c) next)
+pub all_lines : (K : Standing → Type 0) (lines : List (List ℕ)) (last : Last) → ((s : Standing) (n : ℕ) (line : List ℕ) → 0 < n → n ≤ length lines → K s → line_refusal s line ≡ None → K (after s n line))
+    → K (standing []) → IsClean nl_rules lines last → K (standing lines)
+all_lines K lines last each start c =
+    clean_keeps nl_rules (λ ls. K (standing ls)) last lines
+    (λ before rest line is fine h. subst K (sym (standing-more before line)) (each (standing before) (length before + 1) line (omega arith) (omega (arith, ap length is, length-append before (line ∷ rest))) h fine)) start c
 
 -- ---- the end
-
-end_none : (lines : List (List ℕ)) (last : Last) → IsClean nl_rules lines last → last_reason nl_rules lines last ≡ None
-end_none lines last c =
-    let here : reason_at nl_rules lines last (length lines) ≡ last_reason nl_rules lines last = rw (take_all (length lines) lines (omega arith), drop_all (length lines) lines (omega arith)) refl in
-    sym here ∙ c.clean (length lines) (omega arith)
-
-at_end : (text : List ℕ) → last_reason nl_rules (lines_of text) (last_line text) ≡ None → end_refusal (standing (lines_of text)) ≡ None
-unfolding last_line
-at_end text e = by (scan text).fault refl
-  where
-    by : (o : Option LineFault) → (scan text).fault ≡ o → end_refusal (standing (lines_of text)) ≡ None
-    by None q = rw q at e
-    by (Some fault) q = absurd (let some = rw q at e in cc)
-
-pub none_missing : (text : List ℕ) → IsClean nl_rules (lines_of text) (last_line text) → end_refusal (standing (lines_of text)) ≡ None
-none_missing text c = at_end text (end_none (lines_of text) (last_line text) c)
 
 -- what a text without a fault means
 pub record IsWholeText (P : ℕ → Type 0) (s : Standing) : Type 0 where
@@ -153,7 +128,7 @@ whole_by P s h e = by (is_in_header s) refl
 pub whole_text : (P : ℕ → Type 0) (text : List ℕ) → ((n : ℕ) → 0 < n → n ≤ length (lines_of text) → P n) → IsClean nl_rules (lines_of text) (last_line text) → IsWholeText P (standing (lines_of text))
 whole_text P text each c =
     let lines = lines_of text in
-    whole_by P (standing lines) (all_lines (IsCleanStanding P) (length lines) (λ s n line more most h fine. step P s n line (each n more most) h fine) [] lines (last_line text) (omega arith) c (start P)) (none_missing text c)
+    whole_by P (standing lines) (all_lines (IsCleanStanding P) lines (last_line text) (λ s n line more most h fine. step P s n line (each n more most) h fine) (start P) c) (text_ends nl_rules text c)
 
 -- ---- the laws
 

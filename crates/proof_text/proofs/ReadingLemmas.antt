@@ -21,7 +21,7 @@ use Rattle.proof_text.proofs.GrammarLemmas.{read_for}
 use Rattle.proof_text.proofs.TextTrees.{text_is_proof}
 use Rattle.tree_text.specs.Readings.{HasOneReading}
 use Rattle.tree_text.proofs.ReadingLemmas.{one_reading as one_reading_of}
-use Rattle.tree_text.proofs.CleanLines.{text_ends}
+use Rattle.texts.proofs.ReadingLemmas.{text_ends}
 use Rattle.tree_text.proofs.TestLemmas.{some_there}
 
 first_of_whole : (a b c : Bool) → (a && b && c) ≡ true → a ≡ true

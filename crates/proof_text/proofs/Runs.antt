@@ -1,5 +1,5 @@
 -- A text without faults as a run of pieces, each of which may come where it stands.
-use Rattle.std.proofs.Common.{◌≡◌, ◌∙◌, ℕ, ◌+◌, ◌<◌, ◌^◌, ◌==◌, Bool, true, false, cond, not, ◌&&◌, ◌||◌, nat_le, nat_lt, List, [], ◌∷◌, ◌++◌, length, get_or, Option, Some, None, is_none, is_some, codes, refl, sym, ap, ap₂, subst, append-nil}
+use Rattle.std.proofs.Common.{◌≡◌, ◌∙◌, ℕ, ◌+◌, ◌<◌, ◌^◌, ◌==◌, Bool, true, false, cond, not, ◌&&◌, ◌||◌, nat_le, nat_lt, List, [], ◌∷◌, ◌++◌, length, get_or, Option, Some, None, is_none, is_some, codes, refl, sym, ap, ap₂, subst}
 use Rattle.std.proofs.lemmas.Bool.{and_parts, not-false, ltb-true, leb-false, not-true}
 use Rattle.std.specs.List.{cons_option, filter_map}
 use Rattle.std.specs.Str.{bytes_eq}
@@ -8,7 +8,7 @@ use Rattle.fractions.specs.Rational.{whole, zero_ℚ}
 use Rattle.exact_numbers.specs.declared.dec.Dec.{Dec}
 use Rattle.exact_numbers.specs.Numbers.{dec_of, whole_of}
 use Rattle.exact_numbers.specs.Values.{dec_value}
-use Rattle.texts.specs.Judged.{IsClean, Last, first_reason}
+use Rattle.texts.specs.Judged.{End, IsClean, first_fault_from, first_reason}
 use Rattle.texts.specs.Reading.{last_of, lines_of}
 use Rattle.texts.specs.Words.{begins, row_of, word_at}
 use Rattle.texts.proofs.FirstReasons.{none_each}
@@ -29,7 +29,8 @@ use Rattle.proof_text.specs.Tests.{claim_tests, first_tests, is_pair_out, is_spl
 use Rattle.proof_text.specs.Grammar.{proof_rules}
 use Rattle.proof_text.proofs.RowLemmas.{Says, claim_is, claim_row_says, first_is, first_row_says, node_is, node_row_says, pair_is, pair_row_says}
 use Rattle.proof_text.proofs.Steps.{line_push}
-use Rattle.tree_text.proofs.CleanLines.{EndsFine, after_line, end_clean, line_clean, text_fine}
+use Rattle.texts.proofs.JudgedLemmas.{last_clean, line_clean}
+use Rattle.texts.proofs.ReadingLemmas.{text_clean}
 use Rattle.tree_text.proofs.TestLemmas.{is_there, zero_left}
 use Rattle.tree_text.proofs.RowLemmas.{word_is}
 
@@ -233,15 +234,15 @@ runs_more s st words rows here more =
       pairs = ap₂ cons_option here.is.pair more.pairs;
     }
 
-runs_from : (s : Setting) (last : Last) → EndsFine (proof_rules s) last → (rest before : List (List ℕ)) → (proof_standing (rows_in before)).begun ≡ true → IsClean (proof_rules s) (before ++ rest) last
+runs_from : (s : Setting) (rest before : List (List ℕ)) → (proof_standing (rows_in before)).begun ≡ true → first_fault_from (proof_rules s) End before rest ≡ None
     → Runs s (proof_standing (rows_in before)) (rows_in rest)
 unfolding IsRun proof_end_tests proof_line_tests rows_in
-runs_from s last ends [] before begun clean =
-    let tests = none_each (proof_end_tests (proof_standing (rows_in before))) (ends before (end_clean (proof_rules s) last before (subst (λ ls. IsClean (proof_rules s) ls last) (append-nil before) clean))) in
+runs_from s [] before begun clean =
+    let tests = none_each (proof_end_tests (proof_standing (rows_in before))) (last_clean (proof_rules s) End before clean) in
     record { pieces = []; run = not-false (is_whole_proof (proof_standing (rows_in before))) tests.1.0; claims = refl; nodes = refl; pairs = refl }
-runs_from s last ends (line ∷ rest) before begun clean =
-    by (length (row_of line) == 0) (line_clean (proof_rules s) last before rest line clean) (line_push before line)
-    (λ more. runs_from s last ends rest (before ++ line ∷ []) more (after_line (proof_rules s) last before rest line clean))
+runs_from s (line ∷ rest) before begun clean =
+    let fine = line_clean (proof_rules s) End before rest line clean in
+    by (length (row_of line) == 0) fine.0 (line_push before line) (λ more. runs_from s rest (before ++ line ∷ []) more fine.1)
   where
     st : ProofStanding
     st = proof_standing (rows_in before)
@@ -269,16 +270,17 @@ first_runs s words rows tests more =
       pairs = ap₂ cons_option says.pair more.pairs;
     }
 
-begins_from : (s : Setting) (last : Last) → EndsFine (proof_rules s) last → (rest before : List (List ℕ)) → proof_standing (rows_in before) ≡ proof_standing [] → IsClean (proof_rules s) (before ++ rest) last → Runs s begun_only (rows_in rest)
+begins_from : (s : Setting) (rest before : List (List ℕ)) → proof_standing (rows_in before) ≡ proof_standing [] → first_fault_from (proof_rules s) End before rest ≡ None → Runs s begun_only (rows_in rest)
 unfolding proof_end_tests proof_line_tests proof_row_tests rows_in
-begins_from s last ends [] before none clean =
-    let tests = none_each (proof_end_tests (proof_standing (rows_in before))) (ends before (end_clean (proof_rules s) last before (subst (λ ls. IsClean (proof_rules s) ls last) (append-nil before) clean))) in
+begins_from s [] before none clean =
+    let tests = none_each (proof_end_tests (proof_standing (rows_in before))) (last_clean (proof_rules s) End before clean) in
     absurd (let wrong = tests.0 in let no_rows = ap (λ (st : ProofStanding). not st.begun) none in cc)
-begins_from s last ends (line ∷ rest) before none clean =
-    by (length (row_of line) == 0) (subst (λ (st : ProofStanding). first_reason (proof_line_tests s st line) ≡ None) none (line_clean (proof_rules s) last before rest line clean))
+begins_from s (line ∷ rest) before none clean =
+    let fine = line_clean (proof_rules s) End before rest line clean in
+    by (length (row_of line) == 0) (subst (λ (st : ProofStanding). first_reason (proof_line_tests s st line) ≡ None) none fine.0)
     (line_push before line ∙ ap (λ st. with_line st line) none)
-    (λ more. begins_from s last ends rest (before ++ line ∷ []) more (after_line (proof_rules s) last before rest line clean))
-    (λ more. runs_from s last ends rest (before ++ line ∷ []) more (after_line (proof_rules s) last before rest line clean))
+    (λ more. begins_from s rest (before ++ line ∷ []) more fine.1)
+    (λ more. runs_from s rest (before ++ line ∷ []) more fine.1)
   where
     words : TextRow
     words = row_of line
@@ -296,5 +298,4 @@ unfolding rows_in
 no_rows = refl
 
 pub text_runs : (s : Setting) (text : List ℕ) → IsClean (proof_rules s) (lines_of text) (last_of text) → Runs s begun_only (rows_in (lines_of text))
-unfolding last_of
-text_runs s text clean = begins_from s (last_of text) (text_fine (proof_rules s) text) (lines_of text) [] no_rows clean
+text_runs s text clean = begins_from s (lines_of text) [] no_rows (text_clean (proof_rules s) text clean).1

@@ -1,16 +1,16 @@
 -- A value that was read keeps the rules of values.
-use Rattle.std.proofs.Common.{◌≡◌, ◌∙◌, ℕ, zero, suc, ◌≤◌, Bool, true, false, cond, List, [], ◌∷◌, length, take, drop, Option, Some, None, refl, sym, ap, subst, arith, ◌==◌, get_or, drop-cons}
+use Rattle.std.proofs.Common.{◌≡◌, ◌∙◌, ℕ, Bool, true, false, cond, List, [], ◌∷◌, ◌++◌, length, None, refl, sym, ap, subst, arith, ◌==◌}
 use Rattle.std.proofs.lemmas.Bool.{not-false}
 use Rattle.std.specs.List.{AllByRecursion}
-use Rattle.std.proofs.lemmas.List.{take_all, drop_all}
 use Rattle.texts.specs.Cut.{IsTextLine}
-use Rattle.texts.specs.Judged.{Last, End, IsClean, first_reason, last_reason, reason_after}
-use Rattle.texts.specs.Lines.{scan}
-use Rattle.texts.specs.Reading.{lines_of, last_of, last_by}
+use Rattle.texts.specs.Judged.{first_reason}
+use Rattle.texts.specs.Reading.{lines_of, last_of}
 use Rattle.texts.specs.Words.{row_of}
-use Rattle.texts.specs.declared.lines.LineFault.{LineFault}
+use Rattle.texts.proofs.AllLemmas.{all_here}
 use Rattle.texts.proofs.FirstReasons.{none_each}
+use Rattle.texts.proofs.JudgedLemmas.{clean_keeps}
 use Rattle.texts.proofs.LineLemmas.{lines_of-lines}
+use Rattle.texts.proofs.ReadingLemmas.{text_ends}
 use Rattle.sol_files.specs.declared.awaited.Awaited.{Awaited}
 use Rattle.sol_files.specs.declared.awaited.Awaited.TheVariants.{Message, OptionCount, Options, Constraints, DualCount, Variables, PrimalCount, Duals, Primals, Tail, Name, Table, Values}
 use Rattle.sol_files.specs.Sol.{Sol}
@@ -19,7 +19,7 @@ use Rattle.sol_files.specs.Parts.{is_tail}
 use Rattle.sol_files.specs.Standing.{Standing, standing}
 use Rattle.sol_files.specs.Progress.{Progress, kind_of, seen, start}
 use Rattle.sol_files.specs.Tests.{line_tests, line_tests_at, row_tests, row_line_tests, end_tests}
-use Rattle.sol_files.specs.Steps.{after, after_at, after_row, after_row_line, read}
+use Rattle.sol_files.specs.Steps.{after_at, after_row, after_row_line, read}
 use Rattle.sol_files.specs.Grammar.{sol_rules}
 use Rattle.sol_files.specs.Reader.{IsSol}
 use Rattle.sol_files.specs.Written.{KeepsRules}
@@ -27,8 +27,6 @@ use Rattle.sol_files.proofs.StandingLemmas.{standing-read, read-more, read-none,
 use Rattle.sol_files.proofs.Kept.{KeptAt, KeepsAt, Keeps}
 use Rattle.sol_files.proofs.KeptRows.{kept_count, kept_option, kept_constraints, kept_dual_count, kept_variables, kept_primal_count, kept_dual, kept_primal}
 use Rattle.sol_files.proofs.KeptTail.{kept_message, kept_tail, kept_name, kept_table, kept_value}
-use Rattle.std.proofs.lemmas.List.Elements.{All-from_recursion}
-use Rattle.std.proofs.Math.Seq.{take-suc}
 
 -- ---- a line more
 
@@ -76,16 +74,10 @@ none_kept = subst Keeps (sym read-none) first
       rest = (record { duals = refl; primals = refl }, record { none = refl; begun = refl; tables = refl; values = refl });
     }
 
-front_kept : (lines : List (List ℕ)) (last : Last) → AllByRecursion IsTextLine lines → IsClean sol_rules lines last → (i : ℕ) → i ≤ length lines → Keeps (read (take i lines))
-front_kept lines last all clean zero le = none_kept
-front_kept lines last all clean (suc i) le =
-    let line = get_or lines i [] in
-    let s = read (take i lines) in
-    let before : Keeps s = front_kept lines last all clean i (omega arith) in
-    let here : drop i lines ≡ line ∷ drop (suc i) lines = drop-cons lines i [] le in
-    let fine : first_reason (line_tests (seen s) line) ≡ None = ap (λ (x : Standing). first_reason (line_tests x line)) (sym (standing-read (take i lines))) ∙ ap (reason_after sol_rules last (take i lines)) (sym here) ∙ clean.clean i (omega arith) in
-    let next : Keeps (after s line) = line_kept s.awaited s line (All-from_recursion IsTextLine lines all i [] le) refl before fine in
-    subst Keeps (sym (read-more (take i lines) line) ∙ ap read (sym (take-suc lines i [] le))) next
+one_more : (before : List (List ℕ)) (line : List ℕ) → IsTextLine line → first_reason (line_tests (standing before) line) ≡ None → Keeps (read before) → Keeps (read (before ++ line ∷ []))
+one_more before line one fine kept =
+    subst Keeps (sym (read-more before line))
+    (line_kept (read before).awaited (read before) line one refl kept (ap (λ (x : Standing). first_reason (line_tests x line)) (sym (standing-read before)) ∙ fine))
 
 rules_kept : (s : Progress) → KeepsAt Tail s → KeepsRules s.sol
 unfolding KeptAt
@@ -108,20 +100,13 @@ rules_kept s h =
       value_room = omega (arith, old.values, old.value_room);
     }
 
-last_fine : (fault : Option LineFault) (lines : List (List ℕ)) → last_reason sol_rules lines (last_by fault End) ≡ None → first_reason (end_tests (standing lines)) ≡ None
-last_fine None lines e = e
-last_fine (Some fault) lines e = absurd cc
-
 pub read_keeps : (text : List ℕ) (sol : Sol) → IsSol text sol → KeepsRules sol
-unfolding last_of
 read_keeps text sol h =
     let lines = lines_of text in
     let s = read lines in
-    let n = length lines in
-    let whole : take n lines ≡ lines = take_all n lines (omega arith) in
-    let kept : Keeps s = subst (λ ls. Keeps (read ls)) whole (front_kept lines (last_of text) (lines_of-lines text) h.clean n (omega arith)) in
-    let at_last : last_reason sol_rules lines (last_of text) ≡ None =
-    ap (λ ls. last_reason sol_rules ls (last_of text)) (sym whole) ∙ ap (reason_after sol_rules (last_of text) (take n lines)) (sym (drop_all n lines (omega arith))) ∙ h.clean.clean n (omega arith) in
-    let tests = none_each (end_tests (seen s)) (ap (λ (x : Standing). first_reason (end_tests x)) (sym (standing-read lines)) ∙ last_fine (scan text).fault lines at_last) in
+    let kept : Keeps s =
+    clean_keeps sol_rules (λ ls. Keeps (read ls)) (last_of text) lines
+    (λ before rest line is fine. one_more before line (all_here IsTextLine before rest line (subst (AllByRecursion IsTextLine) (sym is) (lines_of-lines text))) fine) none_kept h.clean in
+    let tests = none_each (end_tests (seen s)) (ap (λ (x : Standing). first_reason (end_tests x)) (sym (standing-read lines)) ∙ text_ends sol_rules text h.clean) in
     let tail = tail_is s.awaited (not-false (is_tail (kind_of s.awaited)) tests.1.1.0) in
     subst KeepsRules (sym (h.said ∙ ap (λ (x : Standing). x.sol) (standing-read lines))) (rules_kept s (subst (λ a. KeepsAt a s) tail kept))

@@ -9,7 +9,7 @@ use Rattle.texts.specs.declared.stop.Stop.TheVariants.{Fault, Memory}
 use Rattle.texts.specs.declared.fault.TextFault.{TextFault}
 use Rattle.texts.specs.Stopped.{IfFault, IsFaultAnd, MatchStop}
 use Rattle.texts.specs.Lines.{trimmed, scan, LinesState, StandsFor, GoesOn, EndsLine, number_of}
-use Rattle.texts.specs.Judged.{Rules, Last, Open, Bad, End, HasFaultAt}
+use Rattle.texts.specs.Judged.{Rules, Last, Open, Bad, End, last_reason, first_fault_of, IsClean, HasFaultAt}
 use Rattle.texts.specs.Cut.{IsTextLine, ended_lines}
 use Rattle.texts.specs.Reading.{rest_line, lines_by, last_by, lines_of, last_of, lines_so_far, last_so_far, HasFault, IsRead, Reads, IsFreeSoFar, HasFaultSoFar, IsGoing, Stands, IsAtEnd}
 use Rattle.texts.proofs.Walk.{no_lines, walk}
@@ -17,7 +17,7 @@ use Rattle.texts.proofs.WalkScan.{scan_is}
 use Rattle.texts.proofs.ScanLemmas.{scan-lines, scan-fault}
 use Rattle.texts.proofs.FrontLemmas.{steps-written}
 use Rattle.std.specs.List.{AllByRecursion}
-use Rattle.texts.proofs.JudgedLemmas.{clean_last, clean_more, fault_last, fault_here, fault-append}
+use Rattle.texts.proofs.JudgedLemmas.{end_clean, clean_last, clean_more, fault_last, fault_here, fault-append}
 
 -- the bytes of a piece
 pub parts_of : (piece front rest : List ℕ) (n : ℕ) → piece ≡ front ++ rest → piece ≡ (front ++ take n rest) ++ drop n rest
@@ -46,6 +46,21 @@ module _ {R : Type 0} (rules : Rules R) where
       by : (o : Option LineFault) → HasFaultAt rules (scan text).lines (last_by o Open) fault.line fault.reason → HasFaultAt rules (lines_by o (scan text)) (last_by o End) fault.line fault.reason
       by None h = fault-append rules (scan text).lines (rest_line (scan text).rest) End fault.line fault.reason h
       by (Some f) h = h
+
+  -- ---- texts without faults
+
+  -- they have no line fault
+  pub text_clean : (text : List ℕ) → IsClean rules (lines_of text) (last_of text) → (last_of text ≡ End) × (first_fault_of rules (lines_of text) End ≡ None)
+  unfolding last_of
+  text_clean text h = by (scan text).fault h.none (end_clean rules (last_of text) (lines_of text) [] h.none)
+    where
+      by : (o : Option LineFault) → first_fault_of rules (lines_of text) (last_by o End) ≡ None → last_reason rules (last_by o End) (lines_of text) ≡ None → (last_by o End ≡ End) × (first_fault_of rules (lines_of text) End ≡ None)
+      by None e ends = (refl, e)
+      by (Some fault) e ends = absurd cc
+
+  -- and may end where they do
+  pub text_ends : (text : List ℕ) → IsClean rules (lines_of text) (last_of text) → rules.at_end (lines_of text) ≡ None
+  text_ends text h = end_clean rules End (lines_of text) [] (text_clean text h).1
 
   -- ---- from piece to piece
 

@@ -1,5 +1,6 @@
 -- Lines that are judged in order: each from the lines before it, and last what follows them.
-use Rattle.std.specs.Prelude.{◌≡◌, ℕ, ◌<◌, ◌≤◌, Bool, List, [], ◌∷◌, length, take, drop, Option, Some, None, Result, Ok, Err, if◌then◌else◌, ◌⊎◌, ◌+◌, ◌-◌}
+use Rattle.std.specs.Prelude.{◌≡◌, ℕ, Bool, List, [], ◌∷◌, ◌++◌, length, Option, Some, None, option_map, Result, Ok, Err, if◌then◌else◌, ◌⊎◌, ◌+◌}
+use Rattle.std.specs.Option.{option_or}
 use Rattle.texts.specs.declared.lines.LineFault.{LineFault}
 use Rattle.texts.specs.declared.stop.Stop.{Stop}
 use Rattle.texts.specs.declared.stop.Stop.TheVariants.{Fault, Memory}
@@ -44,42 +45,37 @@ pub data Last : Type 0 where
   Bad : LineFault → Last
   End : Last
 
--- what is said of what follows the lines
-abbrev pub last_reason : {R : Type 0} → Rules R → List (List ℕ) → Last → Option R
-last_reason rules lines Open = None
-last_reason rules lines (Bad fault) = Some (rules.at_fault lines fault)
-last_reason rules lines End = rules.at_end lines
+-- what is said of what follows these lines
+abbrev pub last_reason : {R : Type 0} → Rules R → Last → List (List ℕ) → Option R
+last_reason rules Open lines = None
+last_reason rules (Bad fault) lines = Some (rules.at_fault lines fault)
+last_reason rules End lines = rules.at_end lines
 
--- what is said of the line that comes first after `before`; with none left, of what follows
-abbrev pub reason_after : {R : Type 0} → Rules R → Last → List (List ℕ) → List (List ℕ) → Option R
-reason_after rules last before [] = last_reason rules before last
-reason_after rules last before (line ∷ more) = rules.at_line before line
+-- a reason said of the line after these, with its number
+abbrev pub next_fault : {R : Type 0} → List (List ℕ) → Option R → Option (ℕ × R)
+next_fault before reason = option_map (λ r. (length before + 1, r)) reason
 
--- the reason at line i, counted from 0
-abbrev pub reason_at : {R : Type 0} → Rules R → List (List ℕ) → Last → ℕ → Option R
-reason_at rules lines last i = reason_after rules last (take i lines) (drop i lines)
+-- The first fault, of these lines and what follows them, where others came before.
+abbrev pub first_fault_from : {R : Type 0} → Rules R → Last → List (List ℕ) → List (List ℕ)
+    → Option (ℕ × R)
+first_fault_from rules last before [] = next_fault before (last_reason rules last before)
+first_fault_from rules last before (line ∷ more) =
+    option_or (next_fault before (rules.at_line before line))
+    (first_fault_from rules last (before ++ line ∷ []) more)
 
--- no line before line i has a fault
-pub record IsCleanBefore {R : Type 0} (rules : Rules R) (lines : List (List ℕ)) (last : Last)
-    (i : ℕ) : Type 0 where
-  pub clean : (j : ℕ) → j < i → reason_at rules lines last j ≡ None
+-- the first fault: its line, counted from 1, and its reason
+abbrev pub first_fault_of : {R : Type 0} → Rules R → List (List ℕ) → Last → Option (ℕ × R)
+first_fault_of rules lines last = first_fault_from rules last [] lines
 
 -- no line has a fault, nor has what follows
-abbrev pub IsClean : {R : Type 0} → Rules R → List (List ℕ) → Last → Type 0
-IsClean rules lines last = IsCleanBefore rules lines last (length lines + 1)
+pub record IsClean {R : Type 0} (rules : Rules R) (lines : List (List ℕ)) (last : Last) : Type 0
+  where
+    pub none : first_fault_of rules lines last ≡ None
 
--- the first fault is at line i, counted from 0, for this reason
-pub record IsFirstFault {R : Type 0} (rules : Rules R) (lines : List (List ℕ)) (last : Last) (i : ℕ)
-    (reason : R) : Type 0 where
-  pub within : i ≤ length lines
-  pub earlier : IsCleanBefore rules lines last i
-  pub here : reason_at rules lines last i ≡ Some reason
-
--- the same, with lines counted from 1
+-- the first fault is at this line, for this reason
 pub record HasFaultAt {R : Type 0} (rules : Rules R) (lines : List (List ℕ)) (last : Last)
     (line : ℕ) (reason : R) : Type 0 where
-  pub place : 0 < line
-  pub first : IsFirstFault rules lines last (line - 1) reason
+  pub first : first_fault_of rules lines last ≡ Some (line, reason)
 
 -- exactly one of both holds, with one place and one reason
 pub record HasOneOutcome {R : Type 0} (rules : Rules R) (lines : List (List ℕ))

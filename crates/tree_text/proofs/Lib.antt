@@ -1,4 +1,3 @@
 pub mod RowLemmas
 pub mod TestLemmas
-pub mod CleanLines
 pub mod ReadingLemmas
