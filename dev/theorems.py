@@ -30,6 +30,11 @@ THEOREMS = (
             "What is true of an .nl file where `verify` says yes."),
     Theorem("what a denied claim means", ("bridge_tool/Verify:IsDenied",),
             "What is true of the file, or of a leaf's part of its program, where `verify` says no, by the cause that is told."),
+    Theorem("what a yes says", (HEADLINE, "bridge_tool/Verify:SaysVerified"),
+            "Status 0 of `verify` from the headline down to the line that is written: what both texts say, by their lines "
+            "alone, and that the line is true of that. Nothing of which texts are refused."),
+    Theorem("what a yes of an MPS file says", (HEADLINE, "bridge_tool/VerifyMps:SaysVerifiedMps"),
+            "The same of `verify_mps` and `verify_fixed`.", 2),
     Theorem("what proved means", ("bridge_tool/Prove:IsProvedOf",), "What is true of the file where `prove` says yes."),
     Theorem("what an export means", ("bridge_tool/Export:MeansTheFile",),
             "The program that is written means what the file means."),

@@ -1,5 +1,6 @@
 -- Words come to exactly one outcome; what the top call says of any command, and the headline.
 use Rattle.std.proofs.Common.{◌≡◌, ◌∙◌, ℕ, List, Option, Some, None, true, false, Bool, refl, sym, inl, inr, ◌⊎◌, ◌<◌, ◌≤◌, IfSome, subst, arith, ◌≢◌}
+use Rattle.std.specs.Prelude.{codes}
 use Rattle.desk.specs.Desk.{Texts, Meaning, Rose, OnlyMessages}
 use Rattle.bridge_tool.specs.Check.{IsCertified, IsNotCertified}
 use Rattle.bridge_tool.specs.Command.{Command, Check, Export, Rewrite, command_of, Prove, Verify, VerifyProgram, Make, Return, NamedExport, NamedReturn}
@@ -10,10 +11,10 @@ use Rattle.bridge_tool.specs.OneFile.{row_of}
 use Rattle.command_parts.specs.Outcome.{Outcome, BadWords, Untold, Status, Written, IsQuiet, Told, told_line, NoText, Refused, Done, verdict_status}
 use Rattle.bridge_tool.specs.Prove.{IsLeftOpen, IsProvedOf}
 use Rattle.bridge_tool.specs.Return.{IsReturnMeant}
-use Rattle.bridge_tool.specs.Verify.{IsDenied, IsVerified}
-use Rattle.bridge_tool.specs.VerifyMps.{IsDeniedMps, IsVerifiedMps}
-use Rattle.bridge_tool.proofs.Programs.{program_last, program_read}
-use Rattle.bridge_tool.proofs.Verdicts.{check_last, prove_last, verify_last}
+use Rattle.bridge_tool.specs.Verify.{IsDenied}
+use Rattle.bridge_tool.specs.VerifyMps.{IsDeniedMps}
+use Rattle.bridge_tool.proofs.Programs.{IsVerifiedIn, program_last, program_read}
+use Rattle.bridge_tool.proofs.Verdicts.{IsVerifiedOf, check_last, prove_last, verify_last}
 use Rattle.command_parts.proofs.TextsRead.{nl_read}
 use Rattle.bridge_tool.proofs.Exporting.{export_last}
 use Rattle.bridge_tool.proofs.OneFile.{last_of}
@@ -25,7 +26,7 @@ use Rattle.bridge_tool.proofs.Returning.{after_names as return_next, names_sound
 use Rattle.std.proofs.lemmas.Bool.{cases_lt}
 use Rattle.std.proofs.lemmas.Option.{IfSome_then}
 use Rattle.command_parts.specs.InsideAnswer.{IsWorked, status_of, told_by}
-use Rattle.command_parts.specs.Promise.{Answers, IsInputRefused, LacksText, Promise}
+use Rattle.command_parts.specs.Promise.{Answers, Promise, Tells}
 use Rattle.command_parts.specs.Told.{IsRefusalLine}
 use Rattle.command_parts.specs.Transfer.{TellsFront}
 use Rattle.command_parts.specs.declared.answer.Answer.{Answer}
@@ -41,14 +42,14 @@ Any outcome = Unit {0}
 
 -- with the texts of a desk that tells them
 pub told_has_one : (texts : Texts) (c : Command) → HasOne IsPlain (promise_of (Some texts) c).comes
-told_has_one texts (Export file k) = (last_sound (export_last k) (λ nl. IsExportMeant nl k) NoVerdict file texts).one
+told_has_one texts (Export file k) = (last_sound (export_last k) (λ nl bytes. IsExportMeant nl k) NoVerdict file texts).one
 told_has_one texts (Make seed size) = make_one seed size
-told_has_one texts (Rewrite of file) = (last_sound (last_of of) (row_of of).means NoVerdict file texts).one
-told_has_one texts (Check nl sol) = (both_sound nl_read check_last IsCertified IsNotCertified nl sol texts).one
-told_has_one texts (Prove nl proof) = (both_sound nl_read prove_last IsProvedOf IsLeftOpen nl proof texts).one
-told_has_one texts (Verify nl certificate) = (both_sound nl_read verify_last IsVerified IsDenied nl certificate texts).one
-told_has_one texts (VerifyProgram form mps certificate) = (both_sound (program_read form) program_last IsVerifiedMps IsDeniedMps mps certificate texts).one
-told_has_one texts (Return nl answer) = (both_sound nl_read return_last IsReturnMeant (λ nl. NoVerdict) nl answer texts).one
+told_has_one texts (Rewrite of file) = (last_sound (last_of of) (λ value bytes. (row_of of).means value) NoVerdict file texts).one
+told_has_one texts (Check nl sol) = (both_sound nl_read check_last (λ nl s bytes. IsCertified nl s) IsNotCertified nl sol texts).one
+told_has_one texts (Prove nl proof) = (both_sound nl_read prove_last (λ nl p bytes. IsProvedOf nl p) IsLeftOpen nl proof texts).one
+told_has_one texts (Verify nl certificate) = (both_sound nl_read verify_last IsVerifiedOf IsDenied nl certificate texts).one
+told_has_one texts (VerifyProgram form mps certificate) = (both_sound (program_read form) program_last IsVerifiedIn IsDeniedMps mps certificate texts).one
+told_has_one texts (Return nl answer) = (both_sound nl_read return_last (λ nl a bytes. IsReturnMeant nl a) (λ nl. NoVerdict) nl answer texts).one
 told_has_one texts (NamedExport file k rows columns) = (listed_sound false 2 file rows columns (named_next k columns) (named_next_sound k columns) texts).one
 told_has_one texts (NamedReturn nl answer rows columns) = (listed_sound false 3 nl rows columns (return_next answer) (return_next_sound answer) texts).one
 
@@ -90,7 +91,7 @@ pub record IsAnswered (p : Promise) (old new : Meaning) (status : ℕ) : Type 0 
   pub quiet : IsQuiet status → new.written ≡ old.written
   pub told : (o : Outcome) → p.comes o → Told o old.told new.told old.message_faults new.message_faults status
   pub silent : status ≤ 1 → new.told ≡ old.told
-  pub means : status ≡ 0 → p.means
+  pub means : status ≡ 0 → (bytes : List ℕ) → p.comes (Done true bytes) → p.means bytes
   pub denies : status ≡ 1 → p.denies
 
 answered_so : (p : Promise) (old mid new : Meaning) (answer : Answer) → IsWorked p old mid answer
@@ -120,12 +121,12 @@ answered p old mid new answer status h is tells silent rest =
 
 module _ (p : Promise) (old new : Meaning) (status : ℕ) (a : IsAnswered p old new status) (memory : status ≢ 6) (no_input : Rose old.input_faults new.input_faults → ⊥) (no_output : Rose old.output_faults new.output_faults → ⊥) where
   -- nothing is done, and the status says why
-  not_done : 2 ≤ status → ((holds : Bool) (bytes : List ℕ) → p.comes (Done holds bytes) → ⊥) → IsInputRefused p old new status ⊎ LacksText p old new status → Answers p old new status
+  not_done : 2 ≤ status → ((holds : Bool) (bytes : List ℕ) → p.comes (Done holds bytes) → ⊥) → ((line : List ℕ) × (status ≡ 2) × Tells p old new (Refused line) line) ⊎ ((status ≡ 4) × Tells p old new NoText (codes "input fault\n")) → Answers p old new status
   not_done high is_not why = record {
     done = (λ z. absurd (omega (arith, z, high)), λ e. absurd (is_not true e.0 e.1));
     denied = (λ z. absurd (omega (arith, z, high)), λ e. absurd (is_not false e.0 e.1));
     wrote = λ holds bytes c. absurd (is_not holds bytes c);
-    means = λ z. absurd (omega (arith, z, high));
+    means = λ bytes c. absurd (is_not true bytes c);
     denies = λ z. absurd (omega (arith, z, high));
     other = inr why;
   }
@@ -134,13 +135,13 @@ module _ (p : Promise) (old new : Meaning) (status : ℕ) (a : IsAnswered p old 
   no_text h one =
       let four : status ≡ 4 = elim (a.which NoText h) [ inl e ↦ e | inr e ↦ absurd (memory e) ] in
       not_done (omega (arith, four)) (λ holds bytes c. let e = one (Done holds bytes) c in absurd cc)
-      (inr (record { none = h; four = four; tells = record { quiet = a.quiet (inr (inr (inl four))); told = rw four at (a.told NoText h) } }))
+      (inr (four, record { comes = h; quiet = a.quiet (inr (inr (inl four))); told = rw four at (a.told NoText h) }))
 
   refused : (line : List ℕ) → p.comes (Refused line) → ((other : Outcome) → p.comes other → other ≡ Refused line) → Answers p old new status
   refused line h one =
       let two : status ≡ 2 = elim (a.which (Refused line) h) [ inl e ↦ e | inr q ↦ elim q [ inl e ↦ absurd (memory e) | inr f ↦ absurd (no_input f.1) ] ] in
       not_done (omega (arith, two)) (λ holds bytes c. let e = one (Done holds bytes) c in absurd cc)
-      (inl (record { line = line; refused = h; two = two; tells = record { quiet = a.quiet (inl two); told = rw two at (a.told (Refused line) h) } }))
+      (inl (line, two, record { comes = h; quiet = a.quiet (inl two); told = rw two at (a.told (Refused line) h) }))
 
   verdict : (holds : Bool) (bytes : List ℕ) → p.comes (Done holds bytes) → status ≡ verdict_status holds
   verdict holds bytes h = elim (a.which (Done holds bytes) h) [ inl e ↦ e | inr q ↦ elim q [ inl e ↦ absurd (memory e) | inr r ↦ elim r [ inl f ↦ absurd (no_input f.1) | inr f ↦ absurd (no_output f.1) ] ] ]
@@ -157,7 +158,7 @@ module _ (p : Promise) (old new : Meaning) (status : ℕ) (a : IsAnswered p old 
         done = (λ z. (bytes, h), λ e. is);
         denied = (λ z. absurd (omega (arith, z, is)), λ e. verdict false e.0 e.1);
         wrote = wrote;
-        means = a.means;
+        means = λ other c. a.means is other c;
         denies = a.denies;
         other = inl (omega (arith, is));
       }
@@ -169,7 +170,7 @@ module _ (p : Promise) (old new : Meaning) (status : ℕ) (a : IsAnswered p old 
         done = (λ z. absurd (omega (arith, z, is)), λ e. verdict true e.0 e.1);
         denied = (λ z. (bytes, h), λ e. is);
         wrote = wrote;
-        means = a.means;
+        means = λ other c. (let zero = verdict true other c in absurd (omega (arith, zero, is)));
         denies = a.denies;
         other = inl (omega (arith, is));
       }

@@ -46,7 +46,7 @@ use Rattle.command_parts.proofs.TextsRead.{nl_read, same_file}
 use Rattle.command_parts.proofs.ExportStages.{exports_so, one_program, staged_so}
 use Rattle.bridge_tool.proofs.Exporting.{an_export, one_text, staged_either}
 use Rattle.command_parts.proofs.Known.{OnlyInput-same}
-use Rattle.command_parts.proofs.SeveralFiles.{HasOne, IsPlain, done_so, of_yes, one_by_value, one_of_both, plain_known}
+use Rattle.command_parts.proofs.SeveralFiles.{HasOne, IsPlain, done_so, of_yes, one_of_both, plain_known}
 
 -- ---- coefficients
 
@@ -160,8 +160,26 @@ instance_summed_up seed size few = record {
 -- ---- the command
 
 module _ (seed size : ℕ) where
+  abbrev text : List ℕ
+  text = made_text seed size
+
+  -- a text that is refused comes to its line alone
+  only_refused : (line : List ℕ) → HasTextRefusal text line → (other : Outcome) → (make_promise seed size).comes other → other ≡ Refused line
+  only_refused line r other (inl h) = h.1.1 ∙ ap Refused (nl_read.refused text h.0 line h.1.0 r)
+  only_refused line r other (inr h) = absurd (nl_read.apart text h.0 line h.1.0 r)
+
+  -- one that says a file comes to what that does
+  only_said : (nl : NlValue) → IsNl text nl → (other : Outcome) → (make_promise seed size).comes other → other ≡ (made_one nl).outcome
+  only_said nl is other (inl h) = absurd (nl_read.apart text nl h.0 is h.1.0)
+  only_said nl is other (inr h) = (made_one nl).one other (subst (λ (v : NlValue). MakesAs v other) (nl_read.said text h.0 nl h.1.0 is) h.1.1)
+
   pub make_one : HasOne IsPlain (make_promise seed size).comes
-  make_one = one_by_value IsNl HasTextRefusal nl_read MakesAs made_one (made_text seed size)
+  make_one = elim (nl_read.either text) [
+    | inl said ↦
+        let one = made_one said.0 in
+        record { outcome = one.outcome; comes_to = inr (said.0, (said.1, one.comes_to)); is = one.is; one = only_said said.0 said.1 }
+    | inr found ↦ record { outcome = Refused found.0; comes_to = inl (found.0, (found.1, refl)); is = tt; one = only_refused found.0 found.1 }
+  ]
 
   -- what a text comes to that says this file
   pub file_comes : (nl : NlValue) (r : Result (Bool × Vec ℕ) (Stop Refusal)) → IsNl (made_text seed size) nl → Comes (MakesAs nl) r → Comes (make_promise seed size).comes r

@@ -82,7 +82,7 @@ module _ (objective : ℕ) (columns : List ℕ) (nl : NlValue) (texts : Texts) (
   after_names = named_end texts columns (of_lists objective nl r c)
 
   pub names_sound : IsSound after_names
-  names_sound = let n = of_lists objective nl r c in sound_end texts columns (NamedComesTo n) (λ old new. new ≤ old + fold_steps nl objective) (AreNamedMeant n) (Unit {0}) (one_of_both (IsNamedExport n) (CannotBeExported nl objective) (named_either n)) (λ m. omega arith)
+  names_sound = let n = of_lists objective nl r c in sound_end (texts columns) (NamedComesTo n) (λ old new. new ≤ old + fold_steps nl objective) (λ bytes. AreNamedMeant n) (Unit {0}) (one_of_both (IsNamedExport n) (CannotBeExported nl objective) (named_either n)) (λ m. omega arith)
 
 -- ---- with names and without them
 

@@ -1,6 +1,6 @@
 -- Commands of one file that write what it says, or what it is imported as; and what each comes to, by its text.
 use Rattle.std.proofs.Common.{◌≡◌, inl, true, false, refl, ℕ, List, Bool, Option, Some, None, Result, Ok, Err, inr, ◌⊎◌, ◌↔◌, ◌+◌, ◌≤◌, take, sym, subst, arith}
-use Rattle.std.specs.Prelude.{IfOk}
+use Rattle.std.specs.Prelude.{IfOk, option_map}
 use Rattle.exact_numbers.specs.Values.{dec_value}
 use Rattle.exact_numbers.specs.declared.dec.Dec.{Dec}
 use Rattle.mps_model.specs.Mps.{Mps as Program}
@@ -15,7 +15,7 @@ use Rattle.bridge_tool.specs.declared.one_file.OneFile.TheVariants.{Import, Mps,
 use Rattle.bridge_tool.specs.declared.verify_mps.Layout.TheVariants.{Fixed, Free}
 use Rattle.command_parts.specs.Outcome.{Done, Outcome, Refused}
 use Rattle.command_parts.specs.Promise.{Promise}
-use Rattle.command_parts.proofs.SeveralFiles.{AreRead, same_one, IsLast, IsPlain, NoVerdict, at_rest, of_yes, one_refused, one_said, only_ended, only_stopped, writes_last}
+use Rattle.command_parts.proofs.SeveralFiles.{AreRead, same_one, IsLast, IsPlain, NoVerdict, at_rest, of_that, of_yes, one_met, only_ended, only_stopped, writes_last}
 use Rattle.sol_files.specs.Reader.{IsSol}
 use Rattle.sol_files.specs.Sol.{Sol as SolValue}
 use Rattle.sol_files.specs.Written.{sol_text}
@@ -34,7 +34,7 @@ use Rattle.mps_import.specs.declared.import_fault.ImportFault.{ImportFault}
 use Rattle.mps_import.specs.Faults.{import_fault}
 use Rattle.texts.specs.declared.stop.Stop.{Stop}
 use Rattle.bridge_tool.specs.Import.{MeansTheProgram, by_fault, import_outcome, CannotBeImported, IsImportedAs}
-use Rattle.command_parts.specs.SeveralFiles.{ByVerdict, Comes, ReadsFile, after_file, ends, writes}
+use Rattle.command_parts.specs.SeveralFiles.{ByVerdict, Comes, Reached, Meets, ReadsFile, after_file, by_reached, ends, has_said, no_text, refused_with, writes}
 use Rattle.command_parts.specs.declared.refusal.Refusal.{Refusal}
 use Rattle.desk.specs.Desk.{Meaning, Texts}
 use Rattle.command_parts.specs.InsideAnswer.{Ends, IsAtRest}
@@ -99,11 +99,11 @@ last_of Import = record {
 -- what reading the file, and what its value comes to, show of it
 module _ (of : OneFile) (file : List ℕ) {R : Type 0} (seen : R → (row_of of).Value) (old : Meaning) where
   pub stopped : (new : Meaning) (answer : Answer) → ReadsFile {R = R} seen (row_of of).reads (row_of of).refuses file old new (Err answer) → IsAtRest (row_promise old.texts (row_of of) file) old new answer
-  stopped new answer read = at_rest (λ n. only_stopped (last_of of) (row_of of).means NoVerdict file seen n old new answer read)
+  stopped new answer read = at_rest (λ n. only_stopped (last_of of) (λ value bytes. (row_of of).means value) NoVerdict file seen n old new answer read)
 
   pub ended : (mid new : Meaning) (value : R) (judged : Result (Bool × Vec ℕ) (Stop Refusal)) (answer : Answer) → ReadsFile {R = R} seen (row_of of).reads (row_of of).refuses file old mid (Ok value)
       → Comes (λ outcome. outcome ≡ (row_of of).outcome (seen value)) judged → IfOk judged (λ t. ByVerdict t.0 ((row_of of).means (seen value)) (Unit {0})) → Ends judged mid new answer → IsAtRest (row_promise old.texts (row_of of) file) old new answer
-  ended mid new value judged answer read comes means ends = at_rest (λ n. only_ended (last_of of) (row_of of).means NoVerdict file seen old mid value read n n new judged answer comes means ends (omega arith) refl)
+  ended mid new value judged answer read comes means ends = at_rest (λ n. only_ended (last_of of) (λ value bytes. (row_of of).means value) NoVerdict file seen old mid value read n n new judged answer comes means ends (omega arith) refl)
 
 done_same : (a b : List ℕ) → Done true a ≡ Done true b → a ≡ b
 done_same a b e = cc
@@ -123,31 +123,46 @@ module _ {V : Type 0} (reads : List ℕ → V → Type 0) (refuses : List ℕ �
   abbrev told : Promise
   told = after_file reads refuses texts file (λ value. ends texts file (comes value) (counts value) (means value))
 
-  done_by : (bytes : List ℕ) → told.comes (Done true bytes) ↔ ((value : V) × (reads first value × accepts value bytes))
-  done_by bytes = (
-    λ h. let there = rw is at h in elim there [
-      | inl r ↦ (let e = r.1.1 in absurd cc)
-      | inr said ↦ (said.0, (said.1.0, (yes said.0 bytes).0 said.1.1))
-    ],
-    λ h. rw is (inr (h.0, (h.1.0, (yes h.0 bytes).1 h.1.1))),
-  )
+  abbrev next : V → Promise
+  next value = ends texts file (comes value) (counts value) (means value)
 
-  refused_by : (line : List ℕ) → told.comes (Refused line) ↔ (refuses first line ⊎ ((value : V) × (reads first value × denies value line)))
-  refused_by line = (
-    λ h. let there = rw is at h in elim there [
-      | inl r ↦ inl (subst (refuses first) (sym (refused_same line r.0 r.1.1)) r.1.0)
-      | inr said ↦ inr (said.0, (said.1.0, (no said.0 line).0 said.1.1))
-    ],
-    λ h. rw is (elim h [ inl r ↦ inl (line, (r, refl)) | inr said ↦ inr (said.0, (said.1.0, (no said.0 line).1 said.1.1)) ]),
-  )
+  abbrev Met : Reached V → Type 0
+  Met = Meets reads refuses (Some first)
+
+  -- what is met is what the first bytes are
+  at_first : {P : Reached V → Type 0} → (r : Reached V) × (Meets reads refuses (option_map (take LIMIT) (texts file)) r × P r) → (r : Reached V) × (Met r × P r)
+  at_first h = (h.0, (rw is at h.1.0, h.1.1))
+
+  of_file : {P : Reached V → Type 0} (r : Reached V) → Met r → P r → (r : Reached V) × (Meets reads refuses (option_map (take LIMIT) (texts file)) r × P r)
+  of_file r met p = (r, (rw is met, p))
+
+  -- so it holds of this one
+  at_this : (P : Reached V → Type 0) (r : Reached V) → Met r → (r : Reached V) × (Meets reads refuses (option_map (take LIMIT) (texts file)) r × P r) → P r
+  at_this P r met h = of_that Met (one_met reads refuses read (Some first)) P r met (at_first h)
+
+  done_at : (bytes : List ℕ) (r : Reached V) → Met r → (by_reached (texts file) next r).comes (Done true bytes) → (value : V) × (reads first value × accepts value bytes)
+  done_at bytes no_text met e = absurd cc
+  done_at bytes (refused_with line) met e = absurd cc
+  done_at bytes (has_said value) met h = (value, (met, (yes value bytes).0 h))
+
+  refused_at : (line : List ℕ) (r : Reached V) → Met r → (by_reached (texts file) next r).comes (Refused line) → refuses first line ⊎ ((value : V) × (reads first value × denies value line))
+  refused_at line no_text met e = absurd cc
+  refused_at line (refused_with other) met e = inl (subst (refuses first) (sym (refused_same line other e)) met)
+  refused_at line (has_said value) met h = inr (value, (met, (no value line).0 h))
 
   pub by_text : IsByText reads refuses accepts denies counts means first told
   by_text = record {
-    done = done_by;
-    refused = refused_by;
-    steps = λ old new h value said. one_said reads refuses read first value said (λ line. new ≡ old) (λ value. counts value old new) (rw is at h);
-    unread = λ old new h line r. one_refused reads refuses read first line r (λ line. new ≡ old) (λ value. counts value old new) (rw is at h);
-    means = λ h value said. one_said reads refuses read first value said (λ line. ⊥) means (rw is at h);
+    done = λ bytes. (
+      λ h. let there = at_first h in done_at bytes there.0 there.1.0 there.1.1,
+      λ h. of_file (has_said h.0) h.1.0 ((yes h.0 bytes).1 h.1.1),
+    );
+    refused = λ line. (
+      λ h. let there = at_first h in refused_at line there.0 there.1.0 there.1.1,
+      λ h. elim h [ inl r ↦ of_file (refused_with line) r refl | inr said ↦ of_file (has_said said.0) said.1.0 ((no said.0 line).1 said.1.1) ],
+    );
+    steps = λ old new h value said. at_this (λ r. (by_reached (texts file) next r).counts old new) (has_said value) said h;
+    unread = λ old new h line r. at_this (λ r. (by_reached (texts file) next r).counts old new) (refused_with line) r h;
+    means = λ bytes h value said. at_this (λ r. (by_reached (texts file) next r).means bytes) (has_said value) said h;
   }
 
 -- a command that writes one text of each value

@@ -5,7 +5,8 @@ use Rattle.std.specs.Global.{Vec}
 use Rattle.std.proofs.lemmas.Bool.{lt-ltb}
 use Rattle.std.proofs.lemmas.Bool.Decides.{nat_tests}
 use Rattle.std.proofs.lemmas.Option.{same_Some}
-use Rattle.desk.specs.Desk.{Meaning}
+use Rattle.desk.specs.Desk.{Meaning, Texts}
+use Rattle.texts.specs.Reading.{lines_of}
 use Rattle.program_meaning.specs.Linear.{Linear}
 use Rattle.duality.specs.Certificate.{ClaimOutcome, holds, fails}
 use Rattle.duality.specs.ProblemSays.{Denies}
@@ -35,19 +36,20 @@ use Rattle.command_parts.specs.ImportTold.{import_line}
 use Rattle.command_parts.specs.InsideRefusal.{refusal_line}
 use Rattle.bridge_tool.specs.InsideVerifyMps.{GivesProgram, IsProgramOf}
 use Rattle.command_parts.specs.Outcome.{Refused as IsRefusal, Done}
-use Rattle.command_parts.specs.SeveralFiles.{Answered, ByVerdict, Comes, HasEnded, ReadsFile, itself}
+use Rattle.command_parts.specs.InsideAnswer.{IsCounted}
+use Rattle.command_parts.specs.SeveralFiles.{Answered, ByVerdict, Comes, HasEnded, ReadsFile, desk_promise, itself}
 use Rattle.command_parts.specs.Told.{refusal}
 use Rattle.command_parts.specs.Refusal.{IsCertificateRefused}
 use Rattle.bridge_tool.specs.Verify.{by_claim}
-use Rattle.bridge_tool.specs.VerifyMps.{HasNoLinear, HasProgram, IsDeniedMps, IsProgramRefused, IsTextIn, IsTextRefused, IsVerifiedMps, as_import, by_objective, program_outcome, program_shown, verify_mps_outcome}
+use Rattle.bridge_tool.specs.VerifyMps.{HasNoLinear, HasProgram, IsDeniedMps, IsProgramRefused, IsSaidIn, IsTextIn, IsTextRefused, IsVerifiedMps, SaysVerifiedMps, as_import, by_objective, program_outcome, program_shown, verify_mps_outcome, verify_mps_promise, verify_mps_read}
 use Rattle.command_parts.specs.declared.answer.Answer.{Answer}
 use Rattle.command_parts.specs.declared.answer.Answer.TheVariants.{Refused, InputFault, NoMemory}
 use Rattle.command_parts.specs.declared.refusal.Refusal.{Refusal}
 use Rattle.bridge_tool.specs.declared.verify_mps.Layout.{Layout}
 use Rattle.bridge_tool.specs.declared.verify_mps.Layout.TheVariants.{Free, Fixed}
 use Rattle.command_parts.proofs.TextsRead.{certificate_read, fixed_read, mps_read}
-use Rattle.command_parts.proofs.SeveralFiles.{AreRead, IsLast, IsPlain, same_one}
-use Rattle.bridge_tool.proofs.Verdicts.{ClaimSays, claim_means}
+use Rattle.command_parts.proofs.SeveralFiles.{AreRead, IsLast, IsPlain, meant_as, same_one, text_so, value_said}
+use Rattle.bridge_tool.proofs.Verdicts.{ClaimSays, claim_means, written_so}
 
 -- ---- the first file
 
@@ -185,6 +187,10 @@ verdict_done f c k e none h o held bytes exact is b =
     let shown : o ≡ program_shown f c = exact h ∙ ap (λ (g : Given). claim_outcome f c.claim g) (sym (given_back c h.given h.point h.ray h.nodes h.pairs)) in
     ap₂ Done is b ∙ ap (by_claim c.claim) shown ∙ sym (ap (by_objective f c) zero)
 
+-- what a yes means
+abbrev pub IsVerifiedIn : Mps Dec → CertificateValue → List ℕ → Type 0
+IsVerifiedIn m c = IsVerifiedMps m c.claim (given_in c)
+
 module _ (m : Mps Dec) (c : CertificateValue) (given : IsCertificateFor (mps_setting m) c) where
   abbrev f : Linear
   f = linear_of (values_of m)
@@ -199,20 +205,45 @@ module _ (m : Mps Dec) (c : CertificateValue) (given : IsCertificateFor (mps_set
       subst (λ (g : Given). Denies (mps_problem (values_of m)) f (certificate_over (mps_problem (values_of m)).variables (mps_problem (values_of m)).constraints c.claim g) cause) (sym given_so)
       (claim_denied m c given cause e)
 
-  says_by : (b : Bool) (held : Bool) (bytes : List ℕ) → nat_lt 0 (claim_objective c.claim) ≡ b → Done held bytes ≡ by_objective f c b → ByVerdict held (IsVerifiedMps m c) (IsDeniedMps m c)
+  says_by : (b : Bool) (held : Bool) (bytes : List ℕ) → nat_lt 0 (claim_objective c.claim) ≡ b → Done held bytes ≡ by_objective f c b → ByVerdict held (IsVerifiedIn m c bytes) (IsDeniedMps m c)
   says_by true held bytes e done = absurd cc
   says_by false held bytes e done =
       let is : held ≡ is_held (program_shown f c) = cc in
+      let told : bytes ≡ outcome_line c.claim (program_shown f c) = cc in
       let line : verify_mps_outcome m c ≡ by_claim c.claim (program_shown f c) = ap (by_objective f c) e in
       let shown : claim_outcome f c.claim given.given ≡ program_shown f c = ap (λ (g : Given). claim_outcome f c.claim g) (sym given_so) in
-      subst (λ (yes_is : Bool). ByVerdict yes_is (IsVerifiedMps m c) (IsDeniedMps m c)) (sym is)
-      (claim_means (mps_problem (values_of m)) f c (verify_mps_outcome m c) (program_shown f c) line (shown_says (program_shown f c) shown))
+      subst (λ (yes_is : Bool). ByVerdict yes_is (IsVerifiedIn m c bytes) (IsDeniedMps m c)) (sym is)
+      (claim_means (mps_problem (values_of m)) f c (verify_mps_outcome m c) bytes (program_shown f c) line told (shown_says (program_shown f c) shown))
 
   -- so does what was judged
-  pub program_says : (judged : Result (Bool × Vec ℕ) (Stop Refusal)) → Comes (λ outcome. outcome ≡ verify_mps_outcome m c) judged → IfOk judged (λ t. ByVerdict t.0 (IsVerifiedMps m c) (IsDeniedMps m c))
+  pub program_says : (judged : Result (Bool × Vec ℕ) (Stop Refusal)) → Comes (λ outcome. outcome ≡ verify_mps_outcome m c) judged → IfOk judged (λ t. ByVerdict t.0 (IsVerifiedIn m c t.1.items) (IsDeniedMps m c))
   program_says (Ok t) comes = says_by (nat_lt 0 (claim_objective c.claim)) t.0 t.1.items refl comes
   program_says (Err stop) comes = tt
 
 -- what a linear program comes to is what its program does
 pub comes_as : (m : Mps Dec) (l : LinearValue) (c : CertificateValue) (judged : Result (Bool × Vec ℕ) (Stop Refusal)) → IsProgramOf m l → Comes (λ outcome. outcome ≡ program_outcome (linear_value l) c) judged → Comes (λ outcome. outcome ≡ verify_mps_outcome m c) judged
 comes_as m l c judged is comes = subst (λ (g : Linear). Comes (λ outcome. outcome ≡ program_outcome g c) judged) is.linear comes
+
+-- ---- what a yes says
+
+lines_say : (layout : Layout) (text : List ℕ) (m : Mps Dec) → HasProgram layout text m → IsSaidIn layout (lines_of text) m
+lines_say Free text m h = h.says.said
+lines_say Fixed text m h = h.says.said
+
+pub verify_mps_says : (layout : Layout) (mps certificate : List ℕ) (texts : Texts) (bytes : List ℕ) → (verify_mps_read layout mps certificate texts).means bytes → SaysVerifiedMps layout texts mps certificate bytes
+verify_mps_says layout mps certificate texts bytes h =
+    let first = value_said (HasProgram layout) (IsProgramRefused layout) texts mps _ bytes h in
+    let s = mps_setting first.0 in
+    let second = value_said (IsCertificateText s) (IsCertificateRefused s 2) texts certificate _ bytes first.1.1 in
+    record {
+      program = first.0;
+      claim = second.0.claim;
+      given = given_in second.0;
+      says = text_so _ (λ (text : List ℕ) (is : HasProgram layout text first.0). lines_say layout text first.0 is) first.1.0;
+      certifies = text_so _ (λ (text : List ℕ) (is : IsCertificateText s text second.0). written_so s text second.0 is) second.1.0;
+      verified = second.1.1;
+    }
+
+pub verify_mps_counted : {old new : Meaning} {m n : ℕ} {answer : Answer} (layout : Layout) (mps certificate : List ℕ) (t : Option Texts) → IsCounted (desk_promise true (verify_mps_read layout mps certificate) t) old new m n answer
+    → IsCounted (verify_mps_promise t layout mps certificate) old new m n answer
+verify_mps_counted layout mps certificate t = meant_as true (verify_mps_read layout mps certificate) (λ texts. SaysVerifiedMps layout texts mps certificate) t (verify_mps_says layout mps certificate)

@@ -99,4 +99,4 @@ module _ (answer : List ℕ) (nl : NlValue) (texts : Texts) (r c : List (List �
   after_names = after_answer (named_setting nl.file r c) nl texts answer
 
   pub names_sound : IsSound after_names
-  names_sound = last_sound (answer_last (named_setting nl.file r c) nl) (IsReturnMeant nl) NoVerdict answer texts
+  names_sound = last_sound (answer_last (named_setting nl.file r c) nl) (λ a bytes. IsReturnMeant nl a) NoVerdict answer texts

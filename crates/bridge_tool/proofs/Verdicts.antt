@@ -34,11 +34,13 @@ use Rattle.sol_files.specs.Sol.{Sol}
 use Rattle.bridge_tool.specs.Check.{IsCertified, IsNotCertified, by_fit, by_fold, by_number, by_verdict, check_outcome, most_steps, objective_number, shown, steps_by_fit, steps_by_number, unfit}
 use Rattle.bridge_tool.specs.Claims.{IsClaimDenied, IsClaimTrue}
 use Rattle.command_parts.specs.Outcome.{Outcome, Refused, Done}
-use Rattle.command_parts.specs.Refusal.{IsSolRefused, IsProofRefused, IsCertificateRefused}
-use Rattle.command_parts.specs.SeveralFiles.{ByVerdict, Comes}
+use Rattle.command_parts.specs.Refusal.{HasTextRefusal, IsSolRefused, IsProofRefused, IsCertificateRefused}
+use Rattle.command_parts.specs.InsideAnswer.{IsCounted}
+use Rattle.command_parts.specs.SeveralFiles.{ByVerdict, Comes, desk_promise}
+use Rattle.command_parts.specs.declared.answer.Answer.{Answer}
 use Rattle.command_parts.specs.Stages.{Folds, HasFolded, fold_steps}
 use Rattle.command_parts.specs.VerdictTold.{fit_line, is_yes, negative_line, verdict_line}
-use Rattle.command_parts.proofs.SeveralFiles.{IsPlain, IsLast, verdict_last}
+use Rattle.command_parts.proofs.SeveralFiles.{IsPlain, IsLast, meant_as, text_so, value_said, verdict_last}
 use Rattle.command_parts.proofs.TextsRead.{certificate_read, proof_read, sol_read}
 use Rattle.command_parts.specs.declared.refusal.Refusal.{Refusal}
 use Rattle.duality.specs.Branch.{LeafFault, proof_fault}
@@ -64,9 +66,13 @@ use Rattle.certificates.specs.declared.certificate.Claim.{Claim}
 use Rattle.certificates.specs.declared.certificate.Claim.TheVariants.{Within}
 use Rattle.file_certificates.proofs.Given.{certificate_of, claim_denied, claim_true}
 use Rattle.certificates.proofs.Reading.{given_back}
+use Rattle.certificates.specs.Setting.{Setting as CertificateSetting}
 use Rattle.certificate_text.specs.Reader.{IsCertificateText}
+use Rattle.certificate_text.proofs.Files.{text_is_certificate}
+use Rattle.desk.specs.Desk.{Meaning, Texts}
+use Rattle.nl_segments.specs.Reader.{IsNl}
 use Rattle.command_parts.specs.CertificateTold.{HasFittingBound, is_held, objective_text, outcome_line, told_text}
-use Rattle.bridge_tool.specs.Verify.{IsDenied, IsVerified, by_claim, by_fold as by_claim_fold, claim_shown, verify_outcome}
+use Rattle.bridge_tool.specs.Verify.{IsDenied, IsVerified, IsWrittenAs, SaysVerified, by_claim, by_fold as by_claim_fold, claim_shown, verify_outcome, verify_promise, verify_read}
 
 -- ---- one outcome
 
@@ -281,14 +287,15 @@ ClaimSays p f c (holds value) = IsToldTrue p (spread p.variables (given_in c).po
 ClaimSays p f c (fails cause) = Denies p f (certificate_over p.variables p.constraints c.claim (given_in c)) cause
 
 -- then its line means what it should
-pub claim_means : (p : Problem) (f : Linear) (c : CertificateValue) (outcome : Outcome) (o : ClaimOutcome) → outcome ≡ by_claim c.claim o → ClaimSays p f c o → ByVerdict (is_held o) (IsClaimTrue p c outcome) (IsClaimDenied p f c outcome)
-claim_means p f c outcome (holds value) line says =
+pub claim_means : (p : Problem) (f : Linear) (c : CertificateValue) (outcome : Outcome) (bytes : List ℕ) (o : ClaimOutcome) → outcome ≡ by_claim c.claim o → bytes ≡ outcome_line c.claim o → ClaimSays p f c o
+    → ByVerdict (is_held o) (IsClaimTrue p c.claim (given_in c) bytes) (IsClaimDenied p f c outcome)
+claim_means p f c outcome bytes (holds value) is line says =
     record {
       told = says.told;
-      line = line ∙ ap (λ (o : Option Told). Done true (option_map_or told_text o [] ++ objective_text (claim_objective c.claim) ++ codes "\n")) says.is_told;
+      line = line ∙ ap (λ (o : Option Told). option_map_or told_text o [] ++ objective_text (claim_objective c.claim) ++ codes "\n") says.is_told;
       true_of = says.true_of;
     }
-claim_means p f c outcome (fails cause) line says = record { cause = cause; line = line; denies = says }
+claim_means p f c outcome bytes (fails cause) is line says = record { cause = cause; line = is; denies = says }
 
 asked_fits : (claim : Claim) (g : Given) → IsAskedFor claim g → HasFittingBound claim
 asked_fits (Within k b) g h = h.2
@@ -297,6 +304,10 @@ asked_fits other g h = tt
 -- the bound of the claim that was read can be written
 pub bound_fits : (f : File) (c : CertificateValue) → IsCertificateIn f c → HasFittingBound c.claim
 bound_fits f c given = asked_fits c.claim given.given given.asked
+
+-- what a yes means
+abbrev pub IsVerifiedOf : NlValue → CertificateValue → List ℕ → Type 0
+IsVerifiedOf nl c = IsVerified nl.file c.claim (given_in c)
 
 module _ (nl : NlValue) (c : CertificateValue) (given : IsCertificateIn nl.file c) where
   abbrev k : ℕ
@@ -337,9 +348,35 @@ module _ (nl : NlValue) (c : CertificateValue) (given : IsCertificateIn nl.file 
   claim_says (fails cause) file fine e = subst (λ (g : Given). Denies (problem_of nl.file k) f (certificate_over nl.file.counts.n_var nl.file.counts.n_con c.claim g) cause) (sym given_so) (claim_denied nl.file c file fine given cause e)
 
   pub verified_so : (l : LinearValue) (o : ClaimOutcome) (held : Bool) (bytes : List ℕ) → IsFile nl.file → HasFolded nl k l → ((h : IsCertificateOf (linear_value l) c) → o ≡ claim_outcome (linear_value l) c.claim h.given)
-      → held ≡ is_held o → bytes ≡ outcome_line c.claim o → ByVerdict held (IsVerified nl c) (IsDenied nl c)
+      → held ≡ is_held o → bytes ≡ outcome_line c.claim o → ByVerdict held (IsVerifiedOf nl c bytes) (IsDenied nl c)
   verified_so l o held bytes file folds exact h b =
       let shown : claim_shown nl c ≡ o = sym (shown_so l o folds exact) in
       let outcome : claim_outcome f c.claim given.given ≡ o = ap (λ (g : Given). claim_outcome f c.claim g) (sym given_so) ∙ shown in
       let line : verify_outcome nl c ≡ by_claim c.claim o = sym (claim_done l o (is_held o) (outcome_line c.claim o) folds exact refl refl) in
-      subst (λ (t : Bool). ByVerdict t (IsVerified nl c) (IsDenied nl c)) (sym h) (claim_means (problem_of nl.file k) f c (verify_outcome nl c) o line (claim_says o file folds.fine outcome))
+      subst (λ (t : Bool). ByVerdict t (IsVerifiedOf nl c bytes) (IsDenied nl c)) (sym h) (claim_means (problem_of nl.file k) f c (verify_outcome nl c) bytes o line b (claim_says o file folds.fine outcome))
+
+-- ---- what a yes says
+
+-- a certificate's text is written as what is read back of it
+pub written_so : (s : CertificateSetting) (text : List ℕ) (c : CertificateValue) → IsCertificateText s text c → IsWrittenAs c.claim (given_in c) text
+written_so s text c h =
+    let w = text_is_certificate s text c h in
+    let is = w.is in
+    subst (λ (g : Given). IsWrittenAs c.claim g text) (sym (given_back c is.given is.point is.ray is.nodes is.pairs)) w.rows
+
+pub verify_says : (nl certificate : List ℕ) (texts : Texts) (bytes : List ℕ) → (verify_read nl certificate texts).means bytes → SaysVerified texts nl certificate bytes
+verify_says nl certificate texts bytes m =
+    let first = value_said IsNl HasTextRefusal texts nl _ bytes m in
+    let s = certificate_setting first.0.file in
+    let second = value_said (IsCertificateText s) (IsCertificateRefused s 2) texts certificate _ bytes first.1.1 in
+    record {
+      file = first.0.file;
+      claim = second.0.claim;
+      given = given_in second.0;
+      says = text_so _ (λ (text : List ℕ) (h : IsNl text first.0). h.said.file) first.1.0;
+      certifies = text_so _ (λ (text : List ℕ) (h : IsCertificateText s text second.0). written_so s text second.0 h) second.1.0;
+      verified = second.1.1;
+    }
+
+pub verify_counted : {old new : Meaning} {m n : ℕ} {answer : Answer} (nl certificate : List ℕ) (t : Option Texts) → IsCounted (desk_promise true (verify_read nl certificate) t) old new m n answer → IsCounted (verify_promise t nl certificate) old new m n answer
+verify_counted nl certificate t = meant_as true (verify_read nl certificate) (λ texts. SaysVerified texts nl certificate) t (verify_says nl certificate)

@@ -17,7 +17,7 @@ pub record IsByText {V : Type 0} (reads : List ℕ → V → Type 0) (refuses : 
   pub steps : (old new : ℕ) → p.counts old new → (value : V) → reads text value
       → counts value old new
   pub unread : (old new : ℕ) → p.counts old new → (line : List ℕ) → refuses text line → new ≡ old
-  pub means : p.means → (value : V) → reads text value → holds value
+  pub means : (bytes : List ℕ) → p.means bytes → (value : V) → reads text value → holds value
 
 -- the same where each value is accepted, with its one written text, and no step is counted
 abbrev pub IsWritingByText : {V : Type 0} → (reads : List ℕ → V → Type 0)

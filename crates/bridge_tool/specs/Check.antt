@@ -100,8 +100,8 @@ abbrev pub check_told : List ℕ → List ℕ → Texts → Promise
 check_told nl sol texts =
     after_file IsNl HasTextRefusal texts nl (λ file.
     after_file IsSol (IsSolRefused 2) texts sol (λ solution.
-    judges_last texts sol (λ outcome. outcome ≡ check_outcome file solution)
-    (λ old new. new ≤ old + most_steps file solution) (IsCertified file solution)
+    judges_last (texts sol) (λ outcome. outcome ≡ check_outcome file solution)
+    (λ old new. new ≤ old + most_steps file solution) (λ bytes. IsCertified file solution)
     (IsNotCertified file solution)))
 
 abbrev pub check_promise : Option Texts → List ℕ → List ℕ → Promise

@@ -1,22 +1,23 @@
 -- What the verdict on a certificate means of the problem that it is about.
-use Rattle.std.specs.Prelude.{◌≡◌, false, true}
+use Rattle.std.specs.Prelude.{◌≡◌, ℕ, false, List}
 use Rattle.program_meaning.specs.Linear.{Linear}
 use Rattle.duality.specs.Certificate.{Cause, fails}
 use Rattle.duality.specs.Problem.{Problem}
 use Rattle.duality.specs.ProblemSays.{Denies}
 use Rattle.duality.specs.Told.{Told, IsTrueOf}
 use Rattle.linear_program.specs.Numbers.{spread}
-use Rattle.certificates.specs.Certificates.{CertificateValue, certificate_over}
+use Rattle.certificates.specs.Certificates.{CertificateValue, Given, certificate_over}
 use Rattle.certificates.specs.Reading.{given_in}
+use Rattle.certificates.specs.declared.certificate.Claim.{Claim}
 use Rattle.command_parts.specs.CertificateTold.{outcome_line, told_line}
 use Rattle.command_parts.specs.Outcome.{Outcome, Done}
 
--- What a yes means: what its line tells is true of the problem, for the point that the certificate
--- gives.
-pub record IsClaimTrue (p : Problem) (c : CertificateValue) (outcome : Outcome) : Type 0 where
+-- What a yes means: what the line that is written tells is true of the problem, for the point that
+-- is given.
+pub record IsClaimTrue (p : Problem) (claim : Claim) (g : Given) (bytes : List ℕ) : Type 0 where
   pub told : Told
-  pub line : outcome ≡ Done true (told_line c.claim told)
-  pub true_of : IsTrueOf p (spread p.variables (given_in c).point) told
+  pub line : bytes ≡ told_line claim told
+  pub true_of : IsTrueOf p (spread p.variables g.point) told
 
 -- What a no means: what its line tells is so, of the point or of the leaf that it names. Leaves are
 -- those over the linear program f.

@@ -38,7 +38,7 @@ bad_words = record {
   comes = λ outcome. outcome ≡ BadWords;
   last = λ text. ⊥;
   counts = λ old new. new ≡ old;
-  means = ⊥;
+  means = λ bytes. ⊥;
   denies = ⊥;
 }
 

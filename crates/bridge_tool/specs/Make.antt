@@ -1,5 +1,5 @@
 -- The command make: the summary of the exported program of the instance of a seed and a size.
-use Rattle.std.specs.Prelude.{◌≡◌, ◌≢◌, ◌&&◌, Bool, ℕ, ◌+◌, ◌≤◌, List, ◌++◌, nat_le, length, codes}
+use Rattle.std.specs.Prelude.{◌≡◌, ◌≢◌, ◌⊎◌, ◌&&◌, Bool, ℕ, ◌+◌, ◌≤◌, List, ◌++◌, nat_le, length, codes}
 use Rattle.std.specs.Fmt.{decimal}
 use Rattle.std.specs.List.{count_by, sum_by}
 use Rattle.fractions.specs.Rational.{ℚ}
@@ -22,7 +22,6 @@ use Rattle.bridge_tool.specs.Export.{IsExported}
 use Rattle.command_parts.specs.Outcome.{DoneOrRefused, Outcome, Refused}
 use Rattle.command_parts.specs.Promise.{Promise}
 use Rattle.command_parts.specs.Refusal.{HasTextRefusal}
-use Rattle.command_parts.specs.SeveralFiles.{ByValue}
 use Rattle.command_parts.specs.Stages.{CannotBeExported}
 
 -- the written text of the instance
@@ -86,11 +85,12 @@ pub record IsInstanceSummedUp (seed size : ℕ) : Type 0 where
 -- to its bound.
 abbrev pub make_promise : ℕ → ℕ → Promise
 make_promise seed size = record {
-  comes = λ outcome. ByValue IsNl HasTextRefusal (made_text seed size)
-      (λ line. outcome ≡ Refused line) (λ nl. MakesAs nl outcome);
+  comes = λ outcome.
+      ((line : List ℕ) × (HasTextRefusal (made_text seed size) line × (outcome ≡ Refused line)))
+      ⊎ ((nl : NlValue) × (IsNl (made_text seed size) nl × MakesAs nl outcome));
   last = λ text. ⊥;
   counts = λ old new. new ≤ old + step_bound (instance seed size);
-  means = IsInstanceSummedUp seed size;
+  means = λ bytes. IsInstanceSummedUp seed size;
   denies = Unit {0};
 }
 

@@ -71,9 +71,9 @@ prove_told nl proof texts =
     after_file IsNl HasTextRefusal texts nl (λ file.
     after_file (IsProofText (setting_of file.file)) (IsProofRefused (setting_of file.file) 2) texts
     proof (λ p.
-    judges_last texts proof (λ outcome. outcome ≡ prove_outcome file p)
-    (λ old new. new ≤ old + fold_steps file (claimed_objective p.claim)) (IsProvedOf file p)
-    (IsLeftOpen file p)))
+    judges_last (texts proof) (λ outcome. outcome ≡ prove_outcome file p)
+    (λ old new. new ≤ old + fold_steps file (claimed_objective p.claim))
+    (λ bytes. IsProvedOf file p) (IsLeftOpen file p)))
 
 abbrev pub prove_promise : Option Texts → List ℕ → List ℕ → Promise
 prove_promise texts nl proof = desk_promise true (prove_told nl proof) texts

@@ -7,7 +7,10 @@ use Rattle.desk.specs.Desk.{Texts}
 use Rattle.program_meaning.specs.Linear.{Linear}
 use Rattle.exact_numbers.specs.declared.dec.Dec.{Dec}
 use Rattle.mps_model.specs.Mps.{Mps}
+use Rattle.texts.specs.Reading.{lines_of}
+use Rattle.mps_reader.specs.Grammar.{SaysMps}
 use Rattle.mps_reader.specs.Reader.{IsMpsText}
+use Rattle.fixed_mps.specs.Grammar.{SaysFixed}
 use Rattle.fixed_mps.specs.Reader.{IsFixedText}
 use Rattle.mps_program.specs.Faults.{mps_fault}
 use Rattle.mps_program.specs.Program.{linear_of, values_of}
@@ -15,8 +18,9 @@ use Rattle.mps_program.specs.declared.mps_fault.MpsFault.{MpsFault}
 use Rattle.mps_program.specs.declared.mps_fault.MpsFault.TheVariants.{TooLarge as ProgramTooLarge, TooWide as ProgramTooWide, EmptyInterval as ProgramEmptyInterval}
 use Rattle.mps_import.specs.declared.import_fault.ImportFault.{ImportFault}
 use Rattle.mps_import.specs.declared.import_fault.ImportFault.TheVariants.{EmptyInterval, TooWide, TooLarge}
-use Rattle.certificates.specs.Certificates.{CertificateValue, claim_outcome, claim_objective}
+use Rattle.certificates.specs.Certificates.{CertificateValue, Given, claim_outcome, claim_objective}
 use Rattle.certificates.specs.Reading.{given_in}
+use Rattle.certificates.specs.declared.certificate.Claim.{Claim}
 use Rattle.certificate_text.specs.Reader.{IsCertificateText}
 use Rattle.mps_certificates.specs.Problem.{mps_problem}
 use Rattle.mps_certificates.specs.Setting.{mps_setting}
@@ -25,9 +29,9 @@ use Rattle.command_parts.specs.Refusal.{IsFixedRefused, IsMpsRefused, IsCertific
 use Rattle.command_parts.specs.ImportTold.{import_line}
 use Rattle.command_parts.specs.Outcome.{Outcome, Refused}
 use Rattle.command_parts.specs.Promise.{Promise}
-use Rattle.command_parts.specs.SeveralFiles.{after_file, desk_promise, judges_last}
+use Rattle.command_parts.specs.SeveralFiles.{IsTextOf, after_file, desk_promise, judges_last, saying}
 use Rattle.command_parts.specs.Told.{refusal}
-use Rattle.bridge_tool.specs.Verify.{by_claim}
+use Rattle.bridge_tool.specs.Verify.{IsWrittenAs, by_claim}
 use Rattle.bridge_tool.specs.declared.verify_mps.Layout.{Layout}
 use Rattle.bridge_tool.specs.declared.verify_mps.Layout.TheVariants.{Free, Fixed}
 
@@ -88,8 +92,8 @@ abbrev pub verify_mps_outcome : Mps Dec → CertificateValue → Outcome
 verify_mps_outcome m c = program_outcome (linear_of (values_of m)) c
 
 -- what a yes means: the line is true of the points that satisfy the program
-abbrev pub IsVerifiedMps : Mps Dec → CertificateValue → Type 0
-IsVerifiedMps m c = IsClaimTrue (mps_problem (values_of m)) c (verify_mps_outcome m c)
+abbrev pub IsVerifiedMps : Mps Dec → Claim → Given → (bytes : List ℕ) → Type 0
+IsVerifiedMps m claim given = IsClaimTrue (mps_problem (values_of m)) claim given
 
 -- what a no means
 abbrev pub IsDeniedMps : Mps Dec → CertificateValue → Type 0
@@ -98,14 +102,34 @@ IsDeniedMps m c =
 
 -- ---- the promise
 
--- no steps are counted
-abbrev pub verify_mps_told : Layout → List ℕ → List ℕ → Texts → Promise
-verify_mps_told layout mps certificate texts =
+-- lines in this form say this program
+abbrev pub IsSaidIn : Layout → List (List ℕ) → Mps Dec → Type 0
+IsSaidIn Free = SaysMps
+IsSaidIn Fixed = SaysFixed
+
+-- What a yes says: what both texts say, and that the line that is written is true of that.
+pub record SaysVerifiedMps (layout : Layout) (texts : Texts)
+    (mps certificate bytes : List ℕ) : Type 0 where
+  pub program : Mps Dec
+  pub claim : Claim
+  pub given : Given
+  pub says : IsTextOf texts mps (λ text. IsSaidIn layout (lines_of text) program)
+  pub certifies : IsTextOf texts certificate (IsWrittenAs claim given)
+  pub verified : IsVerifiedMps program claim given bytes
+
+-- both texts are read, and the verdict is given; no steps are counted
+abbrev pub verify_mps_read : Layout → List ℕ → List ℕ → Texts → Promise
+verify_mps_read layout mps certificate texts =
     after_file (HasProgram layout) (IsProgramRefused layout) texts mps (λ m.
     after_file (IsCertificateText (mps_setting m)) (IsCertificateRefused (mps_setting m) 2) texts
     certificate (λ c.
-    judges_last texts certificate (λ outcome. outcome ≡ verify_mps_outcome m c)
-    (λ old new. new ≡ old) (IsVerifiedMps m c) (IsDeniedMps m c)))
+    judges_last (texts certificate) (λ outcome. outcome ≡ verify_mps_outcome m c)
+    (λ old new. new ≡ old) (IsVerifiedMps m c.claim (given_in c)) (IsDeniedMps m c)))
+
+abbrev pub verify_mps_told : Layout → List ℕ → List ℕ → Texts → Promise
+verify_mps_told layout mps certificate texts =
+    saying (SaysVerifiedMps layout texts mps certificate)
+    (verify_mps_read layout mps certificate texts)
 
 abbrev pub verify_mps_promise : Option Texts → Layout → List ℕ → List ℕ → Promise
 verify_mps_promise texts layout mps certificate =

@@ -48,7 +48,6 @@ pub fn one_outcome()
 
 /// What a command of one file comes to, why it refuses it, which steps are counted and what a 0
 /// means, by the text of that file alone.
-#[tactic(auto, using(crate::proofs::OneFile::nl_by_text, crate::proofs::OneFile::mps_by_text, crate::proofs::OneFile::fixed_by_text, crate::proofs::OneFile::sol_by_text, crate::proofs::OneFile::import_by_text))]
 pub fn commands_by_text()
     ensures export { (texts : Texts) (file text : List ℕ) (k : ℕ) → texts file ≡ Some text
         → IsByText IsNl HasTextRefusal (λ nl. IsExported nl k) (λ nl. CannotBeExported nl k)

@@ -4,6 +4,7 @@ ghost use Rattle.std.specs.Prelude.{◌≡◌, ◌+◌, ◌≤◌, IfOk};
 ghost use Rattle.linear_program.specs.Programs.{linear_value};
 ghost use Rattle.nl_segments.specs.Reader.{HasLines, value_of};
 ghost use Rattle.certificates.specs.Certificates.{IsCertificateOf, claim_outcome, claim_objective};
+ghost use Rattle.certificates.specs.Reading.{given_in};
 ghost use Rattle.file_certificates.specs.Files.{IsCertificateIn};
 ghost use Rattle.certificate_judge.specs.Outcomes.{outcome_of};
 ghost use Rattle.command_parts.specs.InsideAnswer.{IsCounted};
@@ -66,8 +67,8 @@ fn to_verdict<L: Ledger>(
     requires certificate { IsCertificateIn read.file certificate.now }
     ensures comes { Comes (λ outcome. outcome ≡ verify_outcome (value_of read)
         certificate.now) result }
-    ensures says { IfOk result (λ t. ByVerdict t.0 (IsVerified (value_of read) certificate.now)
-        (IsDenied (value_of read) certificate.now)) }
+    ensures says { IfOk result (λ t. ByVerdict t.0 (IsVerified read.file certificate.now.claim
+        (given_in certificate.now) t.1.items) (IsDenied (value_of read) certificate.now)) }
     ensures above { steps.old ≤ steps.new }
     ensures counts { steps.new ≤ steps.old + fold_steps (value_of read)
         (claim_objective certificate.now.claim) }

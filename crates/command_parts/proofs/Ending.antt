@@ -70,9 +70,12 @@ untold_verdict judges true input output may = inl refl
 untold_verdict judges false input output (inl e) = absurd cc
 untold_verdict judges false input output (inr j) = inr (inl (j, refl))
 
-meant : (verdict : Bool) (M D : Type 0) → ByVerdict verdict M D → verdict_status verdict ≡ 0 → M
-meant true M D h e = h
-meant false M D h e = absurd (omega (arith, e))
+-- the bytes of a yes are those that were written
+meant : (verdict : Bool) (M : List ℕ → Type 0) (D : Type 0) (judges : Bool) (bytes other : List ℕ) → ByVerdict verdict (M bytes) D → verdict_status verdict ≡ 0
+    → (Done true other ≡ Untold judges) ⊎ (Done true other ≡ Done verdict bytes) → M other
+meant true M D judges bytes other h e (inl is) = absurd cc
+meant true M D judges bytes other h e (inr is) = let same : bytes ≡ other = cc in subst M same h
+meant false M D judges bytes other h e is = absurd (omega (arith, e))
 
 denied : (verdict : Bool) (M D : Type 0) → ByVerdict verdict M D → verdict_status verdict ≡ 1 → D
 denied true M D h e = absurd (omega (arith, e))
@@ -128,7 +131,7 @@ module _ (p : Promise) (judges : Bool) (old mid : Meaning) where
       (λ o h. elim (j.knows o h) [ inl e ↦ rw e (inr (inr (inl refl))) | inr e ↦ rw e (inl refl) ]) (λ o h. elim (j.knows o h) [ inl e ↦ rw e tt | inr e ↦ rw e refl ])
       (λ q text is. j.left text is) (omega (arith, j.same)) (λ lt. absurd (omega (arith, lt, j.same))) j.rest
 
-  done_worked : (new : Meaning) (verdict : Bool) (bytes : List ℕ) → HasComeTo p judges old mid (Done verdict bytes) → (verdict ≡ true) ⊎ IsTrue judges → ByVerdict verdict p.means p.denies → HasWritten bytes mid new → IsWorked p old new (IsDone verdict)
+  done_worked : (new : Meaning) (verdict : Bool) (bytes : List ℕ) → HasComeTo p judges old mid (Done verdict bytes) → (verdict ≡ true) ⊎ IsTrue judges → ByVerdict verdict (p.means bytes) p.denies → HasWritten bytes mid new → IsWorked p old new (IsDone verdict)
   done_worked new verdict bytes j may means h =
       let all : Appends old.written new.written bytes = subst (λ (w : Option (List ℕ)). Appends w new.written bytes) j.rest.written h.all in
       let le : verdict_status verdict ≤ 1 = low verdict in
@@ -138,8 +141,8 @@ module _ (p : Promise) (judges : Bool) (old mid : Meaning) where
         line = λ o c. no_line o (verdict_status verdict) _ le;
         quiet = λ q. absurd (not_quiet _ le q);
         left = λ q text is. h.rest.left ∙ j.left text is;
-        means = meant verdict p.means p.denies means;
-        denies = denied verdict p.means p.denies means;
+        means = λ e other c. meant verdict p.means p.denies judges bytes other means e (j.knows (Done true other) c);
+        denies = denied verdict (p.means bytes) p.denies means;
         input_later = omega (arith, j.same, h.rest.input_faults);
         output_later = omega (arith, h.count, j.rest.output_faults);
         input = λ lt. absurd (omega (arith, lt, j.same, h.rest.input_faults));
@@ -171,7 +174,7 @@ module _ (p : Promise) (judges : Bool) (old mid : Meaning) where
       }
 
   -- the bytes of the outcome were written, or an output call failed
-  pub wrote_worked : (new : Meaning) (verdict : Bool) (bytes : List ℕ) (answer : Answer) → HasComeTo p judges old mid (Done verdict bytes) → (verdict ≡ true) ⊎ IsTrue judges → ByVerdict verdict p.means p.denies → EndsWriting verdict bytes mid new answer → IsWorked p old new answer
+  pub wrote_worked : (new : Meaning) (verdict : Bool) (bytes : List ℕ) (answer : Answer) → HasComeTo p judges old mid (Done verdict bytes) → (verdict ≡ true) ⊎ IsTrue judges → ByVerdict verdict (p.means bytes) p.denies → EndsWriting verdict bytes mid new answer → IsWorked p old new answer
   wrote_worked new verdict bytes answer j may means (inl h) = rw h.0 (done_worked new verdict bytes j may means h.1)
   wrote_worked new verdict bytes answer j may means (inr h) = rw h.0 (output_worked new verdict bytes j h.1)
 

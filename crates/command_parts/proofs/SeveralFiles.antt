@@ -7,7 +7,7 @@ use Rattle.texts.specs.declared.fault.TextFault.{TextFault}
 use Rattle.texts.proofs.JudgedLemmas.{one_outcome}
 use Rattle.command_parts.specs.Told.{TellsFault}
 use Rattle.std.proofs.lemmas.Option.{same_Some}
-use Rattle.std.specs.Prelude.{IfOk, IsTrue, MatchOption, MatchResult}
+use Rattle.std.specs.Prelude.{IfOk, IsSomeAnd, IsTrue, MatchResult, option_map}
 use Rattle.std.specs.Global.{Vec}
 use Rattle.std.specs.List.{flat_map}
 use Rattle.desk.specs.Desk.{IsUnknown, Meaning, OnlyInput, Rose, Texts}
@@ -16,7 +16,7 @@ use Rattle.texts.specs.declared.stop.Stop.TheVariants.{Fault, Memory}
 use Rattle.command_parts.specs.InsideRefusal.{refusal_line}
 use Rattle.command_parts.specs.InsideAnswer.{IsAtRest, IsCounted, IsWorked, Ends, EndsBy, EndsInPieces, Missed, status_of}
 use Rattle.command_parts.specs.Promise.{Promise}
-use Rattle.command_parts.specs.SeveralFiles.{Answered, ByValue, ByVerdict, Comes, ComesBy, ComesInPieces, HasEnded, HasSaid, ReadsFile, Says, after_file, desk_promise, judges_last}
+use Rattle.command_parts.specs.SeveralFiles.{Answered, ByVerdict, Comes, ComesBy, ComesInPieces, HasEnded, HasSaid, IsTextOf, ReadsFile, Reached, Meets, Says, after_file, by_reached, desk_promise, judges_last, has_said, no_text, of_met, refused_with, saying, stops}
 use Rattle.command_parts.specs.declared.refusal.Refusal.{Refusal}
 use Rattle.command_parts.specs.Transfer.{HasRead, HasReadCause, IsFrontRead, ReadsFront}
 use Rattle.command_parts.specs.declared.answer.Answer.{Answer}
@@ -119,83 +119,65 @@ pub record IsSound (p : Promise) : Type 0 where
   pub last : (a b : List ℕ) → p.last a → p.last b → a ≡ b
   pub idle : (n : ℕ) → p.counts n n
 
-pub sound_end : (texts : Texts) (file : List ℕ) (comes : Outcome → Type 0) (counts : ℕ → ℕ → Type 0) (means denies : Type 0) → HasOne IsPlain comes → ((n : ℕ) → counts n n) → IsSound (judges_last texts file comes counts means denies)
-sound_end texts file comes counts means denies one idle = record {
+pub sound_end : (started : Option (List ℕ)) (comes : Outcome → Type 0) (counts : ℕ → ℕ → Type 0) (means : List ℕ → Type 0) (denies : Type 0) → HasOne IsPlain comes → ((n : ℕ) → counts n n) → IsSound (judges_last started comes counts means denies)
+sound_end started comes counts means denies one idle = record {
   one = one;
   last = λ a b h k. same_Some a b (sym h ∙ k);
   idle = idle;
 }
 
+-- one thing is met, and no other
+module _ {A : Type 0} (is_met : A → Type 0) (one : (a b : A) → is_met a → is_met b → a ≡ b) where
+  -- what holds of one that is met holds of each
+  pub of_that : (P : A → Type 0) (b : A) → is_met b → (a : A) × (is_met a × P a) → P b
+  of_that P b met h = subst P (one h.0 b h.1.0 met) h.1.1
+
+  pub sound_met : (p : A → Promise) → (a : A) × is_met a → ((a : A) → IsSound (p a)) → IsSound (of_met is_met p)
+  sound_met p some s =
+      let at = s some.0 in
+      record {
+        one = record { outcome = at.one.outcome; comes_to = (some.0, (some.1, at.one.comes_to)); is = at.one.is; one = λ other h. at.one.one other (of_that (λ a. (p a).comes other) some.0 some.1 h) };
+        last = λ a b h k. at.last a b (of_that (λ x. (p x).last a) some.0 some.1 h) (of_that (λ x. (p x).last b) some.0 some.1 k);
+        idle = λ n. (some.0, (some.1, at.idle n));
+      }
+
+pub sound_stop : (started : Option (List ℕ)) (comes : Outcome → Type 0) → HasOne IsPlain comes → IsSound (stops started comes)
+sound_stop started comes one = sound_end started comes (λ old new. new ≡ old) (λ bytes. ⊥) ⊥ one (λ n. refl)
+
 module _ {V : Type 0} (reads : List ℕ → V → Type 0) (refuses : List ℕ → List ℕ → Type 0) where
-  -- a text that is refused with a line, or says a value, and no other
-  module _ (d : AreRead reads refuses) (text : List ℕ) where
-    pub one_refused : (line : List ℕ) → refuses text line → (P : List ℕ → Type 0) (Q : V → Type 0) → ByValue reads refuses text P Q → P line
-    one_refused line r P Q (inl h) = subst P (d.refused text h.0 line h.1.0 r) h.1.1
-    one_refused line r P Q (inr h) = absurd (d.apart text h.0 line h.1.0 r)
+  abbrev Met : Option (List ℕ) → Reached V → Type 0
+  Met = Meets reads refuses
 
-    pub one_said : (value : V) → reads text value → (P : List ℕ → Type 0) (Q : V → Type 0) → ByValue reads refuses text P Q → Q value
-    one_said value r P Q (inl h) = absurd (d.apart text value h.0 r h.1.0)
-    one_said value r P Q (inr h) = subst Q (d.said text h.0 value h.1.0 r) h.1.1
+  module _ (d : AreRead reads refuses) where
+    pub one_met : (found : Option (List ℕ)) (a b : Reached V) → Met found a → Met found b → a ≡ b
+    one_met None no_text no_text h k = refl
+    one_met None no_text (refused_with line) h k = absurd k
+    one_met None no_text (has_said value) h k = absurd k
+    one_met None (refused_with line) b h k = absurd h
+    one_met None (has_said value) b h k = absurd h
+    one_met (Some text) no_text b h k = absurd cc
+    one_met (Some text) (refused_with line) no_text h k = absurd cc
+    one_met (Some text) (refused_with line) (refused_with other) h k = ap refused_with (d.refused text line other h k)
+    one_met (Some text) (refused_with line) (has_said value) h k = absurd (d.apart text value line k h)
+    one_met (Some text) (has_said value) no_text h k = absurd cc
+    one_met (Some text) (has_said value) (refused_with line) h k = absurd (d.apart text value line h k)
+    one_met (Some text) (has_said value) (has_said other) h k = ap has_said (d.said text value other h k)
 
-  -- the text comes to one outcome, where each value does
-  pub one_by_value : AreRead reads refuses → (comes : V → Outcome → Type 0) → ((value : V) → HasOne IsPlain (comes value)) → (text : List ℕ)
-      → HasOne IsPlain (λ outcome. ByValue reads refuses text (λ line. outcome ≡ IsRefusal line) (λ value. comes value outcome))
-  one_by_value d comes one text = elim (d.either text) [
-    | inl said ↦
-        let v = said.0 in
-        record {
-          outcome = (one v).outcome;
-          comes_to = inr (v, (said.1, (one v).comes_to));
-          is = (one v).is;
-          one = λ other h. (one v).one other (one_said d text v said.1 (λ line. other ≡ IsRefusal line) (λ value. comes value other) h);
-        }
-    | inr found ↦ record {
-      outcome = IsRefusal found.0;
-      comes_to = inl (found.0, (found.1, refl));
-      is = tt;
-      one = λ other h. one_refused d text found.0 found.1 (λ line. other ≡ IsRefusal line) (λ value. comes value other) h;
-    }
-  ]
+    pub some_met : (found : Option (List ℕ)) → (r : Reached V) × Met found r
+    some_met None = (no_text, refl)
+    some_met (Some text) = elim (d.either text) [ inl h ↦ (has_said h.0, h.1) | inr h ↦ (refused_with h.0, h.1) ]
 
-  module _ (d : AreRead reads refuses) (next : V → Promise) (s : (value : V) → IsSound (next value)) (whole text : List ℕ) where
-    one_last : (a b : List ℕ) → ByValue reads refuses text (λ line. a ≡ whole) (λ value. (next value).last a) → ByValue reads refuses text (λ line. b ≡ whole) (λ value. (next value).last b) → a ≡ b
-    one_last a b h k = elim (d.either text) [
-      | inl said ↦
-          let v = said.0 in
-          (s v).last a b (one_said d text v said.1 (λ line. a ≡ whole) (λ value. (next value).last a) h) (one_said d text v said.1 (λ line. b ≡ whole) (λ value. (next value).last b) k)
-      | inr found ↦
-          one_refused d text found.0 found.1 (λ line. a ≡ whole) (λ value. (next value).last a) h ∙ sym (one_refused d text found.0 found.1 (λ line. b ≡ whole) (λ value. (next value).last b) k)
-    ]
+    pub sound_reached : (found started : Option (List ℕ)) (next : V → Promise) → ((value : V) → IsSound (next value)) → IsSound (of_met (Met found) (by_reached started next))
+    sound_reached found started next s = sound_met (Met found) (one_met found) (by_reached started next) (some_met found) by
+      where
+        by : (r : Reached V) → IsSound (by_reached started next r)
+        by no_text = sound_stop None (λ outcome. outcome ≡ NoText) (same_one NoText tt)
+        by (refused_with line) = sound_stop started (λ outcome. outcome ≡ IsRefusal line) (same_one (IsRefusal line) tt)
+        by (has_said value) = s value
 
-    idle_text : (n : ℕ) → ByValue reads refuses text (λ line. n ≡ n) (λ value. (next value).counts n n)
-    idle_text n = elim (d.either text) [ inl said ↦ inr (said.0, (said.1, (s said.0).idle n)) | inr found ↦ inl (found.0, (found.1, refl)) ]
-
-    sound_text : IsSound (record {
-      comes = λ outcome. ByValue reads refuses text (λ line. outcome ≡ IsRefusal line) (λ value. (next value).comes outcome);
-      last = λ last. ByValue reads refuses text (λ line. last ≡ whole) (λ value. (next value).last last);
-      counts = λ old new. ByValue reads refuses text (λ line. new ≡ old) (λ value. (next value).counts old new);
-      means = ByValue reads refuses text (λ line. ⊥) (λ value. (next value).means);
-      denies = ByValue reads refuses text (λ line. ⊥) (λ value. (next value).denies);
-    })
-    sound_text = record { one = one_by_value d (λ value. (next value).comes) (λ value. (s value).one) text; last = one_last; idle = idle_text }
-
-  sound_by : AreRead reads refuses → (next : V → Promise) → ((value : V) → IsSound (next value)) → (text : Option (List ℕ)) → IsSound (record {
-    comes = λ outcome. MatchOption text (outcome ≡ NoText) (λ text. ByValue reads refuses (take LIMIT text) (λ line. outcome ≡ IsRefusal line) (λ value. (next value).comes outcome));
-    last = λ last. MatchOption text ⊥ (λ text. ByValue reads refuses (take LIMIT text) (λ line. last ≡ text) (λ value. (next value).last last));
-    counts = λ old new. MatchOption text (new ≡ old) (λ text. ByValue reads refuses (take LIMIT text) (λ line. new ≡ old) (λ value. (next value).counts old new));
-    means = MatchOption text ⊥ (λ text. ByValue reads refuses (take LIMIT text) (λ line. ⊥) (λ value. (next value).means));
-    denies = MatchOption text ⊥ (λ text. ByValue reads refuses (take LIMIT text) (λ line. ⊥) (λ value. (next value).denies));
-  })
-  sound_by d next s None = record {
-    one = record { outcome = NoText; comes_to = refl; is = tt; one = λ other j. j };
-    last = λ a b h k. absurd h;
-    idle = λ n. refl;
-  }
-  sound_by d next s (Some text) = sound_text d next s text (take LIMIT text)
-
-  -- a file is read, and what is next is sound
-  pub sound_after : AreRead reads refuses → (texts : Texts) (file : List ℕ) (next : V → Promise) → ((value : V) → IsSound (next value)) → IsSound (after_file reads refuses texts file next)
-  sound_after d texts file next s = sound_by d next s (texts file)
+    -- a file is read, and what is next is sound
+    pub sound_after : (texts : Texts) (file : List ℕ) (next : V → Promise) → ((value : V) → IsSound (next value)) → IsSound (after_file reads refuses texts file next)
+    sound_after texts file next s = sound_reached (option_map (take LIMIT) (texts file)) (texts file) next s
 
 -- ---- reading a file
 
@@ -234,29 +216,31 @@ pub record IsPartOf (q p : Promise) : Type 0 where
   pub comes : (outcome : Outcome) → q.comes outcome → p.comes outcome
   pub last : (text : List ℕ) → q.last text → p.last text
   pub counts : (m n : ℕ) → q.counts m n → p.counts m n
-  pub means : q.means → p.means
+  pub means : (bytes : List ℕ) → q.means bytes → p.means bytes
   pub denies : q.denies → p.denies
 
 whole : (p : Promise) → IsPartOf p p
-whole p = record { comes = λ o h. h; last = λ t h. h; counts = λ m n h. h; means = λ h. h; denies = λ h. h }
+whole p = record { comes = λ o h. h; last = λ t h. h; counts = λ m n h. h; means = λ bytes h. h; denies = λ h. h }
 
 module _ {V : Type 0} (reads : List ℕ → V → Type 0) (refuses : List ℕ → List ℕ → Type 0) where
   -- what is next is left where the file says its value
   next_part : (texts : Texts) (file text : List ℕ) (value : V) (next : V → Promise) → texts file ≡ Some text → reads (take LIMIT text) value → IsPartOf (next value) (after_file reads refuses texts file next)
-  next_part texts file text value next is r = record {
-    comes = λ o h. rw is (inr (value, (r, h)));
-    last = λ l h. rw is (inr (value, (r, h)));
-    counts = λ m n h. rw is (inr (value, (r, h)));
-    means = λ h. rw is (inr (value, (r, h)));
-    denies = λ h. rw is (inr (value, (r, h)));
-  }
+  next_part texts file text value next is r =
+      let met : Meets reads refuses (option_map (take LIMIT) (texts file)) (has_said value) = rw is r in
+      record {
+        comes = λ o h. (has_said value, (met, h));
+        last = λ l h. (has_said value, (met, h));
+        counts = λ m n h. (has_said value, (met, h));
+        means = λ bytes h. (has_said value, (met, h));
+        denies = λ h. (has_said value, (met, h));
+      }
 
 part_of_part : (r q p : Promise) → IsPartOf r q → IsPartOf q p → IsPartOf r p
 part_of_part r q p h k = record {
   comes = λ o x. k.comes o (h.comes o x);
   last = λ t x. k.last t (h.last t x);
   counts = λ m n x. k.counts m n (h.counts m n x);
-  means = λ x. k.means (h.means x);
+  means = λ bytes x. k.means bytes (h.means bytes x);
   denies = λ x. k.denies (h.denies x);
 }
 
@@ -315,7 +299,7 @@ module _ (told : Texts → Promise) (judges : Bool) where
     knows_by (Some texts) o x is h = inr ((s texts).one.one o h ∙ sym ((s texts).one.one x (is texts refl)))
 
     left_by : (texts : Option Texts) (left : Option (List ℕ)) → ((t : Texts) → texts ≡ Some t → (text : List ℕ) × (told t).last text × (left ≡ Some (drop LIMIT text))) → (text : List ℕ) → (desk_promise judges told texts).last text → left ≡ Some (drop LIMIT text)
-    left_by None left is text h = absurd h
+    left_by None left is text h = absurd cc
     left_by (Some texts) left is text h =
         let there = is texts refl in
         there.2 ∙ ap (λ (t : List ℕ). Some (drop LIMIT t)) ((s texts).last there.0 text there.1 h)
@@ -333,6 +317,9 @@ module _ (told : Texts → Promise) (judges : Bool) where
     idle (Some texts) n = (s texts).idle n
 
     module _ {R V : Type 0} (seen : R → V) (reads : List ℕ → V → Type 0) (refuses : List ℕ → List ℕ → Type 0) (file : List ℕ) (next : Texts → V → Promise) (old mid new : Meaning) (h : HasComeDown (λ texts. after_file reads refuses texts file (next texts)) old mid) where
+      met_line : (texts : Texts) (text line : List ℕ) → texts file ≡ Some text → refuses (take LIMIT text) line → Meets reads refuses (option_map (take LIMIT) (texts file)) (refused_with line)
+      met_line texts text line is r = rw is r
+
       stopped_so : (answer : Answer) → old.input_faults ≤ new.input_faults → OnlyInput old new → HasEnded refuses file mid new answer → IsWorked (desk_promise judges told old.texts) old new answer
       stopped_so (Refused refusal) later rest ended =
           let line = refusal_line refusal in
@@ -340,18 +327,18 @@ module _ (told : Texts → Promise) (judges : Bool) where
             knows = λ o c. knows_by old.texts o (IsRefusal line)
                 (λ texts is.
                 let first = first_of refuses texts file mid new line (h.rest.texts ∙ is) ended in
-                (h.of texts is).comes (IsRefusal line) (rw first.named (inl (line, (first.says, refl))))) c;
+                (h.of texts is).comes (IsRefusal line) (refused_with line, (met_line texts first.text line first.named first.says, refl))) c;
             left = λ text c. left_by old.texts new.left
                 (λ texts is.
                 let first = first_of refuses texts file mid new line (h.rest.texts ∙ is) ended in
-                (first.text, (h.of texts is).last first.text (rw first.named (inl (line, (first.says, refl)))), first.rest)) text c;
+                (first.text, (h.of texts is).last first.text (refused_with line, (met_line texts first.text line first.named first.says, first.named)), first.rest)) text c;
             same = ended.same ∙ h.same;
             rest = rest;
           })
       stopped_so InputFault later rest ended =
           missed_worked _ judges old new
           (λ o c. missed_by old.texts file _ _ o
-          (λ texts is none. (h.of texts is).comes NoText (rw none refl))
+          (λ texts is none. (h.of texts is).comes NoText (no_text, (rw none refl, refl)))
           (elim ended [ inl rose ↦ inl (subst (λ (n : ℕ). Rose n new.input_faults) h.same rose) | inr unknown ↦ inr (subst (λ (t : Option Texts). IsUnknown t file) h.rest.texts unknown) ]) c)
           later rest
       stopped_so NoMemory later rest ended = memory_worked _ judges old new (λ o c. known_by old.texts o c) (ended ∙ h.same) rest
@@ -375,10 +362,10 @@ module _ (told : Texts → Promise) (judges : Bool) where
 
     -- ---- all files were read
 
-    module _ {R V : Type 0} (seen : R → V) (reads : List ℕ → V → Type 0) (refuses : List ℕ → List ℕ → Type 0) (file : List ℕ) (comes : V → Outcome → Type 0) (counts : V → ℕ → ℕ → Type 0) (means denies : V → Type 0) (old before mid : Meaning)
-        (h : HasComeDown (λ texts. after_file reads refuses texts file (λ value. judges_last texts file (comes value) (counts value) (means value) (denies value))) old before) (value : R) (read : ReadsFile seen reads refuses file before mid (Ok value)) where
+    module _ {R V : Type 0} (seen : R → V) (reads : List ℕ → V → Type 0) (refuses : List ℕ → List ℕ → Type 0) (file : List ℕ) (comes : V → Outcome → Type 0) (counts : V → ℕ → ℕ → Type 0) (means : V → List ℕ → Type 0) (denies : V → Type 0) (old before mid : Meaning)
+        (h : HasComeDown (λ texts. after_file reads refuses texts file (λ value. judges_last (texts file) (comes value) (counts value) (means value) (denies value))) old before) (value : R) (read : ReadsFile seen reads refuses file before mid (Ok value)) where
       abbrev ending : Texts → V → Promise
-      ending texts value = judges_last texts file (comes value) (counts value) (means value) (denies value)
+      ending texts value = judges_last (texts file) (comes value) (counts value) (means value) (denies value)
 
       down : HasComeDown (λ texts. ending texts (seen value)) old mid
       down = further seen reads refuses file ending old before mid h value read
@@ -394,18 +381,18 @@ module _ (told : Texts → Promise) (judges : Bool) where
         rest = down.rest;
       }
 
-      meant : (verdict : Bool) (texts : Option Texts) → ((t : Texts) → texts ≡ Some t → IsPartOf (ending t (seen value)) (told t)) → ByVerdict verdict (means (seen value)) (denies (seen value)) → ByVerdict verdict (desk_promise judges told texts).means (desk_promise judges told texts).denies
-      meant true None part m = tt
-      meant false None part m = tt
-      meant true (Some texts) part m = (part texts refl).means m
-      meant false (Some texts) part m = (part texts refl).denies m
+      meant : (verdict : Bool) (bytes : List ℕ) (texts : Option Texts) → ((t : Texts) → texts ≡ Some t → IsPartOf (ending t (seen value)) (told t)) → ByVerdict verdict (means (seen value) bytes) (denies (seen value)) → ByVerdict verdict ((desk_promise judges told texts).means bytes) (desk_promise judges told texts).denies
+      meant true bytes None part m = tt
+      meant false bytes None part m = tt
+      meant true bytes (Some texts) part m = (part texts refl).means bytes m
+      meant false bytes (Some texts) part m = (part texts refl).denies m
 
       judged_as : {T : Type 0} (bytes : T → List ℕ) (new : Meaning) (judged : Result (Bool × T) (Stop Refusal)) (answer : Answer)
           → ComesBy bytes (comes (seen value)) judged
-          → IfOk judged (λ t. ((t.0 ≡ true) ⊎ IsTrue judges) × ByVerdict t.0 (means (seen value)) (denies (seen value)))
+          → IfOk judged (λ t. ((t.0 ≡ true) ⊎ IsTrue judges) × ByVerdict t.0 (means (seen value) (bytes t.1)) (denies (seen value)))
           → EndsBy bytes judged mid new answer
           → IsWorked (desk_promise judges told old.texts) old new answer
-      judged_as bytes new (Ok t) answer is m e = wrote_worked _ judges old mid new t.0 (bytes t.1) answer (has_come_to (IsDone t.0 (bytes t.1)) is) m.0 (meant t.0 old.texts down.of m.1) e
+      judged_as bytes new (Ok t) answer is m e = wrote_worked _ judges old mid new t.0 (bytes t.1) answer (has_come_to (IsDone t.0 (bytes t.1)) is) m.0 (meant t.0 (bytes t.1) old.texts down.of m.1) e
       judged_as bytes new (Err (Fault refusal)) answer is m e = rw (e.0, e.1) (refused_worked _ judges old mid refusal (has_come_to (IsRefusal (refusal_line refusal)) is))
       judged_as bytes new (Err Memory) answer is m e = rw (e.0, e.1) (memory_worked _ judges old mid (λ o c. known_by old.texts o c) down.same down.rest)
 
@@ -416,7 +403,7 @@ module _ (told : Texts → Promise) (judges : Bool) where
       -- the values were judged so with these steps, and the command ended with this answer
       pub ended_by : {T : Type 0} (bytes : T → List ℕ) (m n : ℕ) (new : Meaning) (judged : Result (Bool × T) (Stop Refusal)) (answer : Answer)
           → ComesBy bytes (comes (seen value)) judged
-          → IfOk judged (λ t. ((t.0 ≡ true) ⊎ IsTrue judges) × ByVerdict t.0 (means (seen value)) (denies (seen value)))
+          → IfOk judged (λ t. ((t.0 ≡ true) ⊎ IsTrue judges) × ByVerdict t.0 (means (seen value) (bytes t.1)) (denies (seen value)))
           → EndsBy bytes judged mid new answer → m ≤ n → counts (seen value) m n
           → IsCounted (desk_promise judges told old.texts) old new m n answer
       ended_by bytes m n new judged answer is meant e above c =
@@ -487,20 +474,20 @@ module _ {V : Type 0} {reads : List ℕ → V → Type 0} {refuses : List ℕ �
     verdict = λ value holds bytes e. inr refl;
   }
 
-judged_so : {T : Type 0} (bytes : T → List ℕ) (judges : Bool) (comes : Outcome → Type 0) (means denies : Type 0) (judged : Result (Bool × T) (Stop Refusal)) → ((holds : Bool) (bytes : List ℕ) → comes (IsDone holds bytes) → (holds ≡ true) ⊎ IsTrue judges)
-    → ComesBy bytes comes judged → IfOk judged (λ t. ByVerdict t.0 means denies) → IfOk judged (λ t. ((t.0 ≡ true) ⊎ IsTrue judges) × ByVerdict t.0 means denies)
+judged_so : {T : Type 0} (bytes : T → List ℕ) (judges : Bool) (comes : Outcome → Type 0) (means : List ℕ → Type 0) (denies : Type 0) (judged : Result (Bool × T) (Stop Refusal)) → ((holds : Bool) (bytes : List ℕ) → comes (IsDone holds bytes) → (holds ≡ true) ⊎ IsTrue judges)
+    → ComesBy bytes comes judged → IfOk judged (λ t. ByVerdict t.0 (means (bytes t.1)) denies) → IfOk judged (λ t. ((t.0 ≡ true) ⊎ IsTrue judges) × ByVerdict t.0 (means (bytes t.1)) denies)
 judged_so bytes judges comes means denies (Ok t) may is m = (may t.0 (bytes t.1) is, m)
 judged_so bytes judges comes means denies (Err stop) may is m = tt
 
-module _ {judges : Bool} {V : Type 0} {reads : List ℕ → V → Type 0} {refuses : List ℕ → List ℕ → Type 0} {comes : V → Outcome → Type 0} {counts : V → ℕ → ℕ → Type 0} (l : IsLast judges reads refuses comes counts) (means denies : V → Type 0) (file : List ℕ) where
+module _ {judges : Bool} {V : Type 0} {reads : List ℕ → V → Type 0} {refuses : List ℕ → List ℕ → Type 0} {comes : V → Outcome → Type 0} {counts : V → ℕ → ℕ → Type 0} (l : IsLast judges reads refuses comes counts) (means : V → List ℕ → Type 0) (denies : V → Type 0) (file : List ℕ) where
   abbrev the_end : Texts → V → Promise
-  the_end texts value = judges_last texts file (comes value) (counts value) (means value) (denies value)
+  the_end texts value = judges_last (texts file) (comes value) (counts value) (means value) (denies value)
 
   abbrev from_last : Texts → Promise
   from_last texts = after_file reads refuses texts file (the_end texts)
 
   end_sound : (texts : Texts) (value : V) → IsSound (the_end texts value)
-  end_sound texts value = sound_end texts file (comes value) (counts value) (means value) (denies value) (l.one value) (l.idle value)
+  end_sound texts value = sound_end (texts file) (comes value) (counts value) (means value) (denies value) (l.one value) (l.idle value)
 
   pub last_sound : (texts : Texts) → IsSound (from_last texts)
   last_sound texts = sound_after reads refuses l.read texts file (the_end texts) (end_sound texts)
@@ -513,14 +500,14 @@ module _ {judges : Bool} {V : Type 0} {reads : List ℕ → V → Type 0} {refus
 
     -- all was judged
     last_ended_by : {T : Type 0} (bytes : T → List ℕ) → {R : Type 0} (seen : R → V) (new : Meaning) (value : R) → ReadsFile {R = R} seen reads refuses file mid new (Ok value) → (m n : ℕ) (last : Meaning) (judged : Result (Bool × T) (Stop Refusal)) (answer : Answer)
-        → ComesBy bytes (comes (seen value)) judged → IfOk judged (λ t. ByVerdict t.0 (means (seen value)) (denies (seen value))) → EndsBy bytes judged new last answer → m ≤ n → counts (seen value) m n
+        → ComesBy bytes (comes (seen value)) judged → IfOk judged (λ t. ByVerdict t.0 (means (seen value) (bytes t.1)) (denies (seen value))) → EndsBy bytes judged new last answer → m ≤ n → counts (seen value) m n
         → IsCounted (desk_promise judges told old.texts) old last m n answer
     last_ended_by bytes seen new value read m n last judged answer is meant end above c =
         ended_by told judges s seen reads refuses file comes counts means denies old mid new down value read bytes m n last judged answer is
         (judged_so bytes judges (comes (seen value)) (means (seen value)) (denies (seen value)) judged (l.verdict (seen value)) is meant) end above c
 
     pub last_ended : {R : Type 0} (seen : R → V) (new : Meaning) (value : R) → ReadsFile {R = R} seen reads refuses file mid new (Ok value) → (m n : ℕ) (last : Meaning) (judged : Result (Bool × Vec ℕ) (Stop Refusal)) (answer : Answer)
-        → Comes (comes (seen value)) judged → IfOk judged (λ t. ByVerdict t.0 (means (seen value)) (denies (seen value))) → Ends judged new last answer → m ≤ n → counts (seen value) m n
+        → Comes (comes (seen value)) judged → IfOk judged (λ t. ByVerdict t.0 (means (seen value) t.1.items) (denies (seen value))) → Ends judged new last answer → m ≤ n → counts (seen value) m n
         → IsCounted (desk_promise judges told old.texts) old last m n answer
     last_ended seen new value read = last_ended_by (λ v. v.items) seen new value read
 
@@ -529,20 +516,20 @@ module _ {judges : Bool} {V : Type 0} {reads : List ℕ → V → Type 0} {refus
   only_stopped seen n old new answer read = last_stopped from_last last_sound old old (begun from_last judges old) seen n new answer read
 
   pub only_ended : {R : Type 0} (seen : R → V) (old new : Meaning) (value : R) → ReadsFile {R = R} seen reads refuses file old new (Ok value) → (m n : ℕ) (last : Meaning) (judged : Result (Bool × Vec ℕ) (Stop Refusal)) (answer : Answer)
-      → Comes (comes (seen value)) judged → IfOk judged (λ t. ByVerdict t.0 (means (seen value)) (denies (seen value))) → Ends judged new last answer → m ≤ n → counts (seen value) m n
+      → Comes (comes (seen value)) judged → IfOk judged (λ t. ByVerdict t.0 (means (seen value) t.1.items) (denies (seen value))) → Ends judged new last answer → m ≤ n → counts (seen value) m n
       → IsCounted (desk_promise judges from_last old.texts) old last m n answer
   only_ended seen old new value read = last_ended from_last last_sound old old (begun from_last judges old) seen new value read
 
   -- the same, with the bytes in pieces
   pub ended_in_pieces : {R : Type 0} (seen : R → V) (old new : Meaning) (value : R) → ReadsFile {R = R} seen reads refuses file old new (Ok value) → (m n : ℕ) (last : Meaning) (judged : Result (Bool × Vec (Vec ℕ)) (Stop Refusal)) (answer : Answer)
-      → ComesInPieces (comes (seen value)) judged → IfOk judged (λ t. ByVerdict t.0 (means (seen value)) (denies (seen value))) → EndsInPieces judged new last answer → m ≤ n → counts (seen value) m n
+      → ComesInPieces (comes (seen value)) judged → IfOk judged (λ t. ByVerdict t.0 (means (seen value) (flat_map (λ p. p.items) t.1.items)) (denies (seen value))) → EndsInPieces judged new last answer → m ≤ n → counts (seen value) m n
       → IsCounted (desk_promise judges from_last old.texts) old last m n answer
   ended_in_pieces seen old new value read = last_ended_by from_last last_sound old old (begun from_last judges old) (λ v. flat_map (λ p. p.items) v.items) seen new value read
 
 -- ---- a command of two files
 
 module _ {judges : Bool} {V W : Type 0} {reads : List ℕ → V → Type 0} {refuses : List ℕ → List ℕ → Type 0} {reads_second : V → List ℕ → W → Type 0} {refuses_second : V → List ℕ → List ℕ → Type 0} {comes : V → W → Outcome → Type 0} {counts : V → W → ℕ → ℕ → Type 0}
-    (d : AreRead reads refuses) (l : (value : V) → IsLast judges (reads_second value) (refuses_second value) (comes value) (counts value)) (means denies : V → W → Type 0) (file second : List ℕ) where
+    (d : AreRead reads refuses) (l : (value : V) → IsLast judges (reads_second value) (refuses_second value) (comes value) (counts value)) (means : V → W → List ℕ → Type 0) (denies : V → W → Type 0) (file second : List ℕ) where
   abbrev from_second : Texts → V → Promise
   from_second texts value = from_last (l value) (means value) (denies value) second texts
 
@@ -569,7 +556,7 @@ module _ {judges : Bool} {V W : Type 0} {reads : List ℕ → V → Type 0} {ref
 
     -- both were judged
     pub both_ended : (given : S) → ReadsFile {R = S} seen_second (reads_second (seen value)) (refuses_second (seen value)) second mid new (Ok given) → (m n : ℕ) (last : Meaning) (judged : Result (Bool × Vec ℕ) (Stop Refusal)) (answer : Answer)
-        → Comes (comes (seen value) (seen_second given)) judged → IfOk judged (λ t. ByVerdict t.0 (means (seen value) (seen_second given)) (denies (seen value) (seen_second given))) → Ends judged new last answer → m ≤ n → counts (seen value) (seen_second given) m n
+        → Comes (comes (seen value) (seen_second given)) judged → IfOk judged (λ t. ByVerdict t.0 (means (seen value) (seen_second given) t.1.items) (denies (seen value) (seen_second given))) → Ends judged new last answer → m ≤ n → counts (seen value) (seen_second given) m n
         → IsCounted (desk_promise judges from_both old.texts) old last m n answer
     both_ended given other = last_ended (l (seen value)) (means (seen value)) (denies (seen value)) second from_both both_sound old mid second_down seen_second new given other
 
@@ -586,6 +573,52 @@ meant_always (Err stop) M m = tt
 pub meant_anyway : (judged : Result (Bool × Vec ℕ) (Stop Refusal)) (M : Type 0) → M → IfOk judged (λ t. ByVerdict t.0 M (Unit {0}))
 meant_anyway (Ok t) M m = of_yes t.0 M (λ e. m)
 meant_anyway (Err stop) M m = tt
+
+-- ---- what a yes says
+
+-- what a text of a file says
+pub text_so : {P Q : List ℕ → Type 0} (found : Option (List ℕ)) → ((text : List ℕ) → P text → Q text) → IsSomeAnd found P → IsSomeAnd found Q
+text_so None so h = h
+text_so (Some text) so h = so text h
+
+-- where it means something, the file says a value, of which that is so
+module _ {V : Type 0} (reads : List ℕ → V → Type 0) (refuses : List ℕ → List ℕ → Type 0) (texts : Texts) (file : List ℕ) (next : V → Promise) (bytes : List ℕ) where
+  value_at : (r : Reached V) → Meets reads refuses (option_map (take LIMIT) (texts file)) r → (by_reached (texts file) next r).means bytes → (value : V) × (IsTextOf texts file (λ text. reads text value) × (next value).means bytes)
+  value_at no_text met m = absurd m
+  value_at (refused_with line) met m = absurd m
+  value_at (has_said value) met m = (value, (met, m))
+
+  pub value_said : (after_file reads refuses texts file next).means bytes → (value : V) × (IsTextOf texts file (λ text. reads text value) × (next value).means bytes)
+  value_said h = value_at h.0 h.1.0 h.1.1
+
+-- a yes means this, too, where it follows
+pub meant_as : {old new : Meaning} {m n : ℕ} {answer : Answer} (judges : Bool) (told : Texts → Promise) (says : Texts → List ℕ → Type 0) (t : Option Texts) → ((texts : Texts) (bytes : List ℕ) → (told texts).means bytes → says texts bytes)
+    → IsCounted (desk_promise judges told t) old new m n answer → IsCounted (desk_promise judges (λ texts. saying (says texts) (told texts)) t) old new m n answer
+meant_as judges told says None so h = h
+meant_as judges told says (Some texts) so h =
+    let w = h.worked in
+    record {
+      worked = record {
+        status = w.status;
+        written = w.written;
+        line = w.line;
+        quiet = w.quiet;
+        left = w.left;
+        means = λ e bytes c. so texts bytes (w.means e bytes c);
+        denies = w.denies;
+        input_later = w.input_later;
+        output_later = w.output_later;
+        input = w.input;
+        output = w.output;
+        texts = w.texts;
+        told = w.told;
+        messages = w.messages;
+      };
+      known = h.known;
+      above = h.above;
+      counts = h.counts;
+      idle = h.idle;
+    }
 
 -- a command that counts no steps, whatever was counted before it
 pub at_rest : {p : Promise} {old new : Meaning} {answer : Answer} → ((n : ℕ) → IsCounted p old new n n answer) → IsAtRest p old new answer

@@ -1,5 +1,5 @@
 -- How a command ends: its status, its line, and what it did.
-use Rattle.std.specs.Prelude.{◌≡◌, ◌≢◌, ◌⊎◌, ◌<◌, ◌≤◌, ℕ, Bool, List, [], codes, drop, IfSome, Some, Result, Ok, Err}
+use Rattle.std.specs.Prelude.{◌≡◌, ◌≢◌, ◌⊎◌, ◌<◌, ◌≤◌, ℕ, Bool, true, List, [], codes, drop, IfSome, Some, Result, Ok, Err}
 use Rattle.std.specs.Global.{Vec}
 use Rattle.std.specs.List.{flat_map}
 use Rattle.std.specs.Io.KnownBytes.{Appends}
@@ -8,7 +8,7 @@ use Rattle.texts.specs.declared.stop.Stop.{Stop}
 use Rattle.texts.specs.declared.stop.Stop.TheVariants.{Fault, Memory}
 use Rattle.command_parts.specs.InsideRefusal.{refusal_line}
 use Rattle.command_parts.specs.declared.refusal.Refusal.{Refusal}
-use Rattle.command_parts.specs.Outcome.{Outcome, Status, Written, IsQuiet, told_line, verdict_status}
+use Rattle.command_parts.specs.Outcome.{Outcome, Done as IsDone, Status, Written, IsQuiet, told_line, verdict_status}
 use Rattle.command_parts.specs.Promise.{Promise}
 use Rattle.command_parts.specs.Transfer.{AppendsPart}
 use Rattle.command_parts.specs.declared.answer.Answer.{Answer}
@@ -46,7 +46,8 @@ pub record IsWorked (p : Promise) (old new : Meaning) (answer : Answer) : Type 0
   pub quiet : IsQuiet (status_of answer) → new.written ≡ old.written
   pub left : (status_of answer ≤ 2) ⊎ (status_of answer ≡ 5) → (text : List ℕ) → p.last text
       → new.left ≡ Some (drop LIMIT text)
-  pub means : status_of answer ≡ 0 → p.means
+  pub means : status_of answer ≡ 0 → (bytes : List ℕ) → p.comes (IsDone true bytes)
+      → p.means bytes
   pub denies : status_of answer ≡ 1 → p.denies
   pub input_later : old.input_faults ≤ new.input_faults
   pub output_later : old.output_faults ≤ new.output_faults

@@ -3,10 +3,11 @@
 -- A command that reads files one after another is a promise that is built from its end:
 --   `ends texts file comes counts means`: the files were read, `file` last, and the command comes
 --     to this; `writes texts file bytes means` where it always writes these bytes, and
---     `judges_last texts file comes counts means denies` where it gives a verdict;
+--     `judges_last (texts file) comes counts means denies` where it gives a verdict;
 --   `after_file reads refuses texts file next`: this file is read. A text that it refuses ends the
 --     command with its line; else the text says one value, and the rest of the command is
 --     `next value`, which may read a further file;
+--   `saying means p`: p, where a yes means this;
 --   `desk_promise judges known`: the whole, at a desk that tells its texts (`known`) or not.
 -- So a fault of a file comes before the next file is started, and a reader may depend on the values
 -- before it.
@@ -25,7 +26,7 @@
 -- In proofs (`proofs/SeveralFiles`): `AreRead` for each file, and `IsLast` for the last with what
 -- its value comes to. From these `only_..` gives each clause of a command of one file, `both_..` of
 -- one of two; else `first_..` begins, `further` goes on, and `last_..` ends.
-use Rattle.std.specs.Prelude.{◌≡◌, ◌⊎◌, ◌≤◌, ℕ, Bool, true, false, List, take, Result, Ok, Err, MatchOption, MatchResult}
+use Rattle.std.specs.Prelude.{◌≡◌, ◌⊎◌, ◌≤◌, ℕ, Bool, true, false, List, take, option_map, IsSomeAnd, Result, Ok, Err, MatchResult}
 use Rattle.std.specs.Global.{Vec}
 use Rattle.std.specs.List.{flat_map}
 use Rattle.std.specs.declared.option.Option.{Option}
@@ -48,62 +49,84 @@ use Rattle.command_parts.specs.declared.transfer.TheConstants.{LIMIT}
 
 -- ---- promises
 
+-- what a command meets in a text: there is none, it is refused with a line, or it says a value
+pub data Reached (V : Type 0) : Type 0 where
+  no_text : Reached V
+  refused_with : (line : List ℕ) → Reached V
+  has_said : V → Reached V
+
 module _ {V : Type 0} (reads : List ℕ → V → Type 0) (refuses : List ℕ → List ℕ → Type 0) where
-  -- the text is refused with a line, of which P holds, or it says a value, of which Q holds
-  abbrev pub ByValue : List ℕ → (P : List ℕ → Type 0) → (Q : V → Type 0) → Type 0
-  ByValue text P Q = ((line : List ℕ) × (refuses text line × P line))
-      ⊎ ((value : V) × (reads text value × Q value))
+  -- which of them it is
+  abbrev pub Meets : Option (List ℕ) → Reached V → Type 0
+  Meets found no_text = found ≡ None
+  Meets found (refused_with line) = IsSomeAnd found (λ text. refuses text line)
+  Meets found (has_said value) = IsSomeAnd found (λ text. reads text value)
 
-  -- A file is read; what its first bytes say, up to the limit, leads to the promise that is next.
-  -- Where they are refused, the command comes to that refusal, this text is the last that it
-  -- starts, no step is counted, and neither 0 nor 1 can come; where there is no such file, it comes
-  -- to `NoText`.
-  abbrev pub after_file : Texts → List ℕ → (next : V → Promise) → Promise
-  after_file texts file next = record {
-    comes = λ outcome. MatchOption (texts file) (outcome ≡ NoText)
-        (λ text. ByValue (take LIMIT text) (λ line. outcome ≡ IsRefusal line)
-        (λ value. (next value).comes outcome));
-    last = λ last. MatchOption (texts file) ⊥ (λ text.
-        ByValue (take LIMIT text) (λ line. last ≡ text) (λ value. (next value).last last));
-    counts = λ old new. MatchOption (texts file) (new ≡ old)
-        (λ text. ByValue (take LIMIT text) (λ line. new ≡ old)
-        (λ value. (next value).counts old new));
-    means = MatchOption (texts file) ⊥ (λ text. ByValue (take LIMIT text) (λ line. ⊥)
-        (λ value. (next value).means));
-    denies = MatchOption (texts file) ⊥ (λ text. ByValue (take LIMIT text) (λ line. ⊥)
-        (λ value. (next value).denies));
-  }
-
--- all files were read, this one last, and a verdict is given
-abbrev pub judges_last : Texts → List ℕ → (comes : Outcome → Type 0) → (counts : ℕ → ℕ → Type 0)
-    → (means denies : Type 0) → Promise
-judges_last texts file comes counts means denies = record {
+-- it comes to this, this text was started last, if one was, and a verdict is given
+abbrev pub judges_last : (started : Option (List ℕ)) → (comes : Outcome → Type 0)
+    → (counts : ℕ → ℕ → Type 0) → (means : List ℕ → Type 0) → (denies : Type 0) → Promise
+judges_last started comes counts means denies = record {
   comes = comes;
-  last = λ last. texts file ≡ Some last;
+  last = λ text. started ≡ Some text;
   counts = counts;
   means = means;
   denies = denies;
 }
 
--- the same without a verdict
+-- the same where neither 0 nor 1 can come, and no step is counted
+abbrev pub stops : Option (List ℕ) → (comes : Outcome → Type 0) → Promise
+stops started comes = judges_last started comes (λ old new. new ≡ old) (λ bytes. ⊥) ⊥
+
+module _ {V : Type 0} (started : Option (List ℕ)) (next : V → Promise) where
+  -- a command without a text comes to `NoText`; one whose text is refused comes to that refusal;
+  -- and a value leads to what is next
+  abbrev pub by_reached : Reached V → Promise
+  by_reached no_text = stops None (λ outcome. outcome ≡ NoText)
+  by_reached (refused_with line) = stops started (λ outcome. outcome ≡ IsRefusal line)
+  by_reached (has_said value) = next value
+
+module _ {A : Type 0} (is_met : A → Type 0) (promise : A → Promise) where
+  -- the promise of the one that is met
+  abbrev pub of_met : Promise
+  of_met = record {
+    comes = λ outcome. (a : A) × (is_met a × (promise a).comes outcome);
+    last = λ text. (a : A) × (is_met a × (promise a).last text);
+    counts = λ old new. (a : A) × (is_met a × (promise a).counts old new);
+    means = λ bytes. (a : A) × (is_met a × (promise a).means bytes);
+    denies = (a : A) × (is_met a × (promise a).denies);
+  }
+
+module _ {V : Type 0} (reads : List ℕ → V → Type 0) (refuses : List ℕ → List ℕ → Type 0) where
+  -- a file is read, and its first bytes, up to the limit, decide
+  abbrev pub after_file : Texts → List ℕ → (next : V → Promise) → Promise
+  after_file texts file next =
+      of_met (Meets reads refuses (option_map (take LIMIT) (texts file)))
+      (by_reached (texts file) next)
+
+-- all files were read, this one last, and there is no verdict
 abbrev pub ends : Texts → List ℕ → (comes : Outcome → Type 0) → (counts : ℕ → ℕ → Type 0)
     → (means : Type 0) → Promise
-ends texts file comes counts means = judges_last texts file comes counts means (Unit {0})
+ends texts file comes counts means =
+    judges_last (texts file) comes counts (λ bytes. means) (Unit {0})
 
 -- the same, and these bytes are written; no steps are counted
 abbrev pub writes : Texts → List ℕ → (bytes : List ℕ) → (means : Type 0) → Promise
 writes texts file bytes means =
     ends texts file (λ outcome. outcome ≡ IsDone true bytes) (λ old new. new ≡ old) means
 
+-- the promise with this meaning of a yes
+abbrev pub saying : (List ℕ → Type 0) → Promise → Promise
+saying means p = record p { means = means }
+
+-- P holds of the first bytes, up to the limit, of the text of this name
+abbrev pub IsTextOf : Texts → List ℕ → (P : List ℕ → Type 0) → Type 0
+IsTextOf texts name P = IsSomeAnd (option_map (take LIMIT) (texts name)) P
+
 -- a desk does not tell its texts
 abbrev pub untold : Bool → Promise
-untold judges = record {
-  comes = λ outcome. outcome ≡ Untold judges;
-  last = λ last. ⊥;
-  counts = λ old new. Unit {0};
-  means = Unit {0};
-  denies = Unit {0};
-}
+untold judges =
+    judges_last None (λ outcome. outcome ≡ Untold judges) (λ old new. Unit {0})
+    (λ bytes. Unit {0}) (Unit {0})
 
 -- the promise at a desk that tells its texts, or does not
 abbrev pub desk_promise : (judges : Bool) → (known : Texts → Promise) → Option Texts → Promise

@@ -22,7 +22,7 @@ returns-in-Err-open_columns g c =
 
 pub returns : goal.returns
 returns g c =
-    last_ended (named_last c.args.objective (value_of c.in-Ok.read) c.in-Ok-open_rows.names) (λ k. AreNamedMeant (of_lists c.args.objective (value_of c.in-Ok.read) c.in-Ok-open_rows.names k)) NoVerdict c.args.columns.now
+    last_ended (named_last c.args.objective (value_of c.in-Ok.read) c.in-Ok-open_rows.names) (λ k bytes. AreNamedMeant (of_lists c.args.objective (value_of c.in-Ok.read) c.in-Ok-open_rows.names k)) NoVerdict c.args.columns.now
     (named_told c.args.file.now c.args.objective c.args.rows.now c.args.columns.now) (listed_sound false 2 c.args.file.now c.args.rows.now c.args.columns.now (after_names c.args.objective c.args.columns.now) (names_sound c.args.objective c.args.columns.now)) _ _
     (rows_down false 2 c.args.file.now c.args.rows.now c.args.columns.now (after_names c.args.objective c.args.columns.now) (names_sound c.args.objective c.args.columns.now) value_of _ _ c.in-Ok.read c.in-Ok.ensures.reads
     _ c.in-Ok-open_rows.names c.in-Ok-open_rows.ensures.reads)

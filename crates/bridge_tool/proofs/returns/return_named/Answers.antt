@@ -24,7 +24,7 @@ returns-in-Err-open_columns g c =
 
 pub returns-in-Err-open_named : goal.returns-in-Err-open_named
 returns-in-Err-open_named g c =
-    last_stopped (answer_last (named_setting c.in-Ok.read.file c.in-Ok-open_rows.names c.in-Ok-open_columns.names) (value_of c.in-Ok.read)) (IsReturnMeant (value_of c.in-Ok.read)) NoVerdict c.args.answer.now
+    last_stopped (answer_last (named_setting c.in-Ok.read.file c.in-Ok-open_rows.names c.in-Ok-open_columns.names) (value_of c.in-Ok.read)) (λ a bytes. IsReturnMeant (value_of c.in-Ok.read) a) NoVerdict c.args.answer.now
     (named_return_told c.args.nl.now c.args.answer.now c.args.rows.now c.args.columns.now) (listed_sound false 3 c.args.nl.now c.args.rows.now c.args.columns.now (after_names c.args.answer.now) (names_sound c.args.answer.now)) _ _
     (columns_down false 3 c.args.nl.now c.args.rows.now c.args.columns.now (after_names c.args.answer.now) (names_sound c.args.answer.now) value_of _ _ c.in-Ok.read c.in-Ok.ensures.reads
     _ c.in-Ok-open_rows.names c.in-Ok-open_rows.ensures.reads _ c.in-Ok-open_columns.names c.in-Ok-open_columns.ensures.reads)
@@ -37,7 +37,7 @@ to_output-judged-requires-clause-made g c =
 
 pub returns : goal.returns
 returns g c =
-    last_ended (answer_last (named_setting c.in-Ok.read.file c.in-Ok-open_rows.names c.in-Ok-open_columns.names) (value_of c.in-Ok.read)) (IsReturnMeant (value_of c.in-Ok.read)) NoVerdict c.args.answer.now
+    last_ended (answer_last (named_setting c.in-Ok.read.file c.in-Ok-open_rows.names c.in-Ok-open_columns.names) (value_of c.in-Ok.read)) (λ a bytes. IsReturnMeant (value_of c.in-Ok.read) a) NoVerdict c.args.answer.now
     (named_return_told c.args.nl.now c.args.answer.now c.args.rows.now c.args.columns.now) (listed_sound false 3 c.args.nl.now c.args.rows.now c.args.columns.now (after_names c.args.answer.now) (names_sound c.args.answer.now)) _ _
     (columns_down false 3 c.args.nl.now c.args.rows.now c.args.columns.now (after_names c.args.answer.now) (names_sound c.args.answer.now) value_of _ _ c.in-Ok.read c.in-Ok.ensures.reads
     _ c.in-Ok-open_rows.names c.in-Ok-open_rows.ensures.reads _ c.in-Ok-open_columns.names c.in-Ok-open_columns.ensures.reads)
