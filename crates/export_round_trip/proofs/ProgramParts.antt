@@ -149,12 +149,12 @@ both j n b c bs lt e g others zero_b zero_c fits_b fits_c h =
 
 fixed : (j n : ℕ) (l u : ℚ) (o : Option ℚ) (bs : List (Bound ℚ)) → j < n → FitsDec l → FitsDec u → AreBoundsFrom (suc j) n bs → AreBoundsFrom j n (fixed_or_both j l u o ++ bs)
 fixed j n l u None bs lt fl fu h = alone j n (bound_record Fx j l) bs lt refl (λ none. absurd none) fl h
-fixed j n l u (Some r) bs lt fl fu h = both j n (bound_record Lo j l) (bound_record Up j u) bs lt refl refl (record { lower = tt; upper = tt }) (λ none. absurd none) (λ none. absurd none) fl fu h
+fixed j n l u (Some r) bs lt fl fu h = both j n (bound_record Lo j l) (bound_record Up j u) bs lt refl refl (record { lower = refl; upper = refl }) (λ none. absurd none) (λ none. absurd none) fl fu h
 
 column_bounds_from : (j n : ℕ) (l u : Option ℚ) (bs : List (Bound ℚ)) → j < n → IfSome l FitsDec → IfSome u FitsDec → AreBoundsFrom (suc j) n bs → AreBoundsFrom j n (column_bounds j l u ++ bs)
 column_bounds_from j n None None bs lt fl fu h = alone j n (bound_record Fr j zero_ℚ) bs lt refl (λ free. refl) zero_fits h
-column_bounds_from j n None (Some u) bs lt fl fu h = both j n (bound_record Mi j zero_ℚ) (bound_record Up j u) bs lt refl refl (record { lower = tt; upper = tt }) (λ free. refl) (λ none. absurd none) zero_fits fu h
-column_bounds_from j n (Some l) None bs lt fl fu h = both j n (bound_record Lo j l) (bound_record Pl j zero_ℚ) bs lt refl refl (record { lower = tt; upper = tt }) (λ none. absurd none) (λ free. refl) fl zero_fits h
+column_bounds_from j n None (Some u) bs lt fl fu h = both j n (bound_record Mi j zero_ℚ) (bound_record Up j u) bs lt refl refl (record { lower = refl; upper = refl }) (λ free. refl) (λ none. absurd none) zero_fits fu h
+column_bounds_from j n (Some l) None bs lt fl fu h = both j n (bound_record Lo j l) (bound_record Pl j zero_ℚ) bs lt refl refl (record { lower = refl; upper = refl }) (λ none. absurd none) (λ free. refl) fl zero_fits h
 column_bounds_from j n (Some l) (Some u) bs lt fl fu h = fixed j n l u (nonzero (u -ℚ l)) bs lt fl fu h
 
 pub bounds_from : (j n : ℕ) (vs : List Variable) → j + length vs ≡ n → All HasDecimalBounds vs → AreBoundsFrom j n (bounds_of j vs)

@@ -63,7 +63,7 @@ module _ (s : ScaledProgram) where
 
   bounds_are : (j : ℕ) → j < length s.variables → column_interval (mps_of s) j ≡ (get_or s.variables j no_variable).bound
   unfolding mps_of
-  bounds_are j h = column_sides_back s.variables j no_variable h
+  bounds_are j h = column_sides_back s.variables j 0 j no_variable (omega arith) h
 
   no_record : (j : ℕ) → has_whole_record j (mps_of s).bounds ≡ false
   unfolding mps_of

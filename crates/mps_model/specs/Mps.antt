@@ -1,7 +1,8 @@
 -- MPS programs, and what they mean (the usual MPS manuals; the signs of ranges and of upper bounds
--- below 0 are an own profile).
+-- below 0 are an own profile). Whole columns without bounds go from 0 on without end; cbc and glpsol
+-- take 0 and 1. Both keep the lower side 0 under a UI below 0, glpsol under a UP below 0 too, and
+-- under a LO or MI alone glpsol ends a marked column at 1.
 use Rattle.std.specs.Prelude.{ℕ, suc, ◌<◌, pos, int_lt, nat_eq, Bool, true, false, cond, ◌||◌, ◌&&◌, IsTrue, List, [], ◌∷◌, length, map, get_or, Option, Some, None}
-use Rattle.std.specs.Option.{option_or}
 pub use Rattle.fractions.specs.Functions.{or_zero}
 use Rattle.fractions.specs.Rational.{ℚ, zero_ℚ, one_ℚ, ◌+ℚ◌, ◌-ℚ◌, ◌*ℚ◌, neg_ℚ, IsWhole}
 use Rattle.fractions.specs.Sums.{sum_over, sum_below}
@@ -117,7 +118,7 @@ row_sides E b (Some r) =
 abbrev pub no_mps_row : MpsRow
 no_mps_row = record { name = []; kind = N }
 
--- the right side of row i; 0 where none is or_usual
+-- the right side of row i; 0 where none is given
 abbrev pub rhs_at : Mps ℚ → ℕ → ℚ
 rhs_at m i = or_zero (at_row i m.rhs)
 
@@ -125,51 +126,75 @@ rhs_at m i = or_zero (at_row i m.rhs)
 abbrev pub row_interval : Mps ℚ → ℕ → Interval
 row_interval m i = row_sides (get_or m.rows i no_mps_row).kind (rhs_at m i) (at_row i m.ranges)
 
--- the side that a record sets, where it sets the lower one
-abbrev pub lower_set : BoundKind → ℚ → Option (Option ℚ)
-lower_set Lo v = Some (Some v)
-lower_set Li v = Some (Some v)
-lower_set Fx v = Some (Some v)
-lower_set Fr v = Some None
-lower_set Mi v = Some None
-lower_set Bv v = Some (Some zero_ℚ)
-lower_set _ v = None
+-- a side of a column, as records set it: not at all, without end, or at a value
+pub data Side : Type 0 where
+  Unset : Side
+  Open : Side
+  At : ℚ → Side
 
--- the side that a record sets, where it sets the upper one
-abbrev pub upper_set : BoundKind → ℚ → Option (Option ℚ)
-upper_set Up v = Some (Some v)
-upper_set Ui v = Some (Some v)
-upper_set Fx v = Some (Some v)
-upper_set Fr v = Some None
-upper_set Pl v = Some None
-upper_set Bv v = Some (Some one_ℚ)
-upper_set _ v = None
+-- the sides that records set
+pub record SetSides : Type 0 where
+  pub lower : Side
+  pub upper : Side
 
--- the side that the first record of column j that sets one sets
-unfoldable pub side_set : (BoundKind → ℚ → Option (Option ℚ)) → ℕ → List (Bound ℚ)
-    → Option (Option ℚ)
-side_set sets j [] = None
-side_set sets j (b ∷ bs) =
-    option_or (cond (nat_eq b.column j) (sets b.kind b.value) None) (side_set sets j bs)
+-- the sides that a record sets
+abbrev pub sets : BoundKind → ℚ → SetSides
+sets Lo v = record { lower = At v; upper = Unset }
+sets Up v = record { lower = Unset; upper = At v }
+sets Fx v = record { lower = At v; upper = At v }
+sets Fr v = record { lower = Open; upper = Open }
+sets Mi v = record { lower = Open; upper = Unset }
+sets Pl v = record { lower = Unset; upper = Open }
+sets Bv v = record { lower = At zero_ℚ; upper = At one_ℚ }
+sets Li v = record { lower = At v; upper = Unset }
+sets Ui v = record { lower = Unset; upper = At v }
 
--- without a record: 0, but no lower side where the upper one is below 0
-abbrev pub usual_lower : Option (Option ℚ) → Option ℚ
-usual_lower (Some (Some u)) = cond (is_negative u) None (Some zero_ℚ)
-usual_lower _ = Some zero_ℚ
+-- the side is set
+abbrev pub is_set : Side → Bool
+is_set Unset = false
+is_set side = true
 
--- the side that is set, or else the usual one
-abbrev pub or_usual : Option (Option ℚ) → Option ℚ → Option ℚ
-or_usual (Some side) usual = side
-or_usual None usual = usual
+-- a record of this kind sets the lower side, and the upper one
+abbrev pub sets_lower : BoundKind → Bool
+sets_lower kind = is_set (sets kind zero_ℚ).lower
+
+abbrev pub sets_upper : BoundKind → Bool
+sets_upper kind = is_set (sets kind zero_ℚ).upper
+
+-- the first of two sides that is set
+abbrev pub first_side : Side → Side → Side
+first_side Unset other = other
+first_side side other = side
+
+abbrev pub first_sides : SetSides → SetSides → SetSides
+first_sides s t =
+    record { lower = first_side s.lower t.lower; upper = first_side s.upper t.upper }
+
+-- the sides of column j: the first record that sets a side decides it
+unfoldable pub sides_set : ℕ → List (Bound ℚ) → SetSides
+sides_set j [] = record { lower = Unset; upper = Unset }
+sides_set j (b ∷ bs) =
+    cond (nat_eq b.column j) (first_sides (sets b.kind b.value) (sides_set j bs)) (sides_set j bs)
+
+-- an unset lower side is 0, but open where the upper one is at a value below 0
+abbrev pub lower_side : Side → Side → Option ℚ
+lower_side Unset (At u) = cond (is_negative u) None (Some zero_ℚ)
+lower_side Unset upper = Some zero_ℚ
+lower_side Open upper = None
+lower_side (At v) upper = Some v
+
+-- an unset upper side is open
+abbrev pub upper_side : Side → Option ℚ
+upper_side (At v) = Some v
+upper_side side = None
+
+-- the interval of sides that are set
+abbrev pub interval_set : SetSides → Interval
+interval_set s = record { lower = lower_side s.lower s.upper; upper = upper_side s.upper }
 
 -- the interval of column j
 abbrev pub column_interval : Mps ℚ → ℕ → Interval
-column_interval m j =
-    let upper = side_set upper_set j m.bounds in
-    record {
-      lower = or_usual (side_set lower_set j m.bounds) (usual_lower upper);
-      upper = or_usual upper None;
-    }
+column_interval m j = interval_set (sides_set j m.bounds)
 
 -- a record of this kind makes its column whole
 abbrev pub makes_whole : BoundKind → Bool

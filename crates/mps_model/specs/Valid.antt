@@ -1,9 +1,9 @@
 -- Which MPS programs there are: the rules that their parts obey (own profile).
-use Rattle.std.specs.Prelude.{◌≡◌, ◌≢◌, ℕ, ◌<◌, ◌≤◌, ◌^◌, List, [], ◌∷◌, length, get_or, Option, Some, None, All, codes}
+use Rattle.std.specs.Prelude.{◌≡◌, ◌≢◌, ℕ, ◌<◌, ◌≤◌, ◌^◌, false, ◌&&◌, List, [], ◌∷◌, length, get_or, All, codes}
 use Rattle.std.specs.List.{sum_by, AllPairs}
 use Rattle.fractions.specs.Rational.{ℚ, zero_ℚ}
 use Rattle.texts.specs.Names.{IsName}
-use Rattle.mps_model.specs.Mps.{BoundKind, MpsRow, Entry, Column, Bound, Mps, no_mps_row, lower_set, upper_set, objective_row}
+use Rattle.mps_model.specs.Mps.{BoundKind, MpsRow, Entry, Column, Bound, Mps, no_mps_row, sets_lower, sets_upper, objective_row}
 use Rattle.mps_model.specs.declared.kinds.RowKind.TheVariants.{N}
 use Rattle.mps_model.specs.declared.kinds.BoundKind.TheVariants.{Lo, Up, Fx, Fr, Mi, Pl, Bv, Li, Ui}
 
@@ -33,19 +33,10 @@ abbrev pub IsBounded : List MpsRow → ℕ → Type 0
 IsBounded rows i = (get_or rows i no_mps_row).kind ≢ N
 
 -- ---- bounds
-abbrev pub IsNone : {A : Type 0} → Option A → Type 0
-IsNone None = Unit {0}
-IsNone (Some x) = ⊥
-
--- one of the two is missing
-abbrev pub AreNotBoth : {A : Type 0} → Option A → Option A → Type 0
-AreNotBoth None o = Unit {0}
-AreNotBoth (Some x) o = IsNone o
-
 -- records of these two kinds set no side twice
 pub record SetOtherSides (k l : BoundKind) : Type 0 where
-  pub lower : AreNotBoth (lower_set k zero_ℚ) (lower_set l zero_ℚ)
-  pub upper : AreNotBoth (upper_set k zero_ℚ) (upper_set l zero_ℚ)
+  pub lower : (sets_lower k && sets_lower l) ≡ false
+  pub upper : (sets_upper k && sets_upper l) ≡ false
 
 -- FR, MI, PL and BV have no number of their own
 abbrev pub IsWithoutNumber : BoundKind → Type 0

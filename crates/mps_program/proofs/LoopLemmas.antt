@@ -6,17 +6,15 @@ use Rattle.std.proofs.lemmas.Bool.{eqb-true}
 use Rattle.std.proofs.lemmas.Bool.Decides.{nat_tests}
 use Rattle.std.proofs.lemmas.List.{get_or-set_same, get_or-set_other, get_or_default}
 use Rattle.std.specs.Option.{option_or}
-use Rattle.fractions.specs.Rational.{ℚ}
 use Rattle.exact_numbers.specs.declared.dec.Dec.{Dec}
 use Rattle.exact_numbers.specs.Values.{dec_value}
-use Rattle.exact_numbers.proofs.OptionLemmas.{or_assoc, or_none}
 use Rattle.mps_model.specs.Built.{entry_of}
-use Rattle.mps_model.specs.Mps.{MpsRow, Entry, Bound, at_row, bound_with, side_set, lower_set, upper_set, makes_whole, has_whole_record, objective_row}
+use Rattle.mps_model.specs.Mps.{MpsRow, Entry, Bound, at_row, bound_with, Side, Unset, SetSides, sets, first_side, first_sides, sides_set, makes_whole, has_whole_record, objective_row}
 use Rattle.mps_model.specs.declared.kinds.BoundKind.{BoundKind}
 use Rattle.mps_model.specs.declared.kinds.RowKind.{RowKind}
 use Rattle.mps_model.specs.declared.kinds.RowKind.TheVariants.{N}
 use Rattle.mps_program.specs.declared.columns.ColumnSides.{ColumnSides}
-use Rattle.mps_program.specs.InsideColumns.{none_set, set_value, with_sets}
+use Rattle.mps_program.specs.InsideColumns.{none_set, side_value, sides_value, with_sets}
 use Rattle.mps_program.specs.Program.{is_bounded_kind, is_constraint}
 
 module _ {A : Type 0} (xs : List A) (k : ℕ) (t : A) (lt : k < length xs) (is : t ≡ get_or xs k t) where
@@ -71,25 +69,35 @@ number_kept xs r v old new lt is made i rest within = by (nat_eq r i) refl
     by false e = ap₂ (λ o b. option_or o (cond b (Some v) (at_row i rest))) (get_or-set_other xs r i new None (not_eq r i e)) (sym e)
 
 -- ---- the records of a column
-module _ (c n : ColumnSides) (k : BoundKind) (v : Dec) (lower : set_value n.lower ≡ option_or (set_value c.lower) (lower_set k (dec_value v))) (upper : set_value n.upper ≡ option_or (set_value c.upper) (upper_set k (dec_value v))) (whole : n.whole ≡ c.whole || makes_whole k) where
+side_assoc : (a b c : Side) → first_side (first_side a b) c ≡ first_side a (first_side b c)
+side_assoc Unset b c = refl
+side_assoc a b c = refl
+
+sides_assoc : (a b c : SetSides) → first_sides (first_sides a b) c ≡ first_sides a (first_sides b c)
+sides_assoc a b c = ap₂ (λ l u. record { lower = l; upper = u }) (side_assoc a.lower b.lower c.lower) (side_assoc a.upper b.upper c.upper)
+
+side_none : (a : Side) → first_side a Unset ≡ a
+side_none Unset = refl
+side_none a = refl
+
+module _ (c n : ColumnSides) (k : BoundKind) (v : Dec) (sides : sides_value n ≡ first_sides (sides_value c) (sets k (dec_value v))) (whole : n.whole ≡ c.whole || makes_whole k) where
   record_here : (r j : ℕ) (rest : List (Bound Dec)) → nat_eq r j ≡ true → with_sets n j rest ≡ with_sets c j (record { kind = k; column = r; value = v } ∷ rest)
-  unfolding side_set has_whole_record
+  unfolding sides_set has_whole_record
   record_here r j rest e =
       let values = map (bound_with dec_value) rest in
-      ap₂ (λ (ls : Option (Option ℚ) × Option (Option ℚ)) w. record { lower = ls.0; upper = ls.1; whole = w })
-      (ap₂ (λ l u. (l, u))
-      (ap (λ o. option_or o (side_set lower_set j values)) lower ∙ or_assoc (set_value c.lower) (lower_set k (dec_value v)) (side_set lower_set j values)
-      ∙ ap (λ b. option_or (set_value c.lower) (option_or (cond b (lower_set k (dec_value v)) None) (side_set lower_set j values))) (sym e))
-      (ap (λ o. option_or o (side_set upper_set j values)) upper ∙ or_assoc (set_value c.upper) (upper_set k (dec_value v)) (side_set upper_set j values)
-      ∙ ap (λ b. option_or (set_value c.upper) (option_or (cond b (upper_set k (dec_value v)) None) (side_set upper_set j values))) (sym e)))
+      let set = sides_set j values in
+      let here = sets k (dec_value v) in
+      ap₂ (λ s w. (s, w))
+      (ap (λ s. first_sides s set) sides ∙ sides_assoc (sides_value c) here set ∙ ap (λ b. first_sides (sides_value c) (cond b (first_sides here set) set)) (sym e))
       (ap (λ b. b || has_whole_record j values) whole ∙ bool_or_assoc c.whole (makes_whole k) (has_whole_record j values)
       ∙ ap (λ b. c.whole || ((b && makes_whole k) || has_whole_record j values)) (sym e))
 
   record_other : (r j : ℕ) (rest : List (Bound Dec)) (d : ColumnSides) → nat_eq r j ≡ false → with_sets d j rest ≡ with_sets d j (record { kind = k; column = r; value = v } ∷ rest)
-  unfolding side_set has_whole_record
+  unfolding sides_set has_whole_record
   record_other r j rest d e =
       let values = map (bound_with dec_value) rest in
-      ap (λ b. record { lower = option_or (set_value d.lower) (option_or (cond b (lower_set k (dec_value v)) None) (side_set lower_set j values)); upper = option_or (set_value d.upper) (option_or (cond b (upper_set k (dec_value v)) None) (side_set upper_set j values)); whole = d.whole || ((b && makes_whole k) || has_whole_record j values) }) (sym e)
+      let set = sides_set j values in
+      ap (λ b. (first_sides (sides_value d) (cond b (first_sides (sets k (dec_value v)) set) set), d.whole || ((b && makes_whole k) || has_whole_record j values))) (sym e)
 
   pub record_kept : (xs : List ColumnSides) (r : ℕ) → r < length xs → c ≡ get_or xs r c → (j : ℕ) (rest : List (Bound Dec)) → j < length xs → with_sets (get_or (set xs r n) j none_set) j rest ≡ with_sets (get_or xs j none_set) j (record { kind = k; column = r; value = v } ∷ rest)
   record_kept xs r lt is j rest within = by (nat_eq r j) refl
@@ -105,9 +113,9 @@ module _ (c n : ColumnSides) (k : BoundKind) (v : Dec) (lower : set_value n.lowe
           ∙ record_other r j rest (get_or xs j none_set) e
 
 -- without a further record, all are set
-pub all_set : (c : ColumnSides) (j : ℕ) → with_sets c j [] ≡ record { lower = set_value c.lower; upper = set_value c.upper; whole = c.whole }
-unfolding side_set has_whole_record
-all_set c j = ap₂ (λ (ls : Option (Option ℚ) × Option (Option ℚ)) w. record { lower = ls.0; upper = ls.1; whole = w }) (ap₂ (λ l u. (l, u)) (or_none (set_value c.lower)) (or_none (set_value c.upper))) (or_false c.whole)
+pub all_set : (c : ColumnSides) (j : ℕ) → with_sets c j [] ≡ (sides_value c, c.whole)
+unfolding sides_set has_whole_record
+all_set c j = λ i. (record { lower = side_none (side_value c.lower) i; upper = side_none (side_value c.upper) i }, or_false c.whole i)
   where
     or_false : (b : Bool) → b || false ≡ b
     or_false true = refl

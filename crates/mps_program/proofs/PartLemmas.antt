@@ -12,10 +12,11 @@ use Rattle.linear_program.specs.Intervals.{interval_of}
 use Rattle.linear_program.specs.declared.interval.Interval.{Interval as Sides}
 use Rattle.linear_program.specs.declared.kind.Kind.{Kind}
 use Rattle.mps_model.specs.Built.{entry_of, bound_of}
-use Rattle.mps_model.specs.Mps.{Entry, Bound, Column, Mps, with_values, entry_with, column_with, no_mps_row, no_column, at_row, rhs_at, or_zero, row_sides, row_interval, column_at, column_interval, usual_lower, or_usual}
+use Rattle.mps_model.specs.Mps.{Entry, Bound, Column, Mps, with_values, entry_with, column_with, no_mps_row, no_column, at_row, rhs_at, or_zero, row_sides, row_interval, column_at, SetSides, interval_set, column_interval}
 use Rattle.mps_model.specs.declared.kinds.BoundKind.{BoundKind}
 use Rattle.mps_model.specs.declared.kinds.RowKind.{RowKind}
-use Rattle.mps_program.specs.InsideColumns.{SetSides, set_value, sets_of}
+use Rattle.mps_program.specs.declared.columns.ColumnSides.{ColumnSides}
+use Rattle.mps_program.specs.InsideColumns.{sides_value, sets_of}
 use Rattle.mps_program.specs.Kinds.{kind_by, column_kind, are_zero_to_one}
 use Rattle.mps_program.specs.Decimals.{sides_from}
 use Rattle.mps_program.specs.Faults.{is_range_wide, is_row_wide}
@@ -93,13 +94,13 @@ place_pushed f test i xs new b x h e g n =
     one false = refl
 
 -- ---- columns
-pub column_is : (m : Mps Dec) (j : ℕ) (lower upper : Option (Option Dec)) (whole : Bool) (s : Sides) → record { lower = set_value lower; upper = set_value upper; whole = whole } ≡ sets_of j m.bounds → interval_of s ≡ record { lower = or_usual (set_value lower) (usual_lower (set_value upper)); upper = or_usual (set_value upper) None } → s ≡ sides_from (column_interval (values_of m) j)
+pub column_is : (m : Mps Dec) (j : ℕ) (c : ColumnSides) (s : Sides) → (sides_value c, c.whole) ≡ sets_of j m.bounds → interval_of s ≡ interval_set (sides_value c) → s ≡ sides_from (column_interval (values_of m) j)
 unfolding with_values
-column_is m j lower upper whole s e h = sides_of s (record { lower = or_usual (set_value lower) (usual_lower (set_value upper)); upper = or_usual (set_value upper) None }) h ∙ ap (λ (t : SetSides). sides_from (record { lower = or_usual t.lower (usual_lower t.upper); upper = or_usual t.upper None })) e
+column_is m j c s e h = sides_of s (interval_set (sides_value c)) h ∙ ap (λ (t : SetSides × Bool). sides_from (interval_set t.0)) e
 
-pub kind_is : (m : Mps Dec) (j : ℕ) (column : Column Dec) (lower upper : Option (Option Dec)) (whole marked : Bool) (s : Sides) (kind : Kind) → j < length m.columns → column ≡ get_or m.columns j column → marked ≡ column.marked → record { lower = set_value lower; upper = set_value upper; whole = whole } ≡ sets_of j m.bounds → interval_of s ≡ record { lower = or_usual (set_value lower) (usual_lower (set_value upper)); upper = or_usual (set_value upper) None } → kind ≡ kind_by (marked || whole) (are_zero_to_one (interval_of s).lower (interval_of s).upper) → kind ≡ column_kind m j
+pub kind_is : (m : Mps Dec) (j : ℕ) (column : Column Dec) (c : ColumnSides) (marked : Bool) (s : Sides) (kind : Kind) → j < length m.columns → column ≡ get_or m.columns j column → marked ≡ column.marked → (sides_value c, c.whole) ≡ sets_of j m.bounds → interval_of s ≡ interval_set (sides_value c) → kind ≡ kind_by (marked || c.whole) (are_zero_to_one (interval_of s).lower (interval_of s).upper) → kind ≡ column_kind m j
 unfolding with_values
-kind_is m j column lower upper whole marked s kind lt read mark e h k =
+kind_is m j column c marked s kind lt read mark e h k =
     let same : marked ≡ (column_at (values_of m) j).marked = mark ∙ ap (λ c. c.marked) (read ∙ get_or_default m.columns j column no_column lt) ∙ sym (ap (λ c. c.marked) (get_or-map-any (column_with dec_value) m.columns j no_column)) in
-    let sides : interval_of s ≡ column_interval (values_of m) j = h ∙ ap (λ (t : SetSides). record { lower = or_usual t.lower (usual_lower t.upper); upper = or_usual t.upper None }) e in
-    k ∙ (λ p. kind_by (same p || (e p).whole) (are_zero_to_one (sides p).lower (sides p).upper))
+    let sides : interval_of s ≡ column_interval (values_of m) j = h ∙ ap (λ (t : SetSides × Bool). interval_set t.0) e in
+    k ∙ (λ p. kind_by (same p || (e p).1) (are_zero_to_one (sides p).lower (sides p).upper))

@@ -13,7 +13,7 @@ use Rattle.exact_numbers.proofs.Bridge.{not_true}
 use Rattle.exact_numbers.proofs.Spelling.{fits_dec_in, fits_dec_out}
 use Rattle.mps_model.specs.declared.kinds.RowKind.{RowKind}
 use Rattle.mps_model.specs.declared.kinds.RowKind.TheVariants.{L, E}
-use Rattle.mps_model.specs.Mps.{row_sides, is_negative, size_of, usual_lower}
+use Rattle.mps_model.specs.Mps.{row_sides, is_negative, size_of, Unset, At, lower_side}
 use Rattle.mps_program.specs.Faults.{range_step, is_in_reach}
 use Rattle.exact_numbers.proofs.Fitting.{dec_fits}
 
@@ -56,5 +56,5 @@ pub equal_kind : (kind : RowKind) (b o r : ℚ) (n : Bool) → kind ≡ E → o 
 equal_kind kind b o r n k e s = subst (λ t. o ≡ b +ℚ range_step t r → cond n (sides o b) (sides b o) ≡ row_sides t b (Some r)) (sym k) (λ h i. cond (sym s i) (sides (h i) b) (sides b (h i))) e
 
 -- the usual lower side, where an upper side is set
-pub usual_is : (x : ℚ) (n : Bool) → is_negative x ≡ n → cond n None (Some zero_ℚ) ≡ usual_lower (Some (Some x))
+pub usual_is : (x : ℚ) (n : Bool) → is_negative x ≡ n → cond n None (Some zero_ℚ) ≡ lower_side Unset (At x)
 usual_is x n s = ap (λ b. cond b None (Some zero_ℚ)) (sym s)

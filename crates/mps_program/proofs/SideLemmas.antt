@@ -1,7 +1,7 @@
 -- The sides of rows and columns are decimals.
 use Rattle.std.proofs.Common.{◌≡◌, ℕ, ◌∙◌, sym, ap, ap₂, refl, subst, Bool, true, false, ◌&&◌, cond, nat_eq, List, [], ◌∷◌, map, Option, Some, None, MatchOption}
-use Rattle.std.proofs.lemmas.Bool.{not-false, and_parts}
-use Rattle.std.specs.Option.{option_map, option_or}
+use Rattle.std.proofs.lemmas.Bool.{cond_both, not-false, and_parts}
+use Rattle.std.specs.Option.{option_map}
 use Rattle.std.specs.Prelude.{option_and_then}
 use Rattle.fractions.specs.Rational.{ℚ, zero_ℚ, ◌+ℚ◌, decimal_value}
 use Rattle.fractions.specs.Fits.{fits, sum_fits}
@@ -16,7 +16,7 @@ use Rattle.mps_model.specs.declared.kinds.RowKind.{RowKind}
 use Rattle.mps_model.specs.declared.kinds.RowKind.TheVariants.{N, L, G, E}
 use Rattle.mps_model.specs.declared.kinds.BoundKind.{BoundKind}
 use Rattle.mps_model.specs.declared.kinds.BoundKind.TheVariants.{Lo, Up, Fx, Bv, Li, Ui}
-use Rattle.mps_model.specs.Mps.{Entry, Bound, entry_with, bound_with, at_row, or_zero, row_sides, is_negative, size_of, lower_set, upper_set, side_set, usual_lower, or_usual}
+use Rattle.mps_model.specs.Mps.{Entry, Bound, entry_with, bound_with, at_row, or_zero, row_sides, is_negative, size_of, Side, Unset, Open, At, SetSides, sets, first_side, sides_set, lower_side, upper_side, interval_set}
 use Rattle.linear_program.specs.Intervals.{interval_of}
 use Rattle.exact_numbers.specs.Numbers.{dec_from}
 use Rattle.exact_numbers.proofs.NumberLemmas.{dec_from-value, dec_from-fits}
@@ -96,53 +96,44 @@ row_fits E b (Some r) f e = by_sign (is_negative r)
     by_sign false = record { lower = f; upper = sum_in E b r e }
 
 -- ---- columns
-abbrev IsDecimalSet : Option (Option ℚ) → Type 0
-IsDecimalSet None = Unit {0}
-IsDecimalSet (Some o) = IsDecimalSide o
+abbrev IsDecimalSet : Side → Type 0
+IsDecimalSet (At x) = FitsDec x
+IsDecimalSet side = Unit {0}
 
-lower_fits : (k : BoundKind) (x : ℚ) → FitsDec x → IsDecimalSet (lower_set k x)
-lower_fits Lo x f = f
-lower_fits Li x f = f
-lower_fits Fx x f = f
-lower_fits Bv x f = zero_fits
-lower_fits k x f = tt
+record AreDecimalSet (s : SetSides) : Type 0 where
+  lower : IsDecimalSet s.lower
+  upper : IsDecimalSet s.upper
 
-upper_fits : (k : BoundKind) (x : ℚ) → FitsDec x → IsDecimalSet (upper_set k x)
-upper_fits Up x f = f
-upper_fits Ui x f = f
-upper_fits Fx x f = f
-upper_fits Bv x f = one_fits
-upper_fits k x f = tt
+sets_fit : (k : BoundKind) (x : ℚ) → FitsDec x → AreDecimalSet (sets k x)
+sets_fit Lo x f = record { lower = f; upper = tt }
+sets_fit Li x f = record { lower = f; upper = tt }
+sets_fit Up x f = record { lower = tt; upper = f }
+sets_fit Ui x f = record { lower = tt; upper = f }
+sets_fit Fx x f = record { lower = f; upper = f }
+sets_fit Bv x f = record { lower = zero_fits; upper = one_fits }
+sets_fit k x f = record { lower = tt; upper = tt }
 
-either_fits : (a b : Option (Option ℚ)) → IsDecimalSet a → IsDecimalSet b → IsDecimalSet (option_or a b)
-either_fits None b f g = g
-either_fits (Some o) b f g = f
+first_fits : (s t : Side) → IsDecimalSet s → IsDecimalSet t → IsDecimalSet (first_side s t)
+first_fits Unset t f g = g
+first_fits s t f g = f
 
-where_fits : (c : Bool) (a : Option (Option ℚ)) → IsDecimalSet a → IsDecimalSet (cond c a None)
-where_fits true a f = f
-where_fits false a f = tt
+set_fit : (j : ℕ) (bs : List (Bound Dec)) → AreDecimalSet (sides_set j (map (bound_with dec_value) bs))
+unfolding sides_set
+set_fit j [] = record { lower = tt; upper = tt }
+set_fit j (b ∷ bs) =
+    let this = sets_fit b.kind (dec_value b.value) (dec_fits b.value) in
+    let rest = set_fit j bs in
+    cond_both (nat_eq b.column j) _ _ AreDecimalSet (λ e. record { lower = first_fits _ _ this.lower rest.lower; upper = first_fits _ _ this.upper rest.upper }) (λ e. rest)
 
-set_fits : (sets : BoundKind → ℚ → Option (Option ℚ)) → ((k : BoundKind) (x : ℚ) → FitsDec x → IsDecimalSet (sets k x)) → (j : ℕ) (bs : List (Bound Dec)) → IsDecimalSet (side_set sets j (map (bound_with dec_value) bs))
-unfolding side_set
-set_fits sets h j [] = tt
-set_fits sets h j (b ∷ bs) =
-    either_fits (cond (nat_eq b.column j) (sets b.kind (dec_value b.value)) None) (side_set sets j (map (bound_with dec_value) bs))
-    (where_fits (nat_eq b.column j) (sets b.kind (dec_value b.value)) (h b.kind (dec_value b.value) (dec_fits b.value)))
-    (set_fits sets h j bs)
+lower_fits : (s t : Side) → IsDecimalSet s → IsDecimalSide (lower_side s t)
+lower_fits Unset (At u) f = either_side (is_negative u) None (Some zero_ℚ) tt zero_fits
+lower_fits Unset t f = zero_fits
+lower_fits Open t f = tt
+lower_fits (At x) t f = f
 
-usual_fits : (u : Option (Option ℚ)) → IsDecimalSide (usual_lower u)
-usual_fits None = zero_fits
-usual_fits (Some None) = zero_fits
-usual_fits (Some (Some u)) = either_side (is_negative u) None (Some zero_ℚ) tt zero_fits
+upper_fits : (s : Side) → IsDecimalSet s → IsDecimalSide (upper_side s)
+upper_fits (At x) f = f
+upper_fits s f = tt
 
-given_fits : (o : Option (Option ℚ)) (usual : Option ℚ) → IsDecimalSet o → IsDecimalSide usual → IsDecimalSide (or_usual o usual)
-given_fits None usual f g = g
-given_fits (Some side) usual f g = f
-
-pub column_fits : (j : ℕ) (bs : List (Bound Dec)) → let cs = map (bound_with dec_value) bs in AreDecimalSides (record { lower = or_usual (side_set lower_set j cs) (usual_lower (side_set upper_set j cs)); upper = or_usual (side_set upper_set j cs) None })
-column_fits j bs =
-    let cs = map (bound_with dec_value) bs in
-    record {
-      lower = given_fits (side_set lower_set j cs) (usual_lower (side_set upper_set j cs)) (set_fits lower_set lower_fits j bs) (usual_fits (side_set upper_set j cs));
-      upper = given_fits (side_set upper_set j cs) None (set_fits upper_set upper_fits j bs) tt;
-    }
+pub column_fits : (j : ℕ) (bs : List (Bound Dec)) → AreDecimalSides (interval_set (sides_set j (map (bound_with dec_value) bs)))
+column_fits j bs = let set = set_fit j bs in record { lower = lower_fits _ _ set.lower; upper = upper_fits _ set.upper }

@@ -1,12 +1,12 @@
 // What the bounds of a program say of its columns.
-ghost use Rattle.std.specs.Prelude.{◌≡◌, None, Some, false, ◌||◌, ℕ, ◌<◌, All, List, [], ◌∷◌, get_or, length, map, replicate, IfOk};
-ghost use Rattle.std.specs.Option.{option_map, option_or};
+ghost use Rattle.std.specs.Prelude.{◌≡◌, false, ◌||◌, ℕ, ◌<◌, All, List, [], ◌∷◌, get_or, length, map, replicate, IfOk};
+ghost use Rattle.std.specs.Option.{option_map};
 ghost use Rattle.exact_numbers.specs.Values.{dec_value};
 ghost use Rattle.exact_numbers.specs.declared.dec.Dec.{Dec as DecValue};
 ghost use Rattle.linear_program.specs.Intervals.{interval_of};
 ghost use Rattle.mps_model.specs.Built.{bound_of};
-ghost use Rattle.mps_model.specs.Mps.{Bound, column_interval, or_usual, makes_whole, lower_set, upper_set, usual_lower};
-ghost use Rattle.mps_program.specs.InsideColumns.{none_set, set_value, sets_of, with_sets};
+ghost use Rattle.mps_model.specs.Mps.{Bound, Unset, At, sets, makes_whole, first_side, first_sides, lower_side, upper_side, interval_set, column_interval};
+ghost use Rattle.mps_program.specs.InsideColumns.{none_set, side_value, sides_value, sets_of, with_sets};
 ghost use Rattle.mps_program.specs.Kinds.{column_kind};
 ghost use Rattle.mps_program.specs.Decimals.{sides_from};
 ghost use Rattle.mps_program.specs.Places.{listed};
@@ -18,35 +18,38 @@ use linear_program::{Interval, Kind};
 use mps_model::{BoundKind, Mps};
 use std::alloc::{AllocError, Global};
 
+// A side of a column, as its records set it.
+#[derive(Clone, Copy)]
+pub(crate) enum ColumnSide {
+    Unset,
+    Open,
+    At(Dec),
+}
+
 // The sides that the records of a column set, and whether one makes it whole.
 #[derive(Clone, Copy)]
 pub(crate) struct ColumnSides {
-    pub(crate) lower: Option<Option<Dec>>,
-    pub(crate) upper: Option<Option<Dec>>,
+    pub(crate) lower: ColumnSide,
+    pub(crate) upper: ColumnSide,
     pub(crate) whole: bool,
 }
 
-// The lower side that a record sets, where it sets one.
-fn lower_set(kind: BoundKind, value: Dec) -> Option<Option<Dec>>
-    ensures { option_map (option_map dec_value) result ≡ lower_set kind (dec_value value) }
+// The lower and the upper side that a record sets.
+fn sets(kind: BoundKind, value: Dec) -> (ColumnSide, ColumnSide)
+    ensures { record { lower = side_value result.0; upper = side_value result.1 }
+        ≡ sets kind (dec_value value) }
 {
     match kind {
-        BoundKind::Lo | BoundKind::Li | BoundKind::Fx => Some(Some(value)),
-        BoundKind::Fr | BoundKind::Mi => Some(None),
-        BoundKind::Bv => Some(Some(Dec::zero())),
-        BoundKind::Up | BoundKind::Ui | BoundKind::Pl => None,
-    }
-}
-
-// The upper side that a record sets, where it sets one.
-fn upper_set(kind: BoundKind, value: Dec) -> Option<Option<Dec>>
-    ensures { option_map (option_map dec_value) result ≡ upper_set kind (dec_value value) }
-{
-    match kind {
-        BoundKind::Up | BoundKind::Ui | BoundKind::Fx => Some(Some(value)),
-        BoundKind::Fr | BoundKind::Pl => Some(None),
-        BoundKind::Bv => Some(Some(Dec::of_whole(1))),
-        BoundKind::Lo | BoundKind::Li | BoundKind::Mi => None,
+        BoundKind::Lo | BoundKind::Li => (ColumnSide::At(value), ColumnSide::Unset),
+        BoundKind::Up | BoundKind::Ui => (ColumnSide::Unset, ColumnSide::At(value)),
+        BoundKind::Fx => (ColumnSide::At(value), ColumnSide::At(value)),
+        BoundKind::Fr => (ColumnSide::Open, ColumnSide::Open),
+        BoundKind::Mi => (ColumnSide::Open, ColumnSide::Unset),
+        BoundKind::Pl => (ColumnSide::Unset, ColumnSide::Open),
+        BoundKind::Bv => (
+            ColumnSide::At(Dec::zero()),
+            ColumnSide::At(Dec::of_whole(1)),
+        ),
     }
 }
 
@@ -61,7 +64,7 @@ fn is_whole_kind(kind: BoundKind) -> bool
 
 // The lower side of a column with this upper side, where no record sets it.
 fn usual_below(upper: Dec) -> Option<Dec>
-    ensures { option_map dec_value result ≡ usual_lower (Some (Some (dec_value upper))) }
+    ensures { option_map dec_value result ≡ lower_side Unset (At (dec_value upper)) }
 {
     if upper.is_negative() {
         None
@@ -70,62 +73,58 @@ fn usual_below(upper: Dec) -> Option<Dec>
     }
 }
 
-// The lower side of a column where no record sets it.
-fn usual_lower(upper: Option<Option<Dec>>) -> Option<Dec>
-    ensures { option_map dec_value result ≡ usual_lower (option_map (option_map dec_value) upper) }
+// The lower side of a column's interval.
+fn lower_side(lower: ColumnSide, upper: ColumnSide) -> Option<Dec>
+    ensures { option_map dec_value result ≡ lower_side (side_value lower) (side_value upper) }
 {
-    match upper {
-        Some(Some(side)) => usual_below(side),
-        _ => Some(Dec::zero()),
+    match (lower, upper) {
+        (ColumnSide::Unset, ColumnSide::At(value)) => usual_below(value),
+        (ColumnSide::Unset, _) => Some(Dec::zero()),
+        (ColumnSide::Open, _) => None,
+        (ColumnSide::At(value), _) => Some(value),
     }
 }
 
-// The side that is set, or else the usual one.
-fn given(side: Option<Option<Dec>>, usual: Option<Dec>) -> Option<Dec>
-    ensures { option_map dec_value result
-        ≡ or_usual (option_map (option_map dec_value) side) (option_map dec_value usual) }
+// The upper side of a column's interval.
+fn upper_side(side: ColumnSide) -> Option<Dec>
+    ensures { option_map dec_value result ≡ upper_side (side_value side) }
 {
     match side {
-        Some(set) => set,
-        None => usual,
+        ColumnSide::At(value) => Some(value),
+        _ => None,
     }
 }
 
 // The interval of a column.
 fn column_sides(column: ColumnSides) -> Interval
-    ensures { interval_of result ≡ record {
-      lower = or_usual (option_map (option_map dec_value) column.lower)
-          (usual_lower (option_map (option_map dec_value) column.upper));
-      upper = or_usual (option_map (option_map dec_value) column.upper) None;
-    } }
+    ensures { interval_of result ≡ interval_set (sides_value column) }
 {
     Interval {
-        lo: given(column.lower, usual_lower(column.upper)),
-        hi: given(column.upper, None),
+        lo: lower_side(column.lower, column.upper),
+        hi: upper_side(column.upper),
     }
 }
 
-// The first of two sides, where one is set.
-fn first_set(side: Option<Option<Dec>>, other: Option<Option<Dec>>) -> Option<Option<Dec>>
-    ensures { set_value result ≡ option_or (set_value side) (set_value other) }
+// The first of two sides that is set.
+fn first_side(side: ColumnSide, other: ColumnSide) -> ColumnSide
+    ensures { side_value result ≡ first_side (side_value side) (side_value other) }
 {
     match side {
-        Some(set) => Some(set),
-        None => other,
+        ColumnSide::Unset => other,
+        _ => side,
     }
 }
 
 // The sides of a column with one record more.
 fn with_record(column: ColumnSides, kind: BoundKind, value: Dec) -> ColumnSides
-    ensures lower { set_value result.lower
-        ≡ option_or (set_value column.lower) (lower_set kind (dec_value value)) }
-    ensures upper { set_value result.upper
-        ≡ option_or (set_value column.upper) (upper_set kind (dec_value value)) }
+    ensures sides { sides_value result
+        ≡ first_sides (sides_value column) (sets kind (dec_value value)) }
     ensures whole { result.whole ≡ column.whole || makes_whole kind }
 {
+    let (lower, upper) = sets(kind, value);
     ColumnSides {
-        lower: first_set(column.lower, lower_set(kind, value)),
-        upper: first_set(column.upper, upper_set(kind, value)),
+        lower: first_side(column.lower, lower),
+        upper: first_side(column.upper, upper),
         whole: column.whole || is_whole_kind(kind),
     }
 }
@@ -137,8 +136,8 @@ fn no_records(alloc: Global, count: usize) -> Result<Vec<ColumnSides>, AllocErro
     let mut columns = Vec::with_capacity(alloc, count)?;
     'filled: for _ in 0..count {
         columns.push(ColumnSides {
-            lower: None,
-            upper: None,
+            lower: ColumnSide::Unset,
+            upper: ColumnSide::Unset,
             whole: false,
         })?;
     }
