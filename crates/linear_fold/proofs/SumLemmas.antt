@@ -220,6 +220,9 @@ same_sums n a b c d new (Err Memory) e h = tt
 pub same_first : (n : ℕ) (a b c : Line) → c ≡ a → IsSameSum n a b c b
 same_first n a b c e = record { fit = ap (λ x. sums_fit n x b) (sym e); line = ap (λ x. line_sum x b) (sym e) }
 
+pub same_sum_of : (n : ℕ) (a b c d e f : Line) → c ≡ a → d ≡ b → IsSameSum n c d e f → IsSameSum n a b e f
+same_sum_of n a b c d e f p q = subst₂ (λ x y. IsSameSum n x y e f) p q
+
 pub same_operand : (n : ℕ) (p q : PartialForm) → IsOperand n p → part_line q ≡ part_line p → IsSound n q → IsOperand n q
 same_operand n p q w e sound = record { sound = sound; zero_from = λ j g. ap (λ l. l.coef j) e ∙ w.zero_from j g }
 
