@@ -123,7 +123,7 @@ pub record IsTooWideAt (f : File) (a : AnswerValue) (i : ℕ) : Type 0 where
 abbrev pub HasReturnFault : File → AnswerValue → ReturnFault → Type 0
 HasReturnFault f a (DualTooWide i) = IsTooWideAt f a i
 
--- a file with these counts and options, for which this is an answer, and whose program was scaled so
+-- a file of these counts and options, which this answers and whose program was scaled so
 pub record IsAnswered (counts : Counts) (options : List ℤ) (s : ScaledValue) (a : AnswerValue)
     (f : File) : Type 0 where
   pub counts_are : counts ≡ f.counts
