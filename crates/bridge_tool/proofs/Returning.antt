@@ -1,5 +1,5 @@
 -- What an answer for a file comes to: one outcome, and what the duals mean.
-use Rattle.std.proofs.Common.{[], ◌≡◌, ◌∙◌, inl, inr, ◌⊎◌, ℕ, ◌+◌, ◌≤◌, List, Bool, true, false, None, is_some, refl, sym, ap, subst, Err}
+use Rattle.std.proofs.Common.{[], ◌≡◌, ◌∙◌, inl, inr, ◌⊎◌, ℕ, ℤ, ◌+◌, ◌≤◌, List, Bool, true, false, None, is_some, refl, sym, ap, subst, Err}
 use Rattle.std.specs.List.{list_any}
 use Rattle.desk.specs.Desk.{Texts}
 use Rattle.texts.specs.Stopped.{IfFault}
@@ -8,15 +8,18 @@ use Rattle.texts.specs.declared.stop.Stop.TheVariants.{Fault, Memory}
 use Rattle.exact_numbers.specs.declared.dec.Dec.{Dec}
 use Rattle.file_meaning.specs.FoldFaults.{fold_fault}
 use Rattle.linear_program.specs.Programs.{LinearValue, linear_value}
+use Rattle.nl_model.specs.declared.header_counts.Counts.{Counts}
+use Rattle.nl_model.specs.File.{File}
 use Rattle.nl_model.specs.Rules.{IsFile}
 use Rattle.nl_segments.specs.Grammar.{NlValue}
 use Rattle.scaling.specs.Scaled.{ScaledValue}
+use Rattle.scaling.specs.Scaling.{IsScaledOf}
 use Rattle.sol_files.specs.Sol.{Sol}
 use Rattle.sol_files.specs.Written.{sol_text}
 use Rattle.answer_file.specs.Grammar.{AnswerValue}
 use Rattle.answer_file.specs.Names.{Setting, named_setting, setting_of}
 use Rattle.answer_file.specs.Reading.{IsAnswer}
-use Rattle.dual_return.specs.Return.{AreDualsIf, HasReturnFault, IsReturn, MeanTheProgram}
+use Rattle.dual_return.specs.Return.{AreDualsIf, HasReturnFault, IsAnswered, IsAnswerFor, IsReturn, MeanTheProgram}
 use Rattle.dual_return.specs.declared.fault.ReturnFault.{ReturnFault}
 use Rattle.dual_return.proofs.LawOfReturn.{duals_mean}
 use Rattle.dual_return.proofs.OneReturn.{one-return}
@@ -67,11 +70,16 @@ module _ (nl : NlValue) (a : AnswerValue) (n : ℕ) (same : n ≡ a.objective) w
   pub staged_by : (l : LinearValue) (s : ScaledValue) → HasFolded nl n l → HasScaled (linear_value l) s → CanBeExported nl a.objective
   staged_by l s folds scales = staged_so nl a.objective l (folded_at nl n a.objective l same folds) s scales
 
+  -- the answer is one for the file, and its program is scaled so
+  pub answered : (counts : Counts) (options : List ℤ) (l : LinearValue) (s : ScaledValue) → counts ≡ nl.file.counts → options ≡ nl.file.options → IsAnswerFor nl.file a → HasFolded nl n l → HasScaled (linear_value l) s → IsAnswered counts options s a nl.file
+  answered counts options l s head first made folds scales =
+      record { counts_are = head; options_are = first; answer = made; scaled = subst (λ f. IsScaledOf f s) (folded_at nl n a.objective l same folds).linear scales.scaled }
+
   -- a dual is too wide
-  pub wide_so : (l : LinearValue) (s : ScaledValue) (stop : Stop ReturnFault) (told : Stop Refusal) → HasFolded nl n l → HasScaled (linear_value l) s → IfFault stop (HasReturnFault nl.file a) → told ≡ refused_by Return stop
+  pub wide_so : (counts : Counts) (options : List ℤ) (l : LinearValue) (s : ScaledValue) (stop : Stop ReturnFault) (told : Stop Refusal) → HasFolded nl n l → HasScaled (linear_value l) s → IsAnswered counts options s a nl.file → IfFault stop (λ fault. (f : File) → IsAnswered counts options s a f → HasReturnFault f a fault) → told ≡ refused_by Return stop
       → Makes nl a (Err told)
-  wide_so l s (Fault fault) told folds scales first is = rw is (inr (record { staged = staged_by l s folds scales; first = record { fault = fault; first = first; told = refl } }))
-  wide_so l s Memory told folds scales first is = rw is tt
+  wide_so counts options l s (Fault fault) told folds scales is_one first is = rw is (inr (record { staged = staged_by l s folds scales; first = record { fault = fault; first = first nl.file is_one; told = refl } }))
+  wide_so counts options l s Memory told folds scales is_one first is = rw is tt
 
 -- the duals mean what the law of return says; where there are none, of each that is there
 mean_if : (nl : NlValue) (a : AnswerValue) (b : Bool) (duals : List Dec) → IsFile nl.file → fold_fault nl.file a.objective ≡ None → AreDualsIf b nl.file a duals → MeanTheProgram nl.file a duals

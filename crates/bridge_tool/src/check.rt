@@ -14,7 +14,7 @@ ghost use Rattle.bridge_tool.specs.Check.{by_fold, check_outcome, check_promise,
 ghost use Rattle.command_parts.specs.SeveralFiles.{Comes};
 ghost use Rattle.command_parts.specs.VerdictTold.{is_yes, verdict_line};
 
-use command_parts::{Answer, Refusal, end, fold, is_yes, open_nl, open_sol, verdict_line};
+use command_parts::{Answer, Refusal, end, fold_read, is_yes, open_nl, open_sol, verdict_line};
 use desk::Desk;
 use exact_checks::{Columns, Verdict, certify};
 use exact_numbers::Dec;
@@ -46,30 +46,30 @@ fn plain_objective(number: i32) -> Option<u32>
     Some(number as u32)
 }
 
-// The verdict on a point and duals.
-fn verdict_of(alloc: Global, linear: &Linear, x: &[Dec], y: &[Dec]) -> Result<Verdict, AllocError>
-    requires numbers { length x.now ≡ variable_count (linear_value linear.now) }
-    requires duals { length y.now ≡ row_count (linear_value linear.now) }
-    ensures { IfOk result (λ v. answer_of v ≡ verdict (linear_value linear.now) (values_of x.now)
+// The verdict on a point and duals for a linear program, which is let go.
+fn verdict_of(alloc: Global, linear: Linear, x: &[Dec], y: &[Dec]) -> Result<Verdict, AllocError>
+    requires numbers { length x.now ≡ variable_count (linear_value linear) }
+    requires duals { length y.now ≡ row_count (linear_value linear) }
+    ensures { IfOk result (λ v. answer_of v ≡ verdict (linear_value linear) (values_of x.now)
         (values_of y.now)) }
 {
-    let columns = Columns::of(alloc, linear)?;
+    let columns = Columns::from_linear(alloc, linear)?;
     Ok(certify(&columns, x, y))
 }
 
 // Whether that verdict is yes, and its line.
 fn told_verdict(
     alloc: Global,
-    linear: &Linear,
+    linear: Linear,
     x: &[Dec],
     y: &[Dec],
 ) -> Result<(bool, Vec<u8>), AllocError>
-    requires numbers { length x.now ≡ variable_count (linear_value linear.now) }
-    requires duals { length y.now ≡ row_count (linear_value linear.now) }
+    requires numbers { length x.now ≡ variable_count (linear_value linear) }
+    requires duals { length y.now ≡ row_count (linear_value linear) }
     ensures holds { IfOk result (λ t. t.0
-        ≡ is_yes (verdict (linear_value linear.now) (values_of x.now) (values_of y.now))) }
+        ≡ is_yes (verdict (linear_value linear) (values_of x.now) (values_of y.now))) }
     ensures line { IfOk result (λ t. t.1.items
-        ≡ verdict_line (verdict (linear_value linear.now) (values_of x.now) (values_of y.now))) }
+        ≡ verdict_line (verdict (linear_value linear) (values_of x.now) (values_of y.now))) }
 {
     let verdict = verdict_of(alloc, linear, x, y)?;
     let line = verdict_line(alloc, verdict)?;
@@ -80,38 +80,38 @@ fn told_verdict(
 // the fold.
 fn certified<L: Ledger>(
     alloc: Global,
-    read: &NlRead,
+    read: NlRead,
     sol: &Sol,
     objective: u32,
     steps: &mut Steps<L>,
 ) -> Result<(bool, Vec<u8>), Stop<Refusal>>
-    requires lines { HasLines read.now }
-    requires fits { unfit (value_of read.now) sol.now ≡ None }
-    ensures comes { Comes (λ outcome. outcome ≡ by_fold (value_of read.now) sol.now objective
-        (first_fold_fault read.now.file objective)) result }
+    requires lines { HasLines read }
+    requires fits { unfit (value_of read) sol.now ≡ None }
+    ensures comes { Comes (λ outcome. outcome ≡ by_fold (value_of read) sol.now objective
+        (first_fold_fault read.file objective)) result }
     ensures above { steps.old ≤ steps.new }
     ensures counts { steps.new
-        ≤ steps.old + steps_by_number (value_of read.now) (pos objective) }
+        ≤ steps.old + steps_by_number (value_of read) (pos objective) }
 {
     let x = sol.primals();
     let y = sol.duals();
-    let linear = fold(alloc, read, objective, steps)?;
-    let told = told_verdict(alloc, &linear, x.items(), y.items())?;
+    let linear = fold_read(alloc, read, objective, steps)?;
+    let told = told_verdict(alloc, linear, x.items(), y.items())?;
     Ok(told)
 }
 
-// The verdict of a file and a solution, or why it is refused.
+// The verdict of a file, which is let go, and a solution, or why it is refused.
 fn to_verdict<L: Ledger>(
     alloc: Global,
-    read: &NlRead,
+    read: NlRead,
     sol: &Sol,
     steps: &mut Steps<L>,
 ) -> Result<(bool, Vec<u8>), Stop<Refusal>>
-    requires { HasLines read.now }
-    ensures comes { Comes (λ outcome. outcome ≡ check_outcome (value_of read.now) sol.now) result }
-    ensures file { IsFile read.now.file }
+    requires { HasLines read }
+    ensures comes { Comes (λ outcome. outcome ≡ check_outcome (value_of read) sol.now) result }
+    ensures file { IsFile read.file }
     ensures above { steps.old ≤ steps.new }
-    ensures counts { steps.new ≤ steps.old + most_steps (value_of read.now) sol.now }
+    ensures counts { steps.new ≤ steps.old + most_steps (value_of read) sol.now }
 {
     let _ = read.file.header();
     if let Err(fault) = fit(&read.file, sol) {
@@ -147,8 +147,7 @@ pub(crate) fn check<D: Desk, L: Ledger>(
             return answer;
         }
     };
-    let judged = to_verdict(alloc, &read, &solution, steps);
-    drop(read);
+    let judged = to_verdict(alloc, read, &solution, steps);
     drop(solution);
     end(desk, judged)
 }

@@ -13,10 +13,11 @@ ghost use Rattle.command_parts.specs.Stages.{fold_steps};
 
 use answer_file::Answer as Given;
 use command_parts::{
-    Answer, Refusal, end, fold, open_answer, open_columns, open_named, open_nl, open_rows, scale,
+    Answer, Refusal, end, fold_read, open_answer, open_columns, open_named, open_nl, open_rows,
+    scale,
 };
 use desk::Desk;
-use dual_return::{ReturnFault, solution};
+use dual_return::{ReturnFault, options_of, solution_by_header};
 use nl_segments::NlRead;
 use sol_files::{Sol, write_sol};
 use std::alloc::Global;
@@ -28,44 +29,47 @@ fn refused(stop: Stop<ReturnFault>) -> Stop<Refusal>
     stop.map_fault(|fault| Refusal::Return(fault))
 }
 
-// The .sol value of an answer for a file, or the first fault of the fold, of scaling or of
-// a dual.
+// The .sol value of an answer for a file, which is let go with the fold, or the first fault of
+// the fold, of scaling or of a dual.
 fn make<L: Ledger>(
     alloc: Global,
-    read: &NlRead,
+    read: NlRead,
     given: &Given,
     steps: &mut Steps<L>,
 ) -> Result<Sol, Stop<Refusal>>
-    requires lines { HasLines read.now }
-    requires made { IsAnswerFor read.now.file given.now }
-    ensures makes { Makes (value_of read.now) given.now result }
-    ensures file { IsFile read.now.file }
+    requires lines { HasLines read }
+    requires made { IsAnswerFor read.file given.now }
+    ensures makes { Makes (value_of read) given.now result }
+    ensures file { IsFile read.file }
     ensures above { steps.old ≤ steps.new }
-    ensures counts { steps.new ≤ steps.old + fold_steps (value_of read.now)
+    ensures counts { steps.new ≤ steps.old + fold_steps (value_of read)
         given.now.objective }
 {
     let objective = given.objective();
-    let linear = fold(alloc, read, objective, steps)?;
+    let options = options_of(&read.file);
+    let header = read.file.header();
+    let counts = *header.counts();
+    let linear = fold_read(alloc, read, objective, steps)?;
     let scaled = scale(alloc, linear, objective)?;
-    match solution(alloc, &read.file, &scaled, given) {
+    match solution_by_header(alloc, counts, options, &scaled, given) {
         Ok(sol) => Ok(sol),
         Err(stop) => Err(refused(stop)),
     }
 }
 
-// The bytes to write for an answer for a file, or why it is refused.
+// The bytes to write for an answer for a file, which is let go, or why it is refused.
 fn to_output<L: Ledger>(
     alloc: Global,
-    read: &NlRead,
+    read: NlRead,
     given: &Given,
     steps: &mut Steps<L>,
 ) -> Result<(bool, Vec<u8>), Stop<Refusal>>
-    requires lines { HasLines read.now }
-    requires made { IsAnswerFor read.now.file given.now }
-    ensures comes { Comes (ReturnsAs (value_of read.now) given.now) result }
-    ensures file { IsFile read.now.file }
+    requires lines { HasLines read }
+    requires made { IsAnswerFor read.file given.now }
+    ensures comes { Comes (ReturnsAs (value_of read) given.now) result }
+    ensures file { IsFile read.file }
     ensures above { steps.old ≤ steps.new }
-    ensures counts { steps.new ≤ steps.old + fold_steps (value_of read.now)
+    ensures counts { steps.new ≤ steps.old + fold_steps (value_of read)
         given.now.objective }
 {
     let sol = make(alloc, read, given, steps)?;
@@ -96,8 +100,7 @@ pub(crate) fn return_answer<D: Desk, L: Ledger>(
             return ended;
         }
     };
-    let judged = to_output(alloc, &read, &given, steps);
-    drop(read);
+    let judged = to_output(alloc, read, &given, steps);
     drop(given);
     end(desk, judged)
 }
@@ -143,8 +146,7 @@ pub(crate) fn return_named<D: Desk, L: Ledger>(
             return ended;
         }
     };
-    let judged = to_output(alloc, &read, &given, steps);
-    drop(read);
+    let judged = to_output(alloc, read, &given, steps);
     drop(given);
     end(desk, judged)
 }

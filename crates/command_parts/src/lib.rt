@@ -37,7 +37,7 @@ pub use proof_input::open_proof;
 pub use proof_told::leaf_line;
 pub use refusal::Refusal;
 pub use sol_input::open_sol;
-pub use stages::{exported, fold, fold_read, scale};
+pub use stages::{exported, fold_read, scale};
 pub use told::put;
 pub use transfer::{LIMIT, tell_line};
 pub use verdict_told::{is_yes, verdict_line};

@@ -12,7 +12,7 @@ ghost use Rattle.command_parts.specs.Stages.{Folds, Scales, fold_steps};
 
 use crate::nl_told::fold_refusal;
 use crate::refusal::Refusal;
-use linear_fold::{fold_all, fold_file};
+use linear_fold::fold_file;
 use linear_program::Linear;
 use mps_export::program;
 use mps_model::Mps;
@@ -21,28 +21,8 @@ use scaling::{Scaled, scale_program};
 use std::alloc::{AllocError, Global};
 use texts::{Ledger, Steps, Stop};
 
-/// The linear program of what was read, or its first fault. A fault that was found wants no memory.
-pub fn fold<L: Ledger>(
-    alloc: Global,
-    read: &NlRead,
-    objective: u32,
-    steps: &mut Steps<L>,
-) -> Result<Linear, Stop<Refusal>>
-    requires { HasLines read.now }
-    ensures folds { Folds (value_of read.now) objective result }
-    ensures file { IsFile read.now.file }
-    ensures above { steps.old ≤ steps.new }
-    ensures counts { steps.new ≤ steps.old + fold_steps (value_of read.now) objective }
-{
-    let _ = read.file.header();
-    match fold_all(alloc, &read.file, objective, steps) {
-        Ok(linear) => Ok(linear),
-        Err(Stop::Memory) => Err(Stop::Memory),
-        Err(Stop::Fault(fault)) => Err(Stop::Fault(fold_refusal(&read.places, fault))),
-    }
-}
-
-/// The same of what was read, which is let go.
+/// The linear program of what was read, which is let go, or its first fault. A fault that was found
+/// wants no memory.
 pub fn fold_read<L: Ledger>(
     alloc: Global,
     read: NlRead,

@@ -7,6 +7,7 @@ use Rattle.exact_numbers.specs.declared.dec.Dec.{Dec}
 use Rattle.exact_numbers.specs.Values.{dec_value, IsInReach}
 use Rattle.program_meaning.specs.Linear.{Linear, row_at}
 use Rattle.nl_model.specs.File.{File}
+use Rattle.nl_model.specs.declared.header_counts.Counts.{Counts}
 use Rattle.nl_model.specs.declared.suffix.Suffix.{Suffix}
 use Rattle.file_meaning.specs.Expressions.{maximises}
 use Rattle.file_meaning.specs.LinearFile.{linear_of}
@@ -17,7 +18,7 @@ use Rattle.scaled_program.specs.Return.{dual_of}
 use Rattle.file_meaning.specs.Meaning.{body_value}
 use Rattle.mps_model.specs.Mps.{Mps, row_value}
 use Rattle.scaling.specs.Scaled.{ScaledValue}
-use Rattle.scaling.specs.Scaling.{factor_at}
+use Rattle.scaling.specs.Scaling.{IsScaledOf, factor_at}
 use Rattle.answer_file.specs.Grammar.{AnswerValue}
 use Rattle.answer_file.specs.Names.{setting_by}
 use Rattle.answer_file.specs.Reading.{IsAnswer}
@@ -121,6 +122,14 @@ pub record IsTooWideAt (f : File) (a : AnswerValue) (i : ℕ) : Type 0 where
 
 abbrev pub HasReturnFault : File → AnswerValue → ReturnFault → Type 0
 HasReturnFault f a (DualTooWide i) = IsTooWideAt f a i
+
+-- a file of these counts and options, which this answers and whose program was scaled so
+pub record IsAnswered (counts : Counts) (options : List ℤ) (s : ScaledValue) (a : AnswerValue)
+    (f : File) : Type 0 where
+  pub counts_are : counts ≡ f.counts
+  pub options_are : options ≡ f.options
+  pub answer : IsAnswerFor f a
+  pub scaled : IsScaledOf (linear_for f a) s
 
 -- Each answer for a file is returned as one .sol file, or has one first dual that is too wide, and
 -- never both.

@@ -8,4 +8,5 @@ mod parts;
 mod returned;
 
 pub use fault::ReturnFault;
-pub use returned::solution;
+pub use parts::options_of;
+pub use returned::{solution, solution_by_header};

@@ -7,13 +7,13 @@ ghost use Rattle.dual_return.specs.Return.{given, objno_of, suffix_for};
 
 use answer_file::Answer;
 use exact_numbers::Dec;
-use nl_model::{Decs, Options, Suffix, Terms};
+use nl_model::{Decs, NlFile, Options, Suffix, Terms};
 use sol_files::{SolBuilder, SolSuffix};
 use std::alloc::{AllocError, Global};
 use texts::TextLines;
 
-/// The same options.
-pub(crate) fn same_options(options: &Options) -> Options
+// The same options.
+fn same_options(options: &Options) -> Options
     requires { length options.now ≤ 9 }
     ensures { result ≡ options.now }
 {
@@ -22,6 +22,15 @@ pub(crate) fn same_options(options: &Options) -> Options
         same.push(*value);
     }
     same
+}
+
+/// The options of a file.
+pub fn options_of(file: &NlFile) -> Options
+    ensures { result ≡ file.now.options }
+{
+    let header = file.header();
+    let _counts = header.counts();
+    same_options(header.options())
 }
 
 /// Adds the lines of a message.

@@ -1,14 +1,15 @@
 // A .sol file from an answer.
 ghost use Rattle.std.specs.Prelude.{◌≡◌, IfOk, IfErr};
 ghost use Rattle.texts.specs.Stopped.{IfFault};
+ghost use Rattle.nl_model.specs.File.{File};
 ghost use Rattle.scaling.specs.Scaling.{IsScaledOf};
-ghost use Rattle.dual_return.specs.Return.{IsAnswerFor, IsReturn, HasReturnFault, linear_for};
+ghost use Rattle.dual_return.specs.Return.{IsAnswered, IsAnswerFor, IsReturn, HasReturnFault, linear_for};
 
 use crate::duals::add_given_duals;
 use crate::fault::ReturnFault;
-use crate::parts::{add_message, add_primals, add_suffixes, same_options, set_objno};
+use crate::parts::{add_message, add_primals, add_suffixes, options_of, set_objno};
 use answer_file::Answer;
-use nl_model::NlFile;
+use nl_model::{Counts, NlFile, Options};
 use scaling::Scaled;
 use sol_files::{Sol, SolBuilder};
 use std::alloc::Global;
@@ -28,9 +29,25 @@ pub fn solution(
     ensures fault { IfErr result (λ stop. IfFault stop
         (λ fault. HasReturnFault file.now answer.now fault)) }
 {
+    let options = options_of(file);
     let header = file.header();
-    let counts = *header.counts();
-    let options = same_options(header.options());
+    solution_by_header(alloc, *header.counts(), options, scaled, answer)
+}
+
+/// The same by the header of a file that may be let go before.
+pub fn solution_by_header(
+    alloc: Global,
+    counts: Counts,
+    options: Options,
+    scaled: &Scaled,
+    answer: &Answer,
+) -> Result<Sol, Stop<ReturnFault>>
+    requires { (f : File) × IsAnswered counts options scaled.now answer.now f }
+    ensures sol { IfOk result (λ sol. (f : File)
+        → IsAnswered counts options scaled.now answer.now f → IsReturn f answer.now sol) }
+    ensures fault { IfErr result (λ stop. IfFault stop (λ fault. (f : File)
+        → IsAnswered counts options scaled.now answer.now f → HasReturnFault f answer.now fault)) }
+{
     let mut sol = SolBuilder::new(alloc, options, counts.n_con, counts.n_var);
     add_message(&mut sol, answer.message())?;
     if let Err(stop) = add_given_duals(alloc, &mut sol, counts.n_con, scaled, answer) {

@@ -136,6 +136,23 @@ impl Columns {
         ensures { IfOk result (λ c. program_of c ≡ linear_value linear.now) }
     {
         let program = Program::of(alloc, linear)?;
+        Columns::by_rows(alloc, program)
+    }
+
+    /// The same of one that is let go: what it keeps as fractions is not copied.
+    #[tactic(auto)]
+    pub fn from_linear(alloc: Global, linear: Linear) -> Result<Columns, AllocError>
+        ensures { IfOk result (λ c. program_of c ≡ linear_value linear) }
+    {
+        let program = Program::from_linear(alloc, linear)?;
+        Columns::by_rows(alloc, program)
+    }
+
+    // The columns beside the rows.
+    #[tactic(auto)]
+    fn by_rows(alloc: Global, program: Program) -> Result<Columns, AllocError>
+        ensures { IfOk result (λ c. program_of c ≡ program_value program) }
+    {
         let count = program.lower.len();
         let columns = by_column(alloc, &program.rows, count)?;
         let costs = costs_of(alloc, &program.objective.terms, count)?;

@@ -1,11 +1,11 @@
 use Rattle.std.proofs.Common.{◌≡◌, ◌∙◌, length, subst}
 use Rattle.exact_checks.specs.Built.{AreColumnsOf, AreCostsOf}
 use Rattle.exact_checks.proofs.Assembled.{columns_are}
-use Rattle.exact_checks.proofs.columns.Columns.of.Goals as goal
+use Rattle.exact_checks.proofs.columns.Columns.by_rows.Goals as goal
 
 pub invariant_of-result : goal.invariant_of-result
 invariant_of-result c =
-    let p = c.in_ok-program.program in
+    let p = c.args.program in
     let count : c.len-count.result ≡ length p.lower.items = c.len-count.ensures ∙ p.lower.ok.0 in
     let by_column = subst (λ rs. AreColumnsOf c.len-count.result rs c.in_ok-columns.columns.items) c.deref.ensures.value c.in_ok-columns.ensures in
     let costs = subst (λ ts. AreCostsOf c.len-count.result ts c.in_ok-costs.costs.items) c.deref-2.ensures.value c.in_ok-costs.ensures in
