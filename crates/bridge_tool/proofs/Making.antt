@@ -181,12 +181,6 @@ module _ (seed size : ℕ) where
     | inr found ↦ record { outcome = Refused found.0; comes_to = inl (found.0, (found.1, refl)); is = tt; one = only_refused found.0 found.1 }
   ]
 
-  -- what a text comes to that says this file
-  pub file_comes : (nl : NlValue) (r : Result (Bool × Vec ℕ) (Stop Refusal)) → IsNl (made_text seed size) nl → Comes (MakesAs nl) r → Comes (make_promise seed size).comes r
-  file_comes nl (Ok t) read h = inr (nl, (read, h))
-  file_comes nl (Err (IsFault refusal)) read h = inr (nl, (read, h))
-  file_comes nl (Err IsMemory) read h = tt
-
   -- the outcome of the written text
   come : (old : Meaning) (x : Outcome) → (make_promise seed size).comes x → HasComeTo (make_promise seed size) false old old x
   come old x is =

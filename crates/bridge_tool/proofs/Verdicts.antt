@@ -162,41 +162,8 @@ module _ (nl : NlValue) (s : Sol) (file : IsFile nl.file) where
 -- ---- what the code answers
 
 module _ (nl : NlValue) (s : Sol) (k : ℕ) where
-  -- the file folds, and the verdict is told
-  pub check_done : (l : LinearValue) (xs ys : List Dec) (v : Verdict) (held : Bool) (bytes : List ℕ) → HasFolded nl k l → xs ≡ s.primals → ys ≡ s.duals
-      → v ≡ verdict (linear_value l) (values_of xs) (values_of ys) → held ≡ is_yes v → bytes ≡ verdict_line v
-      → Done held bytes ≡ by_fold nl s k (first_fold_fault nl.file k)
-  check_done l xs ys v held bytes folds x y is h b =
-      let same : v ≡ shown nl s k = is ∙ ap₂ (λ f ps. verdict f (values_of ps) (values_of ys)) folds.linear x ∙ ap (λ ps. verdict (linear_of nl.file k) (values_of s.primals) (values_of ps)) y in
-      ap₂ Done h b ∙ ap by_verdict same ∙ sym (ap (by_fold nl s k) (ap (option_map (named_fault nl.file)) folds.fine))
-
-  -- the fold stopped
-  pub check_stopped : (stop : Stop Refusal) → Folds nl k (Err stop) → Comes (λ outcome. outcome ≡ by_fold nl s k (first_fold_fault nl.file k)) (Err stop)
-  check_stopped (Fault refusal) h = ap Refused h.told ∙ sym (ap (by_fold nl s k) h.first)
-  check_stopped Memory h = tt
 
 module _ (nl : NlValue) (s : Sol) where
-  pub unfit_so : (fault : FitFault) (line : List ℕ) → unfit nl s ≡ Some fault → line ≡ fit_line fault → Refused line ≡ check_outcome nl s
-  unfit_so fault line fits told = ap Refused told ∙ sym (ap (by_fit nl s) fits)
-
-  negative : (z : ℤ) → z <ℤ pos 0 → Refused (negative_line z) ≡ by_number nl s z
-  negative (pos k) lt = absurd (omega (arith, ints, lt))
-  negative (negsuc n) lt = refl
-
-  pub negative_so : (z : ℤ) (line : List ℕ) → unfit nl s ≡ None → z ≡ objective_number s → z <ℤ pos 0 → line ≡ negative_line z → Refused line ≡ check_outcome nl s
-  negative_so z line fits number lt told = ap Refused told ∙ negative z lt ∙ ap (by_number nl s) number ∙ sym (ap (by_fit nl s) fits)
-
-  outcome_at : (z : ℤ) (k : ℕ) → unfit nl s ≡ None → z ≡ objective_number s → z ≡ pos k → by_fold nl s k (first_fold_fault nl.file k) ≡ check_outcome nl s
-  outcome_at z k fits number is = ap (by_number nl s) (sym is ∙ number) ∙ sym (ap (by_fit nl s) fits)
-
-  pub comes_so : (z : ℤ) (k : ℕ) (r : Result (Bool × Vec ℕ) (Stop Refusal)) → unfit nl s ≡ None → z ≡ objective_number s → z ≡ pos k
-      → Comes (λ outcome. outcome ≡ by_fold nl s k (first_fold_fault nl.file k)) r → Comes (λ outcome. outcome ≡ check_outcome nl s) r
-  comes_so z k (Ok t) fits number is h = h ∙ outcome_at z k fits number is
-  comes_so z k (Err (Fault refusal)) fits number is h = h ∙ outcome_at z k fits number is
-  comes_so z k (Err Memory) fits number is h = tt
-
-  pub most_so : (z : ℤ) (k : ℕ) → unfit nl s ≡ None → z ≡ objective_number s → z ≡ pos k → steps_by_number nl (pos k) ≡ most_steps nl s
-  most_so z k fits number is = ap (steps_by_number nl) (sym is ∙ number) ∙ sym (ap (steps_by_fit nl s) fits)
 
   -- a verdict means what it should
   pub meant_so : (r : Result (Bool × Vec ℕ) (Stop Refusal)) → IsFile nl.file → Comes (λ outcome. outcome ≡ check_outcome nl s) r → IfOk r (λ t. ByVerdict t.0 (IsCertified nl s) (IsNotCertified nl s))
@@ -250,11 +217,6 @@ module _ (nl : NlValue) (p : ProofValue) (given : IsProofIn nl.file p) where
       → Done held bytes ≡ prove_outcome nl p
   proof_done l v held bytes folds exact h b =
       ap₂ Done h b ∙ ap by_leaf (leaf_so l v folds exact) ∙ sym (ap (by_proof_fold nl p) (ap (option_map (named_fault nl.file)) folds.fine))
-
-  -- the fold stopped
-  pub proof_stopped : (stop : Stop Refusal) → Folds nl claimed (Err stop) → Comes (λ outcome. outcome ≡ prove_outcome nl p) (Err stop)
-  proof_stopped (Fault line) h = ap Refused h.told ∙ sym (ap (by_proof_fold nl p) h.first)
-  proof_stopped Memory h = tt
 
   -- a verdict means what it should
   proved_by : (o : Option LeafFault) (v : ProofVerdict) → fault_of v ≡ o → IsFile nl.file → fold_fault nl.file claimed ≡ None → IsProved folded p.claim v → open_leaf nl p ≡ o → prove_outcome nl p ≡ by_leaf o → ByVerdict (is_none o) (IsProvedOf nl p) (IsLeftOpen nl p)
@@ -336,11 +298,6 @@ module _ (nl : NlValue) (c : CertificateValue) (given : IsCertificateIn nl.file 
       → held ≡ is_held o → bytes ≡ outcome_line c.claim o → Done held bytes ≡ verify_outcome nl c
   claim_done l o held bytes folds exact h b =
       ap₂ Done h b ∙ ap (by_claim c.claim) (shown_so l o folds exact) ∙ sym (ap (by_claim_fold nl c) (ap (option_map (named_fault nl.file)) folds.fine))
-
-  -- the fold stopped
-  pub claim_stopped : (stop : Stop Refusal) → Folds nl k (Err stop) → Comes (λ outcome. outcome ≡ verify_outcome nl c) (Err stop)
-  claim_stopped (Fault line) h = ap Refused h.told ∙ sym (ap (by_claim_fold nl c) h.first)
-  claim_stopped Memory h = tt
 
   -- a verdict means what it should
   claim_says : (o : ClaimOutcome) → IsFile nl.file → fold_fault nl.file k ≡ None → claim_outcome f c.claim given.given ≡ o → ClaimSays (problem_of nl.file k) f c o

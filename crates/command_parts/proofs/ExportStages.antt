@@ -221,9 +221,6 @@ pub folded_at : (nl : NlValue) (n k : ℕ) (l : LinearValue) → n ≡ k → Has
 folded_at nl n k l same folds = subst (λ (m : ℕ). HasFolded nl m l) same folds
 
 module _ (nl : NlValue) (k : ℕ) (l : LinearValue) (folds : HasFolded nl k l) where
-  -- it folds, and does not scale
-  pub unscaled_so : (line : List ℕ) → HasScaleRefusal (linear_value l) k line → CannotBeExported nl k line
-  unscaled_so line h = inr (record { folded = folds.fine; first = subst (λ (g : Linear). HasScaleRefusal g k line) folds.linear h })
 
   module _ (s : ScaledValue) (scales : HasScaled (linear_value l) s) where
     scaled_so : HasScaled (linear_of nl.file k) s

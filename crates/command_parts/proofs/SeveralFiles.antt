@@ -182,32 +182,6 @@ module _ {V : Type 0} (reads : List ℕ → V → Type 0) (refuses : List ℕ �
 -- ---- reading a file
 
 module _ {R V : Type 0} (seen : R → V) (reads : List ℕ → V → Type 0) (refuses : List ℕ → List ℕ → Type 0) where
-  ended_so : (file : List ℕ) (old new : Meaning) (fed : List ℕ → Type 0) (judged : Result R (Stop Refusal)) (result : Result R Answer)
-      → HasRead old.texts file LIMIT new.left fed → new.input_faults ≡ old.input_faults
-      → ((text : List ℕ) → fed text → Says seen reads refuses text judged) → Answered judged result
-      → MatchResult result (λ value. HasSaid reads file old new (seen value)) (λ answer. HasEnded refuses file old new answer)
-  ended_so file old new fed (Ok value) result read same says is = rw is (record { bytes = read.bytes; read = read.read; says = says read.bytes read.taken; same = same })
-  ended_so file old new fed (Err (Fault refusal)) result read same says is = rw is (record { bytes = read.bytes; read = read.read; says = says read.bytes read.taken; same = same })
-  ended_so file old new fed (Err Memory) result read same says is = rw is same
-
-  -- the text was read and judged
-  pub file_judged : (file : List ℕ) (old new : Meaning) (fed : List ℕ → Type 0) (judged : Result R (Stop Refusal)) (result : Result R Answer)
-      → HasRead old.texts file LIMIT new.left fed → new.input_faults ≡ old.input_faults → OnlyInput old new
-      → ((text : List ℕ) → fed text → Says seen reads refuses text judged) → Answered judged result
-      → ReadsFile seen reads refuses file old new result
-  file_judged file old new fed judged result read same rest says is = record { rest = rest; later = omega (arith, same); judged = ended_so file old new fed judged result read same says is }
-
-  missed_so : (T : Type 0) (file : List ℕ) (old new : Meaning) (unread : Unread) (answer : Answer)
-      → HasReadCause {T = T} (IsUnknown old.texts file) old.input_faults new.input_faults (Err unread) → Missed unread answer
-      → HasEnded refuses file old new answer
-  missed_so T file old new IsFault answer cause is = rw is cause.stop
-  missed_so T file old new IsMemory answer cause is = rw is cause.stop
-
-  -- the text was not read
-  pub file_missed : (T : Type 0) (file : List ℕ) (old new : Meaning) (unread : Unread) (answer : Answer)
-      → HasReadCause {T = T} (IsUnknown old.texts file) old.input_faults new.input_faults (Err unread) → OnlyInput old new → Missed unread answer
-      → ReadsFile seen reads refuses file old new (Err answer)
-  file_missed T file old new unread answer cause rest is = record { rest = rest; later = cause.later; judged = missed_so T file old new unread answer cause is }
 
 -- ---- a command at work
 

@@ -52,9 +52,6 @@ pub record AreCompleting (hs : List Bool) (tss : List (List DecimalTerm)) (bs no
   pub all : done ++ completed (drop place hs) (drop place tss) (drop place bs) ≡ completed hs tss bs
   pub still : AreStillDecimals (drop place hs) (drop place tss)
 
-pub none_completed : (hs : List Bool) (tss : List (List DecimalTerm)) (bs : List Form) → AreStillDecimals hs tss → AreCompleting hs tss bs bs 0
-none_completed hs tss bs s = record { done = []; count = refl; split = refl; all = refl; still = s }
-
 pub set_behind : (done : List Form) (b : Form) (rest : List Form) (x : Form) → slice_set (done ++ b ∷ rest) (length done) x ≡ (done ++ x ∷ []) ++ rest
 set_behind [] b rest x = refl
 set_behind (d ∷ done) b rest x = ap (λ xs. d ∷ xs) (set_behind done b rest x)
@@ -95,11 +92,6 @@ module _ (hs : List Bool) (tss : List (List DecimalTerm)) (bs now : List Form) (
             (λ (rest : AreStillDecimals hs2 tss2). subst (λ xs. AreStillDecimals xs (drop (place + 1) tss)) (rest_of hs h hs2 hs_at) (subst (AreStillDecimals hs2) (rest_of tss ts tss2 tss_at) rest))
             (subst (λ xs. AreStillDecimals xs (ts ∷ tss2)) hs_at (subst (AreStillDecimals (drop place hs)) tss_at c.still)).1;
       }
-
-pub all_completed : (hs : List Bool) (tss : List (List DecimalTerm)) (bs now : List Form) (place : ℕ) → length hs ≤ place → length bs ≡ length hs → AreCompleting hs tss bs now place → now ≡ completed hs tss bs
-all_completed hs tss bs now place end n c =
-    c.split ∙ ap (λ ys. c.done ++ ys) (drop_all place bs (omega (arith, end, n)))
-    ∙ ap (λ xs. c.done ++ completed xs (drop place tss) (drop place bs)) (sym (drop_all place hs end)) ∙ c.all
 
 pub set_length : (xs : List Form) (i : ℕ) (x : Form) → length (slice_set xs i x) ≡ length xs
 set_length [] i x = refl

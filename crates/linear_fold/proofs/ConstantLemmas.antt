@@ -237,11 +237,6 @@ module _ (b : Bool) (first cur new : ℚ) (x : PartialForm) (left rest all : Lis
         unbroken = o.unbroken.1;
       }
 
-  pub choosing_stop : ((n : ℕ) → IsOperand n x → is_constant n (part_line x) ≡ false) → (n : ℕ) → AreOperands n all → are_constant n (map part_line all) ≡ false
-  choosing_stop t n z =
-      let r = here.tests n z in
-      sym r.0 ∙ ap (λ q. q && are_constant n (map part_line rest)) (t n r.1.0)
-
 pub best_found : (b : Bool) (first : ℚ) (v : Frac) (x : PartialForm) (left fs all : List PartialForm) → left ≡ [] → all ≡ x ∷ fs → first ≡ (part_line x).constant → Choosing b first (frac_value v) left all → (n : ℕ) → AreOperands n all → IsValueOf n (best_class b) all (Some v)
 best_found b first v x left fs all none is start h n z =
     let k = (part_line x).constant in

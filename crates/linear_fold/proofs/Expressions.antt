@@ -44,19 +44,6 @@ use Rattle.linear_fold.proofs.Operators.{FitsLine, copy_fits, multiplied, scaled
 
 -- ---- the test
 module _ (n : ℕ) (all rest : List FileTerm) (i : ℕ) (t : FileTerm) (whole : Type 0) (at : drop i all ≡ t ∷ rest) (h : AreStrictlyAscending n (linear_terms (drop i all)) ↔ whole) where
-  here : AreStrictlyAscending n (linear_terms (t ∷ rest)) ↔ whole
-  here = subst (λ ts. AreStrictlyAscending n (linear_terms ts) ↔ whole) at h
-
-  pub ascending_more : n ≤ t.0 → dec_value t.1 ≢ zero_ℚ → AreStrictlyAscending (t.0 + 1) (linear_terms rest) ↔ whole
-  ascending_more low live =
-      subst (λ k. AreStrictlyAscending k (linear_terms rest) ↔ whole) (sym (add-one t.0))
-      (λ a. here.0 (low, live, a), λ w. (here.1 w).2)
-
-  pub descends : t.0 < n → whole → ⊥
-  descends low w = let first = (here.1 w).0 in omega arith
-
-  pub is_nothing : dec_value t.1 ≡ zero_ℚ → whole → ⊥
-  is_nothing z w = (here.1 w).1 z
 
 -- ---- the list
 abbrev pub list_line : ℚ → List Term → Line
@@ -107,16 +94,7 @@ module _ (a : Line) (i : ℕ) (ts : List LinearTerm) (k : ℚ) (out : List Term)
           above = l.above.2;
         }
 
-  pub wide_term : fits t.factor ≡ false → terms_fault a i ts ≡ Some (record { place = j; reason = TooWide })
-  wide_term wide =
-      sym l.fault
-      ∙ ap (λ b. option_or (fault_at j (too_wide_unless (b && sum_fits (coef_in out t.variable) t.factor))) (terms_fault (line_with (list_line k out) t.variable t.factor) (j + 1) rest)) wide
-
 -- ---- terms that add nothing
-pub zero_more : (all rest : List FileTerm) (i : ℕ) (t : FileTerm) (whole : Type 0) → drop i all ≡ t ∷ rest → dec_value t.1 ≡ zero_ℚ → AreZeroTerms (linear_terms (drop i all)) ↔ whole → AreZeroTerms (linear_terms rest) ↔ whole
-zero_more all rest i t whole at z h =
-    let here = subst (λ ts. AreZeroTerms (linear_terms ts) ↔ whole) at h in
-    (λ a. here.0 (z, a), λ w. (here.1 w).1)
 
 pub nothing_listed : (a : Line) (i : ℕ) (ts : List LinearTerm) → ((j : ℕ) → fits (a.coef j) ≡ true) → AreZeroTerms ts → (terms_fault a i ts ≡ None) × (a ≡ line_with_terms a ts)
 nothing_listed a i [] f z = (refl, refl)
@@ -220,8 +198,6 @@ zero_folded known n f e =
     )
 
 -- ---- steps
-pub same_bound : (n new from len size : ℕ) → len ≡ size → new + (n + 1) ≤ from + 2 * (n + 1) * len → new ≤ from + 2 * (n + 1) * size
-same_bound n new from len size e h = subst (λ k. new ≤ from + 2 * (n + 1) * k) e (omega arith)
 
 pub sum_bound : (n new from len : ℕ) → 0 < len → new ≤ from + (n + 1) + len → new ≤ from + 2 * (n + 1) * len
 sum_bound n new from zero some h = absurd (omega arith)

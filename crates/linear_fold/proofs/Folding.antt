@@ -282,11 +282,6 @@ entry_steps w from to k new old a b =
     let split : 2 * w * (new + k) ≡ 2 * w * new + 2 * w * k = omega arith in
     omega arith
 
-pub operator_steps : (w from to k old : ℕ) → to ≤ from + 2 * w * k → k ≤ old → to ≤ from + 2 * w * old
-operator_steps w from to k old a b =
-    let most : 2 * w * k ≤ 2 * w * old = mul-le-mul_left (2 * w) b in
-    omega arith
-
 -- one node more, of those before place p
 pub tree_steps : (w total p start from to old new : ℕ) → 0 < p → p ≤ total → from + 2 * w * old ≤ start + 2 * w * (total - p) → to + 2 * w * new ≤ from + 2 * w * old → to + 2 * w * (new + 1) ≤ start + 2 * w * (total - (p - 1))
 tree_steps w total p start from to old new some within a b =

@@ -326,25 +326,6 @@ leaf_more known n ns place m count leaf old new l at adds e rest =
 pub leaves_end : (known : Point → Known) (n place left : ℕ) (ts : List Tree) (l : Line) → left ≡ 0 → SumsUpTo known n place (first_trees left ts) l l
 leaves_end known n place left ts l e = subst (λ k. SumsUpTo known n place (first_trees k ts) l l) (sym e) (nothing_more known n place l)
 
-pub no_leaf_line : (s : LeafSum) → IsNoLeaf s → leaves_line s ≡ zero_line
-no_leaf_line s h = ap₂ (λ o ts. parts_line (value_or_zero o) (fraction_terms ts)) h.number h.terms
-
-pub no_leaf_held : (n : ℕ) (s : LeafSum) → IsNoLeaf s → AreLeaves n s
-no_leaf_held n s h =
-    record {
-      decimals = subst (AreDecimals 0) (sym h.terms) tt;
-      below = subst (λ ts. AreBelow s.least (fraction_terms ts)) (sym h.terms) tt;
-      few = let e = h.least in omega arith;
-    }
-
-one_number : (o : Option Frac) → number_count o ≤ 1
-one_number None = omega arith
-one_number (Some f) = omega arith
-
--- ascending variables below n, and one number
-pub few_leaves : (n : ℕ) (s : LeafSum) → AreLeaves n s → seen s ≤ n + 1
-few_leaves n s h = (let a = h.few in let b = one_number s.number in omega arith)
-
 -- ---- the form
 pub list_folded : (known : Point → Known) (n : ℕ) (ns : List Node) (k : ℕ) (l : Line) (form : Form) (t : Tree) → IsTreeFormed t → IsListOf ns k → trees_of ns ≡ t ∷ [] → SumsUpTo known n 1 (first_trees k (trees_of (drop 1 ns))) zero_line l → form_line form ≡ l → IsFolded known n 0 t (Whole form)
 list_folded known n ns k l form t formed list one s is =

@@ -315,6 +315,3 @@ operand_unbroken n p w = sound_unbroken n p w.sound
 
 pub as_operands : (n : ℕ) (c d : OpClass) (ps qs : List PartialForm) (o : Outcome) → c ≡ d → ps ≡ qs → Operates n d (map part_line qs) o → Operates n c (map part_line ps) o
 as_operands n c d ps qs o e f h = subst₂ (λ k rs. Operates n k (map part_line rs) o) (sym e) (sym f) h
-
-pub as_result : (n : ℕ) (c d : OpClass) (ps qs : List PartialForm) (r : Result Outcome AllocError) → c ≡ d → ps ≡ qs → IfOk r (λ o. Operates n d (map part_line qs) o) → IfOk r (λ o. Operates n c (map part_line ps) o)
-as_result n c d ps qs r e f h = subst₂ (λ k rs. IfOk r (λ o. Operates n k (map part_line rs) o)) (sym e) (sym f) h

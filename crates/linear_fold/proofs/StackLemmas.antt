@@ -65,11 +65,6 @@ pub kept_operand : (n : ℕ) (p q : PartialForm) → IsSamePart p q → IsOperan
 kept_operand n p q s w = same_operand n p q w s.line (s.sound n w.sound)
 
 -- ---- pads
-pub more_pads : (n p : ℕ) (old new : List ℕ) → new ≡ old ++ p ∷ [] → p ≡ n → ArePads n old → ArePads n new
-more_pads n p old new e h w = subst (ArePads n) (sym e) (All-push (λ q. q ≡ n) old p w h)
-
-pub no_pads : (n : ℕ) → ArePads n []
-no_pads n = All-nil (λ q. q ≡ n)
 
 -- ---- the same parts
 pub same_parts : (ps : List PartialForm) → AreSameParts ps ps

@@ -207,16 +207,6 @@ onto_form n a b new k r one fb za zb h = added a b k b (scaled_by_one k b one) f
 pub onto_opposite : (n : ℕ) (a b new : Line) (k x : ℚ) (r : Result (Unit {0}) (Stop Wide)) → k ≡ neg_ℚ x → x ≡ one_ℚ → FitsLine b → IsZeroFrom n (line_neg a) → IsZeroFrom n b → AddsScaled a k b new r → SumsTo (sums_fit n (line_neg a) b) (line_sum (line_neg a) b) (line_neg new) r
 onto_opposite n a b new k x r e one fb za zb h = turned_sum n a b new r (added a b k (line_neg b) (scaled_by_minus k x b e one) (neg_fits b fb) n (neg_zero_from n a za) zb new r h)
 
-pub sound_placed : (n : ℕ) (p : PartialForm) → IsSound n p → IsPlaced n p
-sound_placed n (Linear f) h = h
-sound_placed n (Opposite f) h = h
-sound_placed n p h = tt
-
-pub same_sums : (n : ℕ) (a b c d new : Line) (r : Result (Unit {0}) (Stop Wide)) → IsSameSum n a b c d → SumsTo (sums_fit n c d) (line_sum c d) new r → SumsTo (sums_fit n a b) (line_sum a b) new r
-same_sums n a b c d new (Ok u) e h = (e.fit ∙ h.0, h.1 ∙ sym e.line)
-same_sums n a b c d new (Err (Stopped w)) e h = e.fit ∙ h
-same_sums n a b c d new (Err Memory) e h = tt
-
 pub same_first : (n : ℕ) (a b c : Line) → c ≡ a → IsSameSum n a b c b
 same_first n a b c e = record { fit = ap (λ x. sums_fit n x b) (sym e); line = ap (λ x. line_sum x b) (sym e) }
 
@@ -316,12 +306,6 @@ sum_of_all_comes n x rest ps (Made g) e h =
 sum_of_all_comes n x rest ps (Refused r) e h =
     subst (λ qs. Operates n SumOfAll (map part_line qs) (Refused r)) (sym e) (ap too_wide_unless h.0 ∙ ap Some (sym h.1))
 
--- a sum of two is that of all
-pub sum_of_two_comes : (n : ℕ) (ps : List PartialForm) (o : Outcome) → length ps ≡ 2 → Operates n SumOfAll (map part_line ps) o → Operates n SumOfTwo (map part_line ps) o
-sum_of_two_comes n (f ∷ g ∷ []) (Made r) two h = (ap too_wide_unless (sym (and-true (sums_fit n (part_line f) (part_line g)))) ∙ h.0, h.1, h.2)
-sum_of_two_comes n (f ∷ g ∷ []) (Refused r) two h = ap too_wide_unless (sym (and-true (sums_fit n (part_line f) (part_line g)))) ∙ h
-sum_of_two_comes n ps o two h = absurd (omega arith)
-
 pub difference_comes : (n : ℕ) (a b : Line) (o : Outcome) → ComesTo n (sums_fit n a (line_neg b)) (line_sum a (line_neg b)) o → Operates n Difference (a ∷ b ∷ []) o
 difference_comes n a b (Made f) h = (ap too_wide_unless h.0, h.1, h.2)
 difference_comes n a b (Refused r) h = ap too_wide_unless h.0 ∙ ap Some (sym h.1)
@@ -346,11 +330,6 @@ difference_of n ps a b q o e line h =
 pub steps_more : (w i from old new : ℕ) → old ≤ from + 2 * w * i → new ≤ old + 2 * w → new ≤ from + 2 * w * (i + 1)
 steps_more w i from old new a b =
     let e : 2 * w * (i + 1) ≡ 2 * w * i + 2 * w = omega arith in
-    omega arith
-
-pub operator_bound : (w k from to : ℕ) → 1 ≤ k → to ≤ from + w → to ≤ from + 2 * w * k
-operator_bound w k from to some h =
-    let least : 2 * w * 1 ≤ 2 * w * k = mul-le-mul_left (2 * w) some in
     omega arith
 
 pub steps_within : (w i k from new : ℕ) → i ≤ k → new ≤ from + 2 * w * i → new ≤ from + 2 * w * k
