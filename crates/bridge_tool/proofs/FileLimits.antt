@@ -1,5 +1,5 @@
 -- The linear program of a file is named by number, and within the limits of what is exported where the file folds.
-use Rattle.std.proofs.Common.{◌≡◌, ◌∙◌, if◌then◌else◌, ℕ, zero, suc, ◌+◌, ◌≤◌, ◌^◌, Bool, true, false, nat_lt, List, [], ◌∷◌, ◌++◌, get_or, Option, Some, None, refl, sym, ap, ap₂, subst, arith}
+use Rattle.std.proofs.Common.{◌≡◌, ◌∙◌, if◌then◌else◌, ℕ, zero, suc, ◌+◌, ◌≤◌, ◌^◌, Bool, true, false, nat_lt, List, [], ◌∷◌, ◌++◌, length, get_or, Option, Some, None, refl, sym, ap, ap₂, subst, arith}
 use Rattle.std.specs.Prelude.{All, IfSome, option_map}
 use Rattle.std.specs.List.{sum_by}
 use Rattle.std.proofs.lemmas.Bool.{ltb-false}
@@ -15,12 +15,11 @@ use Rattle.program_meaning.specs.Linear.{Interval, Variable, no_row, no_variable
 use Rattle.program_meaning.specs.Lines.{Line, form_of_line}
 use Rattle.program_meaning.specs.Names.{row_name, variable_name}
 use Rattle.program_meaning.proofs.Elements.{all_elements, elements_at, elements_length}
-use Rattle.nl_meaning.specs.Trees.{nothing_known}
 use Rattle.nl_model.specs.File.{File}
 use Rattle.nl_model.specs.Rules.{IsFile}
 use Rattle.nl_model.proofs.Headers.{counts_of_header}
 use Rattle.file_meaning.specs.Expressions.{definitions_of}
-use Rattle.file_meaning.specs.FoldFaults.{Owner, FoldFault, Owned, coefficient_count, fold_fault, has_objective, head_fault, most_coefficients, owned_body, owned_definitions, owned_line, owned_objective, owners_fault}
+use Rattle.file_meaning.specs.FoldFaults.{Owner, FoldFault, Owned, coefficient_count, fold_fault, has_objective, head_fault, most_coefficients, owned_body, owned_definition, owned_line, owned_objective, owners_fault}
 use Rattle.file_meaning.specs.LinearFile.{linear_of, linear_row, linear_variable, objective_form}
 use Rattle.file_meaning.proofs.Files.{linear_lem}
 use Rattle.file_meaning.proofs.Formed.{file_formed}
@@ -113,7 +112,7 @@ few_coefficients f k e = by (has_objective f k) e
     bodies = elements_from (owned_body f) 0 f.counts.n_con
 
     definitions : List Owned
-    definitions = owned_definitions (λ at. nothing_known) 0 (definitions_of f)
+    definitions = elements_from (owned_definition (definitions_of f)) 0 (length (definitions_of f))
 
     by : (b : Bool) → (if b then owners_fault n 0 (definitions ++ (bodies ++ owned_objective f k ∷ [])) else Some (FoldFault.no_such_objective k)) ≡ None
         → sum_by (λ r. form_count n r.body) (elements_from (linear_row f) 0 f.counts.n_con) + form_count n (objective_form f k) ≤ most_coefficients

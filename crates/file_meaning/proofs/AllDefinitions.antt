@@ -1,5 +1,6 @@
 -- The tree of a definition with all definitions of a file: those after it change nothing.
 use Rattle.std.proofs.Common.{◌≡◌, ℕ, zero, suc, ◌∙◌, sym, ap, ap₂, refl, subst, ⊎_elim, Bool, true, false, ◌==◌, if◌then◌else◌, Option, Some, None, List, [], ◌∷◌, ◌++◌, map, take, slice_get, ◌||◌, option_and_then, option_map}
+use Rattle.std.specs.List.{fold}
 use Rattle.std.specs.Option.{option_map_or}
 use Rattle.std.proofs.lemmas.Bool.{eqb-true}
 use Rattle.std.proofs.lemmas.List.Folds.{list_any-append}
@@ -7,7 +8,7 @@ use Rattle.fractions.specs.Rational.{ℚ, ◌+ℚ◌, ◌*ℚ◌}
 use Rattle.fractions.specs.Sums.{sum_below}
 use Rattle.program_meaning.specs.Lines.{line_by, Point}
 use Rattle.nl_meaning.specs.Parts.{IsLinearTree, IsPart, IsPartOfOne}
-use Rattle.nl_meaning.specs.Trees.{Tree, number, variable, defined, operator, Trees, none, more, Known, Definition as Meant, with_value, applied, rule_of, tree_given, trees_given, expression_given, values_after, nothing_known, tree_value}
+use Rattle.nl_meaning.specs.Trees.{Tree, number, variable, defined, operator, Trees, none, more, Known, Definition as Meant, with_value, applied, rule_of, tree_given, trees_given, expression_given, with_definition, nothing_known, tree_value}
 use Rattle.nl_model.specs.File.{File}
 use Rattle.nl_model.specs.declared.definition.Def.{Def as Definition}
 use Rattle.nl_model.specs.HeaderRules.{defined_count}
@@ -50,26 +51,26 @@ kept_value known i j ds d at fresh e = by (j == d.index) refl
     by true same = absurd (let clash : true ≡ false = sym e ∙ ap (is_defined ds) (eqb-true j d.index same) ∙ fresh in cc)
     by false same = refl
 
-later_keep : (n k : ℕ) (before ds : List Definition) → AreDefinitions n k before ds → (known : Known) (at : Point) (j : ℕ) → is_defined before j ≡ true → values_after known (map definition_of ds) at j ≡ known j
+later_keep : (n k : ℕ) (before ds : List Definition) → AreDefinitions n k before ds → (known : Point → Known) (at : Point) (j : ℕ) → is_defined before j ≡ true → fold with_definition known (map definition_of ds) at j ≡ known at j
 later_keep n k before [] h known at j e = refl
 later_keep n k before (d ∷ ds) h known at j e =
-    later_keep n k (before ++ d ∷ []) ds h.1 (with_value known d.index (expression_given known (definition_of d).expression at)) at j
+    later_keep n k (before ++ d ∷ []) ds h.1 (with_definition known (definition_of d)) at j
     (list_any-append (λ (x : Definition). x.index == j) before (d ∷ []) ∙ ap (λ b. b || is_defined (d ∷ []) j) e)
-    ∙ kept_value known d.index j before d at h.0.fresh e
+    ∙ kept_value (known at) d.index j before d at h.0.fresh e
 
-values_kept : (n k : ℕ) (before ds : List Definition) → AreDefinitions n k before ds → (known : Known) (at : Point) (i : ℕ) (d : Meant) → slice_get (map definition_of ds) i ≡ Some d → (u : Tree) → IsPart u d.expression.tree → tree_given (values_after known (take i (map definition_of ds)) at) u at ≡ tree_given (values_after known (map definition_of ds) at) u at
+values_kept : (n k : ℕ) (before ds : List Definition) → AreDefinitions n k before ds → (known : Point → Known) (at : Point) (i : ℕ) (d : Meant) → slice_get (map definition_of ds) i ≡ Some d → (u : Tree) → IsPart u d.expression.tree → tree_given (fold with_definition known (take i (map definition_of ds)) at) u at ≡ tree_given (fold with_definition known (map definition_of ds) at) u at
 values_kept n k before [] h known at i d e u p = cc
 values_kept n k before (x ∷ ds) h known at zero d e u p =
     let same : definition_of x ≡ d = ap (λ o. option_map_or (λ y. y) o (definition_of x)) e in
-    same_tree n before known (values_after known (map definition_of (x ∷ ds)) at) at (λ j f. sym (later_keep n k before (x ∷ ds) h known at j f)) u
+    same_tree n before (known at) (fold with_definition known (map definition_of (x ∷ ds)) at) at (λ j f. sym (later_keep n k before (x ∷ ds) h known at j f)) u
     (part_within n before u x.tree h.0.tree.within (subst (λ (y : Meant). IsPart u y.expression.tree) (sym same) p))
 values_kept n k before (x ∷ ds) h known at (suc i) d e u p =
-    values_kept n k (before ++ x ∷ []) ds h.1 (with_value known x.index (expression_given known (definition_of x).expression at)) at i d e u p
+    values_kept n k (before ++ x ∷ []) ds h.1 (with_definition known (definition_of x)) at i d e u p
 
 module _ (f : File) (file : IsFile f) (i : ℕ) (d : Meant) (there : slice_get (definitions_of f) i ≡ Some d) (u : Tree) (part : IsPart u d.expression.tree) where
   -- the definitions before it are enough
   pub before_are_enough : (at : Point) → tree_value (take i (definitions_of f)) u at ≡ tree_value (definitions_of f) u at
-  before_are_enough at = values_kept f.counts.n_var (defined_count f.counts) [] f.definitions file.definitions nothing_known at i d there u part
+  before_are_enough at = values_kept f.counts.n_var (defined_count f.counts) [] f.definitions file.definitions (λ x. nothing_known) at i d there u part
 
   pub all_are_linear : (k : ℕ) → fold_fault f k ≡ None → IsLinearTree f.counts.n_var (definitions_of f) u
   all_are_linear k clean =

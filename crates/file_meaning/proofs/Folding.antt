@@ -1,19 +1,20 @@
 -- A file without a fold fault is linear.
-use Rattle.std.proofs.Common.{◌≡◌, ℕ, zero, suc, ◌+◌, ◌<◌, ◌∙◌, ap, refl, subst, arith, Bool, true, false, if◌then◌else◌, Option, Some, None, List, [], ◌∷◌, ◌++◌, slice_get, take}
+use Rattle.std.proofs.Common.{◌≡◌, ℕ, zero, suc, ◌+◌, ◌<◌, ◌∙◌, ap, refl, subst, arith, Bool, true, false, if◌then◌else◌, Option, Some, None, List, [], ◌∷◌, ◌++◌, length, get_or, slice_get, take}
+use Rattle.std.specs.List.{fold}
 use Rattle.std.specs.Option.{option_or}
 use Rattle.program_meaning.specs.Linear.{value_at}
 use Rattle.nl_meaning.specs.declared.Fault.{Fault}
 use Rattle.nl_meaning.specs.Faults.{expression_fault, definitions_fault, tree_line, line_with_terms, expression_line}
 use Rattle.nl_meaning.specs.Parts.{IsPart, IsLinearTree}
-use Rattle.nl_meaning.specs.Trees.{Tree, Known, nothing_known, with_value, Expression, Definition, expression_given, known_values, expression_value, IsExpressionFormed, AreDefined, IsOneOf, indices_of}
+use Rattle.nl_meaning.specs.Trees.{Tree, Known, nothing_known, with_definition, Expression, Definition, known_values, expression_value, IsExpressionFormed, AreDefined, IsOneOf, indices_of}
 use Rattle.program_meaning.specs.Lines.{Point, line_value}
 use Rattle.program_meaning.proofs.LineLemmas.{line_by_lem}
 use Rattle.fractions.proofs.Tests.{option_or-none}
 use Rattle.nl_meaning.proofs.Linear.{AreLinear, HasValues, known_linear, none_linear, expression_linear}
 use Rattle.nl_meaning.proofs.PartLemmas.{definition_parts, part_linear}
 use Rattle.nl_model.specs.File.{File}
-use Rattle.file_meaning.specs.Expressions.{definitions_of, body_of, objective_of}
-use Rattle.file_meaning.specs.FoldFaults.{Owner, definition, FoldFault, no_such_objective, Owned, owned_line, coefficient_count, at_owner, owners_fault, owned_definitions, owned_body, owned_objective, defined_line, owners_of, has_objective, fold_fault}
+use Rattle.file_meaning.specs.Expressions.{no_definition, definitions_of, body_of, objective_of}
+use Rattle.file_meaning.specs.FoldFaults.{Owner, FoldFault, no_such_objective, Owned, owned_line, coefficient_count, at_owner, owners_fault, owned_definition, owned_body, owned_objective, defined_line, owners_of, has_objective, fold_fault}
 use Rattle.program_meaning.specs.Elements.{elements_from}
 use Rattle.file_meaning.specs.LinearFile.{HasLines, IsFormedFile}
 use Rattle.file_meaning.proofs.Plain.{form_value_lem}
@@ -31,25 +32,20 @@ expression_clean n count o os e =
 rest_clean : (n count : ℕ) (o : Owned) (os : List Owned) → owners_fault n count (o ∷ os) ≡ None → (m : ℕ) × (owners_fault n m os ≡ None)
 rest_clean n count o os e = (count + coefficient_count n (owned_line o), (option_or-none _ _ e).1)
 
-definitions_clean : (n : ℕ) (known : Point → Known) (i : ℕ) (ds : List Definition) (os : List Owned) (count : ℕ) → owners_fault n count (owned_definitions known i ds ++ os) ≡ None → (definitions_fault known n ds ≡ None) × (m : ℕ) × (owners_fault n m os ≡ None)
-definitions_clean n known i [] os count e = (refl, count, e)
-definitions_clean n known i (d ∷ ds) os count e =
-    let later : Point → Known = λ at. with_value (known at) d.index (expression_given (known at) d.expression at) in
-    let o : Owned = record { owner = definition i; known = known; expression = d.expression } in
-    let tail = owned_definitions later (suc i) ds ++ os in
-    let first = expression_clean n count o tail e in
-    let rest = rest_clean n count o tail e in
-    let r = definitions_clean n later (suc i) ds os rest.0 rest.1 in
-    (ap (λ x. option_or x (definitions_fault later n ds)) first ∙ r.0, r.1, r.2)
+-- definitions without a fault, of which each may use those before it
+definitions_clean : (n : ℕ) (known : Point → Known) (ds : List Definition) → ((i : ℕ) → i < length ds → expression_fault (fold with_definition known (take i ds)) n (get_or ds i no_definition).expression ≡ None) → definitions_fault known n ds ≡ None
+definitions_clean n known [] each = refl
+definitions_clean n known (d ∷ ds) each =
+    ap (λ x. option_or x (definitions_fault (with_definition known d) n ds)) (each 0 (omega arith)) ∙ definitions_clean n (with_definition known d) ds (λ i h. each (suc i) (omega arith))
 
-bodies_clean : (n : ℕ) (g : ℕ → Owned) (i m : ℕ) (os : List Owned) (count : ℕ) → owners_fault n count (elements_from g i m ++ os) ≡ None → ((j : ℕ) → j < m → expression_fault (g (i + j)).known n (g (i + j)).expression ≡ None) × (c : ℕ) × (owners_fault n c os ≡ None)
+owned_clean : (n : ℕ) (g : ℕ → Owned) (i m : ℕ) (os : List Owned) (count : ℕ) → owners_fault n count (elements_from g i m ++ os) ≡ None → ((j : ℕ) → j < m → expression_fault (g (i + j)).known n (g (i + j)).expression ≡ None) × (c : ℕ) × (owners_fault n c os ≡ None)
 unfolding elements_from
-bodies_clean n g i zero os count e = (λ j h. absurd (omega arith), count, e)
-bodies_clean n g i (suc m) os count e =
+owned_clean n g i zero os count e = (λ j h. absurd (omega arith), count, e)
+owned_clean n g i (suc m) os count e =
     let tail = elements_from g (suc i) m ++ os in
     let first = expression_clean n count (g i) tail e in
     let rest = rest_clean n count (g i) tail e in
-    let r = bodies_clean n g (suc i) m os rest.0 rest.1 in
+    let r = owned_clean n g (suc i) m os rest.0 rest.1 in
     (each first r.0, r.1, r.2)
   where
     each : expression_fault (g i).known n (g i).expression ≡ None → ((j : ℕ) → j < m → expression_fault (g (suc i + j)).known n (g (suc i + j)).expression ≡ None) → (j : ℕ) → j < suc m → expression_fault (g (i + j)).known n (g (i + j)).expression ≡ None
@@ -78,10 +74,10 @@ is_clean f k clean =
     let n = f.counts.n_var in
     let ds = definitions_of f in
     let free = with_objective (has_objective f k) (owners_fault n 0 (owners_of f k)) k clean in
-    let defs = definitions_clean n (λ at. nothing_known) 0 ds (elements_from (owned_body f) 0 f.counts.n_con ++ owned_objective f k ∷ []) 0 free in
-    let bodies = bodies_clean n (owned_body f) 0 f.counts.n_con (owned_objective f k ∷ []) defs.1 defs.2 in
+    let defs = owned_clean n (owned_definition ds) 0 (length ds) (elements_from (owned_body f) 0 f.counts.n_con ++ owned_objective f k ∷ []) 0 free in
+    let bodies = owned_clean n (owned_body f) 0 f.counts.n_con (owned_objective f k ∷ []) defs.1 defs.2 in
     record {
-      definitions = defs.0;
+      definitions = definitions_clean n (λ at. nothing_known) ds (λ i h. subst (λ j. expression_fault (owned_definition ds j).known n (owned_definition ds j).expression ≡ None) (omega arith) (defs.0 i h));
       bodies = λ i h. subst (λ j. expression_fault (known_values ds) n (body_of f j) ≡ None) (omega arith) (bodies.0 i h);
       objective = expression_clean n bodies.1 (owned_objective f k) [] bodies.2;
     }

@@ -27,6 +27,10 @@ definitions_of f = map definition_of f.definitions
 abbrev pub zero_tree : Tree
 zero_tree = number (pos 0) (pos 0)
 
+-- nothing asks for a definition past the last
+abbrev pub no_definition : Definition
+no_definition = record { index = 0; expression = expression_of zero_tree [] }
+
 abbrev pub tree_or_zero : Option Tree → Tree
 tree_or_zero None = zero_tree
 tree_or_zero (Some t) = t

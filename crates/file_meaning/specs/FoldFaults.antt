@@ -1,12 +1,12 @@
 -- The first fault of folding an .nl file to its linear program (own profile).
-use Rattle.std.specs.Prelude.{ℕ, zero, suc, ◌+◌, ◌^◌, ◌==◌, ◌&&◌, ◌||◌, nat_lt, Bool, if◌then◌else◌, List, [], ◌∷◌, ◌++◌, Option, Some, None, option_map}
+use Rattle.std.specs.Prelude.{ℕ, zero, suc, ◌+◌, ◌^◌, ◌==◌, ◌&&◌, ◌||◌, nat_lt, Bool, if◌then◌else◌, List, [], ◌∷◌, ◌++◌, length, get_or, take, Option, Some, None, option_map}
 use Rattle.std.specs.Option.{option_or}
 use Rattle.nl_meaning.specs.declared.Fault.{Fault}
 use Rattle.nl_meaning.specs.Faults.{expression_fault}
 use Rattle.program_meaning.specs.Lines.{Line, line_by, is_zero, Point}
-use Rattle.nl_meaning.specs.Trees.{Known, nothing_known, with_value, Expression, Definition, expression_given, known_values}
+use Rattle.nl_meaning.specs.Trees.{Known, Expression, Definition, expression_given, known_values}
 use Rattle.nl_model.specs.File.{File}
-use Rattle.file_meaning.specs.Expressions.{definitions_of, body_of, objective_of}
+use Rattle.file_meaning.specs.Expressions.{no_definition, definitions_of, body_of, objective_of}
 use Rattle.program_meaning.specs.Elements.{elements_from}
 
 -- a defined variable by its position in the file, a constraint, or an objective
@@ -60,14 +60,14 @@ owners_fault n count (o ∷ os) =
     let total = count + coefficient_count n (owned_line o) in
     option_or (owner_fault n total o) (owners_fault n total os)
 
--- the definitions in file order, of which the first is definition i; each may use the earlier ones
-abbrev pub owned_definitions : (Point → Known) → ℕ → List Definition → List Owned
-owned_definitions known i [] = []
-owned_definitions known i (d ∷ ds) =
-    record { owner = definition i; known = known; expression = d.expression }
-    ∷ owned_definitions
-    (λ at. with_value (known at) d.index (expression_given (known at) d.expression at))
-    (suc i) ds
+-- definition i in file order, which may use those before it
+abbrev pub owned_definition : List Definition → ℕ → Owned
+owned_definition ds i =
+    record {
+      owner = definition i;
+      known = known_values (take i ds);
+      expression = (get_or ds i no_definition).expression;
+    }
 
 -- the line of defined variable i, by its values
 abbrev pub defined_line : File → ℕ → Line
@@ -86,7 +86,7 @@ owned_objective f k = owned_by f (objective k) (objective_of f k)
 -- the defined variables in file order, the constraints by number, and objective k
 abbrev pub owners_of : File → ℕ → List Owned
 owners_of f k =
-    owned_definitions (λ at. nothing_known) 0 (definitions_of f)
+    elements_from (owned_definition (definitions_of f)) 0 (length (definitions_of f))
     ++ (elements_from (owned_body f) 0 f.counts.n_con ++ owned_objective f k ∷ [])
 
 -- objective k is there, or it is the 0 of a file without objectives

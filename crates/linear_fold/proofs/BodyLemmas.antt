@@ -5,21 +5,21 @@ use Rattle.std.proofs.Math.Bool.{or-false as or_false}
 use Rattle.std.proofs.Math.ListN.{length-set}
 use Rattle.std.proofs.Math.Nat.{mul-le-mul_left}
 use Rattle.std.proofs.lemmas.Bool.{cases_eq, eqb-true, ne_eqb, or_cases}
-use Rattle.std.proofs.lemmas.List.{length-take-le, map_push, take_more, drop_all, get_or_past}
-use Rattle.std.proofs.lemmas.Option.{slice_get_read, get_or_from_slice_get, slice_get_past}
-use Rattle.std.proofs.lemmas.List.Sums.{sum_by-append, sum_by-set, sum_by-take-le, sum_by_more, sum_by-cons}
+use Rattle.std.proofs.lemmas.List.{length-map, length-take-le, map_push, take-map, take_more, drop_all, get_or_past}
+use Rattle.std.proofs.lemmas.Option.{slice_get_read, slice_get_past}
+use Rattle.std.proofs.lemmas.List.Sums.{fold-append, sum_by-append, sum_by-set, sum_by-take-le, sum_by_more, sum_by-cons}
 use Rattle.std.proofs.lemmas.List.Folds.{list_any-append}
 use Rattle.texts.specs.declared.stop.Stop.{Stop}
 use Rattle.texts.specs.declared.stop.Stop.TheVariants.{Fault, Memory}
 use Rattle.program_meaning.specs.Lines.{line_value, Point, constant_line, form_of_line}
-use Rattle.nl_meaning.specs.Trees.{Known, nothing_known, with_value, Definition as Meaning, expression_given, tree_size, values_after, Tree}
+use Rattle.nl_meaning.specs.Trees.{nothing_known, with_value, expression_given, tree_size, with_definition, known_values, Tree}
 use Rattle.nl_model.specs.File.{File, Term}
 use Rattle.nl_model.specs.declared.definition.Def.{Def as Definition}
 use Rattle.nl_model.specs.HeaderRules.{defined_count, AreCounts}
 use Rattle.nl_model.specs.Rules.{IsDefinition, is_defined, IsFile}
 use Rattle.nl_model.specs.declared.at.Owner.TheVariants.{Def, Con, Obj}
-use Rattle.file_meaning.specs.Expressions.{definition_of, linear_terms, tree_or_zero, no_objective, zero_tree, maximises}
-use Rattle.file_meaning.specs.FoldFaults.{Owned, owners_fault, definition, constraint, objective, owned_body, owned_definitions, owned_objective, most_coefficients, owners_of, fold_fault, has_objective, no_such_objective, owned_line}
+use Rattle.file_meaning.specs.Expressions.{definition_of, definitions_of, no_definition, linear_terms, tree_or_zero, no_objective, zero_tree, maximises}
+use Rattle.file_meaning.specs.FoldFaults.{Owned, owners_fault, definition, constraint, objective, owned_body, owned_definition, owned_objective, most_coefficients, owners_of, fold_fault, has_objective, no_such_objective, owned_line}
 use Rattle.program_meaning.specs.Elements.{elements_from}
 use Rattle.linear_fold.specs.declared.fold_fault.FoldFault.{FoldFault}
 use Rattle.linear_program.specs.declared.form.Form.{Form}
@@ -50,12 +50,8 @@ use Rattle.file_meaning.proofs.Folding.{clean_has_lines}
 use Rattle.file_meaning.proofs.Formed.{file_formed}
 
 -- ---- values of definitions
-values_push : (known : Known) (at : Point) (ds : List Meaning) (d : Meaning) → values_after known (ds ++ d ∷ []) at ≡ with_value (values_after known ds at) d.index (expression_given (values_after known ds at) d.expression at)
-values_push known at [] d = refl
-values_push known at (x ∷ ds) d = values_push (with_value known x.index (expression_given known x.expression at)) at ds d
-
 pub known_push : (ds : List Definition) (d : Definition) (at : Point) → known_by (ds ++ d ∷ []) at ≡ with_value (known_by ds at) d.index (expression_given (known_by ds at) (definition_of d).expression at)
-known_push ds d at = ap (λ es. values_after nothing_known es at) (map_push definition_of ds d) ∙ values_push nothing_known at (map definition_of ds) (definition_of d)
+known_push ds d at = ap (λ es. known_values es at) (map_push definition_of ds d) ∙ ap (λ known. known at) (fold-append with_definition (λ x. nothing_known) (map definition_of ds) (definition_of d ∷ []))
 
 -- ---- one more form
 some-inj : (x y : Form) → Some x ≡ Some y → x ≡ y
@@ -273,31 +269,19 @@ body_owned f i = λ q. record { owner = constraint i; known = known_by f.definit
 pub objective_owned : (f : File) (k : ℕ) → owned_objective f k ≡ owned_at f (Obj k)
 objective_owned f k = λ q. record { owner = objective k; known = known_by f.definitions; expression = record { tree = objective_tree f.objectives k q; terms = linear_terms (get_or f.slopes k []) } }
 
-module _ (f : File) where
-  abbrev all : List Definition
-  all = f.definitions
+definition_expression : (ds : List Definition) (i : ℕ) → (get_or (map definition_of ds) i no_definition).expression ≡ record { tree = tree_or_zero (option_map (λ x. x.tree) (slice_get ds i)); terms = linear_terms (option_map_or (λ x. x.terms) (slice_get ds i) []) }
+definition_expression [] i = refl
+definition_expression (d ∷ ds) zero = refl
+definition_expression (d ∷ ds) (suc i) = definition_expression ds i
 
-  definition_owned : (i : ℕ) (d : Definition) → slice_get all i ≡ Some d → (record { owner = definition i; known = known_by (take i all); expression = (definition_of d).expression }) ≡ owned_at f (Def i)
-  definition_owned i d e = λ q. record { owner = definition i; known = known_by (take i all); expression = record { tree = tree_or_zero (option_map (λ x. x.tree) (sym e q)); terms = linear_terms (option_map_or (λ x. x.terms) (sym e q) []) } }
+pub definition_owned : (f : File) (i : ℕ) → owned_definition (definitions_of f) i ≡ owned_at f (Def i)
+definition_owned f i = λ q. record { owner = definition i; known = known_values (take-map definition_of i f.definitions q); expression = definition_expression f.definitions i q }
 
-  next_known : (i : ℕ) (d : Definition) → slice_get all i ≡ Some d → (λ (at : Point). with_value (known_by (take i all) at) d.index (expression_given (known_by (take i all) at) (definition_of d).expression at)) ≡ known_by (take (i + 1) all)
-  next_known i d e = sym (ap known_by (take_next all i d e) ∙ (λ q at. known_push (take i all) d at q))
-
-  definitions_are : (m i : ℕ) → i + m ≡ length all → owned_definitions (known_by (take i all)) i (map definition_of (drop i all)) ≡ elements_from (λ j. owned_at f (Def j)) i m
-  unfolding elements_from
-  definitions_are zero i e = ap (λ ds. owned_definitions (known_by (take i all)) i (map definition_of ds)) (drop_all i all (omega arith))
-  definitions_are (suc m) i e =
-      let d = there all i (omega arith) in
-      let next : i + 1 ≡ suc i = omega arith in
-      ap (λ ds. owned_definitions (known_by (take i all)) i (map definition_of ds)) (drop-cons all i d.0 (omega arith) ∙ ap (λ x. x ∷ drop (suc i) all) (get_or_from_slice_get all i d.0 d.0 d.1))
-      ∙ ap₂ ◌∷◌ (definition_owned i d.0 d.1)
-      (ap (λ k. owned_definitions k (suc i) (map definition_of (drop (suc i) all))) (next_known i d.0 d.1 ∙ ap (λ j. known_by (take j all)) next)
-      ∙ definitions_are m (suc i) (omega arith))
-
-  pub owners_are : (k : ℕ) → owners_of f k ≡ elements_from (λ j. owned_at f (Def j)) 0 (length all) ++ (elements_from (λ j. owned_at f (Con j)) 0 f.counts.n_con ++ owned_at f (Obj k) ∷ [])
-  owners_are k =
-      ap₂ (λ a b. a ++ b) (definitions_are (length all) 0 (omega arith))
-      (ap₂ (λ a b. a ++ b ∷ []) (elements_same (owned_body f) (λ j. owned_at f (Con j)) (body_owned f) 0 f.counts.n_con) (objective_owned f k))
+pub owners_are : (f : File) (k : ℕ) → owners_of f k ≡ elements_from (λ j. owned_at f (Def j)) 0 (length f.definitions) ++ (elements_from (λ j. owned_at f (Con j)) 0 f.counts.n_con ++ owned_at f (Obj k) ∷ [])
+owners_are f k =
+    ap₂ (λ a b. a ++ b)
+    (elements_same (owned_definition (definitions_of f)) (λ j. owned_at f (Def j)) (definition_owned f) 0 (length (definitions_of f)) ∙ ap (elements_from (λ j. owned_at f (Def j)) 0) (length-map f.definitions definition_of))
+    (ap₂ (λ a b. a ++ b ∷ []) (elements_same (owned_body f) (λ j. owned_at f (Con j)) (body_owned f) 0 f.counts.n_con) (objective_owned f k))
 
 -- ---- the three parts
 module _ (f : File) (k c d e : ℕ) (before : c ≡ 0) where

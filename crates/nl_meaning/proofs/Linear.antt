@@ -1,5 +1,6 @@
 -- A tree without a fault is linear: at every point it has the value of its line.
 use Rattle.std.proofs.Common.{◌≡◌, ℕ, ◌+◌, ◌<◌, ◌⊎◌, inl, inr, ⊎_elim, ◌∙◌, sym, ap, ap₂, refl, subst, arith, Bool, true, false, ◌==◌, Option, Some, None, List, [], ◌∷◌, length, option_and_then, option_map, if◌then◌else◌}
+use Rattle.std.specs.List.{fold}
 use Rattle.std.proofs.lemmas.Bool.{eq-eqb}
 use Rattle.code_tables.specs.declared.class.OpClass.{OpClass}
 use Rattle.code_tables.specs.declared.class.OpClass.TheVariants.{Sum, Difference, Product, Quotient, Negation, List as SumOfAll, Power, Least, Greatest, Floor, Ceiling, Absolute, Refused}
@@ -13,7 +14,7 @@ use Rattle.nl_meaning.specs.declared.Reason.{Reason}
 use Rattle.nl_meaning.specs.declared.Reason.TheVariants.{Nonlinear, DivideByZero}
 use Rattle.program_meaning.specs.Lines.{Line, line_value, line_values, is_zero, is_constant, are_constant, constants_of, constant_line, running_line, line_sum, line_scaled, line_neg, line_with, Point}
 use Rattle.nl_meaning.specs.Faults.{nonlinear_unless, power_fault, constants_line, operator_line, line_with_terms, operator_fault, fault_at, tree_line, trees_lines, tree_fault, trees_fault, expression_fault, definitions_fault, first_fault, first_expression_fault, coef, constant_of, expression_line}
-use Rattle.nl_meaning.specs.Trees.{Known, nothing_known, with_value, Tree, number, variable, defined, operator, Trees, none, more, applied, rule_of, tree_given, trees_given, LinearTerm, Expression, Definition, terms_value, expression_given, values_after, known_values, tree_value, expression_value, tree_size, count_of, Takes, IsOneOf, IsFormed, AreFormed, AreTermsBelow, IsExpressionFormed, indices_after, indices_of, AreDefined}
+use Rattle.nl_meaning.specs.Trees.{Known, nothing_known, with_value, Tree, number, variable, defined, operator, Trees, none, more, applied, rule_of, tree_given, trees_given, LinearTerm, Expression, Definition, terms_value, expression_given, with_definition, known_values, tree_value, expression_value, tree_size, count_of, Takes, IsOneOf, IsFormed, AreFormed, AreTermsBelow, IsExpressionFormed, indices_after, indices_of, AreDefined}
 use Rattle.program_meaning.proofs.LineLemmas.{is_zero-false, line_value-sum, line_value-scaled, line_value-neg, line_value-constant, line_values-constant, line_value-with, line_by_lem}
 
 pub constant_value : (n : ℕ) (k : ℚ) (at : Point) → line_value n (constant_line k) at ≡ k
@@ -186,11 +187,11 @@ more_linear n known is linear i f l values k among = by (k == i) refl
     by false e = linear k (⊎_elim (λ (same : k ≡ i). absurd (let clash : true ≡ false = sym (eq-eqb k i same) ∙ e in cc)) (λ (rest : IsOneOf k is). rest) among)
 
 -- what a file's definitions leave: lines
-pub definitions_linear : (n : ℕ) (known : Point → Known) (is : List ℕ) → AreLinear n known is → (ds : List Definition) → AreDefined n is ds → definitions_fault known n ds ≡ None → AreLinear n (λ at. values_after (known at) ds at) (indices_after is ds)
+pub definitions_linear : (n : ℕ) (known : Point → Known) (is : List ℕ) → AreLinear n known is → (ds : List Definition) → AreDefined n is ds → definitions_fault known n ds ≡ None → AreLinear n (fold with_definition known ds) (indices_after is ds)
 definitions_linear n known is linear [] formed clean = linear
 definitions_linear n known is linear (d ∷ ds) formed clean =
     let free = option_or-none _ _ clean in
-    definitions_linear n (λ at. with_value (known at) d.index (expression_given (known at) d.expression at)) (d.index ∷ is)
+    definitions_linear n (with_definition known d) (d.index ∷ is)
     (more_linear n known is linear d.index (λ at. expression_given (known at) d.expression at) (line_with_terms (tree_line known d.expression.tree) d.expression.terms) (expression_linear n known is linear d.expression formed.0 free.0))
     ds formed.1 free.1
 

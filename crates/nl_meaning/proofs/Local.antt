@@ -1,5 +1,6 @@
 -- The value of an expression depends only on the variables and the defined variables that it may use.
 use Rattle.std.proofs.Common.{◌≡◌, ℕ, ◌<◌, ◌≤◌, ⊎_elim, ◌∙◌, sym, ap, ap₂, refl, arith, Bool, true, false, ◌==◌, if◌then◌else◌, Option, Some, List, [], ◌∷◌, option_and_then, option_map}
+use Rattle.std.specs.List.{fold}
 use Rattle.std.proofs.lemmas.Bool.{eq-eqb}
 use Rattle.fractions.specs.Functions.{or_zero}
 use Rattle.fractions.specs.Rational.{ℚ, zero_ℚ, ◌+ℚ◌, ◌-ℚ◌, ◌*ℚ◌}
@@ -7,7 +8,7 @@ use Rattle.fractions.proofs.Arithmetic.{+ℚ-neg, -ℚ_lem}
 use Rattle.fractions.proofs.Adding.{sum_over_nil, sum_over_cons}
 use Rattle.nl_meaning.specs.Faults.{expression_line}
 use Rattle.program_meaning.specs.Lines.{origin, unit_point, Point}
-use Rattle.nl_meaning.specs.Trees.{Known, nothing_known, with_value, Tree, number, variable, defined, operator, Trees, none, more, applied, rule_of, tree_given, trees_given, LinearTerm, Expression, Definition, terms_value, expression_given, values_after, known_values, expression_value, IsOneOf, IsFormed, AreFormed, AreTermsBelow, IsExpressionFormed, indices_after, indices_of, AreDefined}
+use Rattle.nl_meaning.specs.Trees.{Known, nothing_known, with_value, Tree, number, variable, defined, operator, Trees, none, more, applied, rule_of, tree_given, trees_given, LinearTerm, Expression, Definition, terms_value, expression_given, with_definition, known_values, expression_value, IsOneOf, IsFormed, AreFormed, AreTermsBelow, IsExpressionFormed, indices_after, indices_of, AreDefined}
 use Rattle.program_meaning.proofs.LineLemmas.{apart-eqb}
 
 module _ (n : ℕ) (p q : Point) (same : (j : ℕ) → j < n → p j ≡ q j) where
@@ -44,16 +45,16 @@ module _ (n : ℕ) (p q : Point) (same : (j : ℕ) → j < n → p j ≡ q j) wh
       by true g = e
       by false g = agree m (⊎_elim (λ (h : m ≡ i). absurd (let clash : true ≡ false = sym (eq-eqb m i h) ∙ g in cc)) (λ (r : IsOneOf m is). r) among)
 
-  values_local : (k l : Known) (is : List ℕ) → Agree k l is → (ds : List Definition) → AreDefined n is ds → Agree (values_after k ds p) (values_after l ds q) (indices_after is ds)
+  values_local : (k l : Point → Known) (is : List ℕ) → Agree (k p) (l q) is → (ds : List Definition) → AreDefined n is ds → Agree (fold with_definition k ds p) (fold with_definition l ds q) (indices_after is ds)
   values_local k l is agree [] formed = agree
   values_local k l is agree (d ∷ ds) formed =
-      values_local (with_value k d.index (expression_given k d.expression p)) (with_value l d.index (expression_given l d.expression q)) (d.index ∷ is)
-      (with_local k l is agree d.index (expression_given k d.expression p) (expression_given l d.expression q) (expression_local k l is agree d.expression formed.0))
+      values_local (with_definition k d) (with_definition l d) (d.index ∷ is)
+      (with_local (k p) (l q) is agree d.index (expression_given (k p) d.expression p) (expression_given (l q) d.expression q) (expression_local (k p) (l q) is agree d.expression formed.0))
       ds formed.1
 
   -- points that agree on the variables give an expression one value
   pub val_local : (ds : List Definition) → AreDefined n [] ds → (x : Expression) → IsExpressionFormed n (indices_of ds) x → expression_value ds x p ≡ expression_value ds x q
-  val_local ds above x formed = expression_local (known_values ds p) (known_values ds q) (indices_of ds) (values_local nothing_known nothing_known [] (λ i among. refl) ds above) x formed
+  val_local ds above x formed = expression_local (known_values ds p) (known_values ds q) (indices_of ds) (values_local (λ at. nothing_known) (λ at. nothing_known) [] (λ i among. refl) ds above) x formed
 
 -- no coefficient at or beyond the number of variables
 pub no_coefficient_beyond : (n : ℕ) (ds : List Definition) → AreDefined n [] ds → (x : Expression) → IsExpressionFormed n (indices_of ds) x → (j : ℕ) → n ≤ j → (expression_line ds x).coef j ≡ zero_ℚ

@@ -1,9 +1,10 @@
 -- Each part of a tree without a fault is linear.
 use Rattle.std.proofs.Common.{◌≡◌, ⊎_elim, ℕ, zero, suc, ◌+◌, sym, ap, subst, Some, None, List, [], ◌∷◌, slice_get, take}
+use Rattle.std.specs.List.{fold}
 use Rattle.std.specs.Option.{option_map_or}
 use Rattle.nl_meaning.specs.Faults.{tree_line, line_with_terms, tree_fault, trees_fault, definitions_fault, first_fault}
 use Rattle.nl_meaning.specs.Parts.{IsPart, IsPartOfOne, IsLinearTree}
-use Rattle.nl_meaning.specs.Trees.{Tree, number, variable, defined, operator, Trees, none, more, Known, with_value, Definition, expression_given, values_after, known_values, tree_given, tree_size, IsFormed, AreFormed, indices_of, AreDefined}
+use Rattle.nl_meaning.specs.Trees.{Tree, number, variable, defined, operator, Trees, none, more, Known, with_definition, Definition, expression_given, known_values, tree_given, tree_size, IsFormed, AreFormed, indices_of, AreDefined}
 use Rattle.program_meaning.specs.Lines.{Point}
 use Rattle.fractions.proofs.Tests.{option_or-none}
 use Rattle.nl_meaning.proofs.Linear.{AreLinear, HasValues, tree_linear, expression_linear, more_linear, known_linear}
@@ -34,7 +35,7 @@ parts_where_clean n ds t above formed clean =
     part_linear n (known_values ds) (indices_of ds) (known_linear n ds above free.0) 0 t formed free.1
 
 -- each part of a definition's tree, which may use the definitions before it
-pub definition_parts : (n : ℕ) (known : Point → Known) (is : List ℕ) → AreLinear n known is → (ds : List Definition) → AreDefined n is ds → definitions_fault known n ds ≡ None → (i : ℕ) (d : Definition) → slice_get ds i ≡ Some d → (u : Tree) → IsPart u d.expression.tree → HasLine n (λ at. values_after (known at) (take i ds) at) u
+pub definition_parts : (n : ℕ) (known : Point → Known) (is : List ℕ) → AreLinear n known is → (ds : List Definition) → AreDefined n is ds → definitions_fault known n ds ≡ None → (i : ℕ) (d : Definition) → slice_get ds i ≡ Some d → (u : Tree) → IsPart u d.expression.tree → HasLine n (fold with_definition known (take i ds)) u
 definition_parts n known is linear [] formed clean i d e u part = cc
 definition_parts n known is linear (x ∷ ds) formed clean zero d e u part =
     let free = option_or-none _ _ clean in
@@ -42,6 +43,6 @@ definition_parts n known is linear (x ∷ ds) formed clean zero d e u part =
     part_linear n known is linear 0 x.expression.tree formed.0.tree (option_or-none _ _ free.0).0 u (subst (λ y. IsPart u y.expression.tree) (sym same) part)
 definition_parts n known is linear (x ∷ ds) formed clean (suc i) d e u part =
     let free = option_or-none _ _ clean in
-    definition_parts n (λ at. with_value (known at) x.index (expression_given (known at) x.expression at)) (x.index ∷ is)
+    definition_parts n (with_definition known x) (x.index ∷ is)
     (more_linear n known is linear x.index (λ at. expression_given (known at) x.expression at) (line_with_terms (tree_line known x.expression.tree) x.expression.terms) (expression_linear n known is linear x.expression formed.0 free.0))
     ds formed.1 free.1 i d e u part

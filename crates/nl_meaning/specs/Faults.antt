@@ -10,7 +10,7 @@ use Rattle.nl_meaning.specs.declared.Fault.{Fault}
 use Rattle.nl_meaning.specs.declared.Reason.{Reason}
 use Rattle.nl_meaning.specs.declared.Reason.TheVariants.{Nonlinear, DivideByZero, TooWide, RefusedPower}
 use Rattle.program_meaning.specs.Lines.{Line, line_by, is_zero, is_constant, are_constant, constants_of, Point, line_sum, line_scaled, line_neg, constant_line, running_line, line_with, sums_fit, products_fit, running_sums_fit}
-use Rattle.nl_meaning.specs.Trees.{Tree, number, variable, defined, operator, Trees, none, more, Known, nothing_known, with_value, LinearTerm, Expression, Definition, applied, rule_of, tree_given, known_values, tree_value, expression_given, expression_value, tree_size}
+use Rattle.nl_meaning.specs.Trees.{Tree, number, variable, defined, operator, Trees, none, more, Known, nothing_known, with_definition, LinearTerm, Expression, Definition, applied, rule_of, tree_given, known_values, tree_value, expression_value, tree_size}
 
 abbrev pub too_wide_unless : Bool → Option Reason
 too_wide_unless true = None
@@ -119,9 +119,7 @@ abbrev pub definitions_fault : (Point → Known) → ℕ → List Definition →
 definitions_fault known n [] = None
 definitions_fault known n (d ∷ ds) =
     option_or (expression_fault known n d.expression)
-    (definitions_fault
-    (λ at. with_value (known at) d.index (expression_given (known at) d.expression at))
-    n ds)
+    (definitions_fault (with_definition known d) n ds)
 
 -- the first fault of a tree, and of an expression, of a file with these defined variables: the
 -- definitions come first

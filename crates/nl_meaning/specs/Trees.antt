@@ -1,5 +1,6 @@
 -- Expression trees and their values (Gay 2005, Writing .nl Files).
 use Rattle.std.specs.Prelude.{◌≡◌, ℕ, zero, suc, ◌+◌, ◌<◌, ◌≤◌, ◌⊎◌, ◌==◌, if◌then◌else◌, ℤ, List, [], ◌∷◌, Option, Some, None, option_and_then, option_map}
+use Rattle.std.specs.List.{fold}
 use Rattle.code_tables.specs.declared.class.OpClass.{OpClass}
 use Rattle.code_tables.specs.declared.class.OpClass.TheVariants.{Sum, Difference, Product, Quotient, Negation, List as SumOfAll, Power, Least, Greatest, Floor, Ceiling, Absolute, Refused}
 use Rattle.fractions.specs.Functions.{power_of, exponent_of, least_of, greatest_of, floor_of, ceiling_of, absolute_of}
@@ -131,15 +132,14 @@ pub record Definition : Type 0 where
   pub index : ℕ
   pub expression : Expression
 
--- the known values, and then those of a list of definitions, of which each may use the earlier ones
-abbrev pub values_after : Known → List Definition → Point → Known
-values_after known [] at = known
-values_after known (d ∷ ds) at =
-    values_after (with_value known d.index (expression_given known d.expression at)) ds at
+-- what is known with one more definition, which may use what was known
+abbrev pub with_definition : (Point → Known) → Definition → Point → Known
+with_definition known d at =
+    with_value (known at) d.index (expression_given (known at) d.expression at)
 
--- the values of a file's defined variables, in file order
+-- the values of a file's defined variables, of which each may use the earlier ones
 abbrev pub known_values : List Definition → Point → Known
-known_values ds at = values_after nothing_known ds at
+known_values ds = fold with_definition (λ at. nothing_known) ds
 
 -- the value of a tree, and of an expression, of a file with these defined variables
 abbrev pub tree_value : List Definition → Tree → Point → Option ℚ
