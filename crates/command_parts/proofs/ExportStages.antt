@@ -221,7 +221,6 @@ pub folded_at : (nl : NlValue) (n k : ℕ) (l : LinearValue) → n ≡ k → Has
 folded_at nl n k l same folds = subst (λ (m : ℕ). HasFolded nl m l) same folds
 
 module _ (nl : NlValue) (k : ℕ) (l : LinearValue) (folds : HasFolded nl k l) where
-
   module _ (s : ScaledValue) (scales : HasScaled (linear_value l) s) where
     scaled_so : HasScaled (linear_of nl.file k) s
     scaled_so = subst (λ (g : Linear). HasScaled g s) folds.linear scales

@@ -9,7 +9,6 @@ use Rattle.duality.specs.Says.{IsRowBroken}
 use Rattle.duality.proofs.Feasible.{all_rows}
 
 module _ (f : Linear) where
-
   relaxed : (xs : List ℚ) → IsRelaxed (problem_in f) xs ↔ IsRelaxedProgram f xs
   relaxed xs = (
     λ h.
