@@ -11,7 +11,6 @@ SHAPE  right        v + (v + (v + ..))
        lists        v + v + (v + v + (..)), each a list of three
        balanced     the sum of two halves, each of which is such a sum
        spine        v + .. + v of 200 variables, and a tree of that shape, added up
-       spines       spines of 4,000 variables, whose sides have 40, beside a tree of that shape
 The same arguments give the same text.
 """
 from __future__ import annotations
@@ -20,7 +19,7 @@ import random
 import sys
 from collections.abc import Iterator
 
-SIDE, SHORT, SPINE = 200, 40, 4000
+SIDE = 200
 
 
 def right(variables: list[str], front: str = "o0\n") -> Iterator[str]:
@@ -56,19 +55,12 @@ def balanced(variables: list[str]) -> Iterator[str]:
             yield "o0\n"
 
 
-def spine(sides: list[list[str]]) -> list[str]:
-    """Each side beside the tree of those after it."""
-    return [node for side in sides[:-1] for node in ("o0\n", *side)] + sides[-1]
-
-
-def chains(variables: list[str], size: int) -> list[list[str]]:
-    """Chains of so many variables each."""
-    return [list(right(variables[first:first + size])) for first in range(0, len(variables), size)]
-
-
-def spines(variables: list[str]) -> list[str]:
-    """Spines, each beside the tree of those after it."""
-    return spine([spine(chains(variables[first:first + SPINE], SHORT)) for first in range(0, len(variables), SPINE)])
+def spine(variables: list[str]) -> Iterator[str]:
+    """Chains of some variables, each beside the tree of those after it."""
+    for first in range(0, len(variables) - SIDE, SIDE):
+        yield "o0\n"
+        yield from right(variables[first:first + SIDE])
+    yield from right(variables[(len(variables) - 1) // SIDE * SIDE:])
 
 
 def tree(shape: str, count: int) -> Iterator[str]:
@@ -85,9 +77,7 @@ def tree(shape: str, count: int) -> Iterator[str]:
         return right(variables, "o16\no0\n")
     if shape in ("right", "products"):
         return right(variables)
-    if shape == "spine":
-        return iter(spine(chains(variables, SIDE)))
-    return iter({"left": left, "lists": lists, "balanced": balanced, "spines": spines}[shape](variables))
+    return {"left": left, "lists": lists, "balanced": balanced, "spine": spine}[shape](variables)
 
 
 def main(shape: str, count: int, out: str) -> None:

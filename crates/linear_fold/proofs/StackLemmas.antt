@@ -1,7 +1,6 @@
 -- Stacks of parts, of which some are closed or taken.
 use Rattle.std.proofs.Common.{◌≡◌, ℕ, zero, suc, ◌+◌, ◌-◌, ◌<◌, ◌≤◌, ◌∙◌, sym, ap, refl, subst, arith, Option, None, Some, Result, Ok, Err, OnOk, List, [], ◌∷◌, ◌++◌, length, reverse, take, drop, get_or, set, subst₂}
 use Rattle.std.proofs.lemmas.List.{length-reverse, length-take-le, reverse-append, take-take}
-use Rattle.std.proofs.lemmas.List.Elements.{All-nil, All-push}
 use Rattle.nl_meaning.specs.declared.Fault.{Fault}
 use Rattle.nl_meaning.specs.Faults.{tree_fault}
 use Rattle.nl_meaning.specs.Trees.{Known, Tree, tree_size}
@@ -9,7 +8,7 @@ use Rattle.program_meaning.specs.Lines.{Point}
 use Rattle.linear_fold.specs.declared.parts.PartialForm.{PartialForm}
 use Rattle.linear_fold.specs.declared.parts.PartialForm.TheVariants.{Linear, Opposite, Broken}
 use Rattle.linear_fold.specs.InsideFolds.{ArePartsFolded, ArePartsWithin, IsLined, IsPartFolded, IsPartWithin}
-use Rattle.linear_fold.specs.InsideOperates.{ArePads, AreSameParts, IsLeft, IsOperand, IsPlaced, IsSamePart, fault_of_part, part_line}
+use Rattle.linear_fold.specs.InsideOperates.{AreSameParts, IsLeft, IsOperand, IsPlaced, IsSamePart, fault_of_part, part_line}
 use Rattle.linear_fold.proofs.Folding.{operand_within, within_parts_drop}
 use Rattle.linear_fold.proofs.Operators.{front_is}
 use Rattle.linear_fold.proofs.SumLemmas.{same_operand}
@@ -57,15 +56,6 @@ same_within n p q s w =
     let o = within_operand n p (sym s.fault) w in
     operand_within n q (same_operand n p q o s.line (s.sound n o.sound))
 
--- the same of a third part
-same_after : (p q r : PartialForm) → IsSamePart p q → IsSamePart q r → IsSamePart p r
-same_after p q r a b = record { line = b.line ∙ a.line; fault = b.fault ∙ a.fault; sound = λ n h. b.sound n (a.sound n h) }
-
-pub kept_operand : (n : ℕ) (p q : PartialForm) → IsSamePart p q → IsOperand n p → IsOperand n q
-kept_operand n p q s w = same_operand n p q w s.line (s.sound n w.sound)
-
--- ---- pads
-
 -- ---- the same parts
 pub same_parts : (ps : List PartialForm) → AreSameParts ps ps
 same_parts [] = tt
@@ -90,14 +80,6 @@ parts_length [] [] s = refl
 parts_length (p ∷ ps) (q ∷ qs) s = ap suc (parts_length ps qs s.1)
 parts_length [] (q ∷ qs) s = absurd s
 parts_length (p ∷ ps) [] s = absurd s
-
-pub parts_after : (ps qs rs : List PartialForm) → AreSameParts ps qs → AreSameParts qs rs → AreSameParts ps rs
-parts_after [] [] [] a b = tt
-parts_after (p ∷ ps) (q ∷ qs) (r ∷ rs) a b = (same_after p q r a.0 b.0, parts_after ps qs rs a.1 b.1)
-parts_after [] (q ∷ qs) rs a b = absurd a
-parts_after (p ∷ ps) [] rs a b = absurd a
-parts_after [] [] (r ∷ rs) a b = absurd b
-parts_after (p ∷ ps) (q ∷ qs) [] a b = absurd b
 
 parts_append : (ps qs rs ss : List PartialForm) → AreSameParts ps qs → AreSameParts rs ss → AreSameParts (ps ++ rs) (qs ++ ss)
 parts_append [] [] rs ss a b = b

@@ -207,12 +207,6 @@ onto_form n a b new k r one fb za zb h = added a b k b (scaled_by_one k b one) f
 pub onto_opposite : (n : ℕ) (a b new : Line) (k x : ℚ) (r : Result (Unit {0}) (Stop Wide)) → k ≡ neg_ℚ x → x ≡ one_ℚ → FitsLine b → IsZeroFrom n (line_neg a) → IsZeroFrom n b → AddsScaled a k b new r → SumsTo (sums_fit n (line_neg a) b) (line_sum (line_neg a) b) (line_neg new) r
 onto_opposite n a b new k x r e one fb za zb h = turned_sum n a b new r (added a b k (line_neg b) (scaled_by_minus k x b e one) (neg_fits b fb) n (neg_zero_from n a za) zb new r h)
 
-pub same_first : (n : ℕ) (a b c : Line) → c ≡ a → IsSameSum n a b c b
-same_first n a b c e = record { fit = ap (λ x. sums_fit n x b) (sym e); line = ap (λ x. line_sum x b) (sym e) }
-
-pub same_sum_of : (n : ℕ) (a b c d e f : Line) → c ≡ a → d ≡ b → IsSameSum n c d e f → IsSameSum n a b e f
-same_sum_of n a b c d e f p q = subst₂ (λ x y. IsSameSum n x y e f) p q
-
 pub same_operand : (n : ℕ) (p q : PartialForm) → IsOperand n p → part_line q ≡ part_line p → IsSound n q → IsOperand n q
 same_operand n p q w e sound = record { sound = sound; zero_from = λ j g. ap (λ l. l.coef j) e ∙ w.zero_from j g }
 

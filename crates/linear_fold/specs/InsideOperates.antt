@@ -1,5 +1,5 @@
 -- The parts of a tree, and what an operator makes of them.
-use Rattle.std.specs.Prelude.{◌≡◌, ℕ, ◌+◌, ◌<◌, ◌≤◌, IfSome, length, take, Bool, true, false, List, [], ◌∷◌, All, map, Option, Some, None, Result, Ok, Err, if◌then◌else◌}
+use Rattle.std.specs.Prelude.{◌≡◌, ℕ, ◌+◌, ◌<◌, ◌≤◌, IfSome, length, take, Bool, true, false, List, [], ◌∷◌, map, Option, Some, None, Result, Ok, Err, if◌then◌else◌}
 use Rattle.texts.specs.declared.stop.Stop.{Stop}
 use Rattle.texts.specs.declared.stop.Stop.TheVariants.{Fault, Memory}
 use Rattle.code_tables.specs.declared.class.OpClass.{OpClass}
@@ -32,10 +32,6 @@ IsBlank s = sum_line s ≡ zero_line
 -- a pad of n places, where it is there
 abbrev pub IsPad : ℕ → Option ℕ → Type 0
 IsPad n pad = IfSome pad (λ p. p ≡ n)
-
--- pads of n places
-abbrev pub ArePads : ℕ → List ℕ → Type 0
-ArePads n pads = All (λ p. p ≡ n) pads
 
 -- a form that lies on no pad, or on one of n places
 abbrev pub HasPlaces : ℕ → Form → Type 0

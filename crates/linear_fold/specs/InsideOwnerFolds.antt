@@ -20,7 +20,7 @@ use Rattle.linear_fold.specs.declared.owners.Folder.{Folder}
 use Rattle.linear_fold.specs.InsideFolds.{AreKnown, AreSlotsWithin, HasLineOf, IsGiven}
 use Rattle.linear_fold.specs.FoldedFaults.{named_fault}
 use Rattle.linear_program.specs.Forms.{IsWithin, form_terms}
-use Rattle.linear_fold.specs.InsideOperates.{ArePads}
+use Rattle.linear_fold.specs.InsideOperates.{IsPad}
 use Rattle.linear_program.specs.Programs.{IsFormOver}
 
 -- the file has the owner
@@ -78,7 +78,7 @@ pub record AreSlotsOf (f : File) (ds : List Definition) (slots : List (Option Fo
 -- a folder that holds the forms of definitions, and at most the greatest number of coefficients
 pub record HasFolded (f : File) (ds : List Definition) (folder : Folder) : Type 0 where
   pub variables : folder.variables ≡ f.counts.n_var
-  pub pads : ArePads f.counts.n_var folder.room.pads.items
+  pub pad : IsPad f.counts.n_var folder.room.pad
   pub few : folder.count ≤ most_coefficients
   pub slots : AreSlotsOf f ds folder.slots.items
 

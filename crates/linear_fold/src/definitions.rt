@@ -9,10 +9,10 @@ ghost use Rattle.program_meaning.specs.Elements.{elements_from};
 ghost use Rattle.linear_fold.specs.FoldedFaults.{HasFaultPlace};
 ghost use Rattle.linear_fold.specs.InsideOwnerFolds.{AreOwnersFolded, HasFolded, definitions_size, owned_at};
 
+use crate::fold::Room;
 use crate::fold_fault::FoldFault;
 use crate::owners::{Folder, fold_owner};
-use crate::room::Room;
-use linear_program::Form;
+use linear_program::{Form, Pad};
 use nl_model::{Def, NlFile, Owner, defined_count};
 use std::alloc::{AllocError, Global};
 use texts::{Ledger, Steps, Stop};
@@ -35,10 +35,14 @@ pub(crate) fn empty_folder(alloc: Global, file: &NlFile) -> Result<Folder, Alloc
 {
     let counts = file.header().counts();
     let slots = empty_slots(alloc, defined_count(counts))?;
+    let pad = Pad::new(alloc, counts.n_var)?;
     Ok(Folder {
         alloc,
         slots,
-        room: Room::new(alloc),
+        room: Room {
+            pad: Some(pad),
+            open_at: 0,
+        },
         count: 0,
         variables: counts.n_var,
     })

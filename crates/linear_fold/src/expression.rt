@@ -9,18 +9,18 @@ ghost use Rattle.nl_model.specs.Rules.{AreTermsBelow};
 ghost use Rattle.file_meaning.specs.Expressions.{linear_term, linear_terms, tree_or_zero};
 ghost use Rattle.linear_fold.specs.InsideFolds.{AddsTerms, AreKnown, AreSlotsWithin, ComesToTerms, IsEntryWithin, IsExpressionFolded, IsFolded, IsTreeGiven};
 ghost use Rattle.linear_program.specs.Forms.{IsWithin, form_line, place_count, sum_line};
-ghost use Rattle.linear_fold.specs.InsideOperates.{IsBlank, ArePads};
+ghost use Rattle.linear_fold.specs.InsideOperates.{IsBlank, IsPad};
 
 use crate::ascending::{are_ascending, are_zero, form_of_ascending};
 use crate::entries::Entry;
-use crate::fold::fold_tree;
+use crate::fold::{Room, fold_tree};
 use crate::leaf_sums::leaf_sum;
-use crate::room::{Room, give_back};
 use exact_numbers::{Dec, Frac};
-use linear_program::{Form, Sum, Terms};
+use linear_program::{Form, Pad, Sum, Terms};
 use nl_meaning::{Fault, Reason};
 use nl_model::Expr;
 use std::alloc::{AllocError, Global};
+use std::mem;
 use texts::{Ledger, Steps, Stop};
 
 /// How many nodes an expression has; a missing one is the number 0.
@@ -45,8 +45,8 @@ fn tree_entry<L: Ledger>(
 ) -> Result<Entry, AllocError>
     requires given { IfSome (option_copied tree) (IsTreeGiven variables slots.now) }
     requires slots { AreSlotsWithin variables slots.now }
-    requires pads { ArePads variables room.old.pads.items }
-    ensures pads { OnOk result (ArePads variables room.new.pads.items) }
+    requires pad { IsPad variables room.old.pad }
+    ensures pad { OnOk result (IsPad variables room.new.pad) }
     ensures entry { IfOk result
         (λ e. (known : Point → Known) → AreKnown variables known slots.now
         → IsFolded known variables 0 (tree_or_zero (option_copied tree.entry)) e) }
@@ -128,30 +128,19 @@ fn put<L: Ledger>(total: &mut Sum, form: &Form, steps: &mut Steps<L>) -> Result<
     }
 }
 
-// The form of a sum; its pad is free then.
-fn form_of_sum(total: Sum, room: &mut Room) -> Result<Form, AllocError>
-    requires { ArePads (place_count total) room.old.pads.items }
-    ensures line { IfOk result (λ f. form_line f ≡ sum_line total) }
-    ensures pads { OnOk result (ArePads (place_count total) room.new.pads.items) }
-{
-    let (form, pad) = total.close()?;
-    give_back(Some(pad), &mut room.pads)?;
-    Ok(form)
-}
-
 // The entry of a sum; its pad is free then.
 fn entry_of_sum(
     total: Sum,
     summed: Result<(), Stop<Fault>>,
     room: &mut Room,
 ) -> Result<Entry, AllocError>
-    requires { ArePads (place_count total) room.old.pads.items }
-    ensures pads { OnOk result (ArePads (place_count total) room.new.pads.items) }
+    ensures pad { OnOk result (IfSome room.new.pad (λ p. p ≡ place_count total)) }
     ensures entry { IfOk result
         (λ e. (a : Line) (i : ℕ) (ts : List LinearTerm)
         → AddsTerms a i ts (sum_line total) summed → ComesToTerms a i ts e) }
 {
-    let form = form_of_sum(total, room)?;
+    let (form, pad) = total.close()?;
+    room.pad = Some(pad);
     match summed {
         Ok(()) => Ok(Entry::Linear(form)),
         Err(Stop::Fault(fault)) => Ok(Entry::Broken(fault)),
@@ -159,15 +148,19 @@ fn entry_of_sum(
     }
 }
 
-// The sum 0, on a pad.
+// The sum 0, on the pad.
 fn empty_sum(alloc: Global, room: &mut Room, variables: u32) -> Result<Sum, AllocError>
-    requires { ArePads variables room.old.pads.items }
+    requires { IsPad variables room.old.pad }
     ensures blank { IfOk result (λ s. IsBlank s) }
     ensures places { IfOk result (λ s. place_count s ≡ variables) }
-    ensures pads { ArePads variables room.new.pads.items }
 {
-    let pad = room.take_pad(alloc, variables)?;
-    Ok(Sum::on_pad(pad))
+    match mem::replace(&mut room.pad, None) {
+        Some(pad) => Ok(Sum::on_pad(pad)),
+        None => {
+            let pad = Pad::new(alloc, variables)?;
+            Ok(Sum::on_pad(pad))
+        }
+    }
 }
 
 // A form with terms, of which the first has a number.
@@ -180,11 +173,11 @@ fn with_terms<L: Ledger>(
     steps: &mut Steps<L>,
     variables: u32,
 ) -> Result<Entry, AllocError>
-    requires pads { ArePads variables room.old.pads.items }
+    requires pad { IsPad variables room.old.pad }
     requires within { IsWithin variables form.now }
     requires below { AreTermsBelow variables terms.now }
     requires first { first ≤ 2 ^ 22 }
-    ensures pads { OnOk result (ArePads variables room.new.pads.items) }
+    ensures pad { OnOk result (IsPad variables room.new.pad) }
     ensures entry { IfOk result
         (λ e. ComesToTerms (form_line form.now) first (linear_terms terms.now) e) }
     ensures above { steps.old ≤ steps.new }
@@ -209,11 +202,11 @@ fn sum_entry<L: Ledger>(
     steps: &mut Steps<L>,
     variables: u32,
 ) -> Result<Entry, AllocError>
-    requires pads { ArePads variables room.old.pads.items }
+    requires pad { IsPad variables room.old.pad }
     requires within { IsEntryWithin variables entry }
     requires below { AreTermsBelow variables terms.now }
     requires first { first ≤ 2 ^ 22 }
-    ensures pads { OnOk result (ArePads variables room.new.pads.items) }
+    ensures pad { OnOk result (IsPad variables room.new.pad) }
     ensures entry { IfOk result
         (λ e. (known : Point → Known) (tree : Tree) → tree_size tree ≡ first
         → IsFolded known variables 0 tree entry
@@ -247,8 +240,8 @@ pub(crate) fn fold_expression<L: Ledger>(
     requires given { IfSome (option_copied tree) (IsTreeGiven variables slots.now) }
     requires below { AreTermsBelow variables terms.now }
     requires slots { AreSlotsWithin variables slots.now }
-    requires pads { ArePads variables room.old.pads.items }
-    ensures pads { OnOk result (ArePads variables room.new.pads.items) }
+    requires pad { IsPad variables room.old.pad }
+    ensures pad { OnOk result (IsPad variables room.new.pad) }
     ensures entry { IfOk result
         (λ e. (known : Point → Known) → AreKnown variables known slots.now
         → IsExpressionFolded known variables

@@ -4,12 +4,11 @@ ghost use Rattle.nl_meaning.specs.Trees.{Takes, rule_of, Known, Tree, Trees, def
 ghost use Rattle.program_meaning.specs.Lines.{Point};
 ghost use Rattle.nl_model.specs.Nodes.{AreNodesFormed, trees_of, with_node};
 ghost use Rattle.linear_fold.specs.InsideFolds.{AreKnown, AreNodesWithin, AreOperandsOf, ArePartsFolded, ArePartsWithin, AreSlotsWithin, IsEntryWithin, IsFolded, IsGiven, IsPartFolded, IsPartWithin, NodeFinds};
-ghost use Rattle.linear_fold.specs.InsideOperates.{ArePads, AreSameParts, IsLeft, IsPad, IsPlaced, IsSamePart};
+ghost use Rattle.linear_fold.specs.InsideOperates.{AreSameParts, IsLeft, IsPad};
 
 use crate::entries::Entry;
 use crate::operate::{self, Outcome};
 use crate::parts::{PartialForm, first_fault, operands_of, take_last};
-use crate::room::{Plan, Room, forget, give_back, is_in_the_way, plan_of};
 use code_tables::{OpClass, class_of};
 use exact_numbers::{Dec, Frac};
 use linear_program::{Form, Pad};
@@ -20,6 +19,20 @@ use texts::{Ledger, Steps};
 
 // A stack has room for so many parts at first.
 const MOST_AT_FIRST: usize = 16;
+
+// So many terms are always few.
+const FEW: usize = 8;
+
+// So many are never few.
+const MOST_LISTED: usize = 0x1_0000;
+
+/// Where sums are added up: on the pad, which is there where no part of the stack is open. The place is
+/// that of the part that was opened last.
+#[derive(Drop)]
+pub(crate) struct Room {
+    pub(crate) pad: Option<Pad>,
+    pub(crate) open_at: usize,
+}
 
 #[tactic(auto, using(crate::proofs::Folding::number_within))]
 fn number_part(value: Dec, place: usize) -> PartialForm
@@ -67,70 +80,46 @@ fn defined_part(
     }
 }
 
-// Closes a part, where it is open; its pad is free then.
-fn close_part(
-    alloc: Global,
-    part: &mut PartialForm,
-    pads: &mut Vec<Pad>,
-    variables: u32,
-) -> Result<(), AllocError>
-    requires part { IsPlaced variables part.old }
-    requires pads { ArePads variables pads.old.items }
-    ensures same { OnOk result (IsSamePart part.old part.new) }
-    ensures pads { OnOk result (ArePads variables pads.new.items) }
-{
-    if !part.is_open() {
-        return Ok(());
-    }
-    let mut pad = None;
-    part.close(alloc, &mut pad, variables)?;
-    give_back(pad, pads)?;
-    Ok(())
+// Whether so many terms are few beside those of an open part: to list them takes no more than to close
+// it.
+fn are_few(count: usize, open: usize) -> bool {
+    count <= FEW || (count < MOST_LISTED && count * count <= open)
 }
 
-// Closes the part at a place of a stack, where it is to be closed.
-fn close_at(
-    alloc: Global,
-    stack: &mut Vec<PartialForm>,
-    place: usize,
-    plan: Plan,
-    pads: &mut Vec<Pad>,
-    variables: u32,
-) -> Result<(), AllocError>
-    requires parts { ArePartsWithin variables (reverse stack.old.items) }
-    requires pads { ArePads variables pads.old.items }
-    ensures same { OnOk result
-        (AreSameParts (reverse stack.old.items) (reverse stack.new.items)) }
-    ensures pads { OnOk result (ArePads variables pads.new.items) }
+// Whether the operands that come before an open part of the sum, or beside one below it, are too many
+// to be listed.
+fn are_many(stack: &[PartialForm], rest: usize, open_at: usize) -> bool
+    requires { open_at < length stack.now }
 {
-    if !is_in_the_way(plan, stack, place) {
-        return Ok(());
+    let first = rest.max(open_at + 1);
+    if open_at >= rest && stack.len() - first <= 1 {
+        return false;
     }
-    close_part(alloc, &mut stack[place], pads, variables)
+    let mut count: usize = 0;
+    for place in first..stack.len() {
+        count = count.saturating_add(stack[place].room());
+    }
+    !are_few(count, stack[open_at].room())
 }
 
-// Closes those of the open parts of a stack that are to be closed.
-fn close_all(
-    alloc: Global,
-    stack: &mut Vec<PartialForm>,
-    open_at: &[usize],
-    plan: Plan,
-    pads: &mut Vec<Pad>,
-    variables: u32,
-) -> Result<(), AllocError>
-    requires parts { ArePartsWithin variables (reverse stack.old.items) }
-    requires pads { ArePads variables pads.old.items }
-    ensures same { OnOk result
-        (AreSameParts (reverse stack.old.items) (reverse stack.new.items)) }
-    ensures pads { OnOk result (ArePads variables pads.new.items) }
+// Whether the open part of a stack is to be closed before an operator, whose operands stand from a place
+// on. A sum takes it, or is added up without it; a negation leaves it as it is.
+fn is_in_the_way(class: OpClass, stack: &[PartialForm], rest: usize, room: &Room) -> bool
+    ensures { result ≡ true → room.now.open_at < length stack.now }
 {
-    for place in open_at {
-        close_at(alloc, stack, *place, plan, pads, variables)?;
+    if room.pad.is_some() || room.open_at >= stack.len() {
+        return false;
     }
-    Ok(())
+    match class {
+        OpClass::Sum => are_many(stack, rest, room.open_at),
+        OpClass::Difference => are_many(stack, rest, room.open_at),
+        OpClass::List => are_many(stack, rest, room.open_at),
+        OpClass::Negation => false,
+        _ => room.open_at >= rest,
+    }
 }
 
-// Closes open parts of a stack, where an operator wants it; the pad for its sum.
+// Closes the open part of a stack, where an operator wants it.
 fn make_way(
     alloc: Global,
     class: OpClass,
@@ -138,22 +127,18 @@ fn make_way(
     rest: usize,
     room: &mut Room,
     variables: u32,
-) -> Result<Option<Pad>, AllocError>
+) -> Result<(), AllocError>
     requires parts { ArePartsWithin variables (reverse stack.old.items) }
-    requires pads { ArePads variables room.old.pads.items }
+    requires pad { IsPad variables room.old.pad }
     ensures same { OnOk result
         (AreSameParts (reverse stack.old.items) (reverse stack.new.items)) }
-    ensures pad { IfOk result (λ p. IsPad variables p) }
-    ensures pads { OnOk result (ArePads variables room.new.pads.items) }
+    ensures pad { OnOk result (IsPad variables room.new.pad) }
 {
-    let plan = plan_of(class, stack, rest, &room.open_at);
-    close_all(alloc, stack, &room.open_at, plan, &mut room.pads, variables)?;
-    forget(&mut room.open_at, plan.from.min(rest));
-    if !plan.on_pad {
-        return Ok(None);
+    if !is_in_the_way(class, stack, rest, room) {
+        return Ok(());
     }
-    let pad = room.take_pad(alloc, variables)?;
-    Ok(Some(pad))
+    let place = room.open_at;
+    stack[place].close(alloc, &mut room.pad, variables)
 }
 
 // Lets go the parts of a stack from a place on, and closes those that are open.
@@ -161,19 +146,19 @@ fn let_go(
     alloc: Global,
     stack: &mut Vec<PartialForm>,
     rest: usize,
-    pads: &mut Vec<Pad>,
+    pad: &mut Option<Pad>,
     variables: u32,
 ) -> Result<(), AllocError>
     requires rest { rest ≤ vec_len stack.old }
     requires parts { ArePartsWithin variables (reverse stack.old.items) }
-    requires pads { ArePads variables pads.old.items }
+    requires pad { IsPad variables pad.old }
     ensures front { OnOk result (stack.new.items ≡ take rest stack.old.items) }
-    ensures pads { OnOk result (ArePads variables pads.new.items) }
+    ensures pad { OnOk result (IsPad variables pad.new) }
 {
     let count = stack.len() - rest;
     for _ in 0..count {
         let mut part = take_last(stack);
-        close_part(alloc, &mut part, pads, variables)?;
+        part.close(alloc, pad, variables)?;
     }
     Ok(())
 }
@@ -226,10 +211,10 @@ fn part_of<L: Ledger>(
     variables: u32,
 ) -> Result<PartialForm, AllocError>
     requires finds { NodeFinds variables slots.now (vec_len stack.old) node }
-    requires pads { ArePads variables room.old.pads.items }
+    requires pad { IsPad variables room.old.pad }
     requires slots { AreSlotsWithin variables slots.now }
     requires parts { ArePartsWithin variables (reverse stack.old.items) }
-    ensures pads { OnOk result (ArePads variables room.new.pads.items) }
+    ensures pad { OnOk result (IsPad variables room.new.pad) }
     ensures within { IfOk result
         (λ p. ArePartsWithin variables (p ∷ reverse stack.new.items)) }
     ensures size { IfOk result
@@ -253,12 +238,10 @@ fn part_of<L: Ledger>(
             let count = count as usize;
             let rest = stack.len() - count;
             let class = class_of(opcode);
-            let mut pad = make_way(alloc, class, stack, rest, room, variables)?;
-            let part = operation_part(
-                alloc, class, stack, count, place, &mut pad, steps, variables,
-            )?;
-            give_back(pad, &mut room.pads)?;
-            let_go(alloc, stack, rest, &mut room.pads, variables)?;
+            make_way(alloc, class, stack, rest, room, variables)?;
+            let pad = &mut room.pad;
+            let part = operation_part(alloc, class, stack, count, place, pad, steps, variables)?;
+            let_go(alloc, stack, rest, pad, variables)?;
             Ok(part)
         }
     }
@@ -271,10 +254,10 @@ fn put_part(
     room: &mut Room,
 ) -> Result<(), AllocError>
     ensures items { OnOk result (stack.new.items ≡ stack.old.items ++ part ∷ []) }
-    ensures pads { room.new.pads.items ≡ room.old.pads.items }
+    ensures pad { room.new.pad ≡ room.old.pad }
 {
     if part.is_open() {
-        room.open_at.push(stack.len())?;
+        room.open_at = stack.len();
     }
     stack.push(part)?;
     Ok(())
@@ -293,8 +276,8 @@ pub(crate) fn fold_tree<L: Ledger>(
     requires one { length (trees_of nodes.now) ≡ 1 }
     requires within { AreNodesWithin variables slots.now nodes.now }
     requires slots { AreSlotsWithin variables slots.now }
-    requires pads { ArePads variables room.old.pads.items }
-    ensures pads { OnOk result (ArePads variables room.new.pads.items) }
+    requires pad { IsPad variables room.old.pad }
+    ensures pad { OnOk result (IsPad variables room.new.pad) }
     ensures entry { IfOk result
         (λ e. (known : Point → Known) (tree : Tree) → AreKnown variables known slots.now
         → trees_of nodes.now ≡ tree ∷ [] → IsFolded known variables 0 tree e) }
@@ -318,7 +301,6 @@ pub(crate) fn fold_tree<L: Ledger>(
         put_part(&mut stack, part, room)?;
     }
     let mut part = take_last(&mut stack);
-    forget(&mut room.open_at, 0);
-    close_part(alloc, &mut part, &mut room.pads, variables)?;
+    part.close(alloc, &mut room.pad, variables)?;
     part.into_entry(alloc, steps, variables)
 }

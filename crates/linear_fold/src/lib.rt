@@ -16,7 +16,6 @@ mod operate;
 mod owners;
 mod parts;
 mod program;
-mod room;
 mod sums;
 
 pub use fold_fault::FoldFault;

@@ -15,9 +15,9 @@ ghost use Rattle.linear_fold.specs.InsideOwnerFolds.{AreOwnersFolded, HasFolded,
 
 use crate::entries::{Entry, Held};
 use crate::expression::{fold_expression, node_count};
+use crate::fold::Room;
 use crate::fold_fault::FoldFault;
 use crate::held::held_row;
-use crate::room::Room;
 use linear_program::{Form, Terms};
 use nl_meaning::{Fault, Reason};
 use nl_model::{At, Expr, NlFile, Owner};

@@ -155,8 +155,7 @@ fn close_form(
     requires pad { IsPad variables pad.old }
     ensures line { OnOk result (form_line form.new ≡ form_line form.old) }
     ensures closed { OnOk result (is_open form.new ≡ false) }
-    ensures places { HasPlaces variables form.new }
-    ensures pad { IsPad variables pad.new }
+    ensures pad { OnOk result (IsPad variables pad.new) }
 {
     if !form.is_open() {
         return Ok(());
@@ -216,8 +215,7 @@ impl PartialForm {
         requires pad { IsPad variables pad.old }
         ensures same { OnOk result (IsSamePart self.old self.new) }
         ensures closed { OnOk result (is_open_part self.new ≡ false) }
-        ensures sound { IsSound variables self.old → IsSound variables self.new }
-        ensures pad { IsPad variables pad.new }
+        ensures pad { OnOk result (IsPad variables pad.new) }
     {
         match self {
             PartialForm::Linear(form) => close_form(alloc, form, pad, variables),

@@ -5,7 +5,7 @@ ghost use Rattle.code_tables.specs.declared.class.OpClass.TheVariants.{Differenc
 ghost use Rattle.exact_numbers.specs.Values.{frac_value};
 ghost use Rattle.program_meaning.specs.Lines.{Line, line_sum, running_line, running_sums_fit, sums_fit};
 ghost use Rattle.linear_program.specs.Forms.{AddsScaled, form_line, is_open, pad_places};
-ghost use Rattle.linear_fold.specs.InsideOperates.{AreOperands, AreUnbroken, ComesTo, HasPlaces, IsForm, IsLeft, IsOperand, IsPad, IsSamePart, IsSameSum, IsSound, IsUnbroken, Operates, SumsTo, lines_of_parts, multiple_line, part_line};
+ghost use Rattle.linear_fold.specs.InsideOperates.{AreOperands, AreUnbroken, ComesTo, HasPlaces, IsForm, IsLeft, IsOperand, IsPad, IsSameSum, IsSound, IsUnbroken, Operates, SumsTo, lines_of_parts, multiple_line, part_line};
 
 use crate::operate::Outcome;
 use crate::parts::{PartialForm, form_of_multiple, take_last};
@@ -171,32 +171,6 @@ fn start<L: Ledger>(
     }
 }
 
-// Closes the smaller of two operands, where both are open.
-fn close_smaller(
-    alloc: Global,
-    total: &mut PartialForm,
-    part: &mut PartialForm,
-    pad: &mut Option<Pad>,
-    variables: u32,
-) -> Result<(), AllocError>
-    requires first { IsOperand variables total.old }
-    requires second { IsOperand variables part.old }
-    requires pad { IsPad variables pad.old }
-    ensures first { OnOk result (IsSamePart total.old total.new) }
-    ensures second { OnOk result (IsSamePart part.old part.new) }
-    ensures sound { IsSound variables total.new }
-    ensures pad { IsPad variables pad.new }
-{
-    if !total.is_open() || !part.is_open() {
-        return Ok(());
-    }
-    if total.room() < part.room() {
-        total.close(alloc, pad, variables)
-    } else {
-        part.close(alloc, pad, variables)
-    }
-}
-
 // Makes two operands ready to be added up: the first is a form to which the second can be added. They
 // change places where the second is open.
 fn make_ready<L: Ledger>(
@@ -220,7 +194,6 @@ fn make_ready<L: Ledger>(
     ensures above { steps.old ≤ steps.new }
     ensures below { steps.new ≤ steps.old + (variables + 1) }
 {
-    close_smaller(alloc, total, part, pad, variables)?;
     if part.is_open() {
         mem::swap(total, part);
         return Ok(());

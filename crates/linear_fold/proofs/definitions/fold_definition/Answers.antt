@@ -24,7 +24,7 @@ returns-clause-folder g c =
     let h = c.in_ok-form.ensures.folder in
     record {
       variables = h.variables;
-      pads = h.pads;
+      pad = h.pad;
       few = h.few;
       slots = rw h.variables (definition_folded c.args.file.now c.requires.file c.args.index c.args.definition.now c.requires.at c.fold_owner.new.folder.slots.items c.in_ok-form.form h.slots c.in_ok-form.ensures.form);
     }

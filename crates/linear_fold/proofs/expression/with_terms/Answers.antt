@@ -1,9 +1,8 @@
-use Rattle.std.proofs.Common.{◌∙◌, subst, sym}
+use Rattle.std.proofs.Common.{◌≡◌, ◌∙◌, IfSome, subst, sym}
 use Rattle.nl_model.specs.Rules.{AreTermsBelow}
 use Rattle.file_meaning.specs.Expressions.{linear_terms}
 use Rattle.linear_program.specs.Forms.{IsWithin, sum_line}
 use Rattle.linear_fold.specs.InsideFolds.{ComesToTerms}
-use Rattle.linear_fold.specs.InsideOperates.{ArePads}
 use Rattle.linear_fold.proofs.Operators.{if_ok}
 use Rattle.linear_fold.proofs.StackLemmas.{on_ok}
 use Rattle.linear_fold.proofs.expression.with_terms.Goals as goal
@@ -14,14 +13,11 @@ put-requires-clause-within g c = subst (λ n. IsWithin n c.args.form.now) (sym c
 pub add_linear_terms-summed-requires-clause-below : goal.add_linear_terms-summed-requires-clause-below
 add_linear_terms-summed-requires-clause-below g c = subst (λ n. AreTermsBelow n c.args.terms.now) (sym (c.in_ok-put.ensures.places ∙ c.in_ok-total.ensures.places)) c.requires.below
 
-pub entry_of_sum-requires : goal.entry_of_sum-requires
-entry_of_sum-requires g c = subst (λ n. ArePads n c.empty_sum.new.room.pads.items) (sym (c.add_linear_terms-summed.ensures.places ∙ c.in_ok-put.ensures.places ∙ c.in_ok-total.ensures.places)) c.in_ok-total.ensures.pads
-
-pub returns-clause-pads : goal.returns-clause-pads
-returns-clause-pads g c =
+pub returns-clause-pad : goal.returns-clause-pad
+returns-clause-pad g c =
     on_ok c.entry_of_sum.result _ _
-    (λ h. subst (λ n. ArePads n c.entry_of_sum.new.room.pads.items) (c.add_linear_terms-summed.ensures.places ∙ c.in_ok-put.ensures.places ∙ c.in_ok-total.ensures.places) h)
-    c.entry_of_sum.ensures.pads
+    (λ h. subst (λ n. IfSome c.entry_of_sum.new.room.pad (λ p. p ≡ n)) (c.add_linear_terms-summed.ensures.places ∙ c.in_ok-put.ensures.places ∙ c.in_ok-total.ensures.places) h)
+    c.entry_of_sum.ensures.pad
 
 pub returns-clause-entry : goal.returns-clause-entry
 returns-clause-entry g c =

@@ -33,7 +33,7 @@ loop-place-preserved g c =
           (let a : length (trees_of (drop (c.loop-place.place - 1) c.args.nodes.now)) ≡ length (with_node c.index-nodes-place.result trees) = ap (λ ns. length (trees_of ns)) here in
           omega (arith, got.size trees c.loop-place.invariant.many, longer));
       within = subst (λ es. ArePartsWithin c.args.variables es) (sym top) got.within;
-      pads = rw c.in_ok-put_part.ensures.pads got.pads;
+      pad = rw c.in_ok-put_part.ensures.pad got.pad;
       above = (let h = c.loop-place.invariant.above in let k = got.above in omega arith);
       below =
           subst (λ k. c.part_of.new.steps + 2 * (c.args.variables + 1) * k ≤ c.args.steps.now + 2 * (c.args.variables + 1) * (length c.args.nodes.now - (c.loop-place.place - 1))) (sym longer)
@@ -56,25 +56,25 @@ take_last-part-requires g c =
     let k = c.loop-place.stack.ok.0 in
     omega arith
 
-pub close_part-requires-clause-part : goal.close_part-requires-clause-part
-close_part-requires-clause-part g c = part_placed c.args.variables c.take_last-part.result (top_within g (goal.at.close_part-requires-clause-part g c).After-take_last-part)
+pub close-requires-clause-part : goal.close-requires-clause-part
+close-requires-clause-part g c = part_placed c.args.variables c.take_last-part.result (top_within g (goal.at.close-requires-clause-part g c).After-take_last-part)
 
 pub into_entry-requires : goal.into_entry-requires
-into_entry-requires g c = same_within c.args.variables c.take_last-part.result c.close_part.new.part c.in_ok-close_part.ensures.same (top_within g (goal.at.into_entry-requires g c).After-take_last-part)
+into_entry-requires g c = same_within c.args.variables c.take_last-part.result c.close.new.self c.in_ok-close.ensures.same (top_within g (goal.at.into_entry-requires g c).After-take_last-part)
 
 pub returns-clause-entry : goal.returns-clause-entry
 returns-clause-entry g c =
     if_ok c.into_entry.result _ _
     (λ e is known tree are one.
-    entry_folded known c.args.variables tree c.close_part.new.part e is
-    (same_folded known c.args.variables 0 tree c.take_last-part.result c.close_part.new.part c.in_ok-close_part.ensures.same
+    entry_folded known c.args.variables tree c.close.new.self e is
+    (same_folded known c.args.variables 0 tree c.take_last-part.result c.close.new.self c.in_ok-close.ensures.same
     (top_folded known c.args.variables c.loop-place.place c.args.nodes.now tree c.loop-place.stack.items c.take_last-part.new.stack.items c.take_last-part.result (let h = c.loop-place-test.false in omega arith) one (c.loop-place.invariant.folded known are) c.take_last-part.ensures)))
     c.into_entry.ensures.entry
 
 pub returns-clause-within : goal.returns-clause-within
 returns-clause-within g c =
     if_ok c.into_entry.result _ _
-    (λ e is. entry_is_within c.args.variables c.close_part.new.part e is (same_within c.args.variables c.take_last-part.result c.close_part.new.part c.in_ok-close_part.ensures.same (top_within g (goal.at.returns-clause-within g c).After-take_last-part)))
+    (λ e is. entry_is_within c.args.variables c.close.new.self e is (same_within c.args.variables c.take_last-part.result c.close.new.self c.in_ok-close.ensures.same (top_within g (goal.at.returns-clause-within g c).After-take_last-part)))
     c.into_entry.ensures.entry
 
 pub returns-in_err-part-clause-below : goal.returns-in_err-part-clause-below
@@ -90,9 +90,9 @@ returns-in_err-put_part-clause-below g c =
 some_left : (g : _) (c : After-take_last-part g) → 0 < length c.loop-place.stack.items
 some_left g c = (let h = popped_length c.loop-place.stack.items c.take_last-part.new.stack.items c.take_last-part.result c.take_last-part.ensures in omega arith)
 
-pub returns-in_err-close_part-clause-below : goal.returns-in_err-close_part-clause-below
-returns-in_err-close_part-clause-below g c =
-    last_steps (c.args.variables + 1) (length c.args.nodes.now) c.loop-place.place c.args.steps.now c.loop-place.steps c.loop-place.steps (length c.loop-place.stack.items) (some_left g (goal.at.returns-in_err-close_part-clause-below g c).After-take_last-part) c.loop-place.invariant.below (omega arith)
+pub returns-in_err-close-clause-below : goal.returns-in_err-close-clause-below
+returns-in_err-close-clause-below g c =
+    last_steps (c.args.variables + 1) (length c.args.nodes.now) c.loop-place.place c.args.steps.now c.loop-place.steps c.loop-place.steps (length c.loop-place.stack.items) (some_left g (goal.at.returns-in_err-close-clause-below g c).After-take_last-part) c.loop-place.invariant.below (omega arith)
 
 pub returns-clause-below : goal.returns-clause-below
 returns-clause-below g c =

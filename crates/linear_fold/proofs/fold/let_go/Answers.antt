@@ -10,5 +10,5 @@ loop-preserved c =
       left = left_more c.loop.counter c.args.stack.now.items c.loop.stack.items c.take_last-part.new.stack.items c.take_last-part.result c.loop.invariant.left c.take_last-part.ensures;
       size = (let h = c.loop.invariant.size in let k = popped_length c.loop.stack.items c.take_last-part.new.stack.items c.take_last-part.result c.take_last-part.ensures in omega arith);
       within = (subst (ArePartsWithin c.args.variables) (top_first c.loop.stack.items c.take_last-part.new.stack.items c.take_last-part.result c.take_last-part.ensures) c.loop.invariant.within).1;
-      pads = c.in_ok-close_part.ensures.pads;
+      pad = c.in_ok-close.ensures.pad;
     }

@@ -17,10 +17,10 @@ found g c =
 
 -- after the open part is closed, where it has to be
 within_now : (g : _) (c : After-operation_part g) → ArePartsWithin c.args.variables (reverse c.make_way.new.stack.items)
-within_now g c = parts_within c.args.variables (reverse c.args.stack.now.items) (reverse c.make_way.new.stack.items) c.in_ok-pad-in-Op.ensures.same c.requires.parts
+within_now g c = parts_within c.args.variables (reverse c.args.stack.now.items) (reverse c.make_way.new.stack.items) c.in_ok-make_way-in-Op.ensures.same c.requires.parts
 
 size_now : (g : _) (c : After-operation_part g) → length c.make_way.new.stack.items ≡ length c.args.stack.now.items
-size_now g c = sym (length-reverse c.make_way.new.stack.items) ∙ parts_length (reverse c.args.stack.now.items) (reverse c.make_way.new.stack.items) c.in_ok-pad-in-Op.ensures.same ∙ length-reverse c.args.stack.now.items
+size_now g c = sym (length-reverse c.make_way.new.stack.items) ∙ parts_length (reverse c.args.stack.now.items) (reverse c.make_way.new.stack.items) c.in_ok-make_way-in-Op.ensures.same ∙ length-reverse c.args.stack.now.items
 
 -- what is left at the end
 left : (g : _) (c : In_ok-let_go-in-Op g) → reverse c.let_go.new.stack.items ≡ drop c.in-Op.count (reverse c.make_way.new.stack.items)
@@ -28,7 +28,7 @@ left g c =
     let at = subst (NodeFinds c.args.variables c.args.slots.now (vec_len c.args.stack.now)) c.in-Op.is c.requires.finds in
     let same : length c.make_way.new.stack.items ≡ length c.args.stack.now.items =
     sym (length-reverse c.make_way.new.stack.items)
-    ∙ parts_length (reverse c.args.stack.now.items) (reverse c.make_way.new.stack.items) c.in_ok-pad-in-Op.ensures.same
+    ∙ parts_length (reverse c.args.stack.now.items) (reverse c.make_way.new.stack.items) c.in_ok-make_way-in-Op.ensures.same
     ∙ length-reverse c.args.stack.now.items in
     rest_of c.make_way.new.stack.items c.operation_part.new.stack.items c.let_go.new.stack.items c.in-Op.count (c.len.result - c.in-Op.count) c.in_ok-part-in-Op.ensures.left
     (let h = at.1 in let l = c.len.ensures in let k = c.args.stack.now.ok.0 in omega arith)
@@ -54,13 +54,13 @@ pub operation_part-requires-clause-count : goal.operation_part-requires-clause-c
 operation_part-requires-clause-count g c =
     let at = goal.at.operation_part-requires-clause-count g c in
     let h = (found g at.After-make_way).1 in
-    let s = sym (length-reverse c.make_way.new.stack.items) ∙ parts_length (reverse c.args.stack.now.items) (reverse c.make_way.new.stack.items) c.in_ok-pad-in-Op.ensures.same ∙ length-reverse c.args.stack.now.items in
+    let s = sym (length-reverse c.make_way.new.stack.items) ∙ parts_length (reverse c.args.stack.now.items) (reverse c.make_way.new.stack.items) c.in_ok-make_way-in-Op.ensures.same ∙ length-reverse c.args.stack.now.items in
     let k = c.make_way.new.stack.ok.0 in
     omega arith
 
 pub operation_part-requires-clause-within : goal.operation_part-requires-clause-within
 operation_part-requires-clause-within g c =
-    within_take c.args.variables c.in-Op.count (reverse c.make_way.new.stack.items) (parts_within c.args.variables (reverse c.args.stack.now.items) (reverse c.make_way.new.stack.items) c.in_ok-pad-in-Op.ensures.same c.requires.parts)
+    within_take c.args.variables c.in-Op.count (reverse c.make_way.new.stack.items) (parts_within c.args.variables (reverse c.args.stack.now.items) (reverse c.make_way.new.stack.items) c.in_ok-make_way-in-Op.ensures.same c.requires.parts)
 
 pub let_go-requires-clause-rest : goal.let_go-requires-clause-rest
 let_go-requires-clause-rest g c =
@@ -72,9 +72,6 @@ let_go-requires-clause-rest g c =
     let k = c.args.stack.now.ok.0 in
     let m = c.operation_part.new.stack.ok.0 in
     omega arith
-
-pub let_go-requires-clause-pads : goal.let_go-requires-clause-pads
-let_go-requires-clause-pads g c = c.in_ok-give_back-in-Op.ensures c.args.variables c.in_ok-part-in-Op.ensures.pad c.in_ok-pad-in-Op.ensures.pads
 
 pub let_go-requires-clause-parts : goal.let_go-requires-clause-parts
 let_go-requires-clause-parts g c =
@@ -105,7 +102,7 @@ returns-in_ok-let_go-in-Op-clause-part g c known trees are folded =
     subst (λ node. ArePartsFolded known c.args.variables c.args.place (with_node node trees) (c.in_ok-part-in-Op.part ∷ reverse c.let_go.new.stack.items)) (sym c.in-Op.is)
     (operator_step known c.args.variables c.args.place c.in-Op.opcode c.in-Op.count trees now (reverse c.let_go.new.stack.items) (take c.in-Op.count now) c.in_ok-part-in-Op.part (omega (arith, h, s, length-reverse c.make_way.new.stack.items)) refl (left g at.In_ok-let_go-in-Op)
     (λ ts w. subst (λ class. IsPartFolded known c.args.variables c.args.place (operator class ts) c.in_ok-part-in-Op.part) c.class_of-class.ensures (c.in_ok-part-in-Op.ensures.part known ts w))
-    (parts_folded known c.args.variables (c.args.place + 1) trees (reverse c.args.stack.now.items) now c.in_ok-pad-in-Op.ensures.same folded))
+    (parts_folded known c.args.variables (c.args.place + 1) trees (reverse c.args.stack.now.items) now c.in_ok-make_way-in-Op.ensures.same folded))
 
 pub returns-in_ok-let_go-in-Op-clause-used : goal.returns-in_ok-let_go-in-Op-clause-used
 returns-in_ok-let_go-in-Op-clause-used g c =

@@ -4,7 +4,7 @@ use Rattle.nl_model.specs.FilePlaces.{terms_at, tree_at}
 use Rattle.file_meaning.specs.Expressions.{tree_or_zero}
 use Rattle.linear_fold.specs.FoldedFaults.{HasFaultPlace, fault_for, place_after}
 use Rattle.linear_fold.specs.InsideFolds.{IsEntryWithin, IsExpressionFolded}
-use Rattle.linear_fold.specs.InsideOperates.{ArePads}
+use Rattle.linear_fold.specs.InsideOperates.{IsPad}
 use Rattle.linear_program.specs.Forms.{form_terms}
 use Rattle.linear_fold.specs.InsideOwnerFolds.{definitions_before, expression_at, known_by}
 use Rattle.linear_fold.proofs.CountLemmas.{over_of}
@@ -76,5 +76,5 @@ returns-in-Err-clause-place g c =
     subst (HasFaultPlace c.args.file.now) (sym c.in-Err.ensures.fault)
     (head_placed c.args.file.now c.args.owner c.in-Linear.form c.args.folder.now.count within c.count_with.ensures.ascending linear.1 c.requires.folder.few c.in-Err.ensures.many)
 
-pub fold_expression-requires-clause-pads : goal.fold_expression-requires-clause-pads
-fold_expression-requires-clause-pads g c = subst (λ n. ArePads n c.args.folder.now.room.pads.items) (sym c.requires.folder.variables) c.requires.folder.pads
+pub fold_expression-requires-clause-pad : goal.fold_expression-requires-clause-pad
+fold_expression-requires-clause-pad g c = subst (λ n. IsPad n c.args.folder.now.room.pad) (sym c.requires.folder.variables) c.requires.folder.pad
