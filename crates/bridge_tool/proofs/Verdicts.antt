@@ -1,18 +1,15 @@
 -- What a .sol text, a proof text and a certificate show of an .nl text: one outcome, and what each verdict means.
 use Rattle.std.proofs.Common.{[], ◌≡◌, ◌∙◌, inl, inr, ℕ, ◌+◌, ◌≤◌, ◌==◌, ℤ, pos, negsuc, Bool, true, false, List, length, if◌then◌else◌, Option, Some, None, Result, Ok, Err, refl, sym, ap, ap₂, subst, arith, is_none}
-use Rattle.std.specs.Prelude.{◌&&◌, ◌<ℤ◌, ◌++◌, codes, nat_lt, option_map, IfOk}
+use Rattle.std.specs.Prelude.{◌&&◌, ◌++◌, codes, nat_lt, option_map, IfOk}
 use Rattle.std.specs.Option.{option_map_or}
 use Rattle.std.specs.Global.{Vec}
 use Rattle.std.proofs.lemmas.Bool.{eqb-true, ltb-false, and_parts}
-use Rattle.std.proofs.lemmas.Int.{ints}
 use Rattle.duality.specs.Problem.{Problem}
 use Rattle.duality.specs.ProblemSays.{Denies, VerdictSays}
 use Rattle.duality.specs.Told.{Told, IsToldTrue}
 use Rattle.duality.specs.Verdict.{Verdict, verdict, yes, gap, refused}
 use Rattle.program_meaning.specs.Linear.{row_count, variable_count, Linear}
-use Rattle.exact_numbers.specs.declared.dec.Dec.{Dec}
 use Rattle.texts.specs.declared.stop.Stop.{Stop}
-use Rattle.texts.specs.declared.stop.Stop.TheVariants.{Fault, Memory}
 use Rattle.exact_checks.specs.Terms.{values_of}
 use Rattle.solution_fit.specs.declared.fitting.FitFault.{FitFault}
 use Rattle.solution_fit.specs.declared.fitting.FitFault.TheVariants.{OtherCounts, NoPrimal, NoDual}
@@ -31,15 +28,15 @@ use Rattle.nl_segments.specs.Grammar.{NlValue}
 use Rattle.sol_files.specs.Built.{IsEmptyOrFull}
 use Rattle.sol_files.specs.Reader.{IsSol}
 use Rattle.sol_files.specs.Sol.{Sol}
-use Rattle.bridge_tool.specs.Check.{IsCertified, IsNotCertified, by_fit, by_fold, by_number, by_verdict, check_outcome, most_steps, objective_number, shown, steps_by_fit, steps_by_number, unfit}
+use Rattle.bridge_tool.specs.Check.{IsCertified, IsNotCertified, by_fit, by_fold, by_number, by_verdict, check_outcome, most_steps, objective_number, shown, unfit}
 use Rattle.bridge_tool.specs.Claims.{IsClaimDenied, IsClaimTrue}
-use Rattle.command_parts.specs.Outcome.{Outcome, Refused, Done}
+use Rattle.command_parts.specs.Outcome.{Outcome, Done}
 use Rattle.command_parts.specs.Refusal.{HasTextRefusal, IsSolRefused, IsProofRefused, IsCertificateRefused}
 use Rattle.command_parts.specs.InsideAnswer.{IsCounted}
 use Rattle.command_parts.specs.SeveralFiles.{ByVerdict, Comes, desk_promise}
 use Rattle.command_parts.specs.declared.answer.Answer.{Answer}
-use Rattle.command_parts.specs.Stages.{Folds, HasFolded, fold_steps}
-use Rattle.command_parts.specs.VerdictTold.{fit_line, is_yes, negative_line, verdict_line}
+use Rattle.command_parts.specs.Stages.{HasFolded, fold_steps}
+use Rattle.command_parts.specs.VerdictTold.{is_yes, verdict_line}
 use Rattle.command_parts.proofs.SeveralFiles.{IsPlain, IsLast, meant_as, text_so, value_said, verdict_last}
 use Rattle.command_parts.proofs.TextsRead.{certificate_read, proof_read, sol_read}
 use Rattle.command_parts.specs.declared.refusal.Refusal.{Refusal}

@@ -26,7 +26,7 @@ use Rattle.nl_segments.specs.Grammar.{NlValue}
 use Rattle.scaling.specs.Exported.{scaled_as}
 use Rattle.scaling.specs.Scaled.{ScaledValue}
 use Rattle.command_parts.specs.NlTold.{fold_line, scale_line}
-use Rattle.command_parts.specs.Stages.{HasFolded, HasScaled, HasScaleRefusal, CanBeExported, CannotBeExported}
+use Rattle.command_parts.specs.Stages.{HasFolded, HasScaled, CanBeExported, CannotBeExported}
 
 -- P holds, or not
 abbrev pub IsDecided : Type 0 → Type 0

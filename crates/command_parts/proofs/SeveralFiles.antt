@@ -7,22 +7,20 @@ use Rattle.texts.specs.declared.fault.TextFault.{TextFault}
 use Rattle.texts.proofs.JudgedLemmas.{one_outcome}
 use Rattle.command_parts.specs.Told.{TellsFault}
 use Rattle.std.proofs.lemmas.Option.{same_Some}
-use Rattle.std.specs.Prelude.{IfOk, IsSomeAnd, IsTrue, MatchResult, option_map}
+use Rattle.std.specs.Prelude.{IfOk, IsSomeAnd, IsTrue, option_map}
 use Rattle.std.specs.Global.{Vec}
 use Rattle.std.specs.List.{flat_map}
 use Rattle.desk.specs.Desk.{IsUnknown, Meaning, OnlyInput, Rose, Texts}
 use Rattle.texts.specs.declared.stop.Stop.{Stop}
 use Rattle.texts.specs.declared.stop.Stop.TheVariants.{Fault, Memory}
 use Rattle.command_parts.specs.InsideRefusal.{refusal_line}
-use Rattle.command_parts.specs.InsideAnswer.{IsAtRest, IsCounted, IsWorked, Ends, EndsBy, EndsInPieces, Missed, status_of}
+use Rattle.command_parts.specs.InsideAnswer.{IsAtRest, IsCounted, IsWorked, Ends, EndsBy, EndsInPieces, status_of}
 use Rattle.command_parts.specs.Promise.{Promise}
-use Rattle.command_parts.specs.SeveralFiles.{Answered, ByVerdict, Comes, ComesBy, ComesInPieces, HasEnded, HasSaid, IsTextOf, ReadsFile, Reached, Meets, Says, after_file, by_reached, desk_promise, judges_last, has_said, no_text, of_met, refused_with, saying, stops}
+use Rattle.command_parts.specs.SeveralFiles.{ByVerdict, Comes, ComesBy, ComesInPieces, HasEnded, HasSaid, IsTextOf, ReadsFile, Reached, Meets, after_file, by_reached, desk_promise, judges_last, has_said, no_text, of_met, refused_with, saying, stops}
 use Rattle.command_parts.specs.declared.refusal.Refusal.{Refusal}
-use Rattle.command_parts.specs.Transfer.{HasRead, HasReadCause, IsFrontRead, ReadsFront}
+use Rattle.command_parts.specs.Transfer.{IsFrontRead, ReadsFront}
 use Rattle.command_parts.specs.declared.answer.Answer.{Answer}
 use Rattle.command_parts.specs.declared.answer.Answer.TheVariants.{Refused, InputFault, NoMemory}
-use Rattle.command_parts.specs.declared.transfer.Unread.{Unread}
-use Rattle.command_parts.specs.declared.transfer.Unread.TheVariants.{Fault as IsFault, Memory as IsMemory}
 use Rattle.command_parts.specs.declared.transfer.TheConstants.{LIMIT}
 use Rattle.command_parts.proofs.Ending.{HasComeTo, IsKnown, ends_status, fault_status, memory_worked, missed_worked, refused_worked, wrote_worked}
 use Rattle.command_parts.proofs.Known.{OnlyInput-same, OnlyInput-then}

@@ -1,14 +1,13 @@
 -- Terms that ascend, and trees with their terms.
-use Rattle.std.proofs.Common.{◌≡◌, ◌≢◌, ◌↔◌, ℕ, suc, ◌+◌, ◌<◌, ◌≤◌, ◌∙◌, sym, ap, refl, subst, arith, add-one, true, false, ◌&&◌, Some, None, List, [], ◌∷◌, ◌++◌, drop, length, zero, ◌*◌, ap₂, Option, Ok, Err, length-append, get_or, pos}
+use Rattle.std.proofs.Common.{◌≡◌, ◌≢◌, ◌↔◌, ℕ, suc, ◌+◌, ◌<◌, ◌≤◌, ◌∙◌, sym, ap, refl, subst, arith, true, false, ◌&&◌, Some, None, List, [], ◌∷◌, ◌++◌, drop, length, zero, ◌*◌, ap₂, Option, Ok, Err, length-append, get_or, pos}
 use Rattle.std.specs.Option.{option_or}
 use Rattle.std.proofs.lemmas.Bool.{and_from}
 use Rattle.exact_numbers.specs.declared.frac.Frac.{Frac}
-use Rattle.exact_numbers.specs.Values.{dec_value, frac_value}
+use Rattle.exact_numbers.specs.Values.{frac_value}
 use Rattle.fractions.specs.Fits.{fits, sum_fits}
 use Rattle.fractions.specs.Rational.{ℚ, zero_ℚ, ◌+ℚ◌, one_ℚ, ◌*ℚ◌}
 use Rattle.fractions.proofs.Arithmetic.{zero-+ℚ, *ℚ_zero, +ℚ_zero}
 use Rattle.nl_meaning.specs.declared.Fault.{Fault}
-use Rattle.nl_meaning.specs.declared.Reason.TheVariants.{TooWide}
 use Rattle.nl_meaning.specs.Faults.{fault_at, too_wide_unless, line_with_terms, terms_fault, tree_fault}
 use Rattle.program_meaning.specs.Lines.{line_with, Line, line_value, constant_line, products_fit, Point}
 use Rattle.nl_meaning.specs.Trees.{LinearTerm, Known, Tree, Trees, AreTermsBelow, tree_size, trees_size, tree_given}

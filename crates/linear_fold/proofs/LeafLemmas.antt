@@ -25,7 +25,7 @@ use Rattle.nl_model.specs.Nodes.{IsTreeFormed, first_of_trees, trees_of}
 use Rattle.linear_program.specs.declared.form.Form.{Form}
 use Rattle.linear_program.specs.Coefs.{AreBelow, Term, coef_in, value_or_zero}
 use Rattle.linear_program.specs.Decimals.{AreDecimals, DecimalTerm, frac_of, frac_where, fraction_term, fraction_terms}
-use Rattle.linear_program.specs.Forms.{IsWithin, IsZeroFrom, form_line, parts_line}
+use Rattle.linear_program.specs.Forms.{IsWithin, IsZeroFrom, form_line}
 use Rattle.linear_program.proofs.Closing.{found_last, found_other}
 use Rattle.linear_program.proofs.CoefLemmas.{adds_at, below_append, below_from, found_beyond}
 use Rattle.linear_program.proofs.DecimalLemmas.{frac_of-value}
@@ -37,7 +37,7 @@ use Rattle.linear_fold.specs.declared.leaf_sums.LeafSum.{LeafSum}
 use Rattle.linear_fold.specs.declared.parts.PartialForm.{PartialForm}
 use Rattle.linear_fold.specs.declared.parts.PartialForm.TheVariants.{Number, Variable}
 use Rattle.linear_fold.specs.InsideFolds.{AreOperandsOf, IsFolded, IsLined}
-use Rattle.linear_fold.specs.InsideLeafSums.{AddsLeaf, AreLeaves, IsLeafAt, IsListOf, IsNoLeaf, IsVariableOf, SumsUpTo, factors_in, factors_leaf, leaf_line, leaves_line, number_count, seen}
+use Rattle.linear_fold.specs.InsideLeafSums.{AddsLeaf, AreLeaves, IsLeafAt, IsListOf, IsVariableOf, SumsUpTo, factors_in, factors_leaf, leaf_line, leaves_line, number_count}
 use Rattle.linear_fold.specs.InsideOperates.{AreOperands, lines_of_parts, multiple_line, zero_line}
 use Rattle.linear_fold.proofs.Folding.{constant_lined, is_line_by, multiple_within, number_within, operands_are, operator_folded, same_values, values_are, variable_lined}
 use Rattle.linear_fold.proofs.Operators.{fault_first, fault_second, few_steps, multiple_apart, multiple_at, multiple_constant, multiple_fits, multiple_scaled, multiple_zero_from, number_constant, zero_line_sum}

@@ -26,7 +26,6 @@ use Rattle.exact_numbers.proofs.Zeros.{fits_zero, sum_fits_zero, zero_sum_fits}
 use Rattle.linear_program.proofs.FracLemmas.{coef_fits, zero_test, fits_neg}
 use Rattle.linear_program.proofs.Scaled.{all_below-false, all_below-intro, same_line, few_terms}
 use Rattle.std.proofs.Math.Nat.{mul-le-mul_left}
-use Rattle.std.specs.declared.alloc.AllocError.{AllocError}
 use Rattle.code_tables.specs.declared.class.OpClass.{OpClass}
 use Rattle.code_tables.specs.declared.class.OpClass.TheVariants.{Quotient}
 use Rattle.nl_meaning.specs.declared.Reason.{Reason}

@@ -18,7 +18,7 @@ use Rattle.fractions.proofs.Arithmetic.{*ℚ-neg, +ℚ_comm, +ℚ_zero, neg-*ℚ
 use Rattle.fractions.proofs.Signed.{neg-*ℤ}
 use Rattle.program_meaning.specs.Lines.{Line, constant_line, one_if, all_below, is_constant, is_zero, products_fit, line_neg, line_scaled, line_sum, running_line, running_sums_fit, sums_fit}
 use Rattle.nl_meaning.specs.Faults.{too_wide_unless}
-use Rattle.code_tables.specs.declared.class.OpClass.TheVariants.{Sum as SumOfTwo, Difference, Negation, List as SumOfAll}
+use Rattle.code_tables.specs.declared.class.OpClass.TheVariants.{Difference, Negation, List as SumOfAll}
 use Rattle.linear_program.specs.declared.too_wide.Wide.{Wide}
 use Rattle.linear_program.specs.Coefs.{AddsAt}
 use Rattle.linear_program.specs.Forms.{AddsScaled, Multiplies, IsZeroFrom, ScaledSumFits}
@@ -26,8 +26,7 @@ use Rattle.linear_program.proofs.Scaled.{all_below-intro, same_line}
 use Rattle.linear_fold.specs.declared.operate.Outcome.{Outcome}
 use Rattle.linear_fold.specs.declared.operate.Outcome.TheVariants.{Linear as Made, Refused}
 use Rattle.linear_fold.specs.declared.parts.PartialForm.{PartialForm}
-use Rattle.linear_fold.specs.declared.parts.PartialForm.TheVariants.{Linear, Opposite}
-use Rattle.linear_fold.specs.InsideOperates.{AreOperands, ComesTo, IsLeft, IsOperand, IsPlaced, IsSameSum, IsSound, Operates, SumsTo, multiple_line, part_line}
+use Rattle.linear_fold.specs.InsideOperates.{AreOperands, ComesTo, IsLeft, IsOperand, IsSameSum, IsSound, Operates, SumsTo, multiple_line, part_line}
 use Rattle.linear_fold.proofs.Operators.{FitsLine, adds_multiple, stops_multiple, added, line_fits, neg_fits, scaled_by_minus, scaled_by_one}
 
 -- ---- the order of two numbers
