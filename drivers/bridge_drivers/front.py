@@ -11,7 +11,7 @@ import subprocess
 import sys
 from typing import Callable, Mapping, NamedTuple, Sequence
 
-from . import VERSION, colour, commands, console, explaining, interface, kinds
+from . import VERSION, colour, commands, console, explaining, interface, kinds, reasons
 from .bridge import BESIDE, PACKAGE, Missing, find, is_plain
 from .built import built, state
 from .codes import Status
@@ -125,9 +125,10 @@ def helped(call: Call) -> int:
     if topic in ("", "help"):
         sys.stdout.write(commands.usage())
         return Status.DONE
-    text = commands.help_of(topic) or helped_driver(topic)
+    text = commands.help_of(topic) or reasons.listed() * (topic == "refusals") \
+        or helped_driver(topic)
     if not text:
-        raise BadWords(f"no help on {topic};{near(topic, WORDS)}".rstrip(";"))
+        raise BadWords(f"no help on {topic};{near(topic, [*WORDS, 'refusals'])}".rstrip(";"))
     sys.stdout.write(text)
     return Status.DONE
 

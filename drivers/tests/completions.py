@@ -11,12 +11,11 @@ import subprocess
 import time
 import unittest
 
-from support import HERE, Case
+from support import BIN, Case
 
 from bridge_drivers import front, solvers
 from bridge_drivers.options import COMMON, BadOption, Options
 
-BIN = os.path.join(HERE, "..", "bin")
 ASK = """source {folder}/completion
 COMP_WORDS=({words}) COMP_CWORD=$(({count} - 1))
 _nl_bridge 2>/dev/null

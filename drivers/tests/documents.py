@@ -21,15 +21,13 @@ from typing import Iterator, NamedTuple
 
 HERE = os.path.dirname(os.path.abspath(__file__))
 sys.path[:0] = [HERE, os.path.join(HERE, "..")]
-from support import NEEDS_CLP, NEEDS_MPS, PROGRAM, Case    # noqa: E402
+from support import EXAMPLES, NEEDS_CLP, NEEDS_MPS, PROGRAM, TOP, Case    # noqa: E402
 
 from bridge_drivers import solvers                          # noqa: E402
 from bridge_drivers.certify.command import OPTIONS          # noqa: E402
 from bridge_drivers.codes import STATUSES                   # noqa: E402
 from bridge_drivers.options import COMMON                   # noqa: E402
 
-TOP = os.path.join(HERE, "..", "..")
-EXAMPLES = os.path.join(TOP, "packaging", "examples")
 DOCUMENTS = ("README.md", "drivers/README.md", "drivers/SYSTEMS.md", "drivers/REPORT.md",
              "drivers/SEARCH.md", "docs/user/commands.md", "docs/user/formats.md",
              "docs/user/refusals.md")

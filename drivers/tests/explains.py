@@ -12,7 +12,7 @@ import xml.etree.ElementTree as xml
 from fractions import Fraction as F
 
 import reports
-from support import HERE, NEEDS_PROGRAM, PROGRAM, Case
+from support import EXAMPLES, NEEDS_PROGRAM, PROGRAM, Case
 from models import MODELS, nl
 
 from bridge_drivers import BridgeError, front, interface
@@ -24,7 +24,6 @@ from bridge_drivers.subjects import Subject
 from bridge_drivers.explained.picture import MOST_DEPTH, MOST_SHOWN, Picture
 from bridge_drivers.printable import printable
 
-EXAMPLES = os.path.join(HERE, "..", "..", "packaging", "examples")
 BROWSER = shutil.which("chromium") or shutil.which("google-chrome")
 SVG = "{http://www.w3.org/2000/svg}"
 # 12 a + 21 b + 33 c = 500; max y with y <= 10 x and y <= 7; max x + y with x - y <= 2

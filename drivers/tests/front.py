@@ -11,14 +11,11 @@ import subprocess
 import sys
 from unittest import mock
 
-from support import HERE, Case
+from support import BIN, DRIVERS, TOP, Case
 from models import MODELS
 
 from bridge_drivers import VERSION, commands, console, front, minizinc
 
-DRIVERS = os.path.join(HERE, "..")
-BIN = os.path.join(DRIVERS, "bin")
-TOP = os.path.join(DRIVERS, "..")
 
 SAYING = """#!/bin/sh
 if [ "$1" = export ] && grep -q '^o2' "$2"; then

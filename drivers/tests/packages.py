@@ -10,9 +10,8 @@ import sys
 import unittest
 import zipfile
 
-from support import HERE, PROGRAM, Case
+from support import PROGRAM, TOP, Case
 
-TOP = os.path.join(HERE, "..", "..")
 IS_NEW = sys.version_info >= (3, 11)
 CAN_BUILD = IS_NEW and len(PROGRAM) == 1 and shutil.which("dpkg-deb") is not None
 

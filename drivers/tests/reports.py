@@ -10,14 +10,13 @@ import sys
 import unittest
 from typing import Any
 
-from support import HAS_CLP, HERE, NEEDS_PROGRAM, PROGRAM, Case
+from support import BIN, DRIVERS, EXAMPLES, HAS_CLP, NEEDS_PROGRAM, PROGRAM, Case
 from models import MODELS
 
 from bridge_drivers import VERSION, report
 from bridge_drivers.built import built
 from fractions import Fraction as F
 
-BIN = os.path.join(HERE, "..", "bin")
 TYPES = {"null": type(None), "string": str, "integer": int, "number": (int, float), "array": list,
          "object": dict, "boolean": bool}
 KNOWN = {"type", "enum", "anyOf", "required", "additionalProperties", "properties", "items",
@@ -25,7 +24,7 @@ KNOWN = {"type", "enum", "anyOf", "required", "additionalProperties", "propertie
 
 
 def schema() -> dict[str, Any]:
-    with open(os.path.join(HERE, "..", "report.schema.json"), encoding="ascii") as f:
+    with open(os.path.join(DRIVERS, "report.schema.json"), encoding="ascii") as f:
         found: dict[str, Any] = json.load(f)
     return found
 
@@ -105,9 +104,9 @@ class Objects(Case):
         return told
 
     def put_knap(self) -> None:
-        for name in os.listdir(os.path.join(HERE, "..", "..", "packaging", "examples")):
+        for name in os.listdir(EXAMPLES):
             if name.startswith("knap"):
-                with open(os.path.join(HERE, "..", "..", "packaging", "examples", name), "rb") as f:
+                with open(os.path.join(EXAMPLES, name), "rb") as f:
                     self.put(f.read(), name[4:])
 
     def test_verify(self) -> None:

@@ -17,7 +17,10 @@ from typing import Callable, NamedTuple
 from unittest import mock
 
 HERE = os.path.dirname(os.path.abspath(__file__))
-BIN = os.path.join(HERE, "..", "bin")
+DRIVERS = os.path.join(HERE, "..")
+BIN = os.path.join(DRIVERS, "bin")
+TOP = os.path.join(DRIVERS, "..")
+EXAMPLES = os.path.join(TOP, "packaging", "examples")
 sys.path[:0] = [os.path.join(HERE, ".."), HERE]
 
 from bridge_drivers import solvers                      # noqa: E402

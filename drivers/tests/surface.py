@@ -13,7 +13,7 @@ import subprocess
 import sys
 import unittest
 
-from support import HERE, NEEDS_CLP, NEEDS_PROGRAM, Case
+from support import BIN, EXAMPLES, NEEDS_CLP, NEEDS_PROGRAM, TOP, Case
 from models import MODELS
 
 from bridge_drivers import commands, front, solvers, words
@@ -24,9 +24,6 @@ from bridge_drivers.inputs import Absent, Inputs
 from bridge_drivers.near import near
 from bridge_drivers.options import BadOption, Option, Options, Range
 
-TOP = os.path.join(HERE, "..", "..")
-BIN = os.path.join(HERE, "..", "bin")
-EXAMPLES = os.path.join(TOP, "packaging", "examples")
 
 
 def called(run: "front.Callable[[], int]") -> tuple[int, str, str]:
