@@ -85,6 +85,9 @@ def main(word: str) -> int:
 
 
 if __name__ == "__main__":
+    if {"-h", "--help"} & set(sys.argv[1:]):
+        print(__doc__)
+        sys.exit()
     if sys.argv[1:] not in (["--write"], ["--check"]):
         sys.exit(__doc__)
     sys.exit(main(sys.argv[1]))

@@ -439,6 +439,9 @@ def main(words: list[str]) -> int:
 
 
 if __name__ == "__main__":
+    if {"-h", "--help"} & set(sys.argv[1:]):
+        print(__doc__)
+        sys.exit()
     try:
         sys.exit(main(sys.argv[1:]))
     except BrokenPipeError:

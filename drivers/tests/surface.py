@@ -6,6 +6,7 @@ import bz2
 import contextlib
 import gzip
 import io
+import itertools
 import lzma
 import os
 import re
@@ -24,6 +25,7 @@ from bridge_drivers.inputs import Absent, Inputs
 from bridge_drivers.near import near
 from bridge_drivers.options import BadOption, Option, Options, Range
 
+SCRIPTS = ("acceptance", "bench", "dev", "drivers", "packaging")
 
 
 def called(run: "front.Callable[[], int]") -> tuple[int, str, str]:
@@ -68,10 +70,13 @@ class Help(unittest.TestCase):
             self.assertIn("a number from 0 on", flat)
 
     def test_scripts(self) -> None:
-        """What a clone has tells what it is, on standard output."""
-        for script, word in (("drivers/install", "--help"), ("dev/try", "--help"),
-                             ("dev/try", "-h"), ("dev/lint", "-h"), ("dev/setup", "--help"),
-                             ("packaging/build", "-h"), ("dev/map.py", "--help")):
+        """What can be called in a clone tells what it is, on standard output."""
+        found = [os.path.join(folder, name) for folder in SCRIPTS
+                 for name in sorted(os.listdir(os.path.join(TOP, folder)))
+                 if os.access(os.path.join(TOP, folder, name), os.X_OK)
+                 and os.path.isfile(os.path.join(TOP, folder, name))]
+        self.assertGreater(len(found), 20)
+        for script, word in zip(found, itertools.cycle(("--help", "-h"))):
             ran = subprocess.run([os.path.join(TOP, script), word], capture_output=True,
                                  text=True, check=False, timeout=300)
             self.assertEqual((ran.returncode, ran.stderr), (0, ""), script)
