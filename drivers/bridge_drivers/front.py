@@ -66,7 +66,8 @@ def read(words: Sequence[str]) -> Call:
                 raise BadWords(f"{name} takes a FILE")
             pages[name[2:]] = value if equal else left.pop()
         elif word.startswith("-") and not is_flow(word):
-            raise BadWords(f"unknown option {word};{near(word, ('--html', '--svg', '--help'))}")
+            meant = near(word, ("--html", "--svg", "--help"))
+            raise BadWords(f"unknown option {word};{meant}".rstrip(";"))
         else:
             plain.append(word)
     word = plain[0] if plain else ""
