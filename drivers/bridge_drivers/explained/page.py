@@ -154,13 +154,10 @@ def sums_of(page: Page) -> list[str]:
     """How the leaves that are drawn close, in letters so small that the widest line fits."""
     if not page.sums:
         return []
-    found = []
-    for head, lines, shows in page.sums:
-        text = "\n".join([*lines, shows])
-        letters = LETTER * max(map(len, text.split("\n")))
-        size = f"clamp(.5rem, calc((100vw - 4.5rem) / {letters:.1f}), .875rem)"
-        found.append(f'<h3>{escape(head)}</h3>\n'
-                     f'<pre tabindex="0" style="font-size: {size}">{escape(text)}</pre>')
+    widest = max(len(line) for _, lines, shows in page.sums for line in (*lines, shows))
+    size = f"clamp(.5rem, calc((100vw - 4.5rem) / {LETTER * widest:.1f}), .875rem)"
+    found = [f'<h3>{escape(head)}</h3>\n<pre tabindex="0" style="font-size: {size}">'
+             + escape("\n".join([*lines, shows])) + "</pre>" for head, lines, shows in page.sums]
     return ["<h2>The sums of its leaves</h2>",
             '<p class="pale">Each number times the side of a row or bound that holds in that part; '
             "on the left what the sum of the rows is, which is the objective, or nothing.</p>",
