@@ -88,11 +88,12 @@ def fault_at(path: str) -> str:
 
 
 def unreadable(files: Sequence[str], shown: Mapping[str, str]) -> str:
-    """Which of the files cannot be read, and why."""
+    """Which of the files cannot be read, and why, and what is there that may be meant."""
     for file in files:
         why = fault_at(file)
         if why:
-            return f"{shown.get(file, file)}: input fault ({why})"
+            beside = "" if os.path.lexists(file) else kinds.no_model(file).partition("; ")[2]
+            return f"{shown.get(file, file)}: input fault ({why})" + (beside and f"; {beside}")
     return "input fault: " + " or ".join(shown.get(f, f) for f in files) + " could not be read"
 
 

@@ -22,6 +22,7 @@ from .inputs import Inputs, is_flow, named
 from .interrupts import with_child
 from .mps_file import Damaged, unpacked
 from .near import near
+from .options import Option
 from .report import Report, sum_of
 
 NUMBERS = ("K", "SEED", "SIZE")             # words of the table that are no files
@@ -129,7 +130,8 @@ def helped(call: Call) -> int:
     text = commands.help_of(topic) or reasons.listed() * (topic == "refusals") \
         or helped_driver(topic)
     if not text:
-        raise BadWords(f"no help on {topic};{near(topic, [*WORDS, 'refusals'])}".rstrip(";"))
+        meant = near(topic, [*WORDS, "refusals", *options()])
+        raise BadWords(f"no help on {topic};{meant}".rstrip(";"))
     sys.stdout.write(text)
     return Status.DONE
 
@@ -144,8 +146,14 @@ def helped_driver(topic: str) -> str:
         return Command(solvers.NAMES[0]).told("-?")
     if topic != name and name in solvers.NAMES:
         return Driver(name).told("-?")
-    known = Command(solvers.NAMES[0]).options.known
-    return known[topic].line() + "\n" if topic in known else ""
+    return options()[topic].line() + "\n" if topic in options() else ""
+
+
+def options() -> Mapping[str, Option]:
+    """Those of all drivers and of bridge-certify."""
+    from . import solvers
+    from .certify.command import Command
+    return Command(solvers.NAMES[0]).options.known
 
 
 # what is here -------------------------------------------------------------------------

@@ -77,10 +77,15 @@ class Front(Case):
                    "done\n[ $# = 1 ] && { echo 'bad words' >&2; exit 3; }\n"
                    "echo 'input fault' >&2; exit 4")
         self.put(b"x")
-        nl = self.stub + ".nl"
+        nl, mps = self.stub + ".nl", os.path.join(self.folder, "m")
+        with open(mps + ".mps", "wb") as f:
+            f.write(b"NAME\nROWS\n")
         for words, status, told in (
                 (["export", "/nonexistent/m.nl"], 4,
                  "nl-bridge: /nonexistent/m.nl: input fault (No such file or directory)\n"),
+                (["verify", mps, nl], 4, f"nl-bridge: {mps}: input fault (No such file or "
+                 f"directory); {mps}.mps is an MPS file: `bridge-certify {mps}.mps` and the "
+                 f"drivers take it, `nl-bridge import {mps}.mps {mps}.nl` makes {mps}.nl of it\n"),
                 (["verify", nl, self.folder], 4,
                  f"nl-bridge: {self.folder}: input fault (Is a directory)\n"),
                 (["export"], 3, "nl-bridge: bad words: export takes FILE [K] or FILE K ROWS COLS; "

@@ -92,6 +92,11 @@ class Options_(unittest.TestCase):
                 known.take([word + "=1"])
         self.assertEqual(near("veryfy", commands.WORDS), " did you mean `verify`?")
         self.assertEqual(near("gap", commands.WORDS), "")
+        for call, end in ((["help", "gap"], "no help on gap; did you mean `mipgap`?"),
+                          (["knap", "--foo"], "unknown option --foo;"),
+                          (["help", "refusal"], "no help on refusal; did you mean `refusals`?")):
+            status, _, err = called(lambda: front.command(call))
+            self.assertEqual((status, err), (3, f"nl-bridge: {end} -h lists the commands\n"))
 
     def test_certify_takes_those_of_each_driver(self) -> None:
         for name in solvers.NAMES:
