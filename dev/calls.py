@@ -17,6 +17,8 @@ from collections.abc import Iterator, Sequence
 from dataclasses import dataclass
 from pathlib import Path
 
+from map import rooms
+
 TOP = Path(__file__).resolve().parent.parent
 PAGE = TOP / "docs" / "verify" / "calls.md"
 TESTS = ("call_tests", "command_tests")
@@ -50,8 +52,8 @@ class Call:
 
 
 def crates() -> list[str]:
-    lines = (TOP / "crates.txt").read_text().splitlines()
-    return [line.split(":")[0].split()[0] for line in lines if ":" in line.split("#")[0]]
+    """The crates in the order of crates.txt."""
+    return list(rooms()[1])
 
 
 def handed_out(root: str) -> set[str]:
