@@ -21,7 +21,6 @@ HEAD = ("answer 1",)
 PLACES = 2**20
 TERMS = 2**22
 MPS_PLACES = 2**21
-ENTRIES = 2**24
 
 
 @dataclass(frozen=True)

@@ -29,7 +29,6 @@ MADE = {"docs/verify/wrong-bodies.txt": ("wrong-bodies", "--list"),
         "docs/dev/crates.txt": ("map.py", "--table")}       # texts that scripts of dev/ print
 LINK = re.compile(r"\]\(([^)#]+)(?:#[^)]*)?\)")
 DRIVER = "bridge_drivers.driver:main"       # commands of this kind share a man page
-DRIVERS_PAGE = "bridge-cbc.1"
 X86_64 = b"\x3e\x00"                        # the machine in an ELF file's head
 
 

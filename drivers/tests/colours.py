@@ -17,7 +17,6 @@ from bridge_drivers import colour, console
 from bridge_drivers.colour import GREEN, RED, YELLOW
 
 
-
 class Terminal(io.StringIO):
     def isatty(self) -> bool:
         return True

@@ -15,7 +15,6 @@ from support import BIN, DRIVERS, Case
 from bridge_drivers import VERSION
 
 
-
 class Installing(Case):
     def install(self, *words: str) -> "subprocess.CompletedProcess[str]":
         return subprocess.run([sys.executable, os.path.join(DRIVERS, "install"), *words],

@@ -38,13 +38,6 @@ class Processes(Case):
     def drive(self, driver: str, *words: str, place: str = BIN, **environment: str) -> Ended:
         return driven(driver, *words, place=place, **environment)
 
-    def script(self, name: str, text: str) -> str:
-        path = os.path.join(self.folder, name)
-        with open(path, "w") as f:
-            f.write(f"#!/bin/sh\n{text}\n")
-        os.chmod(path, 0o755)
-        return path
-
     def test_bridge_missing(self) -> None:
         self.put(MODELS["knap"].text)
         for bridge, text in (("", "bridge was not found"),

@@ -5,12 +5,10 @@ from __future__ import annotations
 import json
 import os
 import re
-import subprocess
-import sys
 import unittest
 from typing import Any
 
-from support import BIN, DRIVERS, EXAMPLES, HAS_CLP, NEEDS_PROGRAM, PROGRAM, Case
+from support import DRIVERS, EXAMPLES, HAS_CLP, NEEDS_PROGRAM, PROGRAM, Case, ran
 from models import MODELS
 
 from bridge_drivers import VERSION, report
@@ -94,13 +92,12 @@ class Objects(Case):
     """Of commands as processes; nothing else is on standard output."""
 
     def call(self, *words: str) -> dict[str, Any]:
-        ran = subprocess.run([sys.executable, os.path.join(BIN, words[0]), *words[1:]],
-                             stdin=subprocess.DEVNULL, capture_output=True, text=True, check=False)
-        told: dict[str, Any] = json.loads(ran.stdout)
+        ended = ran(*words)
+        told: dict[str, Any] = json.loads(ended.stdout)
         self.assertEqual(faults(told, schema()), [])
         self.assertEqual((told["status"], told["command"], told["version"]),
-                         (ran.returncode, words[0], VERSION))
-        self.err = ran.stderr
+                         (ended.returncode, words[0], VERSION))
+        self.err = ended.stderr
         return told
 
     def put_knap(self) -> None:

@@ -3,9 +3,7 @@
 from __future__ import annotations
 
 import bz2
-import contextlib
 import gzip
-import io
 import itertools
 import lzma
 import os
@@ -13,8 +11,9 @@ import re
 import subprocess
 import sys
 import unittest
+from pathlib import Path
 
-from support import BIN, EXAMPLES, NEEDS_CLP, NEEDS_PROGRAM, TOP, Case
+from support import BIN, EXAMPLES, NEEDS_CLP, NEEDS_PROGRAM, TOP, Case, called, ran
 from models import MODELS
 
 from bridge_drivers import commands, front, solvers, words
@@ -26,14 +25,6 @@ from bridge_drivers.near import near
 from bridge_drivers.options import BadOption, Option, Options, Range
 
 SCRIPTS = ("acceptance", "bench", "dev", "drivers", "packaging")
-
-
-def called(run: "front.Callable[[], int]") -> tuple[int, str, str]:
-    """Status, standard output and error of a call in this process."""
-    out, err = io.StringIO(), io.StringIO()
-    with contextlib.redirect_stdout(out), contextlib.redirect_stderr(err):
-        status = run()
-    return int(status), out.getvalue(), err.getvalue()
 
 
 class Help(unittest.TestCase):
@@ -156,8 +147,7 @@ class Models(Case):
                 self.put(pack(data), end + packed)
                 with Inputs() as inputs:
                     given = inputs.model(self.stub + end + packed)
-                    with open(given.path, "rb") as f:
-                        self.assertEqual(f.read(), data)
+                    self.assertEqual(Path(given.path).read_bytes(), data)
                 self.assertEqual((given.stub, given.is_mps, bool(given.notes)),
                                  (self.stub, end == ".mps", bool(packed)))
                 self.assertEqual(os.path.exists(inputs.folder), False)
@@ -174,17 +164,14 @@ class Models(Case):
         with subprocess.Popen(["sh", "-c", f"printf 'NAME\\n' > {self.stub}.mps"]):
             with Inputs() as inputs:
                 given = inputs.model(self.stub + ".mps")
-                with open(given.path, "rb") as f:
-                    self.assertEqual((f.read(), given.is_mps, given.stub),
-                                     (b"NAME\n", True, self.stub))
+                self.assertEqual((Path(given.path).read_bytes(), given.is_mps, given.stub),
+                                 (b"NAME\n", True, self.stub))
 
     @NEEDS_PROGRAM
     def test_each_command(self) -> None:
         """Of one model in each form each command says the same."""
-        with open(os.path.join(EXAMPLES, "knap.certificate"), "rb") as f:
-            self.put(f.read(), ".certificate")
-        with open(os.path.join(EXAMPLES, "knap.nl"), "rb") as f:
-            data = f.read()
+        self.put(Path(EXAMPLES, "knap.certificate").read_bytes(), ".certificate")
+        data = Path(EXAMPLES, "knap.nl").read_bytes()
         self.put(data)
         self.put(gzip.compress(data), ".nl.gz")
         for word, end, line in (("verify", [self.stub + ".certificate"], "optimal 17"),
@@ -243,14 +230,12 @@ class Statuses(Case):
                 (["bridge-cbc", nl, "solver=/no/cbc"], 127),
                 (["bridge-cbc", nl, "solver=/bin/true"], 1),
                 (["bridge-certify", nl, "bridge=/no/bridge"], 127)):
-            ran = subprocess.run([sys.executable, os.path.join(BIN, call[0]), *call[1:]],
-                                 stdin=subprocess.DEVNULL, capture_output=True, check=False)
-            self.assertEqual(ran.returncode, status, (call, ran.stdout, ran.stderr))
+            ended = ran(*call)
+            self.assertEqual(ended.returncode, status, (call, ended))
 
     @NEEDS_PROGRAM
     def test_a_refusal_points_to_explain(self) -> None:
         self.put(MODELS["nonlinear"].text)
-        ran = subprocess.run([sys.executable, os.path.join(BIN, "nl-bridge"), "export",
-                              self.stub + ".nl"], capture_output=True, text=True, check=False)
-        self.assertEqual(ran.stderr, "refused line 12: nonlinear\nnl-bridge: `nl-bridge explain "
-                                     f"{self.stub}.nl` says more\n")
+        self.assertEqual(ran("nl-bridge", "export", self.stub + ".nl").stderr,
+                         "refused line 12: nonlinear\nnl-bridge: `nl-bridge explain "
+                         f"{self.stub}.nl` says more\n")
