@@ -52,6 +52,9 @@ class Help(unittest.TestCase):
             self.assertEqual(len(set(texts)), 1, name)
             status, out, err = texts[0]
             self.assertEqual((status, err), (0, ""))
+            example = out.rstrip("\n").split("\n")[-1]
+            self.assertTrue(example.startswith(f"example: bridge-{name} "), example)
+            driver.options.take(example.split()[3:])
             for option in driver.options.known.values():
                 self.assertRegex(out, rf"(?m)^  {option.name} ")
                 told = called(lambda: driver.main(["help", option.name]))
@@ -78,7 +81,8 @@ class Options_(unittest.TestCase):
     def test_did_you_mean(self) -> None:
         known = Command("cbc").options
         for word, meant in (("gap", "mipgap"), ("timeout", "timelim"), ("quiet", "wantsol=8"),
-                            ("o", "certificate"), ("timelimit", "timelim"), ("proove", "prove")):
+                            ("o", "certificate"), ("timelimit", "timelim"), ("proove", "prove"),
+                            ("certficate", "certificate")):
             with self.assertRaisesRegex(BadOption, f"did you mean `{meant}`\\?"):
                 known.take([word + "=1"])
         self.assertEqual(near("veryfy", commands.WORDS), " did you mean `verify`?")
