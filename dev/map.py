@@ -18,7 +18,8 @@ from functools import lru_cache
 from pathlib import Path
 from xml.sax.saxutils import escape
 
-TOP = Path(__file__).resolve().parent.parent
+from made import TOP, main
+
 PICTURES = TOP / "docs" / "pictures"
 
 # The colours of a picture: ground, ink, faint ink, a box and its edge, which arrows have, too.
@@ -226,38 +227,11 @@ def picture(found: list[Room], uses: dict[str, list[str]], scheme: str) -> str:
     return "\n".join([*out, "</svg>", ""])
 
 
-def stale() -> dict[Path, str]:
-    """Each picture that is not as it is made, with its text."""
+def made() -> dict[Path, str]:
     found, uses = rooms()
-    made = {PICTURES / f"crates-{scheme}.svg": picture(found, uses, scheme) for scheme in SCHEMES}
-    return {path: text for path, text in made.items() if not path.exists() or path.read_text() != text}
-
-
-def check() -> int:
-    for path in (wrong := stale()):
-        print(f"{path.relative_to(TOP)} is not as dev/map.py --write makes it")
-    return 1 if wrong else 0
-
-
-def write() -> int:
-    for path, text in stale().items():
-        path.write_text(text)
-    return 0
-
-
-def printed(text: str) -> int:
-    print(text.rstrip("\n"))
-    return 0
-
-
-WORDS = {"--table": lambda: printed(table()), "--write": write, "--check": check,
-         "--chain": lambda: printed(" ".join(chain(rooms()[1]))), "--chains": lambda: printed("\n".join(chains(rooms()[1])))}
+    return {PICTURES / f"crates-{scheme}.svg": picture(found, uses, scheme) for scheme in SCHEMES}
 
 
 if __name__ == "__main__":
-    if {"-h", "--help"} & set(sys.argv[1:]):
-        print(__doc__)
-        sys.exit()
-    if len(sys.argv) != 2 or sys.argv[1] not in WORDS:
-        sys.exit(__doc__)
-    sys.exit(WORDS[sys.argv[1]]())
+    sys.exit(main(__doc__, made, {"--table": table, "--chain": lambda: " ".join(chain(rooms()[1])),
+                                  "--chains": lambda: "\n".join(chains(rooms()[1]))}))
