@@ -158,8 +158,5 @@ def main(words: list[str]) -> int:
 
 
 if __name__ == "__main__":
-    if {"-h", "--help"} & set(sys.argv[1:]):
-        print(__doc__)
-        sys.exit()
     sys.dont_write_bytecode = True
     sys.exit(main(sys.argv[1:]))
