@@ -47,7 +47,7 @@ class Range:
     high: Exact | None = None
 
     def take(self, value: Exact) -> None:
-        size = abs(value)
+        size = -value if value < 0 else value
         self.low = size if self.low is None else min(self.low, size)
         self.high = size if self.high is None else max(self.high, size)
 
@@ -136,7 +136,8 @@ def entries(f: Figures, program: Program) -> None:
     for j, k in costs:
         left[k] -= 1
         if program.columns[j] == TIED:
-            f.tied_by = abs(values[k][0])
+            factor = values[k][0]
+            f.tied_by = -factor if factor < 0 else factor
         elif values[k][0]:
             f.costs += 1
             f.cost_sizes.take(values[k][0])
