@@ -76,6 +76,8 @@ class Built(Case):
         told = subprocess.run(["dpkg-deb", "-f", deb], capture_output=True, text=True).stdout
         self.assertRegex(told, r"(?m)^Depends: .*\bcoinor-libclp1\b")
         self.assertIn("Description: UNPROVED bridge", told)
+        self.assertIn("no gate has proved the program", told)
+        self.assertNotIn("is proved", told)
         self.assertRegex(told, r"(?m)^Recommends: .*\bcoinor-cbc\b")
         self.assertRegex(told, r"(?m)^Suggests: .*\bminizinc, python3-pulp\b")
 
