@@ -138,12 +138,10 @@ class SpecFile:
 
     def types_of_code(self, found: list[Definition]) -> list[str]:
         """A line for each file of code that declares types which these definitions use."""
-        words = words_of(found)
         files: dict[str, list[str]] = {}
-        for name, (path, own) in sorted(self.imports.items()):
-            if name in words and path[2:4] == ["specs", "declared"] and not path[-1].startswith("The"):
-                files.setdefault("/".join(["crates", path[1], "src", *path[4:-1]]) + ".rt", []).append(own)
-        return [f"-- {', '.join(sorted(set(names)))} of code: {file}" for file, names in sorted(files.items())]
+        for file, name in sorted(self.declared(found)):
+            files.setdefault(file, []).append(name)
+        return [f"-- {', '.join(names)} of code: {file}" for file, names in files.items()]
 
     def declared(self, found: list[Definition]) -> set[tuple[str, str]]:
         """The types of code that these definitions use: file and name."""
