@@ -168,6 +168,9 @@ def memory(program: str) -> bool:
 
 
 def main() -> None:
+    if {"-h", "--help"} & set(sys.argv[1:]):
+        print(__doc__)
+        sys.exit()
     if len(sys.argv) < 2:
         sys.exit(__doc__)
     program, *wanted = sys.argv[1:]

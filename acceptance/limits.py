@@ -21,7 +21,6 @@ HEAD = ("answer 1",)
 PLACES = 2**20
 TERMS = 2**22
 MPS_PLACES = 2**21
-ENTRIES = 2**24
 
 
 @dataclass(frozen=True)
@@ -130,12 +129,13 @@ def fold_limits() -> Iterator[Limit]:
     yield Limit("2,049 wide definitions", "export", (lambda: wide(2049),), "line 8203: fold too large")
 
 
+def columns(n: int) -> tuple[Lines]:
+    return (lambda: chain(["ROWS", " N o", "COLUMNS"], (f" x{k} o 1" for k in range(n)), ["ENDATA"]),)
+
+
 def mps_limits() -> Iterator[Limit]:
     def rows(n: int) -> tuple[Lines]:
         return (lambda: chain(["ROWS", " N o"], (f" L r{k}" for k in range(n - 1)), ["COLUMNS", "ENDATA"]),)
-
-    def columns(n: int) -> tuple[Lines]:
-        return (lambda: chain(["ROWS", " N o", "COLUMNS"], (f" x{k} o 1" for k in range(n)), ["ENDATA"]),)
 
     def entries(more: Iterable[str]) -> tuple[Lines]:
         rows = chain(["ROWS", " N r0"], (f" L r{k}" for k in range(1, 9)))
@@ -152,9 +152,6 @@ def mps_limits() -> Iterator[Limit]:
 
 
 def import_limits() -> Iterator[Limit]:
-    def columns(n: int) -> tuple[Lines]:
-        return (lambda: chain(["ROWS", " N o", "COLUMNS"], (f" x{k} o 1" for k in range(n)), ["ENDATA"]),)
-
     yield from pair("2^20 columns imported", "import", columns, PLACES, "program: too large", large=True)
 
 
@@ -216,58 +213,43 @@ def answer_limits() -> Iterator[Limit]:
     yield Limit("a suffix value more of an answer", "return", more, f"file 2 line {1 + TERMS + 1}: too large", large=True)
 
 
-def proof_limits() -> Iterator[Limit]:
+def doubles() -> Iterator[str]:
     """One whole variable from 0 to 5, of which the double is at least 3, in each of 1,024 rows; least is its value."""
-    file = (lambda: chain(head(1, 1024, 1, 0, 1, 1024, 1, 0), ["O0 0", "n0", "r"], repeat("2 3", 1024), ["b", "0 0 5"],
-                          chain.from_iterable((f"J{i} 1", "0 2") for i in range(1024)), ["G0 1", "0 1"]),)
+    return chain(head(1, 1024, 1, 0, 1, 1024, 1, 0), ["O0 0", "n0", "r"], repeat("2 3", 1024), ["b", "0 0 5"],
+                 chain.from_iterable((f"J{i} 1", "0 2") for i in range(1024)), ["G0 1", "0 1"])
+
+
+def leaves(first: Iterable[str], splits: int, count: int) -> Iterator[str]:
+    """A tree of splits, and so many leaves of 1,024 duals."""
+    return chain(first, repeat("split 0 1", splits),
+                 chain.from_iterable(chain(["duals 1024"], (f"{i} 0" for i in range(1024))) for _ in range(count)))
+
+
+def splits(first: Iterable[str], n: int) -> tuple[Lines, ...]:
+    return doubles, lambda: chain(first, repeat("split 0 1", n), repeat("duals 0", n + 1))
+
+
+def proof_limits() -> Iterator[Limit]:
     first = ["proof 1", "value 0 0"]
 
-    def splits(n: int) -> tuple[Lines, ...]:
-        return (*file, lambda: chain(first, repeat("split 0 1", n), repeat("duals 0", n + 1)))
-
-    yield Limit("65,535 nodes of a proof", "prove", splits(32767), out=b"proved\n", large=True)
-    yield Limit("65,537 nodes of a proof", "prove", splits(32768), "file 2 line 65539: too large")
-
-    def leaf() -> Iterator[str]:
-        return chain(["duals 1024"], (f"{i} 0" for i in range(1024)))
-
-    def leaves() -> Iterator[str]:
-        return chain(first, repeat("split 0 1", 4095), chain.from_iterable(leaf() for _ in range(4096)))
-
-    yield Limit("2^22 pairs of a proof", "prove", (*file, leaves), out=b"proved\n", large=True)
-
-    def more() -> Iterator[str]:
-        return chain(first, repeat("split 0 1", 4096), chain.from_iterable(leaf() for _ in range(4096)), ["duals 1", "0 0"])
-
+    yield Limit("65,535 nodes of a proof", "prove", splits(first, 32767), out=b"proved\n", large=True)
+    yield Limit("65,537 nodes of a proof", "prove", splits(first, 32768), "file 2 line 65539: too large")
+    yield Limit("2^22 pairs of a proof", "prove", (doubles, lambda: leaves(first, 4095, 4096)), out=b"proved\n", large=True)
+    more = (doubles, lambda: chain(leaves(first, 4096, 4096), ["duals 1", "0 0"]))
     at = 2 + 4096 + 4096 * 1025 + 2
-    yield Limit("a pair more of a proof", "prove", (*file, more), f"file 2 line {at}: too large", large=True)
+    yield Limit("a pair more of a proof", "prove", more, f"file 2 line {at}: too large", large=True)
 
 
 def certificate_limits() -> Iterator[Limit]:
-    """The file of proofs; all numbers are 0. A tree has an odd number of nodes."""
-    file = (lambda: chain(head(1, 1024, 1, 0, 1, 1024, 1, 0), ["O0 0", "n0", "r"], repeat("2 3", 1024), ["b", "0 0 5"],
-                          chain.from_iterable((f"J{i} 1", "0 2") for i in range(1024)), ["G0 1", "0 1"]),)
+    """All numbers are 0. A tree has an odd number of nodes."""
     first = ["certificate 1", "bound 0 0"]
 
-    def splits(n: int) -> tuple[Lines, ...]:
-        return (*file, lambda: chain(first, repeat("split 0 1", n), repeat("duals 0", n + 1)))
-
-    yield Limit("2^22 - 1 nodes of a certificate", "verify", splits(2**21 - 1), out=b"bound 0\n", large=True)
-    yield Limit("2^22 + 1 nodes of a certificate", "verify", splits(2**21), f"file 2 line {2 + 2**22 + 1}: too large", large=True)
-
-    def leaf() -> Iterator[str]:
-        return chain(["duals 1024"], (f"{i} 0" for i in range(1024)))
-
-    def leaves(n: int) -> Iterator[str]:
-        return chain(first, repeat("split 0 1", n), chain.from_iterable(leaf() for _ in range(2**14)))
-
-    yield Limit("2^24 pairs of a certificate", "verify", (*file, lambda: leaves(2**14 - 1)), out=b"bound 0\n", large=True)
+    yield Limit("2^22 - 1 nodes of a certificate", "verify", splits(first, 2**21 - 1), out=b"bound 0\n", large=True)
+    yield Limit("2^22 + 1 nodes of a certificate", "verify", splits(first, 2**21), f"file 2 line {2 + 2**22 + 1}: too large", large=True)
+    yield Limit("2^24 pairs of a certificate", "verify", (doubles, lambda: leaves(first, 2**14 - 1, 2**14)), out=b"bound 0\n", large=True)
+    more = (doubles, lambda: chain(leaves(first, 2**14, 2**14), ["duals 1", "0 0"]))
     at = 2 + 2**14 + 2**14 * 1025 + 2
-
-    def more() -> Iterator[str]:
-        return chain(leaves(2**14), ["duals 1", "0 0"])
-
-    yield Limit("a pair more of a certificate", "verify", (*file, more), f"file 2 line {at}: too large", large=True)
+    yield Limit("a pair more of a certificate", "verify", more, f"file 2 line {at}: too large", large=True)
 
 
 def largest() -> Iterator[Limit]:

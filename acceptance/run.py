@@ -98,6 +98,9 @@ def examples(commands: Sequence[str]) -> Iterator[Case]:
 
 
 def main() -> None:
+    if {"-h", "--help"} & set(sys.argv[1:]):
+        print(__doc__)
+        sys.exit()
     if len(sys.argv) < 2:
         sys.exit(__doc__)
     program = Program(sys.argv[1])

@@ -77,6 +77,9 @@ def main(kind: str, size: str, folder: str) -> None:
 
 
 if __name__ == "__main__":
+    if {"-h", "--help"} & set(sys.argv[1:]):
+        print(__doc__)
+        sys.exit()
     if len(sys.argv) != 4:
         sys.exit(__doc__)
     main(*sys.argv[1:])

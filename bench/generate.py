@@ -31,6 +31,9 @@ def header(variables: int, rows: int, binary: int, integer: int, terms: int, def
 
 
 def main() -> None:
+    if {"-h", "--help"} & set(sys.argv[1:]):
+        print(__doc__)
+        sys.exit()
     if len(sys.argv) < 5:
         sys.exit(__doc__)
     out = sys.argv[1]

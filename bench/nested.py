@@ -92,6 +92,9 @@ def main(shape: str, count: int, out: str) -> None:
 
 
 if __name__ == "__main__":
+    if {"-h", "--help"} & set(sys.argv[1:]):
+        print(__doc__)
+        sys.exit()
     if len(sys.argv) != 4:
         sys.exit(__doc__)
     main(sys.argv[1], int(sys.argv[2]), sys.argv[3])

@@ -15,7 +15,9 @@ from dataclasses import dataclass
 from pathlib import Path
 from xml.sax.saxutils import escape
 
-TOP = Path(__file__).resolve().parent.parent
+sys.path.append(str(Path(__file__).resolve().parent.parent / "dev"))
+from made import TOP, main    # noqa: E402
+
 PICTURES = TOP / "docs" / "pictures"
 WIDTH, LEFT, HIGH, STEP = 900, 330, 16, 30
 NUMBER = re.compile(r"^\d+\.\d+")
@@ -72,19 +74,9 @@ def picture(scheme: str, found: list[Bar]) -> str:
     return "\n".join([*out, "</svg>", ""])
 
 
-def main(word: str) -> int:
-    found = bars()
-    made = {PICTURES / f"speed-{scheme}.svg": picture(scheme, found) for scheme in SCHEMES}
-    stale = [path for path, text in made.items() if not path.exists() or path.read_text() != text]
-    for path in stale:
-        if word == "--write":
-            path.write_text(made[path])
-        else:
-            print(f"{path.relative_to(TOP)} is not as bench/picture.py --write makes it")
-    return 1 if stale and word == "--check" else 0
+def made() -> dict[Path, str]:
+    return {PICTURES / f"speed-{scheme}.svg": picture(scheme, bars()) for scheme in SCHEMES}
 
 
 if __name__ == "__main__":
-    if sys.argv[1:] not in (["--write"], ["--check"]):
-        sys.exit(__doc__)
-    sys.exit(main(sys.argv[1]))
+    sys.exit(main(__doc__, made))

@@ -107,6 +107,9 @@ def main(program: str, nl: str, value: str, folder: str, seconds: str = "600") -
 
 
 if __name__ == "__main__":
+    if {"-h", "--help"} & set(sys.argv[1:]):
+        print(__doc__)
+        sys.exit()
     if len(sys.argv) not in (5, 6):
         sys.exit(__doc__)
     main(*sys.argv[1:])

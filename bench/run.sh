@@ -13,6 +13,10 @@
 # (rows.c) reads both texts to the terms of their rows, and its ratio stands beside. The first number of
 # TERMS is also that of lists in C and of defined variables, which asl2mps refuses: they stand beside J terms.
 set -eu
+if [ "${1:-}" = -h ] || [ "${1:-}" = --help ]; then
+    sed -n '2,/^set/{/^set/d;s/^# \{0,1\}//;p}' "$0"
+    exit 0
+fi
 here=$(cd "$(dirname "$0")" && pwd)
 program=$(realpath "$1")
 work=$(mktemp -d)

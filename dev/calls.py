@@ -1,9 +1,9 @@
 #!/usr/bin/env python3
-"""Lists every public call with its clauses, whether it may want memory, and the tests that make it.
+"""Lists every public call with its clauses, whether it may want memory, the tests that make it, and what it says in words.
 
-    dev/calls.py            the list, a line each (the packages hold it as calls.txt)
-    dev/calls.py --check    the calls that may want memory and that no test names, nor the page docs/verify/calls.md; status 1
-                            where there is one
+    dev/calls.py [CRATE ..]     the list of these crates, or of all (the packages hold it as calls.txt)
+    dev/calls.py --check        the calls that may want memory and that no test names, nor the page docs/verify/calls.md;
+                                status 1 where there is one
 
 A call is public where the root of its crate hands out its name or its type. Laws (`laws` of a crate) take nothing and have
 empty bodies: their clauses are the laws, and they are listed with them.
@@ -13,9 +13,11 @@ from __future__ import annotations
 import os
 import re
 import sys
-from collections.abc import Iterator
+from collections.abc import Iterator, Sequence
 from dataclasses import dataclass
 from pathlib import Path
+
+from map import rooms
 
 TOP = Path(__file__).resolve().parent.parent
 PAGE = TOP / "docs" / "verify" / "calls.md"
@@ -24,18 +26,20 @@ TESTS = ("call_tests", "command_tests")
 HANDED = re.compile(r"^pub use (?:\w+::)*(?:(\w+)|\{([^}]*)\});", re.M)
 OPENED = re.compile(r"^pub mod (\w+);", re.M)
 IMPL = re.compile(r"^impl(?:<[^{;]*?>)? (?:(?P<trait>[\w:]+)(?:<[^{]*?>)? for )?(?P<type>\w+)", re.M)
+FUNCTION = re.compile(r"^(?: {4})?(?:pub )?fn (\w+)")
 LABEL = re.compile(r"^\s*ensures(?: (\w+))? \{", re.M)
 MEMORY = re.compile(r"AllocError|Stop<|Answer>")
 
 
 @dataclass(frozen=True)
 class Call:
-    """A public call: its crate, name with the type's, clauses by label, and whether it may want memory."""
+    """A public call: its crate, name with the type's, clauses by label, whether it may want memory, and its comment."""
 
     crate: str
     name: str
     clauses: tuple[str, ...]
     wants_memory: bool
+    words: str
 
     @property
     def word(self) -> str:
@@ -44,12 +48,12 @@ class Call:
     def told(self, tests: list[str]) -> str:
         clauses = ", ".join(self.clauses) or "none"
         return f"{self.crate}: {self.name}: {clauses}{'; memory' if self.wants_memory else ''}" + \
-            (f"; {', '.join(tests)}" if tests else "")
+            (f"; {', '.join(tests)}" if tests else "") + (f"\n    {self.words}" if self.words else "")
 
 
 def crates() -> list[str]:
-    lines = (TOP / "crates.txt").read_text().splitlines()
-    return [line.split(":")[0].split()[0] for line in lines if ":" in line.split("#")[0]]
+    """The crates in the order of crates.txt."""
+    return list(rooms()[1])
 
 
 def handed_out(root: str) -> set[str]:
@@ -71,6 +75,21 @@ def functions(text: str) -> Iterator[tuple[str, str, bool, str]]:
             yield kind, at[2], bool(at[1]) and not is_trait, block[at.start():end.start() if end else len(block)]
 
 
+def comments(text: str) -> dict[tuple[str, str], str]:
+    """What stands above each function (`///`), by its type (or none) and name."""
+    found, kind, above = {}, "", list[str]()
+    for line in text.splitlines():
+        if at := IMPL.match(line):
+            kind = at["type"]
+        if line.lstrip().startswith("///"):
+            above.append(line.strip(" /"))
+        elif at := FUNCTION.match(line):
+            found[kind if line[0] == " " else "", at[1]], above = " ".join(above), []
+        elif not line.strip():
+            above = []
+    return found
+
+
 def calls(crate: str) -> list[Call]:
     """The public calls of a crate, by file."""
     source = TOP / "crates" / crate / "src"
@@ -81,11 +100,13 @@ def calls(crate: str) -> list[Call]:
     found = []
     for path in sorted(source.rglob("*.rt")):
         module = path.relative_to(source).parts[0].removesuffix(".rt")
+        words = comments(path.read_text())
         for kind, name, is_public, head in functions(path.read_text()):
             if is_public and (path == root or module in opened or (kind or name) in handed):
                 labels = tuple(label or "its clause" for label in LABEL.findall(head))
                 result = head.split("->", 1)[1].split("\n")[0] if "->" in head else ""
-                found.append(Call(crate, f"{kind}::{name}" if kind else name, labels, bool(MEMORY.search(result))))
+                found.append(Call(crate, f"{kind}::{name}" if kind else name, labels, bool(MEMORY.search(result)),
+                                  words.get((kind, name), "")))
     return found
 
 
@@ -103,20 +124,16 @@ def made_in(call: Call, texts: dict[str, str]) -> list[str]:
     return [name for name, text in texts.items() if re.search(rf"\b{call.word}\b[(<:]", text)]
 
 
-def all_calls() -> list[Call]:
-    return [call for crate in crates() for call in calls(crate)]
-
-
-def listed() -> str:
-    """The list of all calls, a line each."""
+def listed(asked: Sequence[str] = ()) -> str:
+    """The list of the calls of these crates, or of all."""
     texts = tests()
-    return "\n".join(call.told(made_in(call, texts)) for call in all_calls()) + "\n"
+    return "\n".join(call.told(made_in(call, texts)) for crate in asked or crates() for call in calls(crate)) + "\n"
 
 
 def untested() -> list[Call]:
     """The calls that may want memory, which no test makes and no row of the page explains."""
     texts, page = tests(), PAGE.read_text()
-    return [call for call in all_calls() if call.wants_memory and not made_in(call, texts) and f"`{call.name}`" not in page]
+    return [call for crate in crates() for call in calls(crate) if call.wants_memory and not made_in(call, texts) and f"`{call.name}`" not in page]
 
 
 def main(words: list[str]) -> int:
@@ -124,10 +141,13 @@ def main(words: list[str]) -> int:
         for call in (found := untested()):
             print(f"{call.crate}: {call.name} may want memory, and no test makes it (docs/verify/calls.md)")
         return 1 if found else 0
-    if words:
+    if {"-h", "--help"} & set(words):
         print(__doc__)
-        return 0 if words[0] in ("-h", "--help") else 3
-    print(listed(), end="")
+        return 0
+    if unknown := set(words) - set(crates()):
+        print(f"dev/calls.py: no crate {', '.join(sorted(unknown))}", file=sys.stderr)
+        return 3
+    print(listed(words), end="")
     return 0
 
 

@@ -16,6 +16,9 @@ import shutil
 import subprocess
 import sys
 
+if {"-h", "--help"} & set(sys.argv[1:]):        # of the script that is called, also where there is no toolchain
+    print(sys.modules["__main__"].__doc__)
+    sys.exit()
 KIT = os.path.dirname(os.path.dirname(os.path.realpath(shutil.which("rt") or sys.exit("rt is not on the PATH"))))
 TOP = os.path.dirname(os.path.dirname(os.path.abspath(__file__)))
 GATE = os.path.abspath(os.environ.get("GATE", f"{TOP}/../gate"))
@@ -102,9 +105,6 @@ def main(crate: str, flags: list[str]) -> int:
 
 
 if __name__ == "__main__":
-    if {"-h", "--help"} & set(sys.argv[1:]):
-        print(__doc__)
-        sys.exit()
     if len(sys.argv) < 2:
         sys.exit(__doc__)
     sys.exit(main(sys.argv[1], sys.argv[2:]))

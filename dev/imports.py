@@ -1,3 +1,4 @@
+#!/usr/bin/env python3
 """Imports of specs, proofs and clauses that name nothing, and those that a file does not use.
 
     dev/imports.py [CRATE ..]
@@ -125,4 +126,7 @@ def main(arguments: list[str]) -> int:
 
 
 if __name__ == "__main__":
+    if {"-h", "--help"} & set(sys.argv[1:]):
+        print(__doc__)
+        sys.exit()
     sys.exit(main(sys.argv[1:]))

@@ -1,3 +1,4 @@
+#!/usr/bin/env python3
 """Lemmas and definitions that nothing needs, and bodies that stand word for word elsewhere.
 
     dev/lemmas.py [CRATE ..]
@@ -171,4 +172,7 @@ def main(arguments: list[str]) -> int:
 
 
 if __name__ == "__main__":
+    if {"-h", "--help"} & set(sys.argv[1:]):
+        print(__doc__)
+        sys.exit()
     sys.exit(main(sys.argv[1:]))

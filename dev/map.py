@@ -1,8 +1,9 @@
 #!/usr/bin/env python3
-"""The map of the crates: a table in docs/dev/design.md and a picture, made of crates.txt and of the first words of each crate.
+"""The map of the crates, made of crates.txt and of the first words of each crate.
 
-    dev/map.py --write      writes the table between its marks in docs/dev/design.md, and docs/pictures/crates-*.svg
-    dev/map.py --check      says whether both are as --write makes them; status 1 where one is not
+    dev/map.py --table      what each crate is, by room (the packages hold it as docs/dev/crates.txt)
+    dev/map.py --write      writes the pictures docs/pictures/crates-*.svg
+    dev/map.py --check      says whether they are as --write makes them; status 1 where one is not
     dev/map.py --chain      the longest chain of crates, from the program down
     dev/map.py --chains     for each crate how long the longest chain below it is, itself counted, and how many crates
                             and lines of proved text a change of it proves again, itself and the tests counted
@@ -17,10 +18,9 @@ from functools import lru_cache
 from pathlib import Path
 from xml.sax.saxutils import escape
 
-TOP = Path(__file__).resolve().parent.parent
-DESIGN = TOP / "docs" / "dev" / "design.md"
+from made import TOP, main
+
 PICTURES = TOP / "docs" / "pictures"
-BEGIN, END = "<!-- the crates: dev/map.py --write -->", "<!-- end of the crates -->"
 
 # The colours of a picture: ground, ink, faint ink, a box and its edge, which arrows have, too.
 SCHEMES = {
@@ -67,14 +67,12 @@ def first_words(crate: str) -> str:
     return " ".join(said)
 
 
-def table(found: list[Room]) -> str:
-    """A row a crate, below its room."""
-    lines = [BEGIN, "| room | crate | what it is |", "|---|---|---|"]
-    for room in found:
-        for place, crate in enumerate(room.crates):
-            head = f"**{room.name}**: {room.what}" if place == 0 else ""
-            lines.append(f"| {head} | `{crate}` | {first_words(crate).rstrip('.')} |")
-    return "\n".join([*lines, END])
+def table() -> str:
+    """What each crate is, below its room."""
+    lines = []
+    for room in rooms()[0]:
+        lines += [f"{room.name}: {room.what}", *(f"    {crate}: {first_words(crate)}" for crate in room.crates)]
+    return "\n".join(lines) + "\n"
 
 
 def reduced(uses: dict[str, list[str]]) -> dict[str, list[str]]:
@@ -230,38 +228,10 @@ def picture(found: list[Room], uses: dict[str, list[str]], scheme: str) -> str:
 
 
 def made() -> dict[Path, str]:
-    """Each file that is made, with its text."""
     found, uses = rooms()
-    design = DESIGN.read_text()
-    before, mark, rest = design.partition(BEGIN)
-    after = rest.partition(END)[2] if mark else ""
-    files = {DESIGN: before + table(found) + after if mark else design}
-    files.update({PICTURES / f"crates-{scheme}.svg": picture(found, uses, scheme) for scheme in SCHEMES})
-    return files
-
-
-def main(word: str) -> int:
-    if word == "--chain":
-        print(" ".join(chain(rooms()[1])))
-        return 0
-    if word == "--chains":
-        print("\n".join(chains(rooms()[1])))
-        return 0
-    stale = [path for path, text in made().items() if not path.exists() or path.read_text() != text]
-    if word == "--write":
-        PICTURES.mkdir(exist_ok=True)
-        for path in stale:
-            path.write_text(made()[path])
-        return 0
-    for path in stale:
-        print(f"{path.relative_to(TOP)} is not as dev/map.py --write makes it")
-    return 1 if stale else 0
+    return {PICTURES / f"crates-{scheme}.svg": picture(found, uses, scheme) for scheme in SCHEMES}
 
 
 if __name__ == "__main__":
-    if {"-h", "--help"} & set(sys.argv[1:]):
-        print(__doc__)
-        sys.exit()
-    if sys.argv[1:] not in (["--write"], ["--check"], ["--chain"], ["--chains"]):
-        sys.exit(__doc__)
-    sys.exit(main(sys.argv[1]))
+    sys.exit(main(__doc__, made, {"--table": table, "--chain": lambda: " ".join(chain(rooms()[1])),
+                                  "--chains": lambda: "\n".join(chains(rooms()[1]))}))

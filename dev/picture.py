@@ -11,7 +11,8 @@ from dataclasses import dataclass
 from pathlib import Path
 from xml.sax.saxutils import escape
 
-TOP = Path(__file__).resolve().parent.parent
+from made import TOP, main
+
 PICTURES = TOP / "docs" / "pictures"
 WIDTH, HEIGHT = 1000, 300
 HIGH = 46                   # of a box
@@ -108,21 +109,9 @@ def picture(scheme: str) -> str:
     return "\n".join([*out, "</svg>", ""])
 
 
-def main(word: str) -> int:
-    made = {PICTURES / f"way-{scheme}.svg": picture(scheme) for scheme in SCHEMES}
-    stale = [path for path, text in made.items() if not path.exists() or path.read_text() != text]
-    for path in stale:
-        if word == "--write":
-            path.write_text(made[path])
-        else:
-            print(f"{path.relative_to(TOP)} is not as dev/picture.py --write makes it")
-    return 1 if stale and word == "--check" else 0
+def made() -> dict[Path, str]:
+    return {PICTURES / f"way-{scheme}.svg": picture(scheme) for scheme in SCHEMES}
 
 
 if __name__ == "__main__":
-    if {"-h", "--help"} & set(sys.argv[1:]):
-        print(__doc__)
-        sys.exit()
-    if sys.argv[1:] not in (["--write"], ["--check"]):
-        sys.exit(__doc__)
-    sys.exit(main(sys.argv[1]))
+    sys.exit(main(__doc__, made))

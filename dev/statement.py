@@ -4,7 +4,6 @@
     dev/statement.py CRATE/FILE:NAME ..   the definitions, by file, from the ground up, with their texts
     dev/statement.py --all                the definitions of every theorem, names and texts (the packages hold this text)
     dev/statement.py --lists              their names by theorem and file
-    dev/statement.py --sizes              how large the statement of each theorem is
     dev/statement.py --senses             the names that have two senses in the statement of a theorem
     dev/statement.py --write              writes docs/verify/reading.md: what says each theorem, and how much that is
     dev/statement.py --check              says whether docs/verify/reading.md is as --write makes it, and what a statement may
@@ -27,7 +26,7 @@ from graphlib import TopologicalSorter
 from pathlib import Path
 from typing import Any, TypeVar
 
-from theorems import ARITHMETIC, CLOSING, COMMANDS, DOUBTS, LEGEND, OPENING, THEOREMS
+from theorems import ARITHMETIC, CLOSING, COMMANDS, DOUBTS, LEGEND, OPENING, THEOREMS, Theorem
 
 TOP = Path(__file__).resolve().parent.parent
 READING = TOP / "docs" / "verify" / "reading.md"
@@ -86,6 +85,10 @@ class Definition:
         return [found[1] for found in map(CONSTRUCTOR.match, self.lines[1:]) if found]
 
 
+def words_of(found: list[Definition]) -> set[str]:
+    return {word for it in found for word in WORD.findall(it.text)}
+
+
 @dataclass
 class SpecFile:
     """A file of definitions: what it is about, what it imports, under which name, and what it defines, in order."""
@@ -129,22 +132,20 @@ class SpecFile:
 
     def other_names(self, found: list[Definition]) -> list[str]:
         """A line for each name that these definitions use for what is called otherwise where it stands."""
-        words = {word for it in found for word in WORD.findall(it.text)}
+        words = words_of(found)
         others = [(name, *there) for name, there in sorted(self.imports.items()) if name != there[1] and name in words]
         return [f"-- here {name} is {'.'.join(path).removeprefix('Rattle.')}:{own}" for name, path, own in others]
 
     def types_of_code(self, found: list[Definition]) -> list[str]:
         """A line for each file of code that declares types which these definitions use."""
-        words = {word for it in found for word in WORD.findall(it.text)}
         files: dict[str, list[str]] = {}
-        for name, (path, own) in sorted(self.imports.items()):
-            if name in words and path[2:4] == ["specs", "declared"] and not path[-1].startswith("The"):
-                files.setdefault("/".join(["crates", path[1], "src", *path[4:-1]]) + ".rt", []).append(own)
-        return [f"-- {', '.join(sorted(set(names)))} of code: {file}" for file, names in sorted(files.items())]
+        for file, name in sorted(self.declared(found)):
+            files.setdefault(file, []).append(name)
+        return [f"-- {', '.join(names)} of code: {file}" for file, names in files.items()]
 
     def declared(self, found: list[Definition]) -> set[tuple[str, str]]:
         """The types of code that these definitions use: file and name."""
-        words = {word for it in found for word in WORD.findall(it.text)}
+        words = words_of(found)
         types = set()
         for name, (path, own) in self.imports.items():
             if name in words and path[2:4] == ["specs", "declared"]:
@@ -229,6 +230,10 @@ class Statement:
                 below = sorted(self.rests_on(key) - entered, reverse=True)
                 stack += [(it, False) for it in below]
         return list(found)
+
+    def of(self, theorem: Theorem) -> list[Key]:
+        """What the statement of a theorem rests on."""
+        return self.closure([key_of(root) for root in theorem.roots])
 
     def by_file(self, keys: list[Key]) -> dict[tuple[str, str], list[Definition]]:
         """Definitions by file: crates, and files in a crate, after those that they rest on, definitions in their order.
@@ -315,12 +320,6 @@ def whole_size(statement: Statement, keys: list[Key]) -> str:
     return f"{size_of([statement[key] for key in keys])}, {len(files)} files, {len(crates)} crates"
 
 
-def lemma_size(statement: Statement, keys: list[Key]) -> str:
-    """How many lines the lemmas are that these cite."""
-    lines = sum(len(statement[it].own_lines) for it in statement.lemmas_below(keys))
-    return f"{lines} lines"
-
-
 def printed(statement: Statement, roots: list[Key]) -> str:
     """The texts of all definitions, by file."""
     keys = statement.closure(roots)
@@ -340,15 +339,16 @@ def printed(statement: Statement, roots: list[Key]) -> str:
         lines += [f"==== types of code: {type_size(statement, keys)}", ""]
     for (place, name), declared in types.items():
         lines += [f"-- {name}: {place}", *declared, ""]
-    cited = f"lemmas that they cite, not to be read: {lemma_size(statement, keys)}"
-    return "\n".join([*lines, f"{whole_size(statement, keys)}; {type_size(statement, keys)}", cited])
+    cited = sum(len(statement[it].own_lines) for it in statement.lemmas_below(keys))
+    return "\n".join([*lines, f"{whole_size(statement, keys)}; {type_size(statement, keys)}",
+                      f"lemmas that they cite, not to be read: {cited} lines"])
 
 
 def lists(statement: Statement) -> list[str]:
     """The definitions of each theorem by file, with the line at which each stands."""
     lines = []
     for it in THEOREMS[:-1]:
-        keys = statement.closure([key_of(root) for root in it.roots])
+        keys = statement.of(it)
         lines += [f"==== {it.name}: {whole_size(statement, keys)}", ""]
         for (crate, file), found in statement.by_file(keys).items():
             names = ", ".join(f"{one.line} {one.key[2]}" for one in found)
@@ -370,7 +370,7 @@ def reading(statement: Statement) -> str:
              "|---|---|---|---|"]
     for it in THEOREMS:
         roots = ", ".join(f"`{root}`" for root in it.roots)
-        keys = statement.closure([key_of(root) for root in it.roots])
+        keys = statement.of(it)
         files, crates = len({key[:2] for key in keys}), len({key[0] for key in keys})
         count = f"{len(keys)}, {sum(len(statement[key].own_lines) for key in keys)}; {files}, {crates}; {len(types_of(statement, keys))}"
         lines.append(f"| {it.name} | {roots} | {it.sentence} | {count} |")
@@ -390,13 +390,13 @@ def complaints(statement: Statement) -> list[str]:
     """What statements rest on and may not: what is inside, and a lemma whose type is no proposition."""
     found = set(without_row(statement))
     for it in THEOREMS:
-        for key in statement.closure([key_of(root) for root in it.roots]):
+        for key in statement.of(it):
             if key[1].startswith("Inside"):
                 found.add(f"{'/'.join(key)} is part of the statement of `{it.name}`")
             for lemma in statement.names_in(key):
                 if statement[lemma].is_lemma and not statement[lemma].is_proof():
                     found.add(f"{'/'.join(lemma)} is no proof, and {'/'.join(key)} cites it")
-        named = senses(statement, statement.closure([key_of(root) for root in it.roots]))
+        named = senses(statement, statement.of(it))
         if len(named) > it.two_senses and it != THEOREMS[-1]:
             found.add(f"{len(named)} names have two senses in the statement of `{it.name}`, more than {it.two_senses}: "
                       f"{', '.join(named)} (dev/statement.py --senses)")
@@ -411,19 +411,13 @@ def main(words: list[str]) -> int:
         print(all_texts(), end="")
     elif words == ["--lists"]:
         print("\n".join(lists(statement)))
-    elif words == ["--sizes"]:
-        for it in THEOREMS:
-            keys = statement.closure([key_of(root) for root in it.roots])
-            lemmas = lemma_size(statement, keys)
-            print(f"{it.name}: {whole_size(statement, keys)}; {type_size(statement, keys)}; lemmas: {lemmas}")
     elif words == ["--senses"]:
         for it in THEOREMS[:-1]:
-            named = senses(statement, statement.closure([key_of(root) for root in it.roots]))
+            named = senses(statement, statement.of(it))
             print(f"{it.name}: {len(named)}")
             for name, keys in named.items():
                 print(f"    {name}: " + ", ".join(f"{crate}/{file}" for crate, file, _ in keys))
     elif words == ["--write"]:
-        READING.parent.mkdir(parents=True, exist_ok=True)
         READING.write_text(reading(statement))
     elif words == ["--check"]:
         found = complaints(statement)
@@ -439,6 +433,9 @@ def main(words: list[str]) -> int:
 
 
 if __name__ == "__main__":
+    if {"-h", "--help"} & set(sys.argv[1:]):
+        print(__doc__)
+        sys.exit()
     try:
         sys.exit(main(sys.argv[1:]))
     except BrokenPipeError:

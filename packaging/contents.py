@@ -25,9 +25,10 @@ from bridge_drivers.completion import Completion, place     # noqa: E402
 
 PACKAGE = "bridge_drivers"
 FOLDERS = ("user", "verify", "dev")         # of documents
+MADE = {"docs/verify/wrong-bodies.txt": ("wrong-bodies", "--list"),
+        "docs/dev/crates.txt": ("map.py", "--table")}       # texts that scripts of dev/ print
 LINK = re.compile(r"\]\(([^)#]+)(?:#[^)]*)?\)")
 DRIVER = "bridge_drivers.driver:main"       # commands of this kind share a man page
-DRIVERS_PAGE = "bridge-cbc.1"
 X86_64 = b"\x3e\x00"                        # the machine in an ELF file's head
 
 
@@ -184,8 +185,9 @@ class Project:
                 found.append(File(f"crates/{crate}/README.md", read("crates", crate, "README.md")))
         found.append(File("docs/verify/definitions.txt", statement.all_texts().encode()))
         found.append(File("docs/verify/calls.txt", calls.listed().encode()))
-        wrong = said_by(os.path.join(TOP, "dev", "wrong-bodies"), "--list")
-        found.append(File("docs/verify/wrong-bodies.txt", wrong.encode()))
+        for made, words in MADE.items():
+            said = said_by(os.path.join(TOP, "dev", words[0]), words[1])
+            found.append(File(made, said.encode()))
         dead = dead_links(found)
         if dead:
             raise Unfit("links that lead nowhere: " + ", ".join(dead))

@@ -25,15 +25,15 @@ from {module} import {function}
 {function}()
 """
 DESCRIPTION = """ Reads text .nl files of AMPL, MiniZinc, Pyomo and JuMP and writes MPS, exactly;
- takes a solver's answer back as .sol, and checks what it claims. The program
- nl-bridge is proved; the drivers for cbc and other solvers, with
- configurations for MiniZinc and a class for PuLP, are Python around it.
+ takes a solver's answer back as .sol, and checks what it claims.
+ {state} The drivers for
+ cbc and other solvers, with configurations for MiniZinc and a class for PuLP,
+ are Python around it.
 """
+STATES = {True: "The program nl-bridge is proved.",
+          False: "A build for trials: no gate has proved the program."}
 OVERRIDES = """# The program is byte for byte the one that was built, tried and summed.
 nl-bridge: unstripped-binary-or-object [usr/libexec/nl-bridge/bridge]
-"""
-UNPROVED = """ .
- This package was built for trials: no gate has proved the program in it.
 """
 INSTALLED = """#!/bin/sh
 set -e
@@ -111,7 +111,7 @@ def control(project: Project, inside: list[File]) -> list[File]:
               "Recommends: coinor-cbc, python3-scipy", f"Suggests: {SOLVERS}", "Section: math",
               "Priority: optional", f"Description: {project.description()}"]
     sums = [f"{hashlib.md5(f.data).hexdigest()}  {f.path}\n" for f in inside]
-    said = DESCRIPTION + ("" if project.proved else UNPROVED)
+    said = DESCRIPTION.format(state=STATES[project.proved])
     return [File("DEBIAN/control", ("\n".join(fields) + "\n" + said).encode()),
             File("DEBIAN/md5sums", "".join(sums).encode()),
             File("DEBIAN/postinst", INSTALLED.format(name=project.name).encode(), 0o755),

@@ -94,6 +94,9 @@ def noted() -> tuple[Mapping[str, str], str]:
 
 
 if __name__ == "__main__":
+    if {"-h", "--help"} & set(sys.argv[1:]):
+        print(__doc__)
+        sys.exit()
     if sys.argv[1:2] == ["--note"] and len(sys.argv) == 3:
         note(sys.argv[2])
     elif sys.argv[1:2] == ["--unproved"] and len(sys.argv) == 3:

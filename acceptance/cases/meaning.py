@@ -18,7 +18,6 @@ class Column:
     lower: Fraction | None = None
     upper: Fraction | None = None
     lower_set: bool = False
-    upper_set: bool = False
     asks_whole: bool = False
 
     def bound(self, kind: str, value: Fraction | None) -> None:
@@ -26,7 +25,6 @@ class Column:
             self.lower_set = True
             self.lower = {"FR": None, "MI": None, "BV": Fraction(0)}.get(kind, value)
         if kind in ("UP", "UI", "FX", "FR", "PL", "BV"):
-            self.upper_set = True
             self.upper = {"FR": None, "PL": None, "BV": Fraction(1)}.get(kind, value)
         self.asks_whole |= kind in ("BV", "LI", "UI")
 

@@ -1,4 +1,4 @@
-"""Each refusal that docs/user/refusals.md names, in its order, with every cause that it gives."""
+"""Each refusal that `nl-bridge help refusals` lists, in its order, with every cause that it gives."""
 from __future__ import annotations
 
 from collections.abc import Iterator, Sequence

@@ -83,7 +83,7 @@ OWN = (
             "verify mill.mps mill.certificate"),
     Command("completion", "bash|fish|zsh", "completion of all commands for a shell"),
     Command("version", "", "the program with its sum, the toolchain, the drivers", "", (JSON,)),
-    Command("help", "[WORD]", "this text, or that of a command or option"),
+    Command("help", "[WORD]", "this text, or that of a command, an option, or of refusals"),
 )
 WORDS = sorted({command.word for command in (*COMMANDS, *OWN)})
 VERDICTS = ("verify", "verify_mps", "verify_fixed", "check", "prove")

@@ -155,7 +155,7 @@ class Completion:
             self.texts.setdefault(row.word, row.text)
         self.behind = {word: commands.options_of(word) for word in self.texts}
         self.behind["completion"] = list(SHELLS)
-        self.behind["help"] = sorted([*self.texts, *self.options])
+        self.behind["help"] = sorted([*self.texts, *self.options, "refusals"])
         self.behind["explain"] += sorted({row.word for row in commands.COMMANDS})
 
     def bash(self) -> str:

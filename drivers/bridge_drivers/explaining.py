@@ -15,6 +15,7 @@ from . import kinds
 from .expressions import Expression
 from .names import Names, comment_of
 from .printable import in_a_line, printable
+from .reasons import OPCODE, meaning_of
 
 TOLD = re.compile(r"refused (?:file (\d+) ?)?(?:(line|row|column|objective) (\d+)|program)?: (.*)",
                   re.S)
@@ -28,78 +29,7 @@ FIRST_LINES = {"verify": "certificate 1", "verify_mps": "certificate 1",
                "verify_fixed": "certificate 1", "prove": "proof 1", "return": "answer 1"}
 
 
-class Meaning(NamedTuple):
-    """What a reason says of a model, and what helps (empty where that is plain)."""
-
-    text: str
-    help: str = ""
-
-
 AT_END = ("end in header", "missing segment", "nonzero count", "column count")    # of the file
-MEANING: Mapping[str, Meaning] = {
-    "nonlinear": Meaning("the model is not linear there",
-                         "linearise it: a product with a whole variable by bounds (big M), abs, "
-                         "min and max by rows and one more variable"),
-    "binary file": Meaning("only text .nl files are read: in AMPL, write gNAME",
-                           "the drivers (bridge-cbc and kin) read binary files too"),
-    "bad first line": Meaning("this is no text .nl file"),
-    "refused options": Meaning("the first line's options are not taken",
-                               "write the file anew by AMPL"),
-    "refused count": Meaning("logical constraints, complementarity, networks or functions",
-                             "write them as linear rows"),
-    "refused segment": Meaning("logical constraints or imported functions",
-                               "write them as linear rows"),
-    "refused leaf": Meaning("an imported function or a string"),
-    "special ordered sets": Meaning("sets declared by the suffix sosno are not taken",
-                                    "write the sets as rows with whole variables"),
-    "complementarity": Meaning("complementarity conditions are not taken",
-                               "two rows and a whole variable"),
-    "no such objective": Meaning("the file has fewer objectives; they count from 0 here"),
-    "empty interval": Meaning("a lower bound is above its upper bound, so nothing satisfies the "
-                              "model"),
-    "bad number": Meaning("not a decimal number, or beyond 38 digits (MiniZinc: without "
-                          "--hexafloat)"),
-    "too large": Meaning("more than the file may hold", "split the model"),
-    "too wide": Meaning("an exact value does not fit 128 bits",
-                        "round the data to the digits that are meant"),
-    "row too wide": Meaning("the row's exact values do not fit 128 bits",
-                            "multiply the row out by hand, or round its data"),
-    "objective too wide": Meaning("the objective's exact values do not fit 128 bits",
-                                  "multiply it out by hand, or round its data"),
-    "dual too wide": Meaning("a dual value does not fit 128 bits", "round the dual"),
-    "fold too large": Meaning("the linear forms of the model have too many terms",
-                              "make some defined variables true ones, with an equation"),
-    "division by zero": Meaning("a divisor is 0", "mend the data"),
-    "refused power": Meaning("a power's exponent must be a whole number from 0 to 127",
-                             "compute it in the data"),
-    "end in header": Meaning("an .nl file begins with ten lines"),
-    "missing segment": Meaning("no O of an objective, no r of constraints or no b of variables; "
-                               "MiniZinc writes no b for a model of bounds alone: add a constraint "
-                               "on two variables",
-                               "MiniZinc: add a constraint on two variables"),
-    "undefined": Meaning("a defined variable that is used before its piece"),
-    "no dual values": Meaning("the answer has none, and bridge checks none without them"),
-    "no primal values": Meaning("the answer has none"),
-    "other counts": Meaning("it is of another model"),
-    "unknown name": Meaning("no column, or no row that was exported, has it"),
-    "partial answer": Meaning("values for some columns or duals for some rows, and not for all"),
-    "reserved name": Meaning("it begins with @, or is 'MARKER'"),
-    "repeated name": Meaning("an earlier line has it"),
-    "bad name": Meaning("not one word of 1 to 255 bytes"),
-    "bad section": Meaning("a section of another kind of model (SOS, QUADOBJ, CSECTION), or one "
-                           "out of its order"),
-    "bad bound kind": Meaning("not LO, UP, FX, FR, MI, PL, BV, LI or UI"),
-    "unknown row": Meaning("no line of ROWS has it"),
-    "unknown column": Meaning("no line of COLUMNS has it"),
-    "column again": Meaning("the lines of a column must stand together", "sort them by columns"),
-    "second set": Meaning("two right sides, ranges or sets of bounds", "keep one"),
-    "range on free row": Meaning("a range for an N row", "leave it out"),
-    "no objective": Meaning("no N row", "add one"),
-    "no end": Meaning("the text ends before ENDATA"),
-    "other count": Meaning("names that are not as many as the model has"),
-}
-OPCODE = re.compile(r"refused opcode (\d+)$")
-NO_OPERATOR = "leave it out, or tabulate it as a piecewise-linear function written with linear rows"
 
 
 class Told(NamedTuple):
@@ -134,8 +64,8 @@ def meaning(reason: str) -> str:
     """` (what it means)`, or nothing."""
     if OPCODE.match(reason):
         return " (an operator that is not linear)"
-    known = MEANING.get(reason)
-    return f" ({known.text})" if known else ""
+    text = meaning_of(reason).text
+    return f" ({text})" if text else ""
 
 
 def without_files(told: str) -> str:
@@ -158,11 +88,12 @@ def fault_at(path: str) -> str:
 
 
 def unreadable(files: Sequence[str], shown: Mapping[str, str]) -> str:
-    """Which of the files cannot be read, and why."""
+    """Which of the files cannot be read, and why, and what is there that may be meant."""
     for file in files:
         why = fault_at(file)
         if why:
-            return f"{shown.get(file, file)}: input fault ({why})"
+            beside = "" if os.path.lexists(file) else kinds.no_model(file).partition("; ")[2]
+            return f"{shown.get(file, file)}: input fault ({why})" + (beside and f"; {beside}")
     return "input fault: " + " or ".join(shown.get(f, f) for f in files) + " could not be read"
 
 
@@ -323,8 +254,7 @@ class Refusal:
             text = whole.text(self.segment.body)
             if text and whole.mark > 0:
                 lines.append("in: " + text)
-        known = MEANING.get(t.reason)
-        helps = NO_OPERATOR if OPCODE.match(t.reason) else known.help if known else ""
+        helps = meaning_of(t.reason).help
         if helps:
             lines.append("what helps: " + helps)
         if t.kind == "line":

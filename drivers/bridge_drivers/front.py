@@ -11,7 +11,7 @@ import subprocess
 import sys
 from typing import Callable, Mapping, NamedTuple, Sequence
 
-from . import VERSION, colour, commands, console, explaining, interface, kinds
+from . import VERSION, colour, commands, console, explaining, interface, kinds, reasons
 from .bridge import BESIDE, PACKAGE, Missing, find, is_plain
 from .built import built, state
 from .codes import Status
@@ -22,6 +22,7 @@ from .inputs import Inputs, is_flow, named
 from .interrupts import with_child
 from .mps_file import Damaged, unpacked
 from .near import near
+from .options import Option
 from .report import Report, sum_of
 
 NUMBERS = ("K", "SEED", "SIZE")             # words of the table that are no files
@@ -66,7 +67,8 @@ def read(words: Sequence[str]) -> Call:
                 raise BadWords(f"{name} takes a FILE")
             pages[name[2:]] = value if equal else left.pop()
         elif word.startswith("-") and not is_flow(word):
-            raise BadWords(f"unknown option {word};{near(word, ('--html', '--svg', '--help'))}")
+            meant = near(word, ("--html", "--svg", "--help"))
+            raise BadWords(f"unknown option {word};{meant}".rstrip(";"))
         else:
             plain.append(word)
     word = plain[0] if plain else ""
@@ -125,9 +127,11 @@ def helped(call: Call) -> int:
     if topic in ("", "help"):
         sys.stdout.write(commands.usage())
         return Status.DONE
-    text = commands.help_of(topic) or helped_driver(topic)
+    text = commands.help_of(topic) or reasons.listed() * (topic == "refusals") \
+        or helped_driver(topic)
     if not text:
-        raise BadWords(f"no help on {topic};{near(topic, WORDS)}".rstrip(";"))
+        meant = near(topic, [*WORDS, "refusals", *options()])
+        raise BadWords(f"no help on {topic};{meant}".rstrip(";"))
     sys.stdout.write(text)
     return Status.DONE
 
@@ -142,8 +146,14 @@ def helped_driver(topic: str) -> str:
         return Command(solvers.NAMES[0]).told("-?")
     if topic != name and name in solvers.NAMES:
         return Driver(name).told("-?")
-    known = Command(solvers.NAMES[0]).options.known
-    return known[topic].line() + "\n" if topic in known else ""
+    return options()[topic].line() + "\n" if topic in options() else ""
+
+
+def options() -> Mapping[str, Option]:
+    """Those of all drivers and of bridge-certify."""
+    from . import solvers
+    from .certify.command import Command
+    return Command(solvers.NAMES[0]).options.known
 
 
 # what is here -------------------------------------------------------------------------

@@ -39,12 +39,6 @@ def is_held(text: str) -> bool:
         return False
 
 
-def size_of(value: Exact) -> Exact:
-    if value < 0:
-        return -value
-    return value
-
-
 @dataclass
 class Range:
     """Least and greatest of absolute values."""
@@ -53,24 +47,20 @@ class Range:
     high: Exact | None = None
 
     def take(self, value: Exact) -> None:
-        size = size_of(value)
-        if self.low is None or size < self.low:
-            self.low = size
-        if self.high is None or size > self.high:
-            self.high = size
+        size = -value if value < 0 else value
+        self.low = size if self.low is None else min(self.low, size)
+        self.high = size if self.high is None else max(self.high, size)
 
     def ends(self) -> list[float] | None:
         """In doubles; None where there are none, or are beyond these."""
         try:
-            return None if self.low is None or self.high is None else \
-                [float(self.low), float(self.high)]
+            return [float(end) for end in (self.low, self.high) if end is not None] or None
         except OverflowError:
             return None
 
     def line(self) -> str:
-        if self.low is None or self.high is None:
-            return "none"
-        return f"{figure(self.low)} to {figure(self.high)}"
+        ends = [figure(end) for end in (self.low, self.high) if end is not None]
+        return " to ".join(ends) or "none"
 
 
 @dataclass
@@ -126,10 +116,7 @@ def figures_of(program: Program) -> Figures:
 def known(text: bytes) -> tuple[Exact, bool]:
     """A number, and whether it is held: most texts stand many times."""
     value = Fraction(text.decode())
-    exact: Exact = value
-    if value.denominator == 1:
-        exact = value.numerator
-    return exact, is_held(text.decode())
+    return value.numerator if value.denominator == 1 else value, is_held(text.decode())
 
 
 def number(f: Figures, where: str, text: bytes) -> Exact:
@@ -149,7 +136,8 @@ def entries(f: Figures, program: Program) -> None:
     for j, k in costs:
         left[k] -= 1
         if program.columns[j] == TIED:
-            f.tied_by = size_of(values[k][0])
+            factor = values[k][0]
+            f.tied_by = -factor if factor < 0 else factor
         elif values[k][0]:
             f.costs += 1
             f.cost_sizes.take(values[k][0])

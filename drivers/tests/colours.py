@@ -11,13 +11,10 @@ import sys
 import unittest
 from unittest import mock
 
-from support import HERE, NEEDS_PROGRAM, Case
+from support import BIN, EXAMPLES, NEEDS_PROGRAM, Case
 
 from bridge_drivers import colour, console
 from bridge_drivers.colour import GREEN, RED, YELLOW
-
-BIN = os.path.join(HERE, "..", "bin")
-EXAMPLES = os.path.join(HERE, "..", "..", "packaging", "examples")
 
 
 class Terminal(io.StringIO):

@@ -11,12 +11,10 @@ import subprocess
 import time
 import unittest
 
-from support import HERE, Case
+from support import BIN, Case
 
-from bridge_drivers import front, solvers
-from bridge_drivers.options import COMMON, BadOption, Options
+from bridge_drivers import front
 
-BIN = os.path.join(HERE, "..", "bin")
 ASK = """source {folder}/completion
 COMP_WORDS=({words}) COMP_CWORD=$(({count} - 1))
 _nl_bridge 2>/dev/null
@@ -106,7 +104,6 @@ class Texts(Case):
         self.assertEqual((lines[0], ran.stderr), ("_nl-bridge _nl-bridge", ""))
         self.assertGreater(int(lines[1]), 50)
 
-
     @unittest.skipUnless(shutil.which("zsh"), "no zsh")
     def test_zsh_answers(self) -> None:
         """As it is typed, on a terminal of its own."""
@@ -137,27 +134,3 @@ def seen(terminal: int, text: str) -> str:
         if select.select([terminal], [], [], 0.2)[0]:
             shown += os.read(terminal, 4096).decode("utf-8", "replace")
     return shown
-
-
-class Near(unittest.TestCase):
-    def test_did_you_mean(self) -> None:
-        for word, meant in (("proove", "prove"), ("timelimit", "timelim"), ("certficate",
-                                                                            "certificate")):
-            with self.assertRaisesRegex(BadOption, f"^unknown option {word}; did you mean "
-                                                   f"`{meant}`\\? -= lists the options$"):
-                Options().take([word + "=1"])
-        with self.assertRaisesRegex(BadOption, "^unknown option foo; -= lists the options$"):
-            Options().take(["foo=1"])
-
-    def test_help(self) -> None:
-        """Each command's has its options, one a line, and an example that can be read."""
-        for name in ["certify", *solvers.NAMES]:
-            ran = subprocess.run([os.path.join(BIN, "bridge-" + name), "--help"],
-                                 capture_output=True, text=True, check=False)
-            self.assertEqual(ran.returncode, 0, ran.stderr)
-            example = ran.stdout.rstrip("\n").split("\n")[-1]
-            self.assertTrue(example.startswith(f"example: bridge-{name} "), example)
-            if name != "certify":
-                for option in COMMON:
-                    self.assertRegex(ran.stdout, f"(?m)^  {option.name} ")
-                Options().take(example.split()[3:])

@@ -21,15 +21,13 @@ from typing import Iterator, NamedTuple
 
 HERE = os.path.dirname(os.path.abspath(__file__))
 sys.path[:0] = [HERE, os.path.join(HERE, "..")]
-from support import NEEDS_CLP, NEEDS_MPS, PROGRAM, Case    # noqa: E402
+from support import EXAMPLES, NEEDS_CLP, NEEDS_MPS, PROGRAM, TOP, Case    # noqa: E402
 
 from bridge_drivers import solvers                          # noqa: E402
 from bridge_drivers.certify.command import OPTIONS          # noqa: E402
 from bridge_drivers.codes import STATUSES                   # noqa: E402
-from bridge_drivers.options import COMMON, Option           # noqa: E402
+from bridge_drivers.options import COMMON                   # noqa: E402
 
-TOP = os.path.join(HERE, "..", "..")
-EXAMPLES = os.path.join(TOP, "packaging", "examples")
 DOCUMENTS = ("README.md", "drivers/README.md", "drivers/SYSTEMS.md", "drivers/REPORT.md",
              "drivers/SEARCH.md", "docs/user/commands.md", "docs/user/formats.md",
              "docs/user/refusals.md")
@@ -58,28 +56,12 @@ def blocks(name: str) -> Iterator[Block]:
         yield Block(why, kind, text.rstrip("\n").split("\n"))
 
 
-def option_rows() -> str:
-    """The common options, those of some drivers, and those of bridge-certify."""
-    of: dict[str, list[str]] = {}
-    found: dict[str, Option] = {}
-    for name in solvers.NAMES:
-        for option in solvers.load(name).options:
-            of.setdefault(option.name, []).append(name)
-            found[option.name] = option
-    rows = [(o.name, "", o) for o in COMMON]
-    rows += [(name, ", ".join(of[name]) + ": ", found[name]) for name in found]
-    told = [f"| `{name}` | {whose}{o.text} | {o.values()[1:-1]} |\n"
-            for name, whose, o in sorted(rows, key=lambda row: row[0])]
-    told += [f"| `{o.name}` | certify: {o.text} | {o.values()[1:-1]} |\n" for o in OPTIONS]
-    return "| option | meaning | values; default |\n|---|---|---|\n" + "".join(told)
-
-
 def status_rows() -> str:
     return "| status | meaning |\n|---|---|\n" + "".join(
         f"| {int(status)} | {text} |\n" for status, text in STATUSES.items())
 
 
-TABLES = {"options": option_rows, "statuses": status_rows}
+TABLES = {"statuses": status_rows}
 
 
 def filled(text: str) -> str:
@@ -95,16 +77,20 @@ class Tables(unittest.TestCase):
         self.assertIn("<!-- made: statuses -->", text_of("drivers/README.md"))
 
     def test_options_that_are_named(self) -> None:
-        """Words `name=..` of documents are options, or words of nl-bridge or MiniZinc."""
-        known = {o.name for o in (*COMMON, *OPTIONS)} | {"overwrite", "driver", "name"}
+        """Words `name=..` of documents are options, and the README has each option in its table."""
+        known = {o.name for o in (*COMMON, *OPTIONS)}
         known |= {o.name for name in solvers.NAMES for o in solvers.load(name).options}
         for name in DOCUMENTS[1:4]:
             for word in re.findall(r"`([a-z]+)=[^`]*`", text_of(name)):
-                self.assertIn(word, known, name)
+                self.assertIn(word, known | {"name"}, name)
+        table = text_of("drivers/README.md").partition("| for | options |")[2].partition("\n\n")[0]
+        self.assertEqual(sorted(re.findall(r"`([a-z]+)`", table)), sorted(known))
 
 
 def plain(text: str) -> str:
-    """Without what may differ: versions of solvers, sizes of certificates."""
+    """Without what may differ: versions of solvers, sizes of certificates, what goes on where the
+    machine is slow."""
+    text = re.sub(r"^bridge-\w+: \w+, \d+ of \d+ s.*\n", "", text, flags=re.M)
     text = re.sub(r"\b(CBC|GLPK) [\d.]+", r"\1 X", text)
     return re.sub(r"\d+ bytes$", "X bytes", text, flags=re.M).rstrip()
 

@@ -3,13 +3,12 @@ a solver is missing."""
 
 from __future__ import annotations
 
-import os
 import subprocess
-import sys
 import unittest
+from typing import Callable
 from unittest import mock
 
-from support import HAS_CLP, HERE, Case, Sol, knows
+from support import HAS_CLP, Case, Ended, Sol, driven, knows
 from bridge_drivers import certificates, solvers
 from claim_models import CLAIMED
 from models import FAR, MODELS
@@ -18,28 +17,32 @@ import misled
 EACH_MISLED = 1                 # models of a kind
 
 
-class EndToEnd(Case):
-    def through(self, driver: str, name: str) -> None:
-        model = MODELS[name]
-        self.put(model.text)
-        program = os.path.join(HERE, "..", "bin", "bridge-" + driver)
-        ran = subprocess.run([sys.executable, program, self.stub, "-AMPL", *model.options],
-                             stdin=subprocess.DEVNULL, capture_output=True, text=True)
-        self.assertEqual(ran.returncode, 0, ran.stderr)
-        self.judge(driver, name)
+class Through(Case):
+    """What is tried with each driver."""
+
+    def through(self, driver: str, *words: str) -> None:
+        raise NotImplementedError
+
+    def driven(self, driver: str, text: bytes, *words: str) -> Ended:
+        """A driver on a model, with status 0."""
+        self.put(text)
+        ended = driven(driver, self.stub, *words)
+        self.assertEqual(ended.returncode, 0, ended.stderr)
+        return ended
 
 
-class Only(Case):
+class EndToEnd(Through):
+    def through(self, driver: str, *words: str) -> None:
+        self.driven(driver, MODELS[words[0]].text, "-AMPL", *MODELS[words[0]].options)
+        self.judge(driver, words[0])
+
+
+class Only(Through):
     """The command that `only=mps` prints can be run as it stands, and solves."""
 
-    def through(self, driver: str) -> None:
+    def through(self, driver: str, *words: str) -> None:
         model = "product" if solvers.load(driver).integers else "diet"
-        self.put(MODELS[model].text)
-        program = os.path.join(HERE, "..", "bin", "bridge-" + driver)
-        ran = subprocess.run([sys.executable, program, self.stub, "only=mps", "-e"],
-                             stdin=subprocess.DEVNULL, capture_output=True, text=True)
-        self.assertEqual(ran.returncode, 0, ran.stderr)
-        lines = ran.stdout.split("\n")
+        lines = self.driven(driver, MODELS[model].text, "only=mps", "-e").stdout.split("\n")
         self.assertEqual(len(lines), 3, lines)
         again = subprocess.run(["sh", "-c", lines[1]], stdin=subprocess.DEVNULL, cwd=self.folder,
                                capture_output=True, text=True)
@@ -47,19 +50,15 @@ class Only(Case):
         self.assertRegex(again.stdout + again.stderr, "(?i)optimal|solved|value of objective")
 
 
-class LargeFactors(Case):
+class LargeFactors(Through):
     """A binary column that solvers take for 0 where it is 0.0000005: what they then call optimal
     is not passed on as that."""
 
     def told(self, driver: str, name: str, *words: str) -> Sol:
-        self.put(CLAIMED[name].text)
-        program = os.path.join(HERE, "..", "bin", "bridge-" + driver)
-        ran = subprocess.run([sys.executable, program, self.stub, "-AMPL", "-e", *words],
-                             stdin=subprocess.DEVNULL, capture_output=True, text=True)
-        self.assertEqual(ran.returncode, 0, ran.stderr)
+        self.driven(driver, CLAIMED[name].text, "-AMPL", "-e", *words)
         return self.sol()
 
-    def through(self, driver: str) -> None:
+    def through(self, driver: str, *words: str) -> None:
         for name in ("large_factor", "equal_factor"):
             sol = self.told(driver, name)
             if sol.code == 0:
@@ -72,19 +71,15 @@ class LargeFactors(Case):
             self.assertEqual((sol.code, sol.message[-1]), (0, "optimal 20001/2000"), sol.text)
 
 
-class FarBounds(Case):
+class FarBounds(Through):
     """Sides and bounds that a solver takes for none: a line says so, and nothing false is proved
     or passed on as solved."""
 
-    def through(self, driver: str) -> None:
+    def through(self, driver: str, *words: str) -> None:
         solver = solvers.load(driver)
         for name, (text, optimum) in FAR.items():
             with self.subTest(model=name):
-                self.put(text)
-                program = os.path.join(HERE, "..", "bin", "bridge-" + driver)
-                ran = subprocess.run([sys.executable, program, self.stub, "-AMPL", "-e"],
-                                     stdin=subprocess.DEVNULL, capture_output=True, text=True)
-                self.assertEqual(ran.returncode, 0, ran.stderr)
+                self.driven(driver, text, "-AMPL", "-e")
                 sol = self.sol()
                 if sol.code == 505:
                     continue
@@ -100,11 +95,11 @@ class FarBounds(Case):
                     self.assertEqual((sol.code, sol.values[0]), (0, optimum), sol.text)
 
 
-class Misled(Case):
+class Misled(Through):
     """The first models of each kind: none ends with code 0 and a wrong or impossible answer, and
     none that is right and exact is lost. `misled.py` runs all of them, both ways."""
 
-    def through(self, driver: str) -> None:
+    def through(self, driver: str, *words: str) -> None:
         for model in misled.family(EACH_MISLED, EACH_MISLED):
             if not misled.takes(driver, model):
                 continue
@@ -114,32 +109,24 @@ class Misled(Case):
                 self.assertEqual((found.wrong, found.lost), ("", ""), found.code)
 
 
+def test_of(*words: str) -> Callable[[Through], None]:
+    return lambda self: self.through(*words)
+
+
 def add_tests() -> None:
     there = knows("verify")
     for driver in solvers.NAMES:
-        solver = there and solvers.load(driver).place()
+        solver, solves = there and solvers.load(driver).place(), solvers.load(driver)
+        for kind, needs_clp in ((Only, False), (FarBounds, False), (Misled, True),
+                                (LargeFactors, True)):
+            if solves.integers or kind is not LargeFactors:
+                reason = f"no {driver}, or no library of CLP" if needs_clp else f"no {driver}"
+                setattr(kind, f"test_{driver}", unittest.skipUnless(
+                    solver and (HAS_CLP or not needs_clp), reason)(test_of(driver)))
+        reason = f"no {driver}" if there else "no bridge that knows `verify`"
         for name in MODELS:
-            def test(self: EndToEnd, driver: str = driver, name: str = name) -> None:
-                self.through(driver, name)
-            reason = f"no {driver}" if there else "no bridge that knows `verify`"
-            setattr(EndToEnd, f"test_{driver}_{name}", unittest.skipUnless(solver, reason)(test))
-        def only(self: Only, driver: str = driver) -> None:
-            self.through(driver)
-        setattr(Only, f"test_{driver}", unittest.skipUnless(solver, reason)(only))
-
-        def far(self: FarBounds, driver: str = driver) -> None:
-            self.through(driver)
-        setattr(FarBounds, f"test_{driver}", unittest.skipUnless(solver, reason)(far))
-
-        def misleads(self: Misled, driver: str = driver) -> None:
-            self.through(driver)
-        setattr(Misled, f"test_{driver}", unittest.skipUnless(
-            solver and HAS_CLP, f"no {driver}, or no library of CLP")(misleads))
-        if solvers.load(driver).integers:
-            def factors(self: LargeFactors, driver: str = driver) -> None:
-                self.through(driver)
-            setattr(LargeFactors, f"test_{driver}", unittest.skipUnless(
-                solver and HAS_CLP, f"no {driver}, or no library of CLP")(factors))
+            setattr(EndToEnd, f"test_{driver}_{name}", unittest.skipUnless(solver, reason)(
+                test_of(driver, name)))
 
 
 add_tests()

@@ -12,7 +12,7 @@ import xml.etree.ElementTree as xml
 from fractions import Fraction as F
 
 import reports
-from support import HERE, NEEDS_PROGRAM, PROGRAM, Case
+from support import EXAMPLES, NEEDS_PROGRAM, PROGRAM, Case
 from models import MODELS, nl
 
 from bridge_drivers import BridgeError, front, interface
@@ -24,7 +24,6 @@ from bridge_drivers.subjects import Subject
 from bridge_drivers.explained.picture import MOST_DEPTH, MOST_SHOWN, Picture
 from bridge_drivers.printable import printable
 
-EXAMPLES = os.path.join(HERE, "..", "..", "packaging", "examples")
 BROWSER = shutil.which("chromium") or shutil.which("google-chrome")
 SVG = "{http://www.w3.org/2000/svg}"
 # 12 a + 21 b + 33 c = 500; max y with y <= 10 x and y <= 7; max x + y with x - y <= 2
@@ -331,24 +330,28 @@ class Explained(Case):
 
     @unittest.skipUnless(BROWSER, "no chromium")
     def test_in_a_browser(self) -> None:
-        """In two widths: nothing but the tree is wider than the page, nothing is fetched, and the
-        tree is drawn."""
+        """In two widths: nothing but the tree is wider than the page, no sum is cut off, nothing is
+        fetched, and the tree is drawn."""
         told = self.object(WIDE, full_tree(9, "bound 0 40"))
         page = told.page()
         self.assertNotRegex(page, r"""(?i)<script|<link|<img|url\(|src=|href=""")
         probe = ("<script>document.title = [document.documentElement.scrollWidth <= innerWidth, "
+                 "[...document.querySelectorAll('pre')].filter("
+                 "it => it.scrollWidth <= it.clientWidth).length, "
                  "document.querySelectorAll('svg rect').length, "
                  "document.querySelector('.fails rect').getBoundingClientRect().width > 100, "
                  "innerWidth].join(' ')</script></body>")
         self.put(page.replace("</body>", probe).encode(), ".html")
-        boxes = page.count("<rect ")
+        boxes, blocks = page.count("<rect "), page.count("<pre ")
+        self.assertGreater(blocks, 1)
         for width in (1280, 500):
             ran = subprocess.run([BROWSER, "--headless=new", "--no-sandbox", "--disable-gpu",
                                   f"--user-data-dir={self.folder}/profile",
                                   f"--window-size={width},900", "--dump-dom",
                                   f"file://{self.stub}.html"], capture_output=True, text=True,
                                  timeout=120, check=False)
-            self.assertIn(f"<title>true {boxes} true {width}</title>", ran.stdout, ran.stderr)
+            self.assertIn(f"<title>true {blocks} {boxes} true {width}</title>", ran.stdout,
+                          ran.stderr)
 
 
 if __name__ == "__main__":

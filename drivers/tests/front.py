@@ -3,7 +3,6 @@ place."""
 
 from __future__ import annotations
 
-import contextlib
 import io
 import os
 import re
@@ -11,14 +10,11 @@ import subprocess
 import sys
 from unittest import mock
 
-from support import HERE, Case
+from support import BIN, DRIVERS, TOP, Case, Ended, called, ran
 from models import MODELS
 
 from bridge_drivers import VERSION, commands, console, front, minizinc
 
-DRIVERS = os.path.join(HERE, "..")
-BIN = os.path.join(DRIVERS, "bin")
-TOP = os.path.join(DRIVERS, "..")
 
 SAYING = """#!/bin/sh
 if [ "$1" = export ] && grep -q '^o2' "$2"; then
@@ -48,13 +44,9 @@ def saying(folder: str) -> str:
 
 
 class Front(Case):
-    def call(self, *words: str) -> tuple[int, str, str]:
-        """Status, standard output and error of a call in this process."""
-        out, err = io.StringIO(), io.StringIO()
-        with contextlib.redirect_stdout(out), contextlib.redirect_stderr(err), \
-                mock.patch.dict(os.environ, {"BRIDGE": saying(self.folder)}):
-            status = front.command(words)
-        return status, out.getvalue(), err.getvalue()
+    def call(self, *words: str) -> Ended:
+        with mock.patch.dict(os.environ, {"BRIDGE": saying(self.folder)}):
+            return called(lambda: front.command(words))
 
     def test_help(self) -> None:
         for word in ("help", "-h", "-?", "--help", "-="):
@@ -80,24 +72,23 @@ class Front(Case):
                    "done\n[ $# = 1 ] && { echo 'bad words' >&2; exit 3; }\n"
                    "echo 'input fault' >&2; exit 4")
         self.put(b"x")
-        nl = self.stub + ".nl"
+        nl, mps = self.stub + ".nl", os.path.join(self.folder, "m")
+        with open(mps + ".mps", "wb") as f:
+            f.write(b"NAME\nROWS\n")
         for words, status, told in (
                 (["export", "/nonexistent/m.nl"], 4,
                  "nl-bridge: /nonexistent/m.nl: input fault (No such file or directory)\n"),
+                (["verify", mps, nl], 4, f"nl-bridge: {mps}: input fault (No such file or "
+                 f"directory); {mps}.mps is an MPS file: `bridge-certify {mps}.mps` and the "
+                 f"drivers take it, `nl-bridge import {mps}.mps {mps}.nl` makes {mps}.nl of it\n"),
                 (["verify", nl, self.folder], 4,
                  f"nl-bridge: {self.folder}: input fault (Is a directory)\n"),
                 (["export"], 3, "nl-bridge: bad words: export takes FILE [K] or FILE K ROWS COLS; "
                                 "-h lists the commands\n"),
                 (["export", nl, "one"], 3, "nl-bridge: bad words: K is a plain number up to "
                                            "4294967295, not one; -h lists the commands\n")):
-            path = os.path.join(self.folder, "faulty")
-            with open(path, "w", encoding="ascii") as f:
-                f.write("#!/bin/sh\n" + program + "\n")
-            os.chmod(path, 0o755)
-            ran = subprocess.run([sys.executable, os.path.join(BIN, "nl-bridge"), *words],
-                                 capture_output=True, text=True, check=False,
-                                 env={**os.environ, "BRIDGE": path})
-            self.assertEqual((ran.returncode, ran.stdout, ran.stderr), (status, "", told))
+            ended = ran("nl-bridge", *words, BRIDGE=self.script("faulty", program))
+            self.assertEqual(ended, (status, "", told))
 
     def test_words_of_the_table(self) -> None:
         for words, wrong in ((["export", "a"], False), (["export", "a", "0"], False),
@@ -141,11 +132,7 @@ class Ends(Case):
     """Commands as processes."""
 
     def program(self, text: str) -> str:
-        path = os.path.join(self.folder, "bridge program")
-        with open(path, "w", encoding="utf-8") as f:
-            f.write("#!/bin/sh\n" + text)
-        os.chmod(path, 0o755)
-        return f"'{path}'"
+        return f"'{self.script('bridge program', text)}'"
 
     def run_front(self, *words: "str | bytes", bridge: str, out: int = subprocess.PIPE
                   ) -> "subprocess.CompletedProcess[bytes]":

@@ -10,12 +10,9 @@ import subprocess
 import sys
 import unittest
 
-from support import HERE, Case
+from support import BIN, DRIVERS, Case
 
 from bridge_drivers import VERSION
-
-DRIVERS = os.path.join(HERE, "..")
-BIN = os.path.join(DRIVERS, "bin")
 
 
 class Installing(Case):

@@ -122,10 +122,6 @@ class Keeping(Case):
     def target(self) -> str:
         return self.stub + ".certificate"
 
-    def text(self) -> bytes:
-        with open(self.target, "rb") as f:
-            return f.read()
-
     def test_what_stays(self) -> None:
         older = b"certificate 1\noptimal 0\npoint 1\n0 1\nduals 0\n"
         for line, says, proves in (("feasible 17", "optimal 17", True),
@@ -135,13 +131,13 @@ class Keeping(Case):
                                    ("within 19 17", "within 18 17", True)):
             self.put(older, ".certificate")
             kept = self.keep(line, says)
-            self.assertEqual((self.text() == older, kept.path, kept.failed),
+            self.assertEqual((self.bytes_of(".certificate") == older, kept.path, kept.failed),
                              (True, self.target if proves else None, not proves), kept.line)
             self.assertEqual(kept.line, f"{self.target} stays as it is: it proves `{says}`; "
                                         "overwrite=1 replaces it" if proves else
                              f"the certificate is not kept: {self.target}: {STANDS}")
             self.assertEqual(self.keep(line, says, True).path, self.target)
-            self.assertEqual(self.text(), OPTIMAL)
+            self.assertEqual(self.bytes_of(".certificate"), OPTIMAL)
 
     def test_verdicts_that_take_long(self) -> None:
         self.put(OPTIMAL, ".certificate")
@@ -152,14 +148,14 @@ class Keeping(Case):
         with mock.patch.object(bridge, "call", side_effect=Late("verify")):
             kept = Keeper(bridge, self.stub + ".nl", True, False).kept(source, "bound 1",
                                                                        self.target)
-        self.assertEqual((kept.failed, self.text()), (True, OPTIMAL))
+        self.assertEqual((kept.failed, self.bytes_of(".certificate")), (True, OPTIMAL))
 
     def test_other_files(self) -> None:
         """What is no certificate stays, an empty file does not, the same text is written again,
         and the model always stays."""
         self.put(b"letters\n", ".certificate")
         kept = self.keep("optimal 17", "")
-        self.assertEqual((kept.failed, self.text()), (True, b"letters\n"))
+        self.assertEqual((kept.failed, self.bytes_of(".certificate")), (True, b"letters\n"))
         self.assertIn(STANDS, kept.line)
         for there in (b"", OPTIMAL):
             self.put(there, ".certificate")
@@ -167,7 +163,7 @@ class Keeping(Case):
                              f"certificate of `optimal 17`, {len(OPTIMAL)} bytes")
         with mock.patch.object(Keeping, "target", self.stub + ".nl"):
             kept = self.keep("optimal 17", "", True)
-            self.assertEqual((kept.failed, self.text()), (True, b"model"))
+            self.assertEqual((kept.failed, self.bytes_of(".nl")), (True, b"model"))
 
     def test_what_cannot_be_written(self) -> None:
         """No empty or partial file is left."""
@@ -181,7 +177,7 @@ class Keeping(Case):
         self.put(OPTIMAL[:-8], ".certificate")
         os.chmod(self.target, 0o444)
         kept = self.keep("optimal 17", "", True)
-        self.assertEqual((kept.failed, self.text()), (True, OPTIMAL[:-8]))
+        self.assertEqual((kept.failed, self.bytes_of(".certificate")), (True, OPTIMAL[:-8]))
         self.assertIn("it may not be written", kept.line)
         self.assertEqual(sorted(os.listdir(self.folder)), ["source", "stub.certificate", "stub.nl"])
 
@@ -193,8 +189,7 @@ class Keeping(Case):
         with open(self.stub, "wb") as out:
             subprocess.run([sys.executable, "-c", code, os.path.join(HERE, ".."), self.target],
                            stdout=out, check=True)
-        with open(self.stub, "rb") as f:
-            self.assertEqual(f.read(), b"before\n" + OPTIMAL + b"behind\n")
+        self.assertEqual(self.bytes_of(), b"before\n" + OPTIMAL + b"behind\n")
 
     def test_links_and_modes(self) -> None:
         """A link stays one, and a file keeps its mode."""
@@ -203,8 +198,9 @@ class Keeping(Case):
             os.chmod(real, 0o640)
         os.symlink(real, self.target)
         self.assertIsNotNone(self.keep("optimal 17", "").path)
-        self.assertEqual((os.path.islink(self.target), os.stat(real).st_mode & 0o777, self.text()),
-                         (True, 0o640, OPTIMAL))
+        self.assertTrue(os.path.islink(self.target))
+        self.assertEqual(os.stat(real).st_mode & 0o777, 0o640)
+        self.assertEqual(self.bytes_of(".certificate"), OPTIMAL)
 
     def test_interrupts_wait(self) -> None:
         """A signal while it is written comes after that."""
@@ -238,15 +234,12 @@ class Certify(Case):
                 continue
             self.assertEqual(ended.returncode, status, ended.stderr)
             self.assertIn(f"{self.stub}.certificate stays as it was\n", ended.stderr)
-            with open(self.stub + ".certificate", "rb") as f:
-                self.assertEqual(f.read(), older)
+            self.assertEqual(self.bytes_of(".certificate"), older)
 
     def test_interrupt_leaves_an_older_one(self) -> None:
         """Ctrl-C while the solver runs."""
-        mark, slow = os.path.join(self.folder, "started"), os.path.join(self.folder, "cbc")
-        with open(slow, "w", encoding="ascii") as f:
-            f.write(f"#!/bin/sh\necho on >{mark}\nexec sleep 60\n")
-        os.chmod(slow, 0o755)
+        mark = os.path.join(self.folder, "started")
+        self.script("cbc", f"echo on >{mark}\nexec sleep 60")
         self.put(MODELS["knap"].text)
         older = self.older()
         child = subprocess.Popen([sys.executable, CERTIFY, self.stub], stderr=subprocess.PIPE,
@@ -261,8 +254,7 @@ class Certify(Case):
         child.send_signal(signal.SIGINT)
         _, err = child.communicate(timeout=30)
         self.assertEqual(child.returncode, 130, err)
-        with open(self.stub + ".certificate", "rb") as f:
-            self.assertEqual(f.read(), older)
+        self.assertEqual(self.bytes_of(".certificate"), older)
 
     def test_statuses(self) -> None:
         """The verdict is told, and the status says that the certificate is not there."""

@@ -294,8 +294,7 @@ class Claims(Case):
                           sol.message[0])
             self.assertIn(words, sol.message[1])
             self.assertNotIn("not proved", sol.text)
-            with open(f"{self.stub}.{driver}.mps", "rb") as f:
-                self.assertTrue(f.read().startswith(start))
+            self.assertTrue(self.bytes_of(f".{driver}.mps").startswith(start))
         self.last("cbc", "product", "only=lp")
         self.assertEqual(self.sol().code, 502)
 

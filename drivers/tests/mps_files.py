@@ -9,12 +9,10 @@ import lzma
 import os
 import random
 import shutil
-import subprocess
-import sys
 import unittest
 from fractions import Fraction as F
 
-from support import HERE, NEEDS_CLP, NEEDS_MPS, PROGRAM, Case, Ended
+from support import NEEDS_CLP, NEEDS_MPS, PROGRAM, Case, Ended, driven, ran
 
 from bridge_drivers import kinds, mps_file, solvers
 from bridge_drivers.bridge import Bridge, Refused
@@ -30,13 +28,6 @@ CERTIFICATE = b"certificate 1\nfeasible 0\npoint 2\n0 1\n1 1\n"
 
 def bridge() -> Bridge:
     return Bridge(PROGRAM, lambda argv: None)
-
-
-def called(command: str, *words: str) -> Ended:
-    """A command as a process of its own."""
-    ran = subprocess.run([sys.executable, os.path.join(HERE, "..", "bin", command), *words],
-                         stdin=subprocess.DEVNULL, capture_output=True, text=True)
-    return Ended(ran.returncode, ran.stdout, ran.stderr)
 
 
 class Texts(unittest.TestCase):
@@ -217,9 +208,9 @@ class Driven(Case):
 
     def told(self, solver: str, text: str, *words: str, end: str = ".mps") -> dict:
         self.put(gzip.compress(text.encode()) if end.endswith("gz") else text.encode(), end)
-        ran = called("bridge-" + solver, self.stub + end, "json=1", "wantsol=6", *words)
-        found: dict = json.loads(ran.stdout)
-        self.assertEqual((found["status"], faults(found, schema())), (ran.returncode, []))
+        ended = driven(solver, self.stub + end, "json=1", "wantsol=6", *words)
+        found: dict = json.loads(ended.stdout)
+        self.assertEqual((found["status"], faults(found, schema())), (ended.returncode, []))
         return found
 
     @NEEDS_CLP
@@ -265,8 +256,8 @@ class Driven(Case):
                 (FIXED_TEXT, ["-AMPL"], 3, "a .sol is the answer to an .nl file: wantsol=2 "),
                 (FIXED_TEXT, ["-s"], 3, "a .sol is the answer to an .nl file: wantsol=2 ")):
             self.put(text.encode(), ".mps")
-            ran = called("bridge-" + SOLVERS[0], self.stub + ".mps", *words)
-            self.assertEqual((ran.returncode, line in ran.stderr), (status, True), ran.stderr)
+            ended = driven(SOLVERS[0], self.stub + ".mps", *words)
+            self.assertEqual((ended.returncode, line in ended.stderr), (status, True), ended.stderr)
         self.assertEqual(os.listdir(self.folder), ["stub.mps"])
 
     def test_empty_interval(self) -> None:
@@ -276,19 +267,19 @@ class Driven(Case):
 
     def test_damaged(self) -> None:
         self.put(gzip.compress(FIXED_TEXT.encode())[:60], ".mps.gz")
-        ran = called("bridge-" + SOLVERS[0], self.stub + ".mps.gz")
-        self.assertEqual(ran.returncode, 2)
-        self.assertIn("stub.mps.gz: the packed file ends too soon or is damaged", ran.stderr)
+        ended = driven(SOLVERS[0], self.stub + ".mps.gz")
+        self.assertEqual(ended.returncode, 2)
+        self.assertIn("stub.mps.gz: the packed file ends too soon or is damaged", ended.stderr)
 
     def test_certificates(self) -> None:
         """Beside the model, for each of its ends; the model itself is never written over."""
         for end in (".mps", ".mps.gz"):
             text = MODELS["free"].text.encode()
             self.put(gzip.compress(text) if end.endswith("gz") else text, end)
-            ran = called("bridge-certify", self.stub + end, f"driver={SOLVERS[0]}")
-            self.assertEqual(ran.stdout.split("\n")[-2], "optimal -3/2", ran.stderr)
-            ran = called("nl-bridge", "verify", self.stub + end, self.stub + ".certificate")
-            self.assertEqual((ran.returncode, ran.stdout), (0, "optimal -3/2\n"))
+            ended = ran("bridge-certify", self.stub + end, f"driver={SOLVERS[0]}")
+            self.assertEqual(ended.stdout.split("\n")[-2], "optimal -3/2", ended.stderr)
+            ended = ran("nl-bridge", "verify", self.stub + end, self.stub + ".certificate")
+            self.assertEqual(ended[:2], (0, "optimal -3/2\n"))
             os.unlink(self.stub + ".certificate")
             told = self.told(SOLVERS[0], MODELS["free"].text, "overwrite=1",
                              f"certificate={self.stub}{end}", end=end)
@@ -308,9 +299,8 @@ class Front(Case):
 
     def call(self, command: str, *ends: str) -> Ended:
         words = [self.stub + word if word.startswith(".") else word for word in ends]
-        ran = called("nl-bridge", command, *words)
-        return Ended(ran.returncode, ran.stdout.replace(self.stub, "m"),
-                     ran.stderr.replace(self.stub, "m"))
+        ended = ran("nl-bridge", command, *words)
+        return Ended(ended.returncode, *(text.replace(self.stub, "m") for text in ended[1:]))
 
     def test_verify(self) -> None:
         for command, end in (("verify", ".mps"), ("verify_mps", ".mps"), ("verify_fixed", ".mps"),
@@ -373,11 +363,8 @@ class Front(Case):
 class OlderProgram(Case):
     def test_one_that_judges_no_mps_files(self) -> None:
         """It is told by the command that it lacks."""
-        program = os.path.join(self.folder, "older")
-        with open(program, "w") as f:
-            f.write("#!/bin/sh\ncase $1 in verify_*) echo 'bad words' >&2; exit 3;; esac\n"
-                    f"exec {PROGRAM[0]} \"$@\"\n")
-        os.chmod(program, 0o755)
+        program = self.script("older", "case $1 in verify_*) echo 'bad words' >&2; exit 3;; esac\n"
+                              f"exec {PROGRAM[0]} \"$@\"")
         self.put(FIXED_TEXT.encode(), ".mps")
         read = mps_file.reading(Bridge([program], lambda argv: None), self.stub + ".mps")
         with self.assertRaises(Refused) as caught:

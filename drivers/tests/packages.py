@@ -10,9 +10,8 @@ import sys
 import unittest
 import zipfile
 
-from support import HERE, PROGRAM, Case
+from support import PROGRAM, TOP, Case
 
-TOP = os.path.join(HERE, "..", "..")
 IS_NEW = sys.version_info >= (3, 11)
 CAN_BUILD = IS_NEW and len(PROGRAM) == 1 and shutil.which("dpkg-deb") is not None
 
@@ -77,6 +76,8 @@ class Built(Case):
         told = subprocess.run(["dpkg-deb", "-f", deb], capture_output=True, text=True).stdout
         self.assertRegex(told, r"(?m)^Depends: .*\bcoinor-libclp1\b")
         self.assertIn("Description: UNPROVED bridge", told)
+        self.assertIn("no gate has proved the program", told)
+        self.assertNotIn("is proved", told)
         self.assertRegex(told, r"(?m)^Recommends: .*\bcoinor-cbc\b")
         self.assertRegex(told, r"(?m)^Suggests: .*\bminizinc, python3-pulp\b")
 

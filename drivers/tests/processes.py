@@ -11,8 +11,9 @@ import subprocess
 import sys
 import time
 import unittest
+from typing import Any
 
-from support import BIN, HERE, NEEDS_PROGRAM, Case, Ended, driven
+from support import BIN, HERE, NEEDS_PROGRAM, Case, driven
 from models import MODELS
 
 INTERRUPTED = """#!{python}
@@ -27,7 +28,8 @@ def stop(*_):
     sys.exit(0)
 
 signal.signal(signal.SIGINT, stop)
-open({mark!r}, "w").close()
+with open({mark!r}, "w") as mark:
+    mark.write("on")
 while True:
     signal.pause()
 """
@@ -35,21 +37,24 @@ while True:
 
 @NEEDS_PROGRAM
 class Processes(Case):
-    def drive(self, driver: str, *words: str, place: str = BIN, **environment: str) -> Ended:
-        return driven(driver, *words, place=place, **environment)
-
-    def script(self, name: str, text: str) -> str:
-        path = os.path.join(self.folder, name)
-        with open(path, "w") as f:
-            f.write(f"#!/bin/sh\n{text}\n")
-        os.chmod(path, 0o755)
-        return path
+    def started(self, *words: str, mark: str = "", on_interrupt: Any = signal.SIG_DFL
+                ) -> "subprocess.Popen[str]":
+        """A driver that goes on; where there is a mark, the solver has written it."""
+        self.put(MODELS["knap"].text)
+        child = subprocess.Popen([sys.executable, os.path.join(BIN, "bridge-cbc"), self.stub,
+                                  "-AMPL", "-e", *words], stderr=subprocess.PIPE, text=True,
+                                 preexec_fn=lambda: signal.signal(signal.SIGINT, on_interrupt))
+        for _ in range(1200):
+            if not mark or os.path.exists(mark) and os.path.getsize(mark):
+                break
+            time.sleep(0.05)
+        return child
 
     def test_bridge_missing(self) -> None:
         self.put(MODELS["knap"].text)
         for bridge, text in (("", "bridge was not found"),
                              ("/nonexistent/bridge", "could not be run")):
-            ended = self.drive("cbc", self.stub, "-AMPL", "solver=/bin/true",
+            ended = driven("cbc", self.stub, "-AMPL", "solver=/bin/true",
                                BRIDGE=bridge, PATH="/nonexistent")
             if bridge or self.sol().code == 503:    # beside the drivers it may have been built
                 self.assertEqual((ended.returncode, self.sol().code), (0, 503), ended.stderr)
@@ -57,7 +62,7 @@ class Processes(Case):
 
     def test_solver_missing(self) -> None:
         self.put(MODELS["knap"].text)
-        ended = self.drive("cbc", self.stub, "-AMPL", "solver=/nonexistent/cbc")
+        ended = driven("cbc", self.stub, "-AMPL", "solver=/nonexistent/cbc")
         self.assertEqual(self.sol().code, 503)
         self.assertIn("/nonexistent/cbc was not found: install it or give solver=PATH",
                       ended.stderr)
@@ -69,7 +74,7 @@ class Processes(Case):
         for driver, package in (("cbc", "coinor-cbc"), ("clp", "coinor-clp"),
                                 ("esolver", "qsopt-ex"), ("glpsol", "glpk-utils"),
                                 ("lp_solve", "lp-solve")):
-            ended = self.drive(driver, self.stub, PATH="/nonexistent", BRIDGE=bridge)
+            ended = driven(driver, self.stub, PATH="/nonexistent", BRIDGE=bridge)
             wanted = f"not found: apt install {package} (Debian) or give solver=PATH\n"
             self.assertEqual((ended.returncode, ended.stderr),
                              (127, f"bridge-{driver}: {driver} was {wanted}"))
@@ -78,7 +83,7 @@ class Processes(Case):
         self.put(MODELS["knap"].text)
         for solver, code in ((self.script("cbc", "echo out of paper >&2; exit 7"), 506),
                              (self.script("cbc2", "kill -9 $$"), 506)):
-            ended = self.drive("cbc", self.stub, "-AMPL", "solver=" + solver)
+            ended = driven("cbc", self.stub, "-AMPL", "solver=" + solver)
             self.assertEqual(self.sol().code, code)
             self.assertIn("CBC gave no usable answer", ended.stderr)
 
@@ -87,7 +92,7 @@ class Processes(Case):
         slow = self.script("cbc", "sleep 60 & sleep 60")
         self.put(MODELS["knap"].text)
         start = time.monotonic()
-        self.drive("cbc", self.stub, "-AMPL", "timelim=0.1", "solver=" + slow)
+        driven("cbc", self.stub, "-AMPL", "timelim=0.1", "solver=" + slow)
         self.assertLess(time.monotonic() - start, 30)
         self.assertEqual(self.sol().code, 450)
         self.assertIn("stopped at the time limit", self.sol().message[0])
@@ -96,17 +101,8 @@ class Processes(Case):
         """The solver ends too, and no .sol is left."""
         mark = os.path.join(self.folder, "started")
         slow = self.script("cbc", f"echo $$ >{mark}; exec sleep 60")
-        self.put(MODELS["knap"].text)
         for number, status in ((signal.SIGTERM, 143), (signal.SIGINT, 130)):
-            argv = [sys.executable, os.path.join(BIN, "bridge-cbc"), self.stub, "-AMPL", "-e",
-                    "solver=" + slow]
-            child = subprocess.Popen(argv, stderr=subprocess.PIPE, text=True,
-                                     preexec_fn=lambda: signal.signal(signal.SIGINT,
-                                                                      signal.SIG_DFL))
-            for _ in range(600):
-                if os.path.exists(mark) and os.path.getsize(mark):
-                    break
-                time.sleep(0.05)
+            child = self.started("solver=" + slow, mark=mark)
             child.send_signal(number)
             _, err = child.communicate(timeout=30)
             self.assertEqual((child.returncode, err.split("\n")[-2]),
@@ -124,17 +120,8 @@ class Processes(Case):
         with open(solver, "w") as f:
             f.write(INTERRUPTED.format(python=sys.executable, mark=mark))
         os.chmod(solver, 0o755)
-        self.put(MODELS["knap"].text)
         for words in ([], ["prove=1", "timelim=600"]):
-            argv = [sys.executable, os.path.join(BIN, "bridge-cbc"), self.stub, "-AMPL", "-e",
-                    "solver=" + solver, *words]
-            child = subprocess.Popen(argv, stderr=subprocess.PIPE, text=True,
-                                     preexec_fn=lambda: signal.signal(signal.SIGINT,
-                                                                      signal.SIG_DFL))
-            for _ in range(1200):
-                if os.path.exists(mark):
-                    break
-                time.sleep(0.05)
+            child = self.started("solver=" + solver, *words, mark=mark)
             child.send_signal(signal.SIGINT)
             child.communicate(timeout=60)
             sol = self.sol()
@@ -146,11 +133,7 @@ class Processes(Case):
     def test_ignored_signals(self) -> None:
         """An interrupt that is ignored from the start, as of a run in the background, stays so."""
         slow = self.script("cbc", "sleep 1; echo Bad image; exit 1")
-        self.put(MODELS["knap"].text)
-        argv = [sys.executable, os.path.join(BIN, "bridge-cbc"), self.stub, "-AMPL", "-e",
-                "solver=" + slow]
-        child = subprocess.Popen(argv, stderr=subprocess.PIPE, text=True, preexec_fn=lambda:
-                                 signal.signal(signal.SIGINT, signal.SIG_IGN))
+        child = self.started("solver=" + slow, on_interrupt=signal.SIG_IGN)
         time.sleep(0.7)
         child.send_signal(signal.SIGINT)
         child.communicate(timeout=60)
@@ -173,7 +156,7 @@ class Processes(Case):
             self.assertTrue(os.access(words[0], os.X_OK), words)
             self.assertEqual(words[1:], ["failexit=1", "shortest=1"])
         self.put(MODELS["knap"].text)
-        ended = self.drive("cbc", self.stub, "-AMPL", "solver=/bin/true", "outlev=2",
+        ended = driven("cbc", self.stub, "-AMPL", "solver=/bin/true", "outlev=2",
                            place=os.path.join(prefix, "bin"), BRIDGE="")
         self.assertIn(os.path.join(prefix, "lib", "bridge-drivers", "bin", "bridge"),
                       ended.stdout.replace("'", ""))

@@ -13,14 +13,13 @@ import unittest
 from fractions import Fraction as F
 
 import reports
-from support import HERE, NEEDS_CLP, NEEDS_MPS, NEEDS_PROGRAM, Case
+from support import DRIVERS, EXAMPLES, NEEDS_CLP, NEEDS_MPS, NEEDS_PROGRAM, Case
 
 import bridge_drivers
 from bridge_drivers import (BridgeError, FileFault, ModelRefused, NotInstalled, Report, WrongOption,
                             certify, explain, figures, solve, solvers, verify)
 
-PAGE = os.path.join(HERE, "..", "PYTHON.md")
-EXAMPLES = os.path.join(HERE, "..", "..", "packaging", "examples")
+PAGE = os.path.join(DRIVERS, "PYTHON.md")
 HAS_CBC = solvers.load("cbc").place() is not None
 
 

@@ -3,11 +3,12 @@
 from __future__ import annotations
 
 import os
+import sys
 import unittest
 
-from support import Case
+from support import DRIVERS, Case
 
-from bridge_drivers import explaining, kinds
+from bridge_drivers import explaining, kinds, reasons
 from bridge_drivers.bridge import Refused, Reply
 from bridge_drivers.expressions import Expression
 from bridge_drivers.names import Names
@@ -211,6 +212,23 @@ class Kinds(Case):
                          "m.nl line 1: bad first line: it is an MPS file: `bridge-certify m.nl` "
                          "and the drivers take it, `nl-bridge import m.nl m-2.nl` makes m-2.nl of "
                          "it")
+
+
+class Reasons(unittest.TestCase):
+    def test_each_that_is_provoked_is_listed(self) -> None:
+        """Those of the worked texts, in `nl-bridge help refusals`."""
+        sys.path.append(os.path.join(DRIVERS, "..", "acceptance"))
+        from cases import refusals as worked
+        for case in worked.cases():
+            if case.told.startswith("refused "):
+                told = explaining.parsed(case.told.rstrip("\n"))
+                assert told is not None, case.told
+                reason = reasons.OPCODE.sub("refused opcode", told.reason)
+                self.assertTrue(reason in reasons.MEANING, f"{case.name}: {reason}")
+        text = reasons.listed()
+        for row in reasons.MEANING.values():
+            self.assertIn(f"  {row.reasons}:", text)
+            self.assertTrue(row.text or row.more, row.reasons)
 
 
 class UnknownWords(unittest.TestCase):

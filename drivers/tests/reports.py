@@ -5,19 +5,16 @@ from __future__ import annotations
 import json
 import os
 import re
-import subprocess
-import sys
 import unittest
 from typing import Any
 
-from support import HAS_CLP, HERE, NEEDS_PROGRAM, PROGRAM, Case
+from support import DRIVERS, EXAMPLES, HAS_CLP, NEEDS_PROGRAM, PROGRAM, Case, ran
 from models import MODELS
 
 from bridge_drivers import VERSION, report
 from bridge_drivers.built import built
 from fractions import Fraction as F
 
-BIN = os.path.join(HERE, "..", "bin")
 TYPES = {"null": type(None), "string": str, "integer": int, "number": (int, float), "array": list,
          "object": dict, "boolean": bool}
 KNOWN = {"type", "enum", "anyOf", "required", "additionalProperties", "properties", "items",
@@ -25,7 +22,7 @@ KNOWN = {"type", "enum", "anyOf", "required", "additionalProperties", "propertie
 
 
 def schema() -> dict[str, Any]:
-    with open(os.path.join(HERE, "..", "report.schema.json"), encoding="ascii") as f:
+    with open(os.path.join(DRIVERS, "report.schema.json"), encoding="ascii") as f:
         found: dict[str, Any] = json.load(f)
     return found
 
@@ -95,19 +92,18 @@ class Objects(Case):
     """Of commands as processes; nothing else is on standard output."""
 
     def call(self, *words: str) -> dict[str, Any]:
-        ran = subprocess.run([sys.executable, os.path.join(BIN, words[0]), *words[1:]],
-                             stdin=subprocess.DEVNULL, capture_output=True, text=True, check=False)
-        told: dict[str, Any] = json.loads(ran.stdout)
+        ended = ran(*words)
+        told: dict[str, Any] = json.loads(ended.stdout)
         self.assertEqual(faults(told, schema()), [])
         self.assertEqual((told["status"], told["command"], told["version"]),
-                         (ran.returncode, words[0], VERSION))
-        self.err = ran.stderr
+                         (ended.returncode, words[0], VERSION))
+        self.err = ended.stderr
         return told
 
     def put_knap(self) -> None:
-        for name in os.listdir(os.path.join(HERE, "..", "..", "packaging", "examples")):
+        for name in os.listdir(EXAMPLES):
             if name.startswith("knap"):
-                with open(os.path.join(HERE, "..", "..", "packaging", "examples", name), "rb") as f:
+                with open(os.path.join(EXAMPLES, name), "rb") as f:
                     self.put(f.read(), name[4:])
 
     def test_verify(self) -> None:

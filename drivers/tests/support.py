@@ -13,11 +13,15 @@ import sys
 import tempfile
 import unittest
 from fractions import Fraction as F
+from pathlib import Path
 from typing import Callable, NamedTuple
 from unittest import mock
 
 HERE = os.path.dirname(os.path.abspath(__file__))
-BIN = os.path.join(HERE, "..", "bin")
+DRIVERS = os.path.join(HERE, "..")
+BIN = os.path.join(DRIVERS, "bin")
+TOP = os.path.join(DRIVERS, "..")
+EXAMPLES = os.path.join(TOP, "packaging", "examples")
 sys.path[:0] = [os.path.join(HERE, ".."), HERE]
 
 from bridge_drivers import solvers                      # noqa: E402
@@ -61,12 +65,24 @@ class Ended(NamedTuple):
     stderr: str
 
 
-def driven(driver: str, *words: str, place: str = BIN, **environment: str) -> Ended:
-    """A driver as a process of its own."""
-    ran = subprocess.run([sys.executable, os.path.join(place, "bridge-" + driver), *words],
-                         stdin=subprocess.DEVNULL, capture_output=True, text=True,
-                         env={**os.environ, **environment})
-    return Ended(ran.returncode, ran.stdout, ran.stderr)
+def called(run: Callable[[], int]) -> Ended:
+    """How a call in this process ended."""
+    out, err = io.StringIO(), io.StringIO()
+    with contextlib.redirect_stdout(out), contextlib.redirect_stderr(err):
+        status = run()
+    return Ended(int(status), out.getvalue(), err.getvalue())
+
+
+def ran(command: str, *words: str, place: str = BIN, **environment: str) -> Ended:
+    """How a command as a process of its own ended."""
+    ended = subprocess.run([sys.executable, os.path.join(place, command), *words], text=True,
+                           stdin=subprocess.DEVNULL, capture_output=True,
+                           env={**os.environ, **environment})
+    return Ended(ended.returncode, ended.stdout, ended.stderr)
+
+
+def driven(driver: str, *words: str, **others: str) -> Ended:
+    return ran("bridge-" + driver, *words, **others)
 
 
 class Sol:
@@ -159,8 +175,17 @@ class Case(unittest.TestCase):
         self.stub = os.path.join(self.folder, "stub")
 
     def put(self, text: bytes, end: str = ".nl") -> None:
-        with open(self.stub + end, "wb") as f:
-            f.write(text)
+        Path(self.stub + end).write_bytes(text)
+
+    def bytes_of(self, end: str = "") -> bytes:
+        return Path(self.stub + end).read_bytes()
+
+    def script(self, name: str, text: str) -> str:
+        """A program of the folder; its path."""
+        path = Path(self.folder, name)
+        path.write_text(f"#!/bin/sh\n{text}\n")
+        path.chmod(0o755)
+        return str(path)
 
     def sol(self) -> Sol:
         return Sol(self.stub + ".sol")
@@ -169,12 +194,9 @@ class Case(unittest.TestCase):
                environment: dict[str, str] | None = None) -> Ended:
         """A driver in this process, whose solver answers as it did for the named model."""
         Replay.run_of = run or stored.runs(driver).get(name, {"files": {}, "logs": {}})
-        out, err = io.StringIO(), io.StringIO()
         with mock.patch("shutil.which", lambda name, **_: "/stored/" + name), \
-                mock.patch.dict(os.environ, environment or {}), \
-                contextlib.redirect_stdout(out), contextlib.redirect_stderr(err):
-            status = OfflineDriver(driver).main(list(words))
-        return Ended(int(status), out.getvalue(), err.getvalue())
+                mock.patch.dict(os.environ, environment or {}):
+            return called(lambda: OfflineDriver(driver).main(list(words)))
 
     def judge(self, driver: str, name: str) -> None:
         """The .sol of a model against what is wanted."""

@@ -3,17 +3,17 @@
 from __future__ import annotations
 
 import bz2
-import contextlib
 import gzip
-import io
+import itertools
 import lzma
 import os
 import re
 import subprocess
 import sys
 import unittest
+from pathlib import Path
 
-from support import HERE, NEEDS_CLP, NEEDS_PROGRAM, Case
+from support import BIN, EXAMPLES, NEEDS_CLP, NEEDS_PROGRAM, TOP, Case, called, ran
 from models import MODELS
 
 from bridge_drivers import commands, front, solvers, words
@@ -24,17 +24,7 @@ from bridge_drivers.inputs import Absent, Inputs
 from bridge_drivers.near import near
 from bridge_drivers.options import BadOption, Option, Options, Range
 
-TOP = os.path.join(HERE, "..", "..")
-BIN = os.path.join(HERE, "..", "bin")
-EXAMPLES = os.path.join(TOP, "packaging", "examples")
-
-
-def called(run: "front.Callable[[], int]") -> tuple[int, str, str]:
-    """Status, standard output and error of a call in this process."""
-    out, err = io.StringIO(), io.StringIO()
-    with contextlib.redirect_stdout(out), contextlib.redirect_stderr(err):
-        status = run()
-    return int(status), out.getvalue(), err.getvalue()
+SCRIPTS = ("acceptance", "bench", "dev", "drivers", "packaging")
 
 
 class Help(unittest.TestCase):
@@ -62,6 +52,9 @@ class Help(unittest.TestCase):
             self.assertEqual(len(set(texts)), 1, name)
             status, out, err = texts[0]
             self.assertEqual((status, err), (0, ""))
+            example = out.rstrip("\n").split("\n")[-1]
+            self.assertTrue(example.startswith(f"example: bridge-{name} "), example)
+            driver.options.take(example.split()[3:])
             for option in driver.options.known.values():
                 self.assertRegex(out, rf"(?m)^  {option.name} ")
                 told = called(lambda: driver.main(["help", option.name]))
@@ -71,10 +64,13 @@ class Help(unittest.TestCase):
             self.assertIn("a number from 0 on", flat)
 
     def test_scripts(self) -> None:
-        """What a clone has tells what it is, on standard output."""
-        for script, word in (("drivers/install", "--help"), ("dev/try", "--help"),
-                             ("dev/try", "-h"), ("dev/lint", "-h"), ("dev/setup", "--help"),
-                             ("packaging/build", "-h"), ("dev/map.py", "--help")):
+        """What can be called in a clone tells what it is, on standard output."""
+        found = [os.path.join(folder, name) for folder in SCRIPTS
+                 for name in sorted(os.listdir(os.path.join(TOP, folder)))
+                 if os.access(os.path.join(TOP, folder, name), os.X_OK)
+                 and os.path.isfile(os.path.join(TOP, folder, name))]
+        self.assertGreater(len(found), 20)
+        for script, word in zip(found, itertools.cycle(("--help", "-h"))):
             ran = subprocess.run([os.path.join(TOP, script), word], capture_output=True,
                                  text=True, check=False, timeout=300)
             self.assertEqual((ran.returncode, ran.stderr), (0, ""), script)
@@ -85,11 +81,17 @@ class Options_(unittest.TestCase):
     def test_did_you_mean(self) -> None:
         known = Command("cbc").options
         for word, meant in (("gap", "mipgap"), ("timeout", "timelim"), ("quiet", "wantsol=8"),
-                            ("o", "certificate"), ("timelimit", "timelim"), ("proove", "prove")):
+                            ("o", "certificate"), ("timelimit", "timelim"), ("proove", "prove"),
+                            ("certficate", "certificate")):
             with self.assertRaisesRegex(BadOption, f"did you mean `{meant}`\\?"):
                 known.take([word + "=1"])
         self.assertEqual(near("veryfy", commands.WORDS), " did you mean `verify`?")
         self.assertEqual(near("gap", commands.WORDS), "")
+        for call, end in ((["help", "gap"], "no help on gap; did you mean `mipgap`?"),
+                          (["knap", "--foo"], "unknown option --foo;"),
+                          (["help", "refusal"], "no help on refusal; did you mean `refusals`?")):
+            status, _, err = called(lambda: front.command(call))
+            self.assertEqual((status, err), (3, f"nl-bridge: {end} -h lists the commands\n"))
 
     def test_certify_takes_those_of_each_driver(self) -> None:
         for name in solvers.NAMES:
@@ -149,8 +151,7 @@ class Models(Case):
                 self.put(pack(data), end + packed)
                 with Inputs() as inputs:
                     given = inputs.model(self.stub + end + packed)
-                    with open(given.path, "rb") as f:
-                        self.assertEqual(f.read(), data)
+                    self.assertEqual(Path(given.path).read_bytes(), data)
                 self.assertEqual((given.stub, given.is_mps, bool(given.notes)),
                                  (self.stub, end == ".mps", bool(packed)))
                 self.assertEqual(os.path.exists(inputs.folder), False)
@@ -167,17 +168,14 @@ class Models(Case):
         with subprocess.Popen(["sh", "-c", f"printf 'NAME\\n' > {self.stub}.mps"]):
             with Inputs() as inputs:
                 given = inputs.model(self.stub + ".mps")
-                with open(given.path, "rb") as f:
-                    self.assertEqual((f.read(), given.is_mps, given.stub),
-                                     (b"NAME\n", True, self.stub))
+                self.assertEqual((Path(given.path).read_bytes(), given.is_mps, given.stub),
+                                 (b"NAME\n", True, self.stub))
 
     @NEEDS_PROGRAM
     def test_each_command(self) -> None:
         """Of one model in each form each command says the same."""
-        with open(os.path.join(EXAMPLES, "knap.certificate"), "rb") as f:
-            self.put(f.read(), ".certificate")
-        with open(os.path.join(EXAMPLES, "knap.nl"), "rb") as f:
-            data = f.read()
+        self.put(Path(EXAMPLES, "knap.certificate").read_bytes(), ".certificate")
+        data = Path(EXAMPLES, "knap.nl").read_bytes()
         self.put(data)
         self.put(gzip.compress(data), ".nl.gz")
         for word, end, line in (("verify", [self.stub + ".certificate"], "optimal 17"),
@@ -236,14 +234,12 @@ class Statuses(Case):
                 (["bridge-cbc", nl, "solver=/no/cbc"], 127),
                 (["bridge-cbc", nl, "solver=/bin/true"], 1),
                 (["bridge-certify", nl, "bridge=/no/bridge"], 127)):
-            ran = subprocess.run([sys.executable, os.path.join(BIN, call[0]), *call[1:]],
-                                 stdin=subprocess.DEVNULL, capture_output=True, check=False)
-            self.assertEqual(ran.returncode, status, (call, ran.stdout, ran.stderr))
+            ended = ran(*call)
+            self.assertEqual(ended.returncode, status, (call, ended))
 
     @NEEDS_PROGRAM
     def test_a_refusal_points_to_explain(self) -> None:
         self.put(MODELS["nonlinear"].text)
-        ran = subprocess.run([sys.executable, os.path.join(BIN, "nl-bridge"), "export",
-                              self.stub + ".nl"], capture_output=True, text=True, check=False)
-        self.assertEqual(ran.stderr, "refused line 12: nonlinear\nnl-bridge: `nl-bridge explain "
-                                     f"{self.stub}.nl` says more\n")
+        self.assertEqual(ran("nl-bridge", "export", self.stub + ".nl").stderr,
+                         "refused line 12: nonlinear\nnl-bridge: `nl-bridge explain "
+                         f"{self.stub}.nl` says more\n")

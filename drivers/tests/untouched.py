@@ -3,14 +3,12 @@
 
 from __future__ import annotations
 
-import contextlib
-import io
 import os
 import unittest
-from typing import Callable, Dict
+from typing import Dict
 from unittest import mock
 
-from support import NEEDS_PROGRAM, PROGRAM, Case
+from support import NEEDS_PROGRAM, PROGRAM, Case, called
 from models import MODELS
 
 from bridge_drivers import front, solvers
@@ -21,12 +19,10 @@ OLDER = b"letters\n"
 Files = Dict[str, bytes]
 
 
-def quietly(call: Callable[[], object]) -> str:
-    """What a call prints, on both streams."""
-    out = io.StringIO()
-    with contextlib.redirect_stdout(out), contextlib.redirect_stderr(out):
-        call()
-    return out.getvalue()
+def quietly(*words: str) -> str:
+    """What a call of nl-bridge prints, on both streams."""
+    ended = called(lambda: front.command(words))
+    return ended.stdout + ended.stderr
 
 
 class Rule(Case):
@@ -34,10 +30,6 @@ class Rule(Case):
 
     def place(self, end: str) -> str:
         return self.stub + end
-
-    def text(self, end: str) -> bytes:
-        with open(self.place(end), "rb") as f:
-            return f.read()
 
     def test_what_stays(self) -> None:
         """By what stands there, and whether overwrite=1 is said."""
@@ -61,8 +53,8 @@ class Rule(Case):
                         places.write(self.place(end), b"new")
                 else:
                     places.write(self.place(end), b"new")
-                    self.assertEqual(self.text(end), b"new")
-        self.assertEqual(self.text(".nl"), b"model")
+                    self.assertEqual(self.bytes_of(end), b"new")
+        self.assertEqual(self.bytes_of(".nl"), b"model")
         with self.assertRaises(FileExistsError):
             Places([self.place(".nl")]).remove(self.place(".link"))
 
@@ -70,7 +62,7 @@ class Rule(Case):
         """A name that a new file could have while it is written."""
         self.put(OLDER, f".sol.{os.getpid()}.part")
         Places([]).write(self.place(".sol"), b"new")
-        self.assertEqual((self.text(".sol"), self.text(f".sol.{os.getpid()}.part")),
+        self.assertEqual((self.bytes_of(".sol"), self.bytes_of(f".sol.{os.getpid()}.part")),
                          (b"new", OLDER))
         self.assertEqual(len(os.listdir(self.folder)), 2)
 
@@ -128,8 +120,7 @@ class Commands(Case):
             ended = self.replay(driver, "product", self.stub, "only=mps")
             self.assertEqual(ended.returncode, 5)
             self.assertIn(f"{path}: it stands there", ended.stderr)
-            with open(path, "rb") as f:
-                self.assertEqual(f.read(), OLDER)
+            self.assertEqual(self.bytes_of(f".{driver}.mps"), OLDER)
             for words in (["overwrite=1"], []):     # the same text again is no loss
                 ended = self.replay(driver, "product", self.stub, "only=mps", *words)
                 self.assertEqual(ended.returncode, 0, ended.stderr)
@@ -170,17 +161,16 @@ class Commands(Case):
             with open(target + end, "wb") as f:
                 f.write(OLDER)
             before = self.tree()
-            told = quietly(lambda: front.command(["import", mps, target + ".nl"]))
+            told = quietly("import", mps, target + ".nl")
             self.assertIn(f"{target}{end}: it stands there", told)
             self.assertEqual(self.tree(), before)
-            told = quietly(lambda: front.command(["overwrite=1", "import", mps, target]))
+            told = quietly("overwrite=1", "import", mps, target)
             self.assertIn("is written", told)
         for words in ([], ["overwrite=1"]):             # onto itself
             with open(target + ".nl", "wb") as f, open(mps, "rb") as source:
                 f.write(source.read())
             before = self.tree()
-            told = quietly(lambda: front.command(["import", target + ".nl", target,
-                                                          *words]))
+            told = quietly("import", target + ".nl", target, *words)
             self.assertIn("it is what this command reads", told)
             self.assertEqual(self.tree(), before)
 
@@ -190,11 +180,10 @@ class Commands(Case):
         for word in ("--html", "--svg"):
             self.put(OLDER, ".page")
             words = ["explain", self.stub, self.stub + ".certificate", word, self.stub + ".page"]
-            told = quietly(lambda: front.command(words))
+            told = quietly(*words)
             self.assertIn("is not written: it stands there", told)
             self.assertEqual(self.tree()["stub.page"], OLDER)
-            self.assertIn(".page is written",
-                          quietly(lambda: front.command([*words, "overwrite=1"])))
+            self.assertIn(".page is written", quietly(*words, "overwrite=1"))
 
 
 if __name__ == "__main__":

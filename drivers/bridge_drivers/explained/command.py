@@ -2,7 +2,6 @@
 
 from __future__ import annotations
 
-import hashlib
 import os
 import tempfile
 from fractions import Fraction
@@ -13,6 +12,7 @@ from ..bridge import Refused
 from ..certify.model import Model, Unfit, model_of
 from ..files import Places
 from ..printable import in_a_line
+from ..report import sum_of
 from ..subjects import Subject
 from .bounds import Bounds
 from .page import Page, Used, text_of
@@ -34,11 +34,6 @@ class Files(NamedTuple):
     html: str = ""
     svg: str = ""
     overwrite: bool = False
-
-
-def sum_of(path: str) -> str:
-    with open(path, "rb") as f:
-        return hashlib.sha256(f.read()).hexdigest()
 
 
 class Explaining:
@@ -94,9 +89,8 @@ class Explaining:
 
     def object(self) -> dict[str, object]:
         """The same for programs."""
-        t, c, node = self.tally, self.certificate, None
-        if self.fails is not None:
-            node = c.nodes[self.fails]
+        t, c = self.tally, self.certificate
+        node = None if self.fails is None else c.nodes[self.fails]
         points = {name: None if of is None else {self.wording.column(j): str(value)
                                                  for j, value in of.items()}
                   for name, of in (("point", c.point), ("ray", c.ray))}

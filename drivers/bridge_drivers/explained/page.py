@@ -109,6 +109,7 @@ def text_of(page: Page) -> str:
     return "\n".join(parts)
 
 
+LETTER = 0.62                   # the width of one in fixed width, in its height, and a little more
 AROUND = 60                     # what a page has beside the picture, in its units
 LEGEND = (("duals", "closes: its duals show the bound"), ("weights", "closes: its rows contradict"),
           ("cut", "goes on by a split, a plane or a lemma"), ("folded", "goes on, not drawn"),
@@ -150,13 +151,13 @@ def point_of(page: Page) -> list[str]:
 
 
 def sums_of(page: Page) -> list[str]:
-    """How the leaves that are drawn close."""
+    """How the leaves that are drawn close, in letters so small that the widest line fits."""
     if not page.sums:
         return []
-    found = []
-    for head, lines, shows in page.sums:
-        text = "\n".join([*lines, shows])
-        found.append(f'<h3>{escape(head)}</h3>\n<pre tabindex="0">{escape(text)}</pre>')
+    widest = max(len(line) for _, lines, shows in page.sums for line in (*lines, shows))
+    size = f"clamp(.5rem, calc((100vw - 4.5rem) / {LETTER * widest:.1f}), .875rem)"
+    found = [f'<h3>{escape(head)}</h3>\n<pre tabindex="0" style="font-size: {size}">'
+             + escape("\n".join([*lines, shows])) + "</pre>" for head, lines, shows in page.sums]
     return ["<h2>The sums of its leaves</h2>",
             '<p class="pale">Each number times the side of a row or bound that holds in that part; '
             "on the left what the sum of the rows is, which is the objective, or nothing.</p>",

@@ -4,15 +4,15 @@ is shown there, and how it goes on or closes. Large trees are folded to a depth.
 from __future__ import annotations
 
 import time
+from collections import Counter
 from fractions import Fraction
 from html import escape
 from typing import Iterator, NamedTuple
 
-from ..values import exact_decimal
 from .bounds import Bounds
 from .page import Part
 from .reading import DUALS, LEMMA, PLANE, ROOT, SPLIT, WEIGHTS, Certificate
-from .words import Wording
+from .words import Wording, short
 
 MOST_SHOWN = 64                 # nodes before a tree is folded
 MOST_DEPTH = 8
@@ -53,17 +53,6 @@ class Drawn(NamedTuple):
     y: int
 
 
-def short(value: Fraction) -> str:
-    """A number in few characters."""
-    text = exact_decimal(value)
-    if text is not None and len(text) <= 12:
-        return text
-    try:
-        return f"\u2248 {float(value):.6g}"
-    except OverflowError:
-        return "beyond doubles"
-
-
 def cut(text: str, most: int = MOST_TEXT) -> str:
     return text if len(text) <= most else text[:most - 1] + "\u2026"
 
@@ -91,9 +80,7 @@ class Picture:
 
     def folded_depth(self) -> int:
         """The greatest depth down to which there are few nodes."""
-        counts: dict[int, int] = {}
-        for node in self.certificate.nodes:
-            counts[node.depth] = counts.get(node.depth, 0) + 1
+        counts = Counter(node.depth for node in self.certificate.nodes)
         total = depth = 0
         for depth in sorted(counts):
             total += counts[depth]
@@ -270,8 +257,9 @@ def bounds_of(certificate: Certificate, bounds: Bounds) -> dict[int, Fraction | 
         else:
             below = certificate.children(place)[1 if node.kind == LEMMA else 0:]
             if all(child in values for child in below):
-                worst = [v for v in (values[child] for child in below) if v is not None]
-                values[place] = worse(worst, is_maximised(place, certificate, bounds))
+                worse = max if is_maximised(place, certificate, bounds) else min
+                values[place] = worse((value for child in below
+                                       if (value := values[child]) is not None), default=None)
     return values
 
 
@@ -282,9 +270,3 @@ def is_maximised(place: int, certificate: Certificate, bounds: Bounds) -> bool:
         if certificate.nodes[above].kind == LEMMA and certificate.nodes[below].part == 0:
             return True
     return bounds.goal.maximise
-
-
-def worse(values: list[Fraction], maximise: bool) -> Fraction | None:
-    if not values:
-        return None
-    return max(values) if maximise else min(values)

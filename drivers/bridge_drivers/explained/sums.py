@@ -6,10 +6,9 @@ import time
 from fractions import Fraction
 from typing import Iterator, NamedTuple, Sequence
 
-from ..values import exact_decimal
 from .bounds import Bounds, End, Part
 from .reading import WEIGHTS
-from .words import Wording
+from .words import ABOUT, BEYOND, Wording, short
 
 MOST_TERMS = 60                 # lines of one sum
 SECONDS = 5.0                   # for all sums
@@ -38,13 +37,9 @@ def both(value: Fraction) -> str:
     """A number, and beside a fraction its decimal."""
     if value.denominator == 1:
         return str(value)
-    text = exact_decimal(value)
-    if text is not None and len(text) <= 12:
-        return f"{value} = {text}"
-    try:
-        return f"{value} \u2248 {float(value):.6g}"
-    except OverflowError:
-        return str(value)
+    text = short(value)
+    return str(value) if text == BEYOND else \
+        f"{value} {text}" if text.startswith(ABOUT) else f"{value} = {text}"
 
 
 def terms_of(bounds: Bounds, wording: Wording, place: int, part: Part) -> Iterator[Term]:

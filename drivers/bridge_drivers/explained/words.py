@@ -10,6 +10,7 @@ from typing import Mapping, NamedTuple, Sequence
 
 from .. import verdicts
 from ..names import Names
+from ..values import exact_decimal
 from ..verdicts import Said, decimal, share
 from .bounds import Bounds, Part
 from .reading import LEMMA, PLANE, SPLIT, WEIGHTS, Certificate, Node
@@ -19,6 +20,20 @@ MOST_LISTED = 12                # values of a point, rows
 FAULT = re.compile(r"leaf (\d+) (?:(gap) (\S+)|(too wide)|(row|bound) (\d+) has no side)")
 POINT_FAULT = re.compile(r"(ray )?(row|bound|variable) (\d+) (broken|not whole)")
 WIDE = re.compile(r"too wide at (ray )?(?:(row|bound) (\d+)|objective)")
+
+
+ABOUT, BEYOND = "\u2248 ", "beyond doubles"
+
+
+def short(value: Fraction) -> str:
+    """A number in few characters."""
+    text = exact_decimal(value)
+    if text is not None and len(text) <= 12:
+        return text
+    try:
+        return f"{ABOUT}{float(value):.6g}"
+    except OverflowError:
+        return BEYOND
 
 
 class Tally(NamedTuple):
@@ -38,19 +53,12 @@ class Tally(NamedTuple):
 
 def tally(certificate: Certificate, constraints: int) -> Tally:
     kinds = Counter(node.kind for node in certificate.nodes)
-    rows: Counter[int] = Counter()
-    added = 0
-    for node in certificate.nodes:
-        if node.is_leaf():
-            for number, text in node.pairs:
-                if number < constraints:
-                    rows[number] += 1
-                else:
-                    added += 1
+    used = [number for node in certificate.nodes if node.is_leaf() for number, _ in node.pairs]
+    rows = Counter(number for number in used if number < constraints)
     leaves = sum(node.is_leaf() for node in certificate.nodes)
     depth = max((node.depth for node in certificate.nodes), default=0)
     return Tally(len(certificate.nodes), kinds[SPLIT], kinds[PLANE], kinds[LEMMA], leaves,
-                 kinds[WEIGHTS], depth, rows, added)
+                 kinds[WEIGHTS], depth, rows, len(used) - sum(rows.values()))
 
 
 def counted(count: int, thing: str) -> str:
