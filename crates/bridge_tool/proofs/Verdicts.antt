@@ -158,8 +158,6 @@ module _ (nl : NlValue) (s : Sol) (file : IsFile nl.file) where
 
 -- ---- what the code answers
 
-module _ (nl : NlValue) (s : Sol) (k : ℕ) where
-
 module _ (nl : NlValue) (s : Sol) where
   -- a verdict means what it should
   pub meant_so : (r : Result (Bool × Vec ℕ) (Stop Refusal)) → IsFile nl.file → Comes (λ outcome. outcome ≡ check_outcome nl s) r → IfOk r (λ t. ByVerdict t.0 (IsCertified nl s) (IsNotCertified nl s))

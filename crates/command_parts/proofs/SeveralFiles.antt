@@ -179,8 +179,6 @@ module _ {V : Type 0} (reads : List ℕ → V → Type 0) (refuses : List ℕ �
 
 -- ---- reading a file
 
-module _ {R V : Type 0} (seen : R → V) (reads : List ℕ → V → Type 0) (refuses : List ℕ → List ℕ → Type 0) where
-
 -- ---- a command at work
 
 -- q is what is left of p

@@ -1,5 +1,5 @@
 -- Terms that ascend, and trees with their terms.
-use Rattle.std.proofs.Common.{◌≡◌, ◌≢◌, ◌↔◌, ℕ, suc, ◌+◌, ◌<◌, ◌≤◌, ◌∙◌, sym, ap, refl, subst, arith, true, false, ◌&&◌, Some, None, List, [], ◌∷◌, ◌++◌, drop, length, zero, ◌*◌, ap₂, Option, Ok, Err, length-append, get_or, pos}
+use Rattle.std.proofs.Common.{◌≡◌, ◌≢◌, ℕ, suc, ◌+◌, ◌<◌, ◌≤◌, ◌∙◌, sym, ap, refl, subst, arith, true, false, ◌&&◌, Some, None, List, [], ◌∷◌, ◌++◌, drop, length, zero, ◌*◌, ap₂, Option, Ok, Err, length-append, get_or, pos}
 use Rattle.std.specs.Option.{option_or}
 use Rattle.std.proofs.lemmas.Bool.{and_from}
 use Rattle.exact_numbers.specs.declared.frac.Frac.{Frac}
@@ -40,9 +40,6 @@ use Rattle.linear_fold.specs.InsideOperates.{zero_line}
 use Rattle.linear_fold.specs.InsideFolds.{AreNodesWithin, AreTreesGiven, ComesToTerms, HasLineOf, IsEntryWithin, IsExpressionFolded, IsFolded, IsTreeGiven}
 use Rattle.linear_fold.proofs.Folding.{constant_lined, is_line_of, same_values}
 use Rattle.linear_fold.proofs.Operators.{FitsLine, copy_fits, multiplied, scaled_by_one}
-
--- ---- the test
-module _ (n : ℕ) (all rest : List FileTerm) (i : ℕ) (t : FileTerm) (whole : Type 0) (at : drop i all ≡ t ∷ rest) (h : AreStrictlyAscending n (linear_terms (drop i all)) ↔ whole) where
 
 -- ---- the list
 abbrev pub list_line : ℚ → List Term → Line
