@@ -70,10 +70,12 @@ class Claims(Case):
 
     @NEEDS_CLP
     def test_wrong_answers_are_mended(self) -> None:
-        """A search finds the point; what the solver said stays in the message."""
+        """A search finds the point, and its duals; what the solver said stays in the message."""
         for name, change, words, line, kind in (
                 ("diet", ("x0                              4", "x0                              3"),
                  [], "optimal 22/5", "another"),
+                ("diet", ("c0                                0.3", "c0                   0.2"),
+                 [], "optimal 22/5", ""),
                 ("knap", ("x1                              1", "x1                              0"),
                  ["prove=1"], "optimal 17", "a better")):
             self.put(MODELS[name].text)
@@ -83,8 +85,11 @@ class Claims(Case):
             run["logs"]["solver.log"] = text.replace(*change, 1).split("\n")
             self.assertEqual(self.last("lp_solve", name, *words, run=run), line)
             self.assertEqual(self.sol().code, 0)
-            self.assertIn(f"{kind} point was found; objective ", self.sol().text)
+            self.assertEqual("point was found; objective" in self.sol().text, bool(kind))
+            self.assertIn(f"{kind} point was found; objective " if kind else "", self.sol().text)
             self.judge_claim(name, self.sol())
+            self.assertEqual([str(float(y)) for y in self.sol().duals],
+                             list(MODELS[name].duals or []))
 
     def test_another_point_is_not_passed_on_as_solved(self) -> None:
         """Neither a better nor a worse one, where it is not proved optimal."""
