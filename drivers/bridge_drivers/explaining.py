@@ -11,7 +11,7 @@ import os
 import re
 from typing import Mapping, NamedTuple, Sequence
 
-from . import kinds
+from . import kinds, mps_faults
 from .expressions import Expression
 from .names import Names, comment_of
 from .printable import in_a_line, printable
@@ -86,12 +86,9 @@ MEANING: Mapping[str, Meaning] = {
     "reserved name": Meaning("it begins with @, or is 'MARKER'"),
     "repeated name": Meaning("an earlier line has it"),
     "bad name": Meaning("not one word of 1 to 255 bytes"),
-    "bad section": Meaning("a section of another kind of model (SOS, QUADOBJ, CSECTION), or one "
-                           "out of its order"),
-    "bad bound kind": Meaning("not LO, UP, FX, FR, MI, PL, BV, LI or UI"),
     "unknown row": Meaning("no line of ROWS has it"),
     "unknown column": Meaning("no line of COLUMNS has it"),
-    "column again": Meaning("the lines of a column must stand together", "sort them by columns"),
+    "column again": Meaning("", "sort the lines by columns"),
     "second set": Meaning("two right sides, ranges or sets of bounds", "keep one"),
     "range on free row": Meaning("a range for an N row", "leave it out"),
     "no objective": Meaning("no N row", "add one"),
@@ -284,6 +281,8 @@ class Refusal:
             kind = kinds.kind_of(self.files[0])
             if kind is not None:
                 return f"{t.reason}: it {kinds.told(self.files[0], kind, self.shown[0])}"
+        if t.file == 1 and self.command in mps_faults.COMMANDS:
+            return self.at_mps_line(t)
         if t.reason == "bad first line" and self.file_two(t):
             return f"{t.reason} (it does not begin with `{FIRST_LINES[self.command]}`)"
         if t.file != 1 or not self.is_model or t.reason in AT_END:
@@ -296,6 +295,14 @@ class Refusal:
         if not t.reason.startswith(("short", "extra", "bad line")):
             expression = expression_at(segment, t.number, self.names)
         return f"{place_of(segment, t.number, self.names)}: {fault_of(t.reason, expression)}"
+
+    def at_mps_line(self, t: Told) -> str:
+        """By the word that is at fault, or by what the file is that is none."""
+        kind = kinds.kind_of(self.files[0]) if t.number == 1 else None
+        if kind is not None and kind is not kinds.MPS:
+            return f"{t.reason}: it {kinds.told(self.files[0], kind, self.shown[0])}"
+        word = mps_faults.fault(self.files[0], t.number, t.reason)
+        return f"{t.reason} {word}" if word else t.reason + meaning(t.reason)
 
     def file_two(self, t: Told) -> bool:
         """Whether it is the second file of a command, whose first line is known."""

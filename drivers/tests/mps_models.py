@@ -107,3 +107,5 @@ MODELS = {
 }
 BLANK = FIXED_TEXT.replace("    ONE       COST", "    MY ONE    COST")
 EMPTY_INTERVAL = sections("N o / G r", "x o 1 r 1 / low o 1", "BOUNDS LO B low 3 / UP B low 2")
+FAULTY = "NAME t\nROW\n N o\n L cap\nCOLUMNS\n x o 1\n x cap 2\nRHS\n RHS cap 9\nBOUNDS\n" \
+         " UP b x 4\nENDATA\n"
