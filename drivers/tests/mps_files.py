@@ -168,7 +168,7 @@ class Read(Case):
                 *((FAULTY.replace("ROW\n", "ROWS\n").replace(*change), line) for change, line in (
                     ((" L cap", " M cap"), "4: bad line `M`: no kind of a row, which are N, L, G and "
                                            "E"),
-                    ((" x cap 2", " x cup 2"), "7: unknown row `cup`: no line before has it; did you "
+                    ((" x cap 2", " x capp 2"), "7: unknown row `capp`: no line before has it; did you "
                                                "mean `cap`?"),
                     ((" x cap 2", " x cap 2,5"), "7: bad number `2,5`: no decimal number; a point "
                                                  "stands before decimals"),
