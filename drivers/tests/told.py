@@ -3,6 +3,7 @@ least: over families by size, searched for some seconds, from no point and from 
 
 from __future__ import annotations
 
+import contextlib
 import re
 import unittest
 from fractions import Fraction as F
@@ -12,11 +13,13 @@ from support import NEEDS_CLP, NEEDS_PROGRAM, PROGRAM, Case
 from bridge_drivers import verdicts
 from bridge_drivers.bridge import Bridge
 from bridge_drivers.certify.claims import Certifying, certified
+from bridge_drivers.certify.plans import Plans
 from bridge_drivers.certify.watch import Watch
 from bridge_drivers.program import Program
 from bridge_drivers.progress import Progress, detailed
 from families import made
 
+PLANS = "bridge_drivers.certify.plans."
 SECONDS = 1.5
 DIGITS = F(1, 10 ** 9)          # ten digits are told
 FAMILIES = (("knapsack", 30), ("knapsack", 45), ("lots", 14), ("lots", 20), ("packing", 8),
@@ -52,22 +55,34 @@ class Told(Case):
             verdict = certified(work, "nothing")
         return noting, verdicts.read(verdict.line), verdict.line
 
+    def judge(self, name: str, size: int) -> int:
+        """How much was told."""
+        noting, said, line = self.told(made(name, size), True)
+        sign = 1 if noting.maximise else -1
+        if said is not None and said.word == "infeasible":
+            return 0
+        for key, told in noting.best.items():
+            got = None if said is None else said.bound if key == "bound" else said.value
+            self.assertIsNotNone(got, f"{key} {float(told)}: {line}")
+            by = sign * (told - got) if key == "bound" else sign * (got - told)
+            self.assertGreaterEqual(by, -DIGITS * max(1, abs(told)), f"{key} {float(told)}: {line}")
+        return len(noting.best)
+
     def test_families(self) -> None:
-        count = 0
+        """Also where no time is kept for a bound, and where it is over with a better point."""
+        count, whole = 0, Plans.try_all
+
+        def once(plans: Plans) -> None:
+            if plans.folder not in self.searched:
+                self.searched.append(plans.folder)
+                whole(plans)
         for name, size in FAMILIES:
-            with self.subTest(family=name, size=size):
-                noting, said, line = self.told(made(name, size), True)
-                sign = 1 if noting.maximise else -1
-                if said is not None and said.word == "infeasible":
-                    continue
-                for key, told in noting.best.items():
-                    count += 1
-                    self.assertIsNotNone(said, f"{key} {float(told)}: {line}")
-                    got = said.bound if key == "bound" else said.value
-                    self.assertIsNotNone(got, f"{key} {float(told)}: {line}")
-                    by = sign * (told - got) if key == "bound" else sign * (got - told)
-                    self.assertGreaterEqual(by, -DIGITS * max(1, abs(told)),
-                                            f"{key} {float(told)}: {line}")
+            for way, patch in (("", contextlib.nullcontext()),
+                               ("no time", mock.patch(PLANS + "RESERVE", 1.0)),
+                               ("over", mock.patch(PLANS + "Plans.try_all", once))):
+                with self.subTest(family=name, size=size, way=way), patch:
+                    self.searched: list[str] = []
+                    count += self.judge(name, size)
         self.assertGreater(count, len(FAMILIES))
 
     def test_without_prove(self) -> None:
