@@ -6,13 +6,14 @@ from __future__ import annotations
 import copy
 import glob
 import json
+import os
 import re
 import subprocess
 import unittest
 
 from support import NEEDS_PROGRAM, Case
 from bridge_drivers import solvers
-from bridge_drivers.codes import Code
+from bridge_drivers.codes import Code, Status
 from bridge_drivers.solvers import statuses
 from bridge_drivers.solvers.statuses import Says
 from models import MODELS
@@ -183,7 +184,7 @@ class Each(Case):
             self.assertEqual(code, self.wanted("glpsol", row, has_point), (row, line))
 
     def test_real_ones(self) -> None:
-        """Runs that were really made, of a limit or a gap: `record.py statuses`.
+        """Runs that were really made, of a limit, a gap or an interrupt: `record.py statuses`.
 
         Where the time of the search is enough to prove the optimum, the code is 0.
         """
@@ -195,6 +196,11 @@ class Each(Case):
                 run = runs[real.name]
                 ended = self.replay(real.driver, "", self.stub, "-AMPL", "-e", *real.options,
                                     run=run)
+                if not real.codes:
+                    self.assertEqual(ended.returncode, Status.INTERRUPTED)
+                    self.assertIn(real.told, ended.stderr)
+                    self.assertFalse(os.path.exists(self.stub + ".sol"))
+                    continue
                 self.assertEqual(ended.returncode, 0, ended.stderr)
                 sol = self.sol()
                 is_proved = sol.message[-1].startswith("optimal ")
