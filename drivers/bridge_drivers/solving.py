@@ -17,7 +17,7 @@ from .files import Places
 from .inputs import Input
 from .interrupts import Interrupted
 from .job import Clock, Job
-from .miss import NONE, Miss, largest_share, miss, missing
+from .miss import NONE, ROUNDING, Miss, largest_share, miss, missing
 from .nl import BadFile, Prepared, header, prepared
 from .options import Options
 from .program import Program
@@ -29,7 +29,7 @@ from .verdicts import percent, read
 
 
 EMPTY = "{} was not asked: a whole variable has no whole number between its bounds"
-ROUNDING = 1e-15            # of the largest term: less is not told by doubles
+LEAST = 1e-15               # of the largest term: less is not told by doubles
 
 
 @dataclass
@@ -324,19 +324,16 @@ class Solving:
         """What the proved program says of the numbers that are passed on. Where these round a
         point that is proved, what they miss is told as rounding."""
         if told.endswith(" is broken"):
-            by = self.broken(answer)
+            assert answer.values is not None
+            share = max(largest_share(answer.program, answer.values), LEAST)
+            by = f"missed by more than {share:.2g} of its largest term"
             if verdict.is_proved() and verdict.point is not None and answer.loose:
-                return f"{certifier.checks}it has the exact point in decimals, which miss {by}"
-            told += f"; no row or bound is missed by more than {by}"
+                told = f"it has the exact point in decimals; no row or bound is {by}"
+            elif share <= ROUNDING:
+                told = f"no row or bound is {by}, which is rounding"
+            else:
+                told += f"; no row or bound is {by}"
         return certifier.checks + told + certifier.rounding(verdict, answer, told)
-
-    @staticmethod
-    def broken(answer: Answer) -> str:
-        """By how much the written values miss the model at most."""
-        assert answer.values is not None
-        share = max(largest_share(answer.program, answer.values), ROUNDING)
-        return f"{share:.2g} of the largest term of a row at most" if answer.loose else \
-            f"{share:.2g} of its largest term"
 
 
 def proved_gap(verdict: Verdict) -> str:
