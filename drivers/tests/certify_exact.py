@@ -3,16 +3,23 @@ say is judged by other means."""
 
 from __future__ import annotations
 
+import contextlib
 import itertools
 import random
 from fractions import Fraction as F
-from unittest import TestCase, main
+from unittest import TestCase, main, mock
 
-import support  # noqa: F401  (the path of the package)
+from support import NEEDS_PROGRAM, PROGRAM, Case
+from bridge_drivers import solvers
+from bridge_drivers.bridge import Bridge
 from bridge_drivers.certify import doubles, equations, points
+from bridge_drivers.certify.claims import Certifying
 from bridge_drivers.certify.leaves import Closer
 from bridge_drivers.certify.model import Box, Model
 from bridge_drivers.certify.simplex import Ended, Simplex
+from bridge_drivers.certify.watch import Watch
+from bridge_drivers.program import Program
+from misleading_more import more
 
 MOST_STEPS = 3000
 
@@ -86,6 +93,30 @@ class Fractions(TestCase):
             self.assertEqual(len({one.claim for one in found}), 1)
             if found[0].claim == "optimal":
                 self.assertEqual(len({p.value(one.point) for one in found}), 1)
+
+
+@NEEDS_PROGRAM
+class Programs(Case):
+    """Nearly singular ones, by QSopt_ex where its program is there, and by whole numbers here."""
+
+    def claim(self, text: bytes, is_there: bool) -> str:
+        self.put(text)
+        bridge = Bridge(PROGRAM, lambda argv: None)
+        work = Certifying(bridge, self.stub + ".nl", self.folder,
+                          Program(bridge.text("export", self.stub + ".nl")), 0, Watch(60.0))
+        work.load()
+        with contextlib.nullcontext() if is_there else mock.patch("shutil.which", lambda name: None):
+            self.assertEqual(work.by_qsopt() is not None, is_there and "optimal" in self.wanted)
+            return next(work.by_simplex()).line
+
+    def test_both_ways(self) -> None:
+        solver = solvers.load("esolver")
+        for model in more(12):
+            if model.is_linear() and any(model.costs.values()):
+                self.wanted = "unbounded" if model.is_endless else f"optimal {model.best}"
+                for is_there in [False, True] if solver.place() else [False]:
+                    with self.subTest(model=model.name, by_qsopt=is_there):
+                        self.assertEqual(self.claim(model.text(), is_there), self.wanted)
 
 
 class Doubles(TestCase):

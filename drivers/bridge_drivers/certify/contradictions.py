@@ -6,7 +6,7 @@ import itertools
 from fractions import Fraction
 from typing import Callable, Iterator, NamedTuple
 
-from . import points, simplex, text
+from . import points, qsopt, simplex, text
 from .clp import NoClp, State
 from .directions import directions
 from .equations import hollow, parity
@@ -127,7 +127,7 @@ class Contradicting(Judging):
         """What is true of a small linear program, from the basis that is given."""
         p = self.model
         self.watch.progress.tell("the simplex method in fractions")
-        ended = self.ended(p, given)
+        ended = self.by_qsopt() or self.ended(p, given)
         if ended.claim == "unbounded" and ended.point is not None:
             yield self.without_end(ended.point, ended.ray)
         closer, box, is_infeasible = Closer(p, None), Box(p.lo, p.hi), ended.claim == "infeasible"
@@ -142,6 +142,19 @@ class Contradicting(Judging):
                 yield self.one_leaf(Closed(leaf, [], 0), "optimal", None, ended.point)
             else:
                 self.note = wide_note(f"{bits} bits")
+
+    def by_qsopt(self) -> simplex.Ended | None:
+        """The optimum of QSopt_ex, where its point and duals are those of one."""
+        p = self.model
+        found = qsopt.optimum(self.program, self.folder, self.watch.left()) \
+            if self.linear and any(p.costs) else None
+        if found is None or not p.fits(found.values):
+            return None
+        rows = {i: p.sign * self.factors.get(i, 1) * y for i, y in found.duals.items() if y}
+        judged = Closer(p, None).judge(Closer(p, None).of_fractions(rows, False), Box(p.lo, p.hi))
+        if judged.sideless or Fraction(judged.bound, judged.scale) != p.value(found.values):
+            return None
+        return simplex.Ended("optimal", found.values, rows)
 
     def ended(self, p: Model, given: Given = Given()) -> simplex.Ended:
         def look() -> None:
