@@ -81,7 +81,7 @@ class Answer:
         other.costs, other.lines, other.loose_duals = None, None, 0
         return other
 
-    def at(self, values: Mapping[str, Fraction], duals: Mapping[str, Fraction], code: Code,
+    def at(self, values: Mapping[str, Number], duals: Mapping[str, Fraction], code: Code,
            is_own: bool = True) -> Answer:
         """At other values. Near its own ones its duals, costs and basis still stand, and given
         duals in their place where they are near all of them; at another point given ones alone."""

@@ -247,14 +247,7 @@ class Solving:
                 before += 1
             if found.kind:
                 lines.append(f"{found.kind} point was found; objective {found.answer.objective()}")
-            answer, sol = self.returned(certifier, found.answer, lines, before)
-            if self.options.check and answer.values is not None:
-                told = certifier.checked(answer)
-                better = self.with_proved_duals(answer, verdict, told)
-                if better is not None:
-                    answer, sol = self.returned(certifier, better, lines, before)
-                    told = certifier.checked(answer)
-                lines.append(self.check_line(certifier, answer, verdict, told))
+            answer, sol = self.checked(certifier, found.answer, verdict, lines, before)
         except Refused as fault:
             raise Failure(Code.NOT_RETURNED, f"return: {fault.line()}") from None
         if self.options.outlev and verdict.figures:
@@ -279,6 +272,20 @@ class Solving:
             return outcome.text
         return f"stopped at the gap of {percent(self.gap())} that was asked for" if self.gap() \
             else "stopped at a gap that was asked for"
+
+    def checked(self, certifier: Certifier, answer: Answer, verdict: Verdict, lines: list[str],
+                before: int) -> tuple[Answer, bytes]:
+        """What is passed on and its .sol, with a line of what the proved program says of it."""
+        answer, sol = self.returned(certifier, answer, lines, before)
+        if not self.options.check or answer.values is None:
+            return answer, sol
+        told = certifier.checked(answer)
+        better = self.with_proved_duals(answer, verdict, told)
+        if better is not None:
+            answer, sol = self.returned(certifier, better, lines, before)
+            told = certifier.checked(answer)
+        lines.append(self.check_line(certifier, answer, verdict, told))
+        return answer, sol
 
     def returned(self, certifier: Certifier, answer: Answer, lines: list[str],
                  before: int) -> tuple[Answer, bytes]:

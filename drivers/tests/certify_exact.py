@@ -105,7 +105,8 @@ class Programs(Case):
         work = Certifying(bridge, self.stub + ".nl", self.folder,
                           Program(bridge.text("export", self.stub + ".nl")), 0, Watch(60.0))
         work.load()
-        with contextlib.nullcontext() if is_there else mock.patch("shutil.which", lambda name: None):
+        which = mock.patch("shutil.which", lambda name: None)
+        with contextlib.nullcontext() if is_there else which:
             self.assertEqual(work.by_qsopt() is not None, is_there and "optimal" in self.wanted)
             return next(work.by_simplex()).line
 

@@ -22,7 +22,7 @@ from bridge_drivers.importing import lists_of
 from bridge_drivers.mps_text import program_of
 from plain import Plain
 from reports import faults, schema
-from mps_models import BLANK, EMPTY_INTERVAL, FAULTY, FIXED_TEXT, MODELS, sections
+from mps_models import BLANK, EMPTY_INTERVAL, FAULTS, FIXED_TEXT, MODELS, sections
 
 SOLVERS = [name for name in solvers.NAMES if solvers.load(name).place()]
 CERTIFICATE = b"certificate 1\nfeasible 0\npoint 2\n0 1\n1 1\n"
@@ -156,30 +156,10 @@ class Read(Case):
         self.assertEqual((read.form, read.notes), ("fixed", []))
 
     def test_refusals(self) -> None:
-        """The word that is at fault, and what helps with it alone, in the form that goes further."""
-        self.assertRegex(self.refused(BLANK), "^m.mps line 8: bad line of .*: names with blanks are "
-                                              "not read$")
-        free = MODELS["free"].text
-        for text, line in (
-                (FIXED_TEXT.replace("ENDATA", "SOS"),
-                 "18: bad section `SOS`: special ordered sets are not read"),
-                (free.replace("-1", "one"), "6: bad number `one`: no decimal number"),
-                (FAULTY, "2: bad section `ROW`: no section that is known; did you mean `ROWS`?"),
-                *((FAULTY.replace("ROW\n", "ROWS\n").replace(*change), line) for change, line in (
-                    ((" L cap", " M cap"), "4: bad line `M`: no kind of a row, which are N, L, G and "
-                                           "E"),
-                    ((" x cap 2", " x capp 2"), "7: unknown row `capp`: no line before has it; did you "
-                                               "mean `cap`?"),
-                    ((" x cap 2", " x cap 2,5"), "7: bad number `2,5`: no decimal number; a point "
-                                                 "stands before decimals"),
-                    (("BOUNDS", "BOUND"), "10: bad section `BOUND`: no section that is known; did "
-                                          "you mean `BOUNDS`?"),
-                    (("BOUNDS", "ROWS"), "10: bad section `ROWS`: out of its order, or twice"),
-                    ((" UP b x", " SC b x"), "11: bad bound kind `SC`: semi-continuous columns are "
-                                             "not read"),
-                    ((" UP b x 4", " FR b y"), "11: unknown column `y`: no line before has it"),
-                    (("ENDATA", "QUADOBJ"), "12: bad section `QUADOBJ`: quadratic objectives are not "
-                                            "read")))):
+        """The word that is at fault, and what helps with it alone."""
+        self.assertRegex(self.refused(BLANK),
+                         "^m.mps line 8: bad line of .*: names with blanks are not read$")
+        for text, line in FAULTS:
             self.assertEqual(self.refused(text), f"m.mps line {line}")
 
     def test_as_import_has_it(self) -> None:
