@@ -107,12 +107,14 @@ class Programs(Case):
         work.load()
         which = mock.patch("shutil.which", lambda name: None)
         with contextlib.nullcontext() if is_there else which:
-            self.assertEqual(work.by_qsopt() is not None, is_there and "optimal" in self.wanted)
-            return next(work.by_simplex()).line
+            found = work.by_qsopt()
+            self.assertEqual(found is not None, is_there and "optimal" in self.wanted)
+            with mock.patch("bridge_drivers.certify.contradictions.PIVOTS", -1.0):
+                return next(work.by_simplex()).line
 
     def test_both_ways(self) -> None:
         solver = solvers.load("esolver")
-        for model in more(12):
+        for model in more(4):
             if model.is_linear() and any(model.costs.values()):
                 self.wanted = "unbounded" if model.is_endless else f"optimal {model.best}"
                 for is_there in [False, True] if solver.place() else [False]:

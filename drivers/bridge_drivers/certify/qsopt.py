@@ -25,16 +25,20 @@ class Optimum(NamedTuple):
     duals: dict[int, Fraction]
 
 
+def place() -> str | None:
+    return shutil.which(SOLVER.program)
+
+
 def optimum(program: Program, folder: str, seconds: float) -> Optimum | None:
     """None where there is none, or not in that time."""
-    place, out = shutil.which(SOLVER.program), os.path.join(folder, "qsopt.sol")
-    if place is None:
+    solver, path = place(), os.path.join(folder, "qsopt.mps")
+    if solver is None:
         return None
-    path = os.path.join(folder, "qsopt.mps")
+    out = os.path.join(folder, "qsopt.sol")
     with naming(path), open(path, "wb") as f:
         f.write(SOLVER.text(program))
     try:
-        with_child(lambda child: child.wait(min(seconds, MOST_SECONDS)), [place, "-O", out, path],
+        with_child(lambda child: child.wait(min(seconds, MOST_SECONDS)), [solver, "-O", out, path],
                    stdin=subprocess.DEVNULL, stdout=subprocess.DEVNULL, stderr=subprocess.DEVNULL,
                    cwd=folder, start_new_session=True)
         lines = read_lines(out) or []
