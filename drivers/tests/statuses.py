@@ -163,12 +163,17 @@ class Each(Case):
     def test_unknown_ones(self) -> None:
         """A status of no table, with a point: judged, and told in its own words."""
         row = Says("Quite done", Code.UNSURE, "")
-        for driver in ("cbc", "clp"):
-            model = "knap" if driver == "cbc" else "diet"
+        for driver in ("cbc", "clp", "lp_solve", "highs", "glpsol"):
+            model = "diet" if driver == "clp" else "knap"
             run = changed(driver, stored.runs(driver)[model], row, True)
+            if driver == "glpsol":
+                lines = run["files"]["answer.txt"]
+                lines[:] = [line.replace(" f ", " q ") if line.startswith("s ") else line
+                            for line in lines]
             code, line = self.code_of(driver, model, run)
             self.assertEqual(code, 100)
-            self.assertIn("a point, and it ended with `Quite done`", line)
+            told = {"glpsol": "q", "highs": "told (HiGHS Status Quite done: told)"}
+            self.assertIn(f"a point, and it ended with `{told.get(driver, 'Quite done')}`", line)
 
     def test_letters_of_glpk(self) -> None:
         for row in statuses.GLPK_FILE:
