@@ -59,17 +59,19 @@ class WholeClaims(LinearClaims):
     def without_exact(self, x: Sequence[float | Fraction], by: Fraction) -> Verdict:
         """Where no exact point has the answer's whole variables, which miss rows by that share: a
         contradiction, or whatever the search finds. An answer that breaks rows by rounding alone
-        is meant: only with `proves` more is tried, and no worse point takes its place."""
+        is meant, but for planes of whole numbers: only with `proves` more is tried, and no worse
+        point takes its place."""
         p, verdict = self.model, Verdict(WITHOUT + NO_EXACT)
         if 0 < by <= ROUNDING:
             verdict = Verdict(f"{WITHOUT}rows of whole variables are missed by {float(by):.2g} of "
                               "their largest term, which is rounding")
-        if self.proves or self.contradicted or not by:
-            found = self.best(self.infeasible())
-            is_worse = found.point is not None and found.claim() != "optimal" and \
-                p.value(found.point) > p.value([Fraction(v) for v in x])
-            if found.is_proved() and (self.contradicted or not is_worse):
-                return found
+        is_asked, are_whole = self.proves or self.contradicted or not by, p.scale == p.unit == 1
+        found = self.best(self.infeasible() if is_asked else self.planes() if are_whole else
+                          iter(()))
+        is_worse = found.point is not None and found.claim() != "optimal" and \
+            p.value(found.point) > p.value([Fraction(v) for v in x])
+        if found.is_proved() and (self.contradicted or not is_worse):
+            return found
         return verdict._replace(contradicted=self.contradicted)
 
     def whole_optimum(self, point: Point) -> Iterator[Verdict]:
