@@ -86,8 +86,6 @@ MEANING: Mapping[str, Meaning] = {
     "reserved name": Meaning("it begins with @, or is 'MARKER'"),
     "repeated name": Meaning("an earlier line has it"),
     "bad name": Meaning("not one word of 1 to 255 bytes"),
-    "unknown row": Meaning("no line of ROWS has it"),
-    "unknown column": Meaning("no line of COLUMNS has it"),
     "column again": Meaning("", "sort the lines by columns"),
     "second set": Meaning("two right sides, ranges or sets of bounds", "keep one"),
     "range on free row": Meaning("a range for an N row", "leave it out"),

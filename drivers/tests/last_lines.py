@@ -189,6 +189,20 @@ class Claims(Case):
                 self.last("cbc", "product", *words)
             self.assertEqual(made.call_args.args[0], seconds, words)
 
+    def test_a_large_answer_as_it_stands(self) -> None:
+        """Where the time of its certificate is over: where it is none itself, that is told."""
+        self.put(MODELS["diet"].text)
+        good = stored.runs("lp_solve")["diet"]
+        bad = copy.deepcopy(good)
+        bad["logs"]["solver.log"] = [line.replace("x0                              4",
+                                                  "x0                              3")
+                                     for line in good["logs"]["solver.log"]]
+        late = mock.patch("bridge_drivers.certificates.certified",
+                          lambda *_: Verdict("not proved: time"))
+        with mock.patch("bridge_drivers.certificates.LARGE", 1), late:
+            for run, line in ((good, "optimal 22/5"), (bad, "not proved: time")):
+                self.assertEqual(self.last("lp_solve", "diet", run=run), line)
+
     def test_a_certificate_that_is_not_accepted(self) -> None:
         self.put(MODELS["product"].text)
         reply = Reply(1, b"leaf 0 gap 20\n", "")
