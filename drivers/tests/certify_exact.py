@@ -20,7 +20,7 @@ from bridge_drivers.certify.simplex import Ended, Simplex
 from bridge_drivers.certify.watch import Watch
 from bridge_drivers.program import Program
 from misleading_more import more
-from models import nl, whole
+from models import MODELS, nl, whole
 
 MOST_STEPS = 3000
 
@@ -123,6 +123,16 @@ class Programs(Case):
                 for is_there in [False, True] if solver.place() else [False]:
                     with self.subTest(model=model.name, by_qsopt=is_there):
                         self.assertEqual(self.claim(model.text(), is_there, wanted), wanted)
+
+    @NEEDS_CLP
+    def test_linear_ones_without_an_answer(self) -> None:
+        """What is true of them, as where a solver stopped without a point."""
+        for name, line in (("product", "optimal 19"), ("thirds", "optimal 1/3"),
+                           ("infeasible", "infeasible"), ("unbounded", "unbounded"),
+                           ("unbounded_rowless", "unbounded"), ("rowless", "optimal 1")):
+            for proves in (False, True):
+                verdict = certified(self.work(MODELS[name].text, proves), "nothing")
+                self.assertEqual(verdict.line, line, name)
 
     @NEEDS_CLP
     def test_planes_beside_rounding(self) -> None:

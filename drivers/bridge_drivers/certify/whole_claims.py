@@ -163,13 +163,12 @@ class WholeClaims(LinearClaims):
             self.know_exact_leaf(leaf.leaf)
 
     def bounds(self) -> Iterator[Verdict]:
-        """Of the relaxation, by one leaf."""
-        clp, state = self.relaxation()
-        if state is State.INFEASIBLE:
-            yield from self.infeasible()
-        if self.linear and clp is not None and state is State.OPTIMAL:
+        """Of a linear program what is true of it, of another one a bound."""
+        if self.linear:
             yield from self.linear_optimum(Given())
-        elif not self.linear:
+        else:
+            if self.relaxation()[1] is State.INFEASIBLE:
+                yield from self.infeasible()
             self.know_root()
         trivial = short.trivial(self.model)
         if trivial is not None:
