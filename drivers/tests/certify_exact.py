@@ -143,7 +143,7 @@ class Programs(Case):
         near = nl([whole(0, 9)], [(step, step, {0: "0.1"})], [("max", 0, {0: 1})])
         for text, x, proves, line in (
                 (odd, [998.0, 4999999999002.0], False, "infeasible"),
-                (near, [3.0], False, "not proved: rows of whole variables are missed by .*rounding"),
+                (near, [3.0], False, "not proved: rows of whole .* which is rounding"),
                 (near, [3.0], True, "infeasible")):
             verdict = certified(self.work(text, proves), "point", Given(x))
             self.assertRegex(verdict.line, f"^{line}$")
