@@ -81,11 +81,17 @@ class Answer:
         other.costs, other.lines, other.loose_duals = None, None, 0
         return other
 
-    def at(self, values: Mapping[str, Fraction], duals: Mapping[str, Fraction],
-           code: Code) -> Answer:
-        """At other values, under which duals, costs and basis still stand; given duals stand for
-        the solver's where they are near all of them."""
+    def at(self, values: Mapping[str, Number], duals: Mapping[str, Fraction], code: Code,
+           is_own: bool = True) -> Answer:
+        """At other values. Near its own ones its duals, costs and basis still stand, and given
+        duals in their place where they are near all of them; at another point given ones alone."""
         outcome = replace(self.outcome, values=values, objective=None, code=code)
+        if not is_own:
+            known = {row: duals[row] for row in self.program.constraints if row in duals}
+            lacks = len(known) < len(self.program.constraints) or self.is_integer()
+            return Answer(self.program, replace(outcome, duals=None if lacks else known,
+                                                costs=None, column_basis=None, row_basis=None),
+                          self.options)
         old = outcome.duals
         if duals and old is not None and all(
                 abs(float(y) - float(old[row])) <= NEAR_DUAL * max(1.0, abs(float(y)))
@@ -95,15 +101,12 @@ class Answer:
         other.outcome, other.costs = outcome, self.costs
         return other if self.duals is not None else other.without_duals()
 
+    def is_integer(self) -> bool:
+        return bool(self.program.whole) and not self.options.relax
+
     def with_code(self, code: Code) -> Answer:
         other = copy.copy(self)
         other.outcome = replace(self.outcome, code=code)
-        return other
-
-    def with_text(self, text: str) -> Answer:
-        """The code in other words."""
-        other = copy.copy(self)
-        other.outcome = replace(self.outcome, text=text)
         return other
 
     def without_point(self, code: Code) -> Answer:

@@ -122,8 +122,9 @@ class Certifier:
                     self.pool_note = "the search went on in one process: " + pool.fault
         self.is_interrupted = watch.is_stopped
         if claim == "point" and not self.relaxed and not verdict.is_proved() and size > LARGE:
-            return self.as_it_stands(work, answer)._replace(by_doubles=verdict.by_doubles,
-                                                         note=verdict.note)
+            stands = self.as_it_stands(work, answer)
+            if stands.is_proved():
+                return stands._replace(by_doubles=verdict.by_doubles, note=verdict.note)
         return verdict
 
     def as_it_stands(self, work: Certifying, answer: Answer) -> Verdict:

@@ -11,7 +11,7 @@ import os
 import re
 from typing import Mapping, NamedTuple, Sequence
 
-from . import kinds
+from . import kinds, mps_faults
 from .expressions import Expression
 from .names import Names, comment_of
 from .printable import in_a_line, printable
@@ -24,11 +24,8 @@ BODIES = b"COVL"                        # segments that hold an expression
 HEAD_LINES = 10
 NL_FIRST = ("export", "nl", "return", "check", "prove", "verify")     # commands of an .nl file
 
-
 FIRST_LINES = {"verify": "certificate 1", "verify_mps": "certificate 1",
                "verify_fixed": "certificate 1", "prove": "proof 1", "return": "answer 1"}
-
-
 AT_END = ("end in header", "missing segment", "nonzero count", "column count")    # of the file
 
 
@@ -215,6 +212,8 @@ class Refusal:
             kind = kinds.kind_of(self.files[0])
             if kind is not None:
                 return f"{t.reason}: it {kinds.told(self.files[0], kind, self.shown[0])}"
+        if t.file == 1 and self.command in mps_faults.COMMANDS:
+            return self.at_mps_line(t)
         if t.reason == "bad first line" and self.file_two(t):
             return f"{t.reason} (it does not begin with `{FIRST_LINES[self.command]}`)"
         if t.file != 1 or not self.is_model or t.reason in AT_END:
@@ -227,6 +226,14 @@ class Refusal:
         if not t.reason.startswith(("short", "extra", "bad line")):
             expression = expression_at(segment, t.number, self.names)
         return f"{place_of(segment, t.number, self.names)}: {fault_of(t.reason, expression)}"
+
+    def at_mps_line(self, t: Told) -> str:
+        """By the word that is at fault, or by what the file is that is none."""
+        kind = kinds.kind_of(self.files[0]) if t.number == 1 else None
+        if kind is not None and kind is not kinds.MPS:
+            return f"{t.reason}: it {kinds.told(self.files[0], kind, self.shown[0])}"
+        word = mps_faults.fault(self.files[0], t.number, t.reason)
+        return f"{t.reason} {word}" if word else t.reason + meaning(t.reason)
 
     def file_two(self, t: Told) -> bool:
         """Whether it is the second file of a command, whose first line is known."""

@@ -19,7 +19,6 @@ from .mps_text import MpsProgram, program_of
 FREE, FIXED = "free", "fixed"
 READS = {FREE: "mps", FIXED: "fixed"}               # commands by form
 VERIFIES = {FREE: "verify_mps", FIXED: "verify_fixed"}
-CALLED = {FREE: "in free form", FIXED: "in fixed columns"}
 PROBE = "certificate 1\nfeasible 0\npoint 0\n"      # one that any program can be asked about
 NAMES = ((4, 12), (14, 22), (39, 47))               # the fields of names in fixed columns
 DONE, ANOTHER, FAULT = 0, 1, 2
@@ -30,7 +29,7 @@ class Damaged(Exception):
 
 
 class FormRefused(Refused):
-    """Both forms are refused: with the fault of the other one."""
+    """Both forms are refused; `other` says more of it."""
 
     other = ""
 
@@ -99,15 +98,14 @@ def reading(bridge: Bridge, path: str, form: str = "") -> Reading:
 
 
 def both_refused(bridge: Bridge, path: str, replies: dict[str, Reply]) -> Refused:
-    """The fault of the form that goes further; another one of the other form behind it."""
+    """The fault of the form that goes further."""
     if any(reply.status != FAULT for reply in replies.values()):
         form = next(form for form, reply in replies.items() if reply.status != FAULT)
         return bridge.refused((READS[form], path), replies[form])
-    first, other = sorted(READS, key=lambda form: -line_of(replies[form].told))
+    first = max(READS, key=lambda form: line_of(replies[form].told))
     fault = FormRefused(READS[first], replies[first], (READS[first], path), bridge.shown)
-    told = replies[other].told.removeprefix("refused ")
-    if replies[other].told != replies[first].told:
-        fault.other = f" ({CALLED[first]}; {CALLED[other]} {told})"
+    if first == FIXED:
+        fault.other = " (in fixed columns)"
     if has_blank_name(path, line_of(replies[FIXED].told)):
         fault.other += ": names with blanks are not read"
     return fault

@@ -38,7 +38,8 @@ def without_names_of_infinity(text: bytes) -> Mending:
     if part is None or b"inf" not in part.group().lower():
         return text, ""
     text = text[:part.start()] + ENDLESS.sub(one, part.group()) + text[part.end():]
-    return text, f"{count} bounds of infinity are read as none" if count else ""
+    what = "a bound of infinity is" if count == 1 else f"{count} bounds of infinity are"
+    return text, f"{what} read as none" if count else ""
 
 
 def with_senses(text: bytes) -> Mending:

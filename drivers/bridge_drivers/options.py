@@ -116,7 +116,8 @@ class Option:
 
 
 COMMON = (
-    Option("bound", 0, SWITCH, "1: for integer programs also a proved bound, of the relaxation"),
+    Option("bound", 1, SWITCH, "0: for integer programs no proved bound is looked for without "
+                               "prove=1"),
     Option("bridge", "", Text("words"), "what starts the proved program (also $BRIDGE)"),
     Option("certificate", "", FILE, "where an accepted certificate is kept"),
     Option("check", 1, SWITCH, "1: ask bridge what it can prove of the answer; 0: do not"),

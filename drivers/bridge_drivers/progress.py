@@ -101,8 +101,9 @@ def width(stream: TextIO) -> int:
 
 def detailed(known: Mapping[str, float]) -> str:
     """The words of what is known, and finite: incumbent, bound, gap, nodes and others by their
-    names."""
-    known = {name: value for name, value in known.items() if math.isfinite(value)}
+    names. A bound by cuts that are still being made is no claim yet."""
+    known = {name: value for name, value in known.items()
+             if math.isfinite(value) and not (name == "bound" and "cuts" in known)}
     parts = [f"{name} {value:.10g}" for name, value in known.items()
              if name in ("incumbent", "bound", "objective")]
     if "incumbent" in known and "bound" in known:

@@ -22,6 +22,7 @@ WORDS = {Code.SOLVED: "optimal solution", Code.UNSURE: "feasible solution",
          Code.INFEASIBLE: "infeasible", Code.UNBOUNDED: "unbounded",
          Code.LIMIT_WITH_POINT: "stopped with a feasible solution",
          Code.LIMIT: "stopped without a feasible solution"}
+IN_GAP = "solution within the gap that was asked for"
 
 
 class Facts(NamedTuple):
@@ -139,17 +140,24 @@ def proved_values(answer: Answer, verdict: Verdict) -> dict[str, Fraction] | Non
     return values
 
 
+def proved_duals(answer: Answer, verdict: Verdict) -> dict[str, Fraction]:
+    """By row, of one leaf."""
+    return {f"c{i}": y for i, y in verdict.duals.items() if f"c{i}" in answer.program.kinds}
+
+
 def at_point(answer: Answer, verdict: Verdict, values: Mapping[str, Fraction], kind: str,
              ruling: Ruling) -> Settled:
     """At the point that was proved. A solver's `optimal` stands beside one that is feasible with
     the same objective."""
-    duals = {f"c{i}": y for i, y in verdict.duals.items() if f"c{i}" in answer.program.kinds}
     code, own = ruling.code, answer.outcome.code
-    moved = answer.at(values, duals if code == Code.SOLVED else {}, code)
+    moved = answer.at(values, proved_duals(answer, verdict) if code == Code.SOLVED else {}, code,
+                      not kind)
     if ruling.lacks == STRICT:
         return Settled(code, moved, STRICT, kind, ruling.lacks)
     is_own = not kind and (code == own or bool(ruling.lacks) or answer.outcome.is_gap)
-    return Settled(code, moved, None if is_own else WORDS[code], kind, ruling.lacks)
+    words = IN_GAP if code == Code.SOLVED and verdict.claim() == "within" and \
+        answer.outcome.is_gap else WORDS[code]
+    return Settled(code, moved, None if is_own else words, kind, ruling.lacks)
 
 
 def another(answer: Answer, values: Mapping[str, Fraction]) -> str:

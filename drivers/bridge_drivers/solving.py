@@ -17,11 +17,11 @@ from .files import Places
 from .inputs import Input
 from .interrupts import Interrupted
 from .job import Clock, Job
-from .miss import NONE, Miss, largest_share, miss, missing
+from .miss import NONE, ROUNDING, Miss, largest_share, miss, missing
 from .nl import BadFile, Prepared, header, prepared
 from .options import Options
 from .program import Program
-from .settled import Facts, is_final, settled
+from .settled import Facts, is_final, proved_duals, settled
 from .solvers.base import Outcome, Solver, Unclear
 from .solvers.given import given, hollow
 from .values import BadValue
@@ -29,7 +29,7 @@ from .verdicts import percent, read
 
 
 EMPTY = "{} was not asked: a whole variable has no whole number between its bounds"
-ROUNDING = 1e-15            # of the largest term: less is not told by doubles
+LEAST = 1e-15               # of the largest term: less is not told by doubles
 
 
 @dataclass
@@ -209,13 +209,12 @@ class Solving:
 
     # the message -------------------------------------------------------------------
 
-    def headline(self, job: Job, answer: Answer, text: str | None = None, lacks: str = "") -> str:
-        """What is told first: the solver's words, with what they lack, or others that what was
-        proved puts in their place."""
+    def headline(self, job: Job, answer: Answer, text: str | None = None, more: str = "") -> str:
+        """What is told first: the solver's words, with what there is to say of them, or others that
+        what was proved puts in their place."""
         title = self.solver.named(job.log)
-        line = f"{title}: {answer.outcome.text}" if text is None else f"{title}, corrected: {text}"
-        if text is None and lacks:
-            line += f" (code 100: {lacks})"
+        line = f"{title}: {self.words(answer.outcome)}{more}" if text is None \
+            else f"{title}, corrected: {text}"
         figure = answer.objective()
         if figure is not None:
             line += f"; objective {figure}"
@@ -241,7 +240,6 @@ class Solving:
                     return self.told(job, nl, *other, notes)
             if certifier.is_interrupted:
                 lines.append("interrupted: the search for a certificate was ended")
-            answer = self.with_gap(answer, verdict)
             found = settled(answer, verdict, self.facts(missed))
             if found.text is not None:
                 own = self.headline(job, answer).partition(": ")[2]
@@ -249,15 +247,15 @@ class Solving:
                 before += 1
             if found.kind:
                 lines.append(f"{found.kind} point was found; objective {found.answer.objective()}")
-            answer, sol = self.returned(certifier, found.answer, lines, before)
-            if self.options.check and answer.values is not None:
-                lines.append(self.check_line(certifier, answer, verdict))
+            answer, sol = self.checked(certifier, found.answer, verdict, lines, before)
         except Refused as fault:
             raise Failure(Code.NOT_RETURNED, f"return: {fault.line()}") from None
         if self.options.outlev and verdict.figures:
             print(f"certificate: {verdict.figures}", flush=True)
         end = certifier.ended(verdict)
-        return Result(found.code, [self.headline(job, answer, found.text, found.lacks), *lines,
+        more = (proved_gap(verdict) if outcome.is_gap else "") + (
+            f" (code 100: {found.lacks})" if found.lacks else "")
+        return Result(found.code, [self.headline(job, answer, found.text, more), *lines,
                                    *answer.notes(), *end.lines], sol, answer, verdict.figures, end,
                       not self.options.strict or is_final(verdict))
 
@@ -268,14 +266,26 @@ class Solving:
     def facts(self, missed: Miss) -> Facts:
         return Facts(missed, self.gap(), bool(self.options.check), bool(self.options.strict))
 
-    def with_gap(self, answer: Answer, verdict: Verdict) -> Answer:
-        """The words of a gap that is reached, with what was asked for and what is proved."""
-        if not answer.outcome.is_gap:
-            return answer
-        proved = gap_of(verdict)
-        return answer.with_text(
-            f"stopped at the gap of {percent(self.gap())} that was asked for, " + (
-                f"{percent(proved)} are proved" if proved is not None else "none is proved"))
+    def words(self, outcome: Outcome) -> str:
+        """Its text; of a gap that is reached with what was asked for."""
+        if not outcome.is_gap:
+            return outcome.text
+        return f"stopped at the gap of {percent(self.gap())} that was asked for" if self.gap() \
+            else "stopped at a gap that was asked for"
+
+    def checked(self, certifier: Certifier, answer: Answer, verdict: Verdict, lines: list[str],
+                before: int) -> tuple[Answer, bytes]:
+        """What is passed on and its .sol, with a line of what the proved program says of it."""
+        answer, sol = self.returned(certifier, answer, lines, before)
+        if not self.options.check or answer.values is None:
+            return answer, sol
+        told = certifier.checked(answer)
+        better = self.with_proved_duals(answer, verdict, told)
+        if better is not None:
+            answer, sol = self.returned(certifier, better, lines, before)
+            told = certifier.checked(answer)
+        lines.append(self.check_line(certifier, answer, verdict, told))
+        return answer, sol
 
     def returned(self, certifier: Certifier, answer: Answer, lines: list[str],
                  before: int) -> tuple[Answer, bytes]:
@@ -303,33 +313,45 @@ class Solving:
                 raise
             return Verdict(f"{WITHOUT}a fault of the driver: {fault!r}")
 
-    def check_line(self, certifier: Certifier, answer: Answer, verdict: Verdict) -> str:
+    @staticmethod
+    def with_proved_duals(answer: Answer, verdict: Verdict, told: str) -> Answer | None:
+        """The answer with the duals of the certificate where its own do not show what is proved;
+        None where they do, or there are no others."""
+        duals, own = proved_duals(answer, verdict), answer.outcome.duals
+        if verdict.claim() != "optimal" or own is None or told.startswith("yes") \
+                or told.endswith(" is broken") or not duals \
+                or all(own[row] == y for row, y in duals.items()):
+            return None
+        assert answer.outcome.values is not None
+        other = answer.at(answer.outcome.values, duals, answer.outcome.code, False)
+        return other if other.duals is not None else None
+
+    def check_line(self, certifier: Certifier, answer: Answer, verdict: Verdict,
+                   told: str) -> str:
         """What the proved program says of the numbers that are passed on. Where these round a
         point that is proved, what they miss is told as rounding."""
-        told = certifier.checked(answer)
         if told.endswith(" is broken"):
-            by = self.broken(answer)
+            assert answer.values is not None
+            share = max(largest_share(answer.program, answer.values), LEAST)
+            by = f"missed by more than {share:.2g} of its largest term"
             if verdict.is_proved() and verdict.point is not None and answer.loose:
-                return f"{certifier.checks}it has the exact point in decimals, which miss {by}"
-            told += f"; no row or bound is missed by more than {by}"
+                told = f"it has the exact point in decimals; no row or bound is {by}"
+            elif share <= ROUNDING:
+                told = f"no row or bound is {by}, which is rounding"
+            else:
+                told += f"; no row or bound is {by}"
         return certifier.checks + told + certifier.rounding(verdict, answer, told)
 
-    @staticmethod
-    def broken(answer: Answer) -> str:
-        """By how much the written values miss the model at most."""
-        assert answer.values is not None
-        share = max(largest_share(answer.program, answer.values), ROUNDING)
-        return f"{share:.2g} of the largest term of a row at most" if answer.loose else \
-            f"{share:.2g} of its largest term"
 
-
-def gap_of(verdict: Verdict) -> float | None:
-    """The relative gap that a verdict proves."""
+def proved_gap(verdict: Verdict) -> str:
+    """What is proved of a gap, in words; nothing where nothing is."""
     said = read(verdict.line) if verdict.is_proved() else None
     if said is None or said.value is None or said.bound is None:
-        return None
+        return ""
+    if said.bound == said.value:
+        return ", and the point is proved optimal"
     size = max(abs(said.bound), abs(said.value))
-    return float(abs(said.bound - said.value) / size) if size else 0.0
+    return f", {percent(abs(said.bound - said.value) / size)} are proved"
 
 
 def of_answer(first: Outcome) -> str:

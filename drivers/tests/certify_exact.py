@@ -3,16 +3,24 @@ say is judged by other means."""
 
 from __future__ import annotations
 
+import contextlib
 import itertools
 import random
 from fractions import Fraction as F
-from unittest import TestCase, main
+from unittest import TestCase, main, mock
 
-import support  # noqa: F401  (the path of the package)
+from support import NEEDS_CLP, NEEDS_PROGRAM, PROGRAM, Case
+from bridge_drivers import solvers
+from bridge_drivers.bridge import Bridge
 from bridge_drivers.certify import doubles, equations, points
+from bridge_drivers.certify.claims import Certifying, Given, certified
 from bridge_drivers.certify.leaves import Closer
 from bridge_drivers.certify.model import Box, Model
 from bridge_drivers.certify.simplex import Ended, Simplex
+from bridge_drivers.certify.watch import Watch
+from bridge_drivers.program import Program
+from misleading_more import more
+from models import MODELS, nl, whole
 
 MOST_STEPS = 3000
 
@@ -86,6 +94,59 @@ class Fractions(TestCase):
             self.assertEqual(len({one.claim for one in found}), 1)
             if found[0].claim == "optimal":
                 self.assertEqual(len({p.value(one.point) for one in found}), 1)
+
+
+@NEEDS_PROGRAM
+class Programs(Case):
+    def work(self, text: bytes, proves: bool = True) -> Certifying:
+        self.put(text)
+        bridge, path = Bridge(PROGRAM, lambda argv: None), self.stub + ".nl"
+        return Certifying(bridge, path, self.folder, Program(bridge.text("export", path)), 0,
+                          Watch(60.0), proves)
+
+    def claim(self, text: bytes, is_there: bool, wanted: str) -> str:
+        work = self.work(text)
+        work.load()
+        which = mock.patch("shutil.which", lambda name: None)
+        with contextlib.nullcontext() if is_there else which:
+            found = work.by_qsopt()
+            self.assertEqual(found is not None, is_there and "optimal" in wanted)
+            with mock.patch("bridge_drivers.certify.contradictions.PIVOTS", -1.0):
+                return next(work.by_simplex()).line
+
+    def test_qsopt_and_pivots(self) -> None:
+        """Nearly singular ones, by QSopt_ex where its program is there, and in whole numbers."""
+        solver = solvers.load("esolver")
+        for model in more(4):
+            if model.is_linear() and any(model.costs.values()):
+                wanted = "unbounded" if model.is_endless else f"optimal {model.best}"
+                for is_there in [False, True] if solver.place() else [False]:
+                    with self.subTest(model=model.name, by_qsopt=is_there):
+                        self.assertEqual(self.claim(model.text(), is_there, wanted), wanted)
+
+    @NEEDS_CLP
+    def test_linear_ones_without_an_answer(self) -> None:
+        """What is true of them, as where a solver stopped without a point."""
+        for name, line in (("product", "optimal 19"), ("thirds", "optimal 1/3"),
+                           ("infeasible", "infeasible"), ("unbounded", "unbounded"),
+                           ("unbounded_rowless", "unbounded"), ("rowless", "optimal 1")):
+            for proves in (False, True):
+                verdict = certified(self.work(MODELS[name].text, proves), "nothing")
+                self.assertEqual(verdict.line, line, name)
+
+    @NEEDS_CLP
+    def test_planes_beside_rounding(self) -> None:
+        """An answer that is off by less than doubles tell is meant where numbers have decimals, and
+        where all are whole the plane is true."""
+        side, step = 10 ** 13 + 1, "0.30000000000000004"
+        odd = nl([whole(0, side)] * 2, [(side, side, {0: 2, 1: 2})], [("max", 0, {0: 1, 1: 2})])
+        near = nl([whole(0, 9)], [(step, step, {0: "0.1"})], [("max", 0, {0: 1})])
+        for text, x, proves, line in (
+                (odd, [998.0, 4999999999002.0], False, "infeasible"),
+                (near, [3.0], False, "not proved: rows of whole .* which is rounding"),
+                (near, [3.0], True, "infeasible")):
+            verdict = certified(self.work(text, proves), "point", Given(x))
+            self.assertRegex(verdict.line, f"^{line}$")
 
 
 class Doubles(TestCase):

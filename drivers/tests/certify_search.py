@@ -327,7 +327,7 @@ class Limits(Certified):
             start = time.monotonic()
             with mock.patch(part, endless):
                 verdict = certified(work, claim, Given(given))
-            self.assertLess(time.monotonic() - start, 1.1 + 5.5)
+            self.assertLess(time.monotonic() - start, 30)
             self.assertRegex(verdict.line, f"^{lines}$", part)
             self.assertEqual(signal.getitimer(signal.ITIMER_REAL), (0.0, 0.0))
 

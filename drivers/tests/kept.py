@@ -19,7 +19,7 @@ from unittest import mock
 from support import HERE, NEEDS_PROGRAM, PROGRAM, Case
 from models import MODELS
 
-from bridge_drivers import files, verdicts
+from bridge_drivers import files, solvers, verdicts
 from bridge_drivers.bridge import Bridge, Late, Reply
 from bridge_drivers.certify import clp, command
 from bridge_drivers.keeping import Keeper, Kept
@@ -28,6 +28,7 @@ from bridge_drivers.verdicts import Said
 
 CERTIFY = os.path.join(HERE, "..", "bin", "bridge-certify")
 OPTIMAL = b"certificate 1\noptimal 0\npoint 0\nduals 0\n"
+NEEDS_CBC = unittest.skipUnless(solvers.load("cbc").place(), "no cbc")
 STANDS = "it stands there, and this run did not make it; overwrite=1 replaces it"
 
 
@@ -223,6 +224,7 @@ class Certify(Case):
         self.put(OPTIMAL, ".certificate")
         return OPTIMAL
 
+    @NEEDS_CBC
     def test_failures_leave_an_older_one(self) -> None:
         for model, words, status in (("nonlinear", (), 2),
                                      ("knap", ("bridge=/nonexistent/b",), 127),
@@ -280,6 +282,7 @@ class Certify(Case):
         self.assertEqual(out.getvalue().split("\n")[-2],
                          "not proved: there was no search; without it: feasible 17")
 
+    @NEEDS_CBC
     def test_a_full_disk_is_named(self) -> None:
         """Files that may not grow: the fault has the name of its file."""
         self.put(MODELS["product"].text)

@@ -20,7 +20,7 @@ from bridge_drivers.importing import lists_of
 from bridge_drivers.mps_text import program_of
 from plain import Plain
 from reports import faults, schema
-from mps_models import BLANK, EMPTY_INTERVAL, FIXED_TEXT, MODELS, sections
+from mps_models import BLANK, EMPTY_INTERVAL, FAULTS, FIXED_TEXT, MODELS, sections
 
 SOLVERS = [name for name in solvers.NAMES if solvers.load(name).place()]
 CERTIFICATE = b"certificate 1\nfeasible 0\npoint 2\n0 1\n1 1\n"
@@ -147,12 +147,11 @@ class Read(Case):
         self.assertEqual((read.form, read.notes), ("fixed", []))
 
     def test_refusals(self) -> None:
-        self.assertEqual(self.refused(BLANK), "m.mps line 8: bad line: names with blanks are not "
-                                              "read")
-        self.assertRegex(self.refused(FIXED_TEXT.replace("ENDATA", "SOS")),
-                         r"^m\.mps line 18: bad section \(a section of another kind of model")
-        self.assertRegex(self.refused(MODELS["free"].text.replace("-1", "one")),
-                         r"^m\.mps line 6: bad number .*; in fixed columns line 3: bad line\)$")
+        """The word that is at fault, and what helps with it alone."""
+        self.assertRegex(self.refused(BLANK),
+                         "^m.mps line 8: bad line of .*: names with blanks are not read$")
+        for text, line in FAULTS:
+            self.assertEqual(self.refused(text), f"m.mps line {line}")
 
     def test_as_import_has_it(self) -> None:
         """Random programs against those that `import` and `export` make of them."""

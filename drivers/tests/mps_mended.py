@@ -32,7 +32,7 @@ class Mended(unittest.TestCase):
         for word, label in itertools.product(INFINITE, (" BND", "")):
             got, notes = mended(text(f"UP{label} x {word}", f"UP{label} inf 3"))
             self.assertEqual(got, text(f"PL{label} x", f"UP{label} inf 3"))
-            self.assertEqual(notes[0], "1 bounds of infinity are read as none")
+            self.assertEqual(notes[0], "a bound of infinity is read as none")
             got, _ = mended(text(f"LO{label} x -{word.lstrip('+')}"))
             self.assertEqual(got, text(f"MI{label} x"))
         rng = random.Random(1)

@@ -107,3 +107,20 @@ MODELS = {
 }
 BLANK = FIXED_TEXT.replace("    ONE       COST", "    MY ONE    COST")
 EMPTY_INTERVAL = sections("N o / G r", "x o 1 r 1 / low o 1", "BOUNDS LO B low 3 / UP B low 2")
+FAULTY = "NAME t\nROWS\n N o\n L cap\nCOLUMNS\n x o 1\n x cap 2\nRHS\n RHS cap 9\nBOUNDS\n" \
+         " UP b x 4\nENDATA\n"
+FAULTS = [(FIXED_TEXT.replace("ENDATA", "SOS"),
+           "18: bad section `SOS`: special ordered sets are not read")]
+FAULTS += [(FAULTY.replace(old, new), line) for old, new, line in (
+    ("ROWS", "ROW", "2: bad section `ROW`: no section that is known; did you mean `ROWS`?"),
+    (" L cap", " M cap", "4: bad line `M`: no kind of a row, which are N, L, G and E"),
+    ("x cap 2", "x capp 2", "7: unknown row `capp`: no line before has it; did you mean `cap`?"),
+    ("x cap 2", "x cap two", "7: bad number `two`: no decimal number"),
+    ("x cap 2", "x cap 2,5", "7: bad number `2,5`: no decimal number; a point stands before "
+                             "decimals"),
+    ("BOUNDS", "BOUND", "10: bad section `BOUND`: no section that is known; did you mean "
+                        "`BOUNDS`?"),
+    ("BOUNDS", "ROWS", "10: bad section `ROWS`: out of its order, or twice"),
+    (" UP b x", " SC b x", "11: bad bound kind `SC`: semi-continuous columns are not read"),
+    (" UP b x 4", " FR b y", "11: unknown column `y`: no line before has it"),
+    ("ENDATA", "QUADOBJ", "12: bad section `QUADOBJ`: quadratic objectives are not read"))]

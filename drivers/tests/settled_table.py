@@ -10,7 +10,7 @@ from bridge_drivers.certify.claims import Verdict
 from bridge_drivers.codes import Code
 from bridge_drivers.options import Options
 from bridge_drivers.program import Program
-from bridge_drivers.settled import Facts, Settled, settled
+from bridge_drivers.settled import IN_GAP, WORDS, Facts, Settled, settled
 from bridge_drivers.solvers.base import Outcome
 
 TEXT = b"NAME nl\nOBJSENSE\n MAX\nROWS\n N obj\n L c0\nCOLUMNS\n M0 'MARKER' 'INTORG'\n" \
@@ -90,6 +90,11 @@ class Table(Case):
             found = settled(answer, Verdict("within 6 5", [F(5)], "kept", "", F(5)),
                             Facts(gap=gap))
             self.judge(found, wanted, 5)
+        for line, point, words in (("within 8 7", 7, IN_GAP), ("optimal 7", 7, WORDS[SOLVED]),
+                                   ("within 6 5", 5, None)):
+            found = settled(answer, Verdict(line, [F(point)], "kept", "", F(point)),
+                            Facts(gap=0.5))
+            self.assertEqual((found.code, found.text), (SOLVED, words))
 
     def test_strict(self) -> None:
         """Only what ends the question is passed on with another code than 100."""

@@ -1,4 +1,4 @@
-"""Models that make solvers stop at a limit or a gap, with the options that do it."""
+"""Models that make solvers stop at a limit, a gap or an interrupt, with what does it."""
 
 from __future__ import annotations
 
@@ -9,7 +9,8 @@ from models import nl
 
 
 class Real(NamedTuple):
-    """A run: the codes that it may have, and what its message says."""
+    """A run: the codes that it may have, none where it has no answer, and what its message says.
+    `interrupt`: seconds after which it gets one."""
 
     name: str
     driver: str
@@ -17,6 +18,7 @@ class Real(NamedTuple):
     options: Sequence[str]
     codes: Sequence[int]
     told: str
+    interrupt: float = 0.0
 
     def text(self) -> bytes:
         return knapsacks(*self.size, self.driver == "clp")
@@ -32,7 +34,7 @@ def knapsacks(columns: int, rows: int, linear: bool = False) -> bytes:
               [("max", 0, {j: rng.randint(10, 99) for j in range(columns)})])
 
 
-SMALL, LARGE, HARD = (20, 5), (60, 20), (100, 30)
+SMALL, LARGE, HARD, ENDLESS = (20, 5), (60, 20), (100, 30), (150, 40)
 GAP = "stopped at the gap of 40.00 % that was asked for"
 REAL = (
     Real("cbc gap", "cbc", SMALL, ["mipgap=0.4"], (0, 100), GAP),
@@ -46,4 +48,8 @@ REAL = (
     Real("lp_solve time", "lp_solve", HARD, ["timelim=1"], (400,),
          "the time limit with a feasible"),
     Real("clp iterations", "clp", LARGE, ["extra=-maxIt 1"], (0, 100, 400, 450), ""),
+    Real("cbc interrupt", "cbc", ENDLESS, [], (400,), "interrupted with a feasible solution", 6.0),
+    Real("glpsol interrupt", "glpsol", ENDLESS, [], (), "interrupted", 6.0),
+    Real("lp_solve interrupt", "lp_solve", ENDLESS, [], (), "interrupted", 6.0),
+    Real("highs interrupt", "highs", ENDLESS, [], (), "interrupted", 6.0),
 )

@@ -6,13 +6,14 @@ from __future__ import annotations
 import copy
 import glob
 import json
+import os
 import re
 import subprocess
 import unittest
 
 from support import NEEDS_PROGRAM, Case
 from bridge_drivers import solvers
-from bridge_drivers.codes import Code
+from bridge_drivers.codes import Code, Status
 from bridge_drivers.solvers import statuses
 from bridge_drivers.solvers.statuses import Says
 from models import MODELS
@@ -162,12 +163,17 @@ class Each(Case):
     def test_unknown_ones(self) -> None:
         """A status of no table, with a point: judged, and told in its own words."""
         row = Says("Quite done", Code.UNSURE, "")
-        for driver in ("cbc", "clp"):
-            model = "knap" if driver == "cbc" else "diet"
+        for driver in ("cbc", "clp", "lp_solve", "highs", "glpsol"):
+            model = "diet" if driver == "clp" else "knap"
             run = changed(driver, stored.runs(driver)[model], row, True)
+            if driver == "glpsol":
+                lines = run["files"]["answer.txt"]
+                lines[:] = [line.replace(" f ", " q ") if line.startswith("s ") else line
+                            for line in lines]
             code, line = self.code_of(driver, model, run)
             self.assertEqual(code, 100)
-            self.assertIn("a point, and it ended with `Quite done`", line)
+            told = {"glpsol": "q", "highs": "told (HiGHS Status Quite done: told)"}
+            self.assertIn(f"a point, and it ended with `{told.get(driver, 'Quite done')}`", line)
 
     def test_letters_of_glpk(self) -> None:
         for row in statuses.GLPK_FILE:
@@ -183,7 +189,7 @@ class Each(Case):
             self.assertEqual(code, self.wanted("glpsol", row, has_point), (row, line))
 
     def test_real_ones(self) -> None:
-        """Runs that were really made, of a limit or a gap: `record.py statuses`.
+        """Runs that were really made, of a limit, a gap or an interrupt: `record.py statuses`.
 
         Where the time of the search is enough to prove the optimum, the code is 0.
         """
@@ -195,6 +201,11 @@ class Each(Case):
                 run = runs[real.name]
                 ended = self.replay(real.driver, "", self.stub, "-AMPL", "-e", *real.options,
                                     run=run)
+                if not real.codes:
+                    self.assertEqual(ended.returncode, Status.INTERRUPTED)
+                    self.assertIn(real.told, ended.stderr)
+                    self.assertFalse(os.path.exists(self.stub + ".sol"))
+                    continue
                 self.assertEqual(ended.returncode, 0, ended.stderr)
                 sol = self.sol()
                 is_proved = sol.message[-1].startswith("optimal ")

@@ -143,6 +143,7 @@ class Replay(Job):
         start = "answer." if log == LOG else log[:-3]
         stored.put(self.run_of["files"], self.folder, start)
         text = "\n".join(self.run_of["logs"].get(log, []))
+        self.is_interrupted = bool(self.run_of.get("interrupted"))
         if log == LOG:
             self.log = text
         return Ran(0, text, False)

@@ -6,7 +6,7 @@ import itertools
 from fractions import Fraction
 from typing import Callable, Iterator, NamedTuple
 
-from . import points, simplex, text
+from . import points, qsopt, simplex, text
 from .clp import NoClp, State
 from .directions import directions
 from .equations import hollow, parity
@@ -19,10 +19,11 @@ from .plans import MOST_THIN, PLAIN, SHORT
 from .shared import Shared
 from .spine import Maker, Spined, Value
 from .tree import Spool, Tree, count
-from .watch import Stopped
+from .watch import Paused, Stopped
 
 SEARCHED = 0.9                  # of the seconds that are left, for a last search
 SOON = 1.0                      # seconds of a plain search, before others
+PIVOTS = 0.25                   # seconds of pivoting in whole numbers, before QSopt_ex
 
 
 class Contradiction(NamedTuple):
@@ -127,7 +128,7 @@ class Contradicting(Judging):
         """What is true of a small linear program, from the basis that is given."""
         p = self.model
         self.watch.progress.tell("the simplex method in fractions")
-        ended = self.ended(p, given)
+        ended = self.settled(given)
         if ended.claim == "unbounded" and ended.point is not None:
             yield self.without_end(ended.point, ended.ray)
         closer, box, is_infeasible = Closer(p, None), Box(p.lo, p.hi), ended.claim == "infeasible"
@@ -143,9 +144,34 @@ class Contradicting(Judging):
             else:
                 self.note = wide_note(f"{bits} bits")
 
-    def ended(self, p: Model, given: Given = Given()) -> simplex.Ended:
+    def settled(self, given: Given) -> simplex.Ended:
+        """What is not soon done in whole numbers QSopt_ex has a try at, where it is there."""
+        if qsopt.place() is None:
+            return self.ended(self.model, given)
+        try:
+            return self.ended(self.model, given, PIVOTS)
+        except Paused:
+            return self.by_qsopt() or self.ended(self.model, given)
+
+    def by_qsopt(self) -> simplex.Ended | None:
+        """The optimum of QSopt_ex, where its point and duals are those of one."""
+        p = self.model
+        found = qsopt.optimum(self.program, self.folder, self.watch.until_over()) \
+            if self.linear and any(p.costs) else None
+        if found is None or not p.fits(found.values):
+            return None
+        rows = {i: p.sign * self.factors.get(i, 1) * y for i, y in found.duals.items() if y}
+        judged = Closer(p, None).judge(Closer(p, None).of_fractions(rows, False), Box(p.lo, p.hi))
+        if judged.sideless or Fraction(judged.bound, judged.scale) != p.value(found.values):
+            return None
+        return simplex.Ended("optimal", found.values, rows)
+
+    def ended(self, p: Model, given: Given = Given(),
+              seconds: float = float("inf")) -> simplex.Ended:
+        until = self.watch.spent() + seconds
+
         def look() -> None:
-            self.watch.look(0, float("inf"))
+            self.watch.look(0, until)
         tableau = simplex.Simplex(p, look)
         values = given.values or [0.0] * p.n
         tableau.start(given.basis.columns if given.basis else [], [float(v) for v in values])

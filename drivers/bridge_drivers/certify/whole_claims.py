@@ -3,27 +3,31 @@
 from __future__ import annotations
 
 import itertools
+import math
 from fractions import Fraction
 from typing import Iterator, Sequence
 
 from . import points, short, text
 from .clp import NoClp, State
-from .judging import ONE_LEAF, WITHOUT, Bound, Verdict
+from .judging import WITHOUT, Bound, Given, Verdict
 from .leaves import Closed, Closer, Multipliers
 from .linear_claims import LinearClaims
 from .model import Box, Point
 from .parts import Better
-from .plans import Plans, Shaped
+from .plans import Partial, Plan, Plans, Shaped
 from .watch import Stopped
 
 NO_EXACT = "no exact point has the answer's whole variables"
 ZERO, ROUNDING = Fraction(0), Fraction(1, 10 ** 12)     # of the largest term of a row
 MOST_BETTER = 100               # points that a search may find
+SLICE, SPARE = 0.1, 1.0         # seconds of a search at a time; those that are left for its bound
 MOST_MENDED = 200               # nodes of a search beside an answer
 
 
 class WholeClaims(LinearClaims):
     """Of an integer program."""
+
+    older: Plans | None = None      # for another value: those that had the closest bound
 
     def of_values(self, x: Sequence[float | Fraction]) -> Verdict:
         """Of an answer."""
@@ -55,17 +59,19 @@ class WholeClaims(LinearClaims):
     def without_exact(self, x: Sequence[float | Fraction], by: Fraction) -> Verdict:
         """Where no exact point has the answer's whole variables, which miss rows by that share: a
         contradiction, or whatever the search finds. An answer that breaks rows by rounding alone
-        is meant: only with `proves` more is tried, and no worse point takes its place."""
+        is meant, but for planes of whole numbers: only with `proves` more is tried, and no worse
+        point takes its place."""
         p, verdict = self.model, Verdict(WITHOUT + NO_EXACT)
         if 0 < by <= ROUNDING:
             verdict = Verdict(f"{WITHOUT}rows of whole variables are missed by {float(by):.2g} of "
                               "their largest term, which is rounding")
-        if self.proves or self.contradicted or not by:
-            found = self.best(self.infeasible())
-            is_worse = found.point is not None and found.claim() != "optimal" and \
-                p.value(found.point) > p.value([Fraction(v) for v in x])
-            if found.is_proved() and (self.contradicted or not is_worse):
-                return found
+        is_asked, are_whole = self.proves or self.contradicted or not by, p.scale == p.unit == 1
+        found = self.best(self.infeasible() if is_asked else self.planes() if are_whole else
+                          iter(()))
+        is_worse = found.point is not None and found.claim() != "optimal" and \
+            p.value(found.point) > p.value([Fraction(v) for v in x])
+        if found.is_proved() and (self.contradicted or not is_worse):
+            return found
         return verdict._replace(contradicted=self.contradicted)
 
     def whole_optimum(self, point: Point) -> Iterator[Verdict]:
@@ -83,10 +89,6 @@ class WholeClaims(LinearClaims):
         if plans.best is not None:
             yield self.by_tree(plans.best, point)
         if self.proves or self.bounded:
-            bounded = plans.bounded()
-            if bounded is not None:
-                value, path = bounded
-                self.know_bound(Bound(value, lambda: iter(()), path, "; ".join(plans.told)))
             self.know_root()
         yield from self.told()
         yield Verdict(WITHOUT + (plans.told[-1] if plans.told else "no plan was tried"), point)
@@ -99,28 +101,57 @@ class WholeClaims(LinearClaims):
                           self.pool)
             self.know_point(point)
             self.point, self.plans = point, plans
-            self.watch.incumbent = float(p.sign * p.value(point))
+            if self.points:
+                self.watch.incumbent = float(p.sign * p.value(self.points[0]))
             try:
                 if self.proves:
                     plans.try_all()
                 else:
-                    plans.run("plain", [], ONE_LEAF)
+                    self.run_plain(plans)
                 return plans
             except Better as better:
                 point = better.point
+                self.older = max(filter(None, (self.older, plans)), key=closest)
             except NoClp as fault:
                 plans.told.append(str(fault))
                 return plans
         self.know_point(point)
         return None
 
+    def run_plain(self, plans: Plans) -> None:
+        """The one search of a run without `proves`: of no bound that might be lost with its time is
+        told, and on a busy machine some is left for it."""
+        plan = plans.begun("plain")
+        plan.search.search.tells, plans.going = False, [plan]
+        while plans.left() > 0 and self.watch.until_over() > SPARE and not plan.is_dead:
+            plans.goes(plan, SLICE)
+        plans.told += [plan.told] if plan.told and plans.best is None else []
+
     def by_tree(self, shaped: Shaped, point: Point) -> Verdict:
         self.figures = f"{shaped.name} plan, {shaped.figures.nodes} nodes, " \
                        f"{shaped.figures.rows} rows, {shaped.size} bytes"
         return self.judged(text.head("optimal", self.objective, None, point), shaped.path, point)
 
+    def know_searched(self) -> None:
+        """The closest bound that a stopped search has, whatever value it was for."""
+        all_plans = [plans for plans in (self.plans, self.older) if plans is not None]
+        for plans, plan in sorted(((plans, plan) for plans in all_plans for plan in plans.going),
+                                  key=lambda pair: -stands_at(pair[1])):
+            if plans.partial is None or plans.partial.plan is not plan:
+                pending = plan.search.best_bound()
+                plans.partial = None if pending is None else Partial(plan, pending)
+            bounded = plans.bounded()
+            if bounded is not None:
+                value, path = bounded
+                self.know_bound(Bound(value, lambda: iter(()), path, "; ".join(plans.told)))
+                return
+
     def know_root(self) -> None:
-        """The bound of the relaxation: that of its exact optimum where it is had."""
+        """The bound of the searches, and of the relaxation: that of its exact optimum where it is
+        had."""
+        self.know_searched()
+        if self.shown is not None and not self.proves:
+            return
         clp, state = self.relaxation()
         if clp is None or state is not State.OPTIMAL or not any(self.model.costs):
             return
@@ -132,13 +163,12 @@ class WholeClaims(LinearClaims):
             self.know_exact_leaf(leaf.leaf)
 
     def bounds(self) -> Iterator[Verdict]:
-        """Of the relaxation, by one leaf."""
-        clp, state = self.relaxation()
-        if state is State.INFEASIBLE:
-            yield from self.infeasible()
-        if self.linear and clp is not None and state is State.OPTIMAL:
-            self.know_loose(clp)
-        elif not self.linear:
+        """Of a linear program what is true of it, of another one a bound."""
+        if self.linear:
+            yield from self.linear_optimum(Given())
+        else:
+            if self.relaxation()[1] is State.INFEASIBLE:
+                yield from self.infeasible()
             self.know_root()
         trivial = short.trivial(self.model)
         if trivial is not None:
@@ -152,3 +182,15 @@ class WholeClaims(LinearClaims):
         search finds it, else a bound."""
         yield from self.planes()
         yield from itertools.chain(self.infeasible() if self.proves else (), self.bounds())
+
+
+def stands_at(plan: Plan) -> float:
+    """What a search that is stopped has told: no point is better."""
+    crowd, search = plan.search.crowd, plan.search.search
+    if crowd is not None:
+        return crowd.bound()
+    return min([b.base for b in search.open if None in b.parts] + [search.base])
+
+
+def closest(plans: Plans) -> float:
+    return max(map(stands_at, plans.going), default=-math.inf)

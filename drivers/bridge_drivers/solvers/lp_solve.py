@@ -41,7 +41,8 @@ class LpSolve(Solver):
             raise Unclear(first_line(ran.log, r"\S"))
         if says.words == SUBOPTIMAL and options.timelim:
             says = says._replace(code=Code.LIMIT, text=TIME)
-        found = outcome(says, says.words, bool(heading))
+        odd = unknown(head) if says is SOLVED and not job.extra else ""
+        found = outcome(None if odd else says, odd or says.words, bool(heading))
         if not has_values(found.code):
             return found
         parts, found.objective = parsed(ran.log), objective_of(ran.log)
@@ -60,6 +61,12 @@ class LpSolve(Solver):
 
     def reading(self, program: Program, path: str) -> list[str]:
         return ["-fmps", path, "-S4", "-mps_negobjconst"]
+
+
+def unknown(head: str) -> str:
+    """A line before the values that is no status of the table; nothing where there is none."""
+    return next((line.strip() for line in head.splitlines() if line.strip()
+                 and not line.startswith("Value of objective function:")), "")
 
 
 def has_no_end(program: Program, values: dict[str, float]) -> bool:
