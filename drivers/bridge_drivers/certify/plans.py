@@ -2,8 +2,7 @@
 shortest, since cuts make some trees longer.
 
 *plain*: no spine; *thin*: forms of a reduced lattice are split beside columns; *lemma*:
-mixed-integer rounding, where there are continuous columns; *cover*: covers, cliques, rounded rows;
-*tableau*: rows of the tableau on top of them.
+mixed-integer rounding; *cuts*: covers and cliques below it.
 """
 
 from __future__ import annotations
@@ -236,16 +235,12 @@ class Plans:
         gap = max(self.maker.goal - root, 1e-9)
         found: list[Spine] = []
 
-        def made(name: str, rows: Sequence[Row]) -> None:
+        rows: list[Row] = []
+        for name, kinds in KINDS.items():
+            rows = self.maker.cuts(kinds, rows, self.until(seconds))
             gain = (self.maker.base - root) / gap
-            if rows and gain >= LEAST_GAIN and all(len(rows) > len(s.rows) or name == "lemma"
-                                                   for s in found):
+            if gain >= LEAST_GAIN and all(len(rows) > len(spine.rows) for spine in found):
                 found.append(Spine(name, rows, gain))
-        few = self.maker.cuts(KINDS["cover"], [], self.until(seconds))
-        made("cover", few)
-        more = self.maker.cuts(KINDS["tableau"], few, self.until(seconds))
-        made("tableau", more)
-        made("lemma", self.maker.lemmas([], self.until(seconds)))
         return sorted(found, key=lambda s: (-round(s.gain / CLOSED), len(s.rows)))
 
     # a bound -----------------------------------------------------------------------

@@ -25,7 +25,7 @@ LATE = 2.0                      # seconds, before which no lattice is reduced
 LEAST_GAIN = 0.01               # of the gap, that rows close
 TINY = 1e-9                     # seconds
 WORTH = 2.0                     # of the share of a gap that is left: that of the time
-KINDS = {"cover": ("cover", "clique", "row"), "tableau": ("tableau", "cover", "clique", "row")}
+KINDS = {"lemma": ("row",), "cuts": ("row", "cover", "clique")}
 
 
 @dataclass
@@ -43,7 +43,7 @@ class Turns:
     def __init__(self, plans: Plans) -> None:
         self.plans, self.began = plans, plans.watch.spent()
         self.live: list[Plan] = []
-        self.makings = [Making(name) for name in ("lemma", "cover", "thin", "tableau")]
+        self.makings = [Making(name) for name in ("lemma", "cuts", "thin")]
 
     def run(self) -> bool:
         """Whether there is a tree."""
@@ -95,11 +95,7 @@ class Turns:
             return
         root = maker.base
         until = plans.until(min(room, max(self.total(), LEAST_MAKING)))
-        if making.name == "lemma":
-            making.rows = maker.lemmas(making.rows, until)
-        else:
-            few = making.rows or self.rows("cover")
-            making.rows = maker.cuts(KINDS[making.name], few, until)
+        making.rows = maker.cuts(KINDS[making.name], making.rows or self.rows("lemma"), until)
         gain, before = (maker.base - root) / max(maker.goal - root, 1e-9), making.gain
         making.gain = gain
         if not maker.is_over(until) or gain < before + LEAST_GAIN or WORTH * (1 - gain) <= 1:
