@@ -11,7 +11,7 @@ from typing import Dict, Iterator, List, NamedTuple, Sequence
 from .clp import Clp
 from .factor import Factor, Singular
 from .leaves import Closer
-from .mixed import LEAST, TINY, Counts, Divisor, Rounded, Shares, rounded, screened, summed
+from .mixed import LEAST, TINY, Counts, Rounded, Shares, rounded, screened, summed
 from .model import Added, Box, Model
 from .tree import Leaf, Spool
 
@@ -64,26 +64,22 @@ class Source:
                     if distance < self.far[j] or bound is known[j][0] and distance <= self.far[j]:
                         self.far[j], self.bounds[j] = distance, bound
 
-    def proposals(self) -> Iterator[Rounded]:
-        """Deepest first, in doubles."""
-        found: list[tuple[Divisor, Shares]] = []
+    def proposals(self) -> list[Rounded]:
+        """Deepest first."""
+        found = []
         for combinations, multiples in ((self.rows(), MULTIPLES), (self.tableau(), IN_TABLEAU)):
             for shares in combinations:
                 divisor = screened(self.counts, shares, multiples)
-                if divisor is not None:
-                    found.append((divisor, shares))
-        found.sort(key=lambda pair: -pair[0].depth)
-        for divisor, shares in found:
-            made = rounded(self.counts, shares, divisor)
-            if made is not None:
-                yield made
+                made = None if divisor is None else rounded(self.counts, shares, divisor)
+                found += [] if made is None else [made]
+        return sorted(found, key=lambda made: -made.depth)
 
     # sums of rows ------------------------------------------------------------------
 
     def rows(self) -> Iterator[Shares]:
         """Each row, and sums that take out continuous columns which stand between bounds."""
         p = self.m
-        for i in range(p.n_con):
+        for i in range(p.m):
             for sign, side in ((1.0, p.side_hi[i]), (-1.0, p.side_lo[i])):
                 if side is not None and p.rows[i]:
                     yield from self.sums({i: sign})
@@ -109,7 +105,7 @@ class Source:
         p, found = self.m, []
         for k, a in p.by_column[column]:
             lo, hi = p.side_lo[k], p.side_hi[k]
-            if k in shares or k >= p.n_con or len(p.rows[k]) == 2 and lo != hi:
+            if k in shares or len(p.rows[k]) == 2 and lo != hi:
                 continue
             if (hi if at * a < 0 else lo) is not None:
                 found.append((sum([self.far[j] for j, _ in p.rows[k]]), k, a))

@@ -14,6 +14,7 @@ from .model import Model
 FRACTIONAL = 0.01               # how far from whole numbers the side must be
 MOST_DIVISORS = 12
 DENOMINATOR = 10 ** 6           # of multiples of rows
+COARSE = 10 ** 4                # the same where they have no such one
 MOST_COEFFICIENT = 10 ** 12
 MOST_SPREAD = 10 ** 6           # of the sizes of coefficients
 LEAST_DEPTH = 1e-3
@@ -37,12 +38,10 @@ class Count(NamedTuple):
 
 
 class Divisor(NamedTuple):
-    """A multiple of the coefficient of a column, or of 1 where there is none; how deep a cut it
-    makes."""
+    """A multiple of the coefficient of a column, or of 1 where there is none."""
 
     column: int | None
     multiple: Ratio
-    depth: float
 
 
 class Rounded(NamedTuple):
@@ -54,6 +53,7 @@ class Rounded(NamedTuple):
     form: Dict[int, int]
     low: int
     leaves: tuple[Multipliers, Multipliers]
+    depth: float = 0.0
 
 
 class Counts:
@@ -138,12 +138,12 @@ def screened(counts: Counts, shares: Shares, multiples: Iterable[Ratio]) -> Divi
     screen = Screen(whole, side, slack, squares)
     sizes: Dict[float, int | None] = {abs(c): k for c, value, k in whole if value > LEAST}
     sizes.setdefault(1.0, None)
-    best: Divisor | None = None
+    best, most = None, 0.0
     for size, column in list(sizes.items())[:MOST_DIVISORS] if whole else ():
         for times, over in multiples:
             depth = screen.depth(size * times / over)
-            if depth > (best.depth if best else 0.0):
-                best = Divisor(column, (times, over), depth)
+            if depth > most:
+                best, most = Divisor(column, (times, over)), depth
     return best
 
 
@@ -161,7 +161,7 @@ def rounded(counts: Counts, shares: Shares, divisor: Divisor) -> Rounded | None:
     ratios = {i: convergent(v, DENOMINATOR) for i, v in shares.items()}
     one = lcm(*(q for _, q in ratios.values()))
     if one > DENOMINATOR:
-        return None
+        one, ratios = COARSE, {i: (round(v * COARSE), COARSE) for i, v in shares.items()}
     total = summed(m, {i: p * (one // q) for i, (p, q) in ratios.items()}, over)
     found = {k: (count, v) for k, v in total.items() if v and (count := counts.at(k)) is not None}
     d = one * m.scale * unit * times if divisor.column is None \
@@ -169,8 +169,11 @@ def rounded(counts: Counts, shares: Shares, divisor: Divisor) -> Rounded | None:
     if not d or len(found) < sum(map(bool, total.values())):
         return None
     low, rest = divmod(-sum(v * count.end for count, v in found.values()), d)
-    made = cut(m, found, d, low, rest) if rest else None
-    return made if made is not None and is_deep(made, counts.x) else None
+    if not rest:
+        return None
+    made = cut(m, found, d, low, rest)
+    made = made._replace(depth=depth(made, counts.x))
+    return made if made.depth >= LEAST_DEPTH else None
 
 
 def cut(m: Model, found: Mapping[int, tuple[Count, int]], d: int, low: int, rest: int) -> Rounded:
@@ -203,11 +206,11 @@ def cut(m: Model, found: Mapping[int, tuple[Count, int]], d: int, low: int, rest
                    {j: v for j, v in enumerate(form) if v}, whole_at, (low_leaf, high_leaf))
 
 
-def is_deep(made: Rounded, x: Sequence[float]) -> bool:
-    """At x, with coefficients that doubles and certificates bear."""
+def depth(made: Rounded, x: Sequence[float]) -> float:
+    """At x; 0 where doubles or certificates do not bear its coefficients."""
     sizes = [abs(a) for a in made.terms.values()]
     if not sizes or not made.form or max(*sizes, abs(made.at)) > MOST_COEFFICIENT \
             or max(sizes) > MOST_SPREAD * min(sizes):
-        return False
+        return 0.0
     above = sum([a * x[j] for j, a in made.terms.items()]) - made.at
-    return above >= LEAST_DEPTH * sqrt(sum([float(a) ** 2 for a in sizes]))
+    return above / sqrt(sum([float(a) ** 2 for a in sizes]))

@@ -26,7 +26,7 @@ from .watch import Stopped, Watch
 ROUNDS = 30
 EACH = 20                       # cuts of one round
 EACH_LEMMA = 40
-STALLED = 3                     # rounds without gain
+STALLED = 10                    # rounds without gain
 GAIN = 1e-3                     # of the gap, in one round
 LEAST_DEPTH = 1e-3
 PARALLEL = 0.81                 # the squared cosine of cuts that are too much alike

@@ -24,6 +24,7 @@ LEAST_TURN = 0.25               # seconds that a plan goes on
 LATE = 2.0                      # seconds, before which no lattice is reduced
 LEAST_GAIN = 0.01               # of the gap, that rows close
 TINY = 1e-9                     # seconds
+MOST_VAIN = 2                   # times that rows are made in vain
 WORTH = 2.0                     # of the share of a gap that is left: that of the time
 KINDS = {"lemma": ("row",), "cuts": ("row", "cover", "clique")}
 
@@ -35,6 +36,7 @@ class Making:
     name: str
     rows: List[Row] = field(default_factory=list)
     gain: float = 0.0               # what they close of the gap
+    vain: int = 0                   # times that they were made without more of it
 
 
 class Turns:
@@ -98,7 +100,8 @@ class Turns:
         making.rows = maker.cuts(KINDS[making.name], making.rows or self.rows("lemma"), until)
         gain, before = (maker.base - root) / max(maker.goal - root, 1e-9), making.gain
         making.gain = gain
-        if not maker.is_over(until) or gain < before + LEAST_GAIN or WORTH * (1 - gain) <= 1:
+        making.vain = making.vain + 1 if gain < before + LEAST_GAIN else 0
+        if not maker.is_over(until) or making.vain > MOST_VAIN or WORTH * (1 - gain) <= 1:
             self.makings.remove(making)
             if making.rows and gain >= LEAST_GAIN:
                 self.begin(making, gain)
