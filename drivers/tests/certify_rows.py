@@ -1,4 +1,4 @@
-"""Rows that shorten a tree: covers, cliques, lemmas."""
+"""Rows that shorten a tree: cliques, lemmas."""
 
 from __future__ import annotations
 
@@ -7,31 +7,13 @@ import random
 from fractions import Fraction as F
 
 from support import Case
-from bridge_drivers.certify import cuts, lemmas, mixed
+from bridge_drivers.certify import cliques, lemmas, mixed
 from bridge_drivers.certify.model import Model
 from bridge_drivers.certify.tree import Spool
 
 
 class Rows(Case):
     """Proposed rows hold at all points."""
-
-    def knapsack(self) -> Model:
-        return Model(b"NAME nl\nROWS\n N obj\n L c0\nCOLUMNS\n M0 'MARKER' 'INTORG'\n"
-                     b" x0 obj 1\n x0 c0 5\n x1 obj 1\n x1 c0 6\n x2 obj 1\n x2 c0 -7\n"
-                     b" M1 'MARKER' 'INTEND'\nRHS\n RHS c0 3\nBOUNDS\n UP BND x0 1\n UP BND x1 1\n"
-                     b" UP BND x2 1\nENDATA\n", {}, 1)
-
-    def test_cuts(self) -> None:
-        p, x = self.knapsack(), [1.0, 0.8, 1.0]
-        inside = [(a, b, c) for a in (0, 1) for b in (0, 1) for c in (0, 1)
-                  if 5 * a + 6 * b - 7 * c <= 3]
-        found = list(cuts.covers(p, x))
-        self.assertTrue(found)
-        for cut in found:
-            for point in inside:
-                self.assertLessEqual(sum(a * point[j] for j, a in cut.terms.items()), cut.at, cut)
-            at = sum(a * x[j] for j, a in cut.terms.items())
-            self.assertAlmostEqual(at - cut.at, cut.depth)
 
     def test_lemma(self) -> None:
         """y <= 10 x, y <= 7: y - 7 x <= 0."""
@@ -105,10 +87,10 @@ BOUNDS
  UP BND x2 1
 ENDATA
 """, {}, 4)
-        near = cuts.conflicts(p, [0.5, 0.5, 0.5])
+        near = cliques.conflicts(p)
         self.assertEqual(near[(0, 1)], {(1, 1), (2, 1)})
         self.assertEqual(near[(1, -1)], {(2, -1)})
         q = p.with_rows([({1: 1, 2: 1}, None, 1)])
-        found = list(cuts.cliques(q, [0.5, 0.5, 0.5]))
+        found = list(cliques.cliques(q, [0.5, 0.5, 0.5]))
         self.assertEqual([(c.depth, c.terms, c.at) for c in found],
                          [(0.5, {0: 1, 1: 1, 2: 1}, 1)])

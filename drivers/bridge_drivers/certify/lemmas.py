@@ -61,7 +61,7 @@ class Source:
                 self.far[j] = FAR if count is None else count.value
                 for bound in known.get(j, ()):
                     distance = bound.share * x[bound.column] - x[j]
-                    if distance < self.far[j] or bound is known[j][0] and distance <= self.far[j]:
+                    if distance <= self.far[j]:
                         self.far[j], self.bounds[j] = distance, bound
 
     def proposals(self) -> list[Rounded]:

@@ -12,8 +12,8 @@ from fractions import Fraction
 from typing import Callable, Dict, Iterator, Mapping, NamedTuple, Sequence
 
 from . import text
+from .cliques import Proposal, cliques
 from .clp import Clp, State
-from .cuts import KINDS, Proposal
 from .lemmas import Proof, Source, proved
 from .mixed import Rounded
 from .model import Added, Model, Step
@@ -130,12 +130,12 @@ class Maker:
 
     def proposed(self, relaxed: Tableau, kinds: Sequence[str],
                  used: Sequence[object]) -> Iterator[Proposal | Rounded]:
-        """Cuts and lemmas, of each the deepest first, as long as fewer than there may be in one
+        """Cliques and lemmas, of each the deepest first, as long as fewer than there may be in one
         round are used."""
         m, clp, x, base = relaxed
-        cuts = [cut for kind in kinds if kind in KINDS for cut in KINDS[kind](m, x)
-                if cut.depth > LEAST_DEPTH]
-        for cut in sorted(cuts, key=lambda cut: -cut.depth / norm(cut.terms)):
+        found = [cut for cut in cliques(m, x) if cut.depth > LEAST_DEPTH] \
+            if "clique" in kinds else []
+        for cut in sorted(found, key=lambda cut: -cut.depth / norm(cut.terms)):
             if len(used) >= EACH:
                 break
             yield cut

@@ -26,7 +26,7 @@ LEAST_GAIN = 0.01               # of the gap, that rows close
 TINY = 1e-9                     # seconds
 MOST_VAIN = 2                   # times that rows are made in vain
 WORTH = 2.0                     # of the share of a gap that is left: that of the time
-KINDS = {"lemma": ("row",), "cuts": ("row", "cover", "clique")}
+KINDS = {"lemma": ("row",), "clique": ("row", "clique")}
 
 
 @dataclass
@@ -45,7 +45,7 @@ class Turns:
     def __init__(self, plans: Plans) -> None:
         self.plans, self.began = plans, plans.watch.spent()
         self.live: list[Plan] = []
-        self.makings = [Making(name) for name in ("lemma", "cuts", "thin")]
+        self.makings = [Making(name) for name in ("lemma", "clique", "thin")]
 
     def run(self) -> bool:
         """Whether there is a tree."""
