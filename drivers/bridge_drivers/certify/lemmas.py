@@ -6,7 +6,7 @@ from __future__ import annotations
 
 import math
 from fractions import Fraction
-from typing import Dict, Iterator, List, NamedTuple, Sequence
+from typing import Callable, Dict, Iterator, List, NamedTuple, Sequence
 
 from .clp import Clp
 from .factor import Factor, Singular
@@ -64,11 +64,13 @@ class Source:
                     if distance <= self.far[j]:
                         self.far[j], self.bounds[j] = distance, bound
 
-    def proposals(self) -> list[Rounded]:
-        """Deepest first."""
+    def proposals(self, is_over: Callable[[], bool]) -> list[Rounded]:
+        """Deepest first, of what is made in time."""
         found = []
         for combinations, multiples in ((self.rows(), MULTIPLES), (self.tableau(), IN_TABLEAU)):
             for shares in combinations:
+                if is_over():
+                    break
                 divisor = screened(self.counts, shares, multiples)
                 made = None if divisor is None else rounded(self.counts, shares, divisor)
                 found += [] if made is None else [made]

@@ -192,8 +192,8 @@ class Rounding:
     def way(self) -> str:
         rows = len(self.exact) - len(self.equations)
         if self.in_pairs:
-            rows = counted(len(self.exact) + len(self.alone), "row")
-            return f"rounding is taken up by pairs of columns of {rows}"
+            both = len(self.exact) + len(self.alone)
+            return f"rounding is taken up by pairs of columns of {counted(both, 'row')}"
         ways = [f"columns of {counted(len(self.alone), 'equation')} alone"] if self.alone else []
         ways += [f"a basis of {counted(len(self.equations), 'equation')}" +
                  (f" and {counted(rows, 'row')}" if rows else "")] if self.exact else []

@@ -115,7 +115,7 @@ class Maker:
                 break
             last, count = relaxed.base, len(rows)
             used: list[dict[int, int]] = []
-            for cut in self.proposed(relaxed, kinds, used):
+            for cut in self.proposed(relaxed, kinds, used, until):
                 if self.is_over(until):
                     break
                 if key(cut.terms, cut.at) in seen:
@@ -128,11 +128,11 @@ class Maker:
                 break
         return rows
 
-    def proposed(self, relaxed: Tableau, kinds: Sequence[str],
-                 used: Sequence[object]) -> Iterator[Proposal | Rounded]:
+    def proposed(self, relaxed: Tableau, kinds: Sequence[str], used: Sequence[object],
+                 until: float) -> Iterator[Proposal | Rounded]:
         """Cliques and lemmas, of each the deepest first, as long as fewer than there may be in one
         round are used."""
-        m, clp, x, base = relaxed
+        m, clp, x, _ = relaxed
         found = [cut for cut in cliques(m, x) if cut.depth > LEAST_DEPTH] \
             if "clique" in kinds else []
         for cut in sorted(found, key=lambda cut: -cut.depth / norm(cut.terms)):
@@ -140,7 +140,8 @@ class Maker:
                 break
             yield cut
         most = len(used) + EACH_LEMMA
-        for lemma in Source(m, clp, x).proposals() if "row" in kinds else ():
+        source = Source(m, clp, x)
+        for lemma in source.proposals(lambda: self.is_over(until)) if "row" in kinds else ():
             if len(used) >= most:
                 break
             yield lemma

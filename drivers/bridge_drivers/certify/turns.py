@@ -24,7 +24,7 @@ LEAST_TURN = 0.25               # seconds that a plan goes on
 LATE = 2.0                      # seconds, before which no lattice is reduced
 LEAST_GAIN = 0.01               # of the gap, that rows close
 TINY = 1e-9                     # seconds
-MOST_VAIN = 2                   # times that rows are made in vain
+MOST_VAIN = 10                  # times that rows are made in vain
 WORTH = 2.0                     # of the share of a gap that is left: that of the time
 KINDS = {"lemma": ("row",), "clique": ("row", "clique")}
 
