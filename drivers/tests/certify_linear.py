@@ -10,7 +10,7 @@ from unittest import TestCase, mock
 
 from certify_search import Certified
 from support import NEEDS_CLP, NEEDS_PROGRAM
-from bridge_drivers.certify import bases, linear, points, short, sparse
+from bridge_drivers.certify import bases, decimals, linear, points, short, sparse
 from bridge_drivers.certify.claims import Given, certified
 from bridge_drivers.certify.clp import State
 from bridge_drivers.certify.leaves import Closer, Multipliers
@@ -335,6 +335,30 @@ class Linear(Certified):
         clp, _ = work.relaxation()
         for found in short.Rounding(work.model, clp.keep(), clp.values(), 1.0).points():
             self.assertTrue(work.model.fits(found.point))
+
+    def test_pairs(self) -> None:
+        """Badly scaled equations, whose fractions together are too wide for the objective."""
+        _, verdict = self.verdict(made("uneven", 2000))
+        self.assertEqual(verdict.claim(), "within", verdict.line)
+        bound, value = map(F, verdict.line.split()[1:])
+        self.assertLess(abs(bound - value), value / 10 ** 6)
+
+
+class Pairs(TestCase):
+    def test_pair(self) -> None:
+        """Decimals that make up a row's rest exactly, the second below 1 and to its side."""
+        rng = random.Random(5)
+        for _ in range(200):
+            a, b, rest = rng.randint(-99999, 99999) or 7, rng.randint(1, 10 ** 7), \
+                F(rng.randint(-10 ** 9, 10 ** 9), 10 ** rng.randint(0, 3))
+            is_high = rng.random() < 0.5
+            found = decimals.pair([(0, a)], [(1, b)], rest, [False, is_high])
+            if found is None:
+                continue
+            self.assertEqual(a * found[0] + b * found.get(1, 0), rest)
+            self.assertTrue(all(10 ** 20 % v.denominator == 0 for v in found.values()))
+            self.assertLess(abs(found.get(1, 0)), 1)
+            self.assertLessEqual(found.get(1, 0) * (1 if is_high else -1), 0)
 
 
 del Certified           # its tests are run where it stands

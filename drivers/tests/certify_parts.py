@@ -9,7 +9,7 @@ from unittest import TestCase, mock
 
 from support import Case
 from bridge_drivers import miss
-from bridge_drivers.certify import cuts, directions, equations, exact, lemmas, points, text
+from bridge_drivers.certify import directions, equations, exact, points, text
 from bridge_drivers.certify.factor import Factor
 from bridge_drivers.certify.leaves import Closer, Multipliers
 from bridge_drivers.certify.model import Box, Model, Unfit
@@ -288,76 +288,6 @@ class Lattices(TestCase):
         for j in (0, 1):
             self.assertEqual(sum(v * row.terms[j] for v, row in zip(u, rows)).denominator, 1)
         self.assertIsNone(equations.multipliers(rows[:1]))
-
-
-class Rows(TestCase):
-    """Proposed rows hold at all points."""
-
-    def knapsack(self) -> Model:
-        return Model(b"NAME nl\nROWS\n N obj\n L c0\nCOLUMNS\n M0 'MARKER' 'INTORG'\n"
-                     b" x0 obj 1\n x0 c0 5\n x1 obj 1\n x1 c0 6\n x2 obj 1\n x2 c0 -7\n"
-                     b" M1 'MARKER' 'INTEND'\nRHS\n RHS c0 3\nBOUNDS\n UP BND x0 1\n UP BND x1 1\n"
-                     b" UP BND x2 1\nENDATA\n", {}, 1)
-
-    def test_cuts(self) -> None:
-        p, x = self.knapsack(), [1.0, 0.8, 1.0]
-        inside = [(a, b, c) for a in (0, 1) for b in (0, 1) for c in (0, 1)
-                  if 5 * a + 6 * b - 7 * c <= 3]
-        found = [*cuts.covers(p, None, x), *cuts.single_rows(p, None, x)]
-        self.assertTrue(found)
-        for cut in found:
-            for point in inside:
-                self.assertLessEqual(sum(a * point[j] for j, a in cut.terms.items()), cut.at, cut)
-            at = sum(a * x[j] for j, a in cut.terms.items())
-            self.assertAlmostEqual(at - cut.at, cut.depth)
-
-    def test_lemma(self) -> None:
-        """y <= 10 x, y <= 7: y - 7 x <= 0."""
-        p = Model(b"NAME nl\nROWS\n N obj\n L c0\nCOLUMNS\n x0 obj 1\n x0 c0 1\n"
-                  b" M0 'MARKER' 'INTORG'\n x1 c0 -10\n M1 'MARKER' 'INTEND'\nRHS\nBOUNDS\n"
-                  b" UP BND x0 7\n UP BND x1 1\nENDATA\n", {}, 1)
-        rows = lemmas.Rows(p)
-        self.assertEqual(rows.bounds, {0: [(F(10), 1)]})
-        rows.bounds = {}
-        found, = rows.proposals([7.0, 0.7])
-        self.assertEqual((found.terms, found.at), ({0: 1, 1: -7}, 0))
-        self.assertEqual((found.form, found.low), ({1: -1}, -1))
-
-
-class Cliques(TestCase):
-    def test_cliques(self) -> None:
-        """Of conflicts in rows of two and in a knapsack, a complement among them."""
-        rows = b"".join(b" L c%d\n" % i for i in range(4))
-        p = Model(b"NAME nl\nROWS\n N obj\n" + rows + b"""COLUMNS
- M0 'MARKER' 'INTORG'
- x0 c0 1
- x0 c1 1
- x0 c3 5
- x1 c0 1
- x1 c2 -1
- x1 c3 4
- x2 c1 1
- x2 c2 -1
- x2 c3 1
- M1 'MARKER' 'INTEND'
-RHS
- RHS c0 1
- RHS c1 1
- RHS c2 -1
- RHS c3 7
-BOUNDS
- UP BND x0 1
- UP BND x1 1
- UP BND x2 1
-ENDATA
-""", {}, 4)
-        near = cuts.conflicts(p, [0.5, 0.5, 0.5])
-        self.assertEqual(near[(0, 1)], {(1, 1), (2, 1)})
-        self.assertEqual(near[(1, -1)], {(2, -1)})
-        q = p.with_rows([({1: 1, 2: 1}, None, 1)])
-        found = list(cuts.cliques(q, None, [0.5, 0.5, 0.5]))
-        self.assertEqual([(c.depth, c.terms, c.at) for c in found],
-                         [(0.5, {0: 1, 1: 1, 2: 1}, 1)])
 
 
 class Points(TestCase):

@@ -184,7 +184,7 @@ class Spines(Certified):
                       [("max", 0, {j: w + j % 3 for j, w in enumerate(weights)})])
         for model, value in ((made, F(9)), (knapsack, F(44)), (CLAIMED["cover"].text, F("9.25"))):
             work, plans = self.plans(model, value)
-            for kinds in (("cover", "row"), ("tableau",), ("tableau", "cover", "row")):
+            for kinds in (("row",), ("clique", "row")):
                 rows = plans.maker.cuts(kinds, [], plans.until(SECONDS))
                 self.assertTrue(plans.run("+".join(kinds), rows, SECONDS), plans.told)
                 self.accepted(work, plans, value)
@@ -192,7 +192,7 @@ class Spines(Certified):
 
     def test_lemmas(self) -> None:
         work, plans = self.plans(CLAIMED["lots"].text, F("14.3"))
-        rows = plans.maker.lemmas([], plans.until(SECONDS))
+        rows = plans.maker.cuts(("row",), [], plans.until(SECONDS))
         self.assertTrue(rows)
         self.assertTrue(plans.run("lemma", rows, SECONDS), plans.told)
         with open(plans.best.path) as f:

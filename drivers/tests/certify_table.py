@@ -8,6 +8,7 @@
                                                 certificates go to FOLDER, N models at once (1)
     certify_table.py readme TABLE ..            the tables of drivers/TABLES.md of such lines
     certify_table.py sizes TABLE ..             all of them in one
+    certify_table.py seeds TABLE ..             by family, of models by `whole_families.py`
 
 The models, from two packages of Debian (examples of the one, samples of the other):
 
@@ -43,6 +44,7 @@ sys.path[:0] = [os.path.join(HERE, ".."), HERE]
 import families                                         # noqa: E402
 from bridge_drivers import kinds                        # noqa: E402
 from bridge_drivers.bridge import BESIDE, Bridge, Refused, find     # noqa: E402
+from bridge_drivers.inputs import Inputs                # noqa: E402
 from bridge_drivers.mps_file import Damaged             # noqa: E402
 from bridge_drivers.subjects import subject             # noqa: E402
 
@@ -117,7 +119,8 @@ def written_families(target: str, most: int) -> None:
 
 def shape(bridge: list[str], path: str) -> list[str]:
     try:
-        with subject(Bridge(bridge, lambda argv: None), path) as model:
+        with Inputs() as inputs, subject(Bridge(bridge, lambda argv: None), inputs,
+                                         path) as model:
             p = model.program()
     except (Refused, Damaged):
         return ["", "", ""]
@@ -238,6 +241,22 @@ def sizes(tables: list[str]) -> None:
               f"| {row['search']} | `{told}` |")
 
 
+def seeds(tables: list[str]) -> None:
+    """A line a family, whose models are named by a letter at the end; then all of them."""
+    rows = read(tables)
+    found = {row["model"][:-1]: [r for r in rows if r["model"][:-1] == row["model"][:-1]]
+             for row in rows}
+    heads = ["family", "models", "proved", "nodes", "bytes", "seconds", "clock", "left"]
+    print(f"| {' | '.join(heads)} |\n|{'---|' * len(heads)}")
+    for name, group in [*found.items(), ("all", rows)]:
+        left = [r for r in group if r["line"].split()[0] not in ("optimal", "infeasible")]
+        sums = [sum(float(r[head] or 0) for r in group)
+                for head in ("nodes", "bytes", "seconds", "clock")]
+        told = ", ".join(f"`{r['line']}`" for r in left) if name != "all" else ""
+        print(f"| {name} | {len(group)} | {len(group) - len(left)} | {sums[0]:.0f} | {sums[1]:.0f} "
+              f"| {sums[2]:.1f} | {sums[3]:.0f} | {told} |")
+
+
 def readme(tables: list[str]) -> None:
     rows = read(tables)
     print("\n".join([f"{len(rows)} models.", "", *summary(rows), "", *largest(rows)]))
@@ -245,8 +264,9 @@ def readme(tables: list[str]) -> None:
 
 def main() -> None:
     arguments = sys.argv[1:]
-    if arguments[:1] in (["readme"], ["sizes"]):
-        (readme if arguments[0] == "readme" else sizes)(arguments[1:])
+    tables = {"readme": readme, "sizes": sizes, "seeds": seeds}
+    if arguments[:1] and arguments[0] in tables:
+        tables[arguments[0]](arguments[1:])
         return
     bridge = find("", BESIDE)
     if arguments[:1] == ["models"]:

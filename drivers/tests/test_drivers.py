@@ -23,10 +23,10 @@ HERE = os.path.dirname(os.path.abspath(__file__))
 sys.path[:0] = [HERE]
 MODULES = ("units", "readers", "stored_runs", "statuses", "manners", "last_lines", "kept",
            "untouched", "processes", "end_to_end", "mps_files", "mps_mended", "pulp_class",
-           "certify_parts", "certify_exact", "certify_search", "certify_pool", "certify_turns",
-           "certify_linear", "told", "rulings", "settled_table", "front", "refusals", "figures",
-           "installs", "explains", "surface", "python_calls", "documents", "reports",
-           "completions", "colours", "packages")
+           "certify_parts", "certify_rows", "certify_exact", "certify_search", "certify_pool",
+           "certify_turns", "certify_linear", "told", "rulings", "settled_table", "front",
+           "refusals", "figures", "installs", "explains", "surface", "python_calls", "documents",
+           "reports", "completions", "colours", "packages")
 
 
 def main() -> int:

@@ -6,6 +6,7 @@
 
 from __future__ import annotations
 
+import functools
 import os
 import random
 import sys
@@ -102,6 +103,66 @@ def cutting(sizes: int, rnd: random.Random) -> bytes:
                    dict.fromkeys(range(rolls), 1))
 
 
+def packing(things: int, rnd: random.Random) -> bytes:
+    """Bins of 100."""
+    weights = [rnd.randint(20, 60) for _ in range(things)]
+    bins = -(-sum(weights) // 100) + 1
+    at = [[bins + i * bins + b for b in range(bins)] for i in range(things)]
+    rows: List[Row] = [(1, 1, dict.fromkeys(one, 1)) for one in at]
+    rows += [(None, 0, {b: -100, **{one[b]: w for one, w in zip(at, weights)}})
+             for b in range(bins)]
+    return program([BINARY] * (bins * (things + 1)), rows, dict.fromkeys(range(bins), 1))
+
+
+def depots(places: int, clients: int, rnd: random.Random) -> bytes:
+    """Location with capacities; whole columns for places alone, each of whose clients has a row."""
+    room = [rnd.randint(40, 80) for _ in range(places)]
+    need = [rnd.randint(3, 12) for _ in range(clients)]
+    ends = [(rnd.random(), rnd.random()) for _ in range(places + clients)]
+    at = [[places + i * clients + j for j in range(clients)] for i in range(places)]
+    rows: List[Row] = [(1, 1, {at[i][j]: 1 for i in range(places)}) for j in range(clients)]
+    rows += [(None, 0, {**dict(zip(at[i], need)), i: -room[i]}) for i in range(places)]
+    rows += [(None, 0, {at[i][j]: 1, i: -1}) for i in range(places) for j in range(clients)]
+    costs = {i: rnd.randint(60, 160) for i in range(places)}
+    for i, (x, y) in enumerate(ends[:places]):
+        for j, (u, v) in enumerate(ends[places:]):
+            costs[at[i][j]] = round(1 + need[j] * 20 * ((x - u) ** 2 + (y - v) ** 2) ** 0.5)
+    return program([BINARY] * places + [real(0, None)] * (places * clients), rows, costs)
+
+
+def lots(things: int, periods: int, rnd: random.Random) -> bytes:
+    """Lots of several things that share a capacity."""
+    size = things * periods
+    costs = {j: rnd.randint(*((1, 3), (1, 2), (60, 140))[j // size]) for j in range(3 * size)}
+    rows: List[Row] = []
+    total = [0] * periods
+    for k in range(size):
+        need, t = rnd.randint(5, 30), k % periods
+        total[t] += need
+        rows += [(need, need, {k: 1, size + k: -1, **({size + k - 1: 1} if t else {})}),
+                 (None, 0, {k: 1, 2 * size + k: -100})]
+    most = max(sum(total[:t + 1]) / (t + 1) for t in range(periods))
+    for t in range(periods):
+        rows.append((None, int(most * 1.3), {
+            **dict.fromkeys(range(t, size, periods), 1),
+            **dict.fromkeys(range(2 * size + t, 3 * size, periods), 8)}))
+    return program([real(0, None)] * (2 * size) + [BINARY] * size, rows, costs)
+
+
+def charges(sources: int, sinks: int, rnd: random.Random) -> bytes:
+    """Transport with a charge for each arc that is used."""
+    supply = [rnd.randint(20, 60) for _ in range(sources)]
+    demand = [int(sum(supply) * 0.9 / sinks) + rnd.randint(-5, 0) for _ in range(sinks)]
+    size = sources * sinks
+    rows: List[Row] = [(None, supply[i], dict.fromkeys(range(i * sinks, (i + 1) * sinks), 1))
+                       for i in range(sources)]
+    rows += [(demand[j], None, dict.fromkeys(range(j, size, sinks), 1)) for j in range(sinks)]
+    rows += [(None, 0, {k: 1, size + k: -min(supply[k // sinks], demand[k % sinks])})
+             for k in range(size)]
+    costs = {k: rnd.randint(1, 9) if k < size else rnd.randint(20, 80) for k in range(2 * size)}
+    return program([real(0, None)] * size + [BINARY] * size, rows, costs)
+
+
 def one_machine(n: int, rnd: random.Random) -> bytes:
     """Completion times by weight, with release dates and a big M."""
     time = [rnd.randint(2, 9) for _ in range(n)]
@@ -112,23 +173,50 @@ def one_machine(n: int, rnd: random.Random) -> bytes:
     rows: List[Row] = []
     for i in range(n):
         for k in range(i):
-            columns.append(BINARY)
-            first = len(columns) - 1
-            rows.append((time[k], None, {i: 1, k: -1, first: end}))
-            rows.append((time[i] - end, None, {k: 1, i: -1, first: -end}))
+            one_first(columns, rows, i, k, (time[k], time[i]), end)
     return program(columns, rows, dict(enumerate(weight)))
 
 
+def one_first(columns: List[tuple], rows: List[Row], a: int, b: int, times: Tuple[int, int],
+              most: int) -> None:
+    """One starts after the other, where a new binary column is 0, or before it."""
+    columns.append(BINARY)
+    first = len(columns) - 1
+    rows += [(times[0], None, {a: 1, b: -1, first: most}),
+             (times[1] - most, None, {b: 1, a: -1, first: -most})]
+
+
+def job_shop(jobs: int, machines: int, rnd: random.Random) -> bytes:
+    order = [rnd.sample(range(machines), machines) for _ in range(jobs)]
+    time = [[rnd.randint(1, 9) for _ in range(machines)] for _ in range(jobs)]
+    most = sum(map(sum, time))
+    end = jobs * machines
+    columns, rows = [real(0, most) for _ in range(end + 1)], list[Row]()
+    for j, one in enumerate(order):
+        at = [j * machines + k for k in one] + [end]
+        rows += [(time[j][k], None, {b: 1, a: -1}) for k, a, b in zip(one, at, at[1:])]
+    for k in range(machines):
+        for j in range(jobs):
+            for i in range(j):
+                one_first(columns, rows, j * machines + k, i * machines + k,
+                          (time[i][k], time[j][k]), most)
+    return program(columns, rows, {end: 1})
+
+
+Made = Callable[..., bytes]
+KINDS: Dict[str, Tuple[Made, List[Tuple[int, ...]]]] = {
+    "gap": (assignment, [(4, 20), (5, 30)]),
+    "knaps": (lambda n, rnd: knapsack(n, 0, rnd), [(50,), (100,)]),
+    "knap": (lambda n, rnd: knapsack(n, 100, rnd), [(50,), (100,), (200,)]),
+    "mknap": (knapsacks, [(30,), (50,)]), "sched": (one_machine, [(6,), (8,)]),
+    "col": (colouring, [(12, 6), (18, 7)]), "ufl": (location, [(8, 20), (12, 30)]),
+    "cut": (cutting, [(5,), (8,)]), "cov": (covering, [(60, 120), (100, 200)]),
+    "binp": (packing, [(12,)]), "cfl": (depots, [(8, 20), (15, 30)]),
+    "lot": (lots, [(3, 10), (5, 12)]), "fix": (charges, [(5, 8), (8, 12)]),
+    "job": (job_shop, [(4, 3), (5, 4), (6, 4)])}
 FAMILIES: Dict[str, Callable[[random.Random], bytes]] = {
-    "gap-4-20": lambda rnd: assignment(4, 20, rnd), "gap-5-30": lambda rnd: assignment(5, 30, rnd),
-    "knaps-50": lambda rnd: knapsack(50, 0, rnd), "knaps-100": lambda rnd: knapsack(100, 0, rnd),
-    "knap-100": lambda rnd: knapsack(100, 100, rnd),
-    "knap-200": lambda rnd: knapsack(200, 100, rnd),
-    "mknap-30": lambda rnd: knapsacks(30, rnd), "mknap-50": lambda rnd: knapsacks(50, rnd),
-    "sched-8": lambda rnd: one_machine(8, rnd), "col-18": lambda rnd: colouring(18, 7, rnd),
-    "ufl-12-30": lambda rnd: location(12, 30, rnd), "cut-8": lambda rnd: cutting(8, rnd),
-    "cov-60-120": lambda rnd: covering(60, 120, rnd),
-    "cov-100-200": lambda rnd: covering(100, 200, rnd)}
+    "-".join(map(str, (name, *sizes))): functools.partial(made, *sizes)
+    for name, (made, wanted) in KINDS.items() for sizes in wanted}
 
 
 def main() -> None:

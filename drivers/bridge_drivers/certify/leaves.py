@@ -253,23 +253,31 @@ class Closer:
         return closed if closed is not None and closed.leaf.is_narrow() else None
 
     def thinned(self, closed: Closed, box: Box) -> Closed:
-        """Fewer duals, where the greatest of them close the leaf too."""
-        p, leaf = self.model, closed.leaf
-        if len(leaf.numbers) < LEAST_THINNED or closed.slack == 0:
+        """Without the duals that it closes without too, the smallest first."""
+        p, (leaf, reduced, slack) = self.model, closed
+        if len(leaf.numbers) < LEAST_THINNED or slack == 0:
             return closed
+        numbers, reduced = dict(leaf.numbers), reduced[:]
+        kc = 1 if leaf.weights else p.cost_scale
         sizes = {i: abs(y) * max((abs(a) for _, a in p.rows[i]), default=0)
-                 for i, y in leaf.numbers.items()}
-        order = sorted(sizes, key=lambda i: -sizes[i])
-        least, most, best = 1, len(order) - 1, closed
-        while least <= most:
-            k = (least + most) // 2
-            few = {i: leaf.numbers[i] for i in order[:k]}
-            found = self.attempt(Multipliers(few, leaf.den, leaf.weights), box)
-            if found is not None and len(found.leaf.numbers) <= k:
-                best, most = found, k - 1
+                 for i, y in numbers.items()}
+        for i in sorted(sizes, key=sizes.__getitem__):
+            y, row = numbers[i] * kc, p.rows[i]
+            side = p.side_lo[i] if y > 0 else p.side_hi[i]
+            assert side is not None
+            left = slack - y * side * p.scale
+            for j, a in row:
+                new = added(reduced[j] + y * a, box, j)
+                if new is None:
+                    break
+                left += new - (added(reduced[j], box, j) or 0)
             else:
-                least = k + 1
-        return best
+                if left >= 0:
+                    slack = left
+                    del numbers[i]
+                    for j, a in row:
+                        reduced[j] += y * a
+        return Closed(leaf._replace(numbers=numbers), reduced, slack)
 
     # bases -------------------------------------------------------------------------
 
@@ -294,6 +302,12 @@ class Closer:
                 one = 1 if j < p.n + p.m else -1
                 system.append(({i: p.row_unit(i)} if i in inside else {}, one))
         return solved(system)
+
+
+def added(reduced: int, box: Box, column: int) -> int | None:
+    """What a reduced cost adds to a bound; None where the column lacks the end for it."""
+    end = box.lo[column] if reduced > 0 else box.hi[column]
+    return 0 if not reduced else None if end is None else reduced * end
 
 
 def convergent(value: float, most: int) -> tuple[int, int]:

@@ -1,152 +1,163 @@
-"""Derived rows with continuous columns: mixed-integer rounding of rows and of sums of rows. Each is
-proved by a split or plane and two small trees."""
+"""Lemmas: mixed-integer rounding of rows, of sums of rows that take continuous columns out, and of
+rows of the tableau. Each is proved by a plane and a leaf in both of its parts.
+"""
 
 from __future__ import annotations
 
 import math
 from fractions import Fraction
-from typing import Dict, Iterator, List, NamedTuple, Sequence, Tuple
+from typing import Callable, Dict, Iterator, List, NamedTuple, Sequence
 
-from .model import Added, Model
-from .parts import Better, Step
-from .rounding import LEAST, TINY, MixedRounding, Rounded, Row, Screen, Stands, variable_bounds
-from .search import Goal, Search
-from .tree import Spool, Tree
-from .watch import Stopped, Watch
+from .clp import Clp
+from .factor import Factor, Singular
+from .leaves import Closer
+from .mixed import LEAST, TINY, Counts, Rounded, Shares, rounded, screened, summed
+from .model import Added, Box, Model
+from .tree import Leaf, Spool
 
 MOST_SUMMED = 5                 # rows of one sum
-NODES = 8                       # of a part's tree
-SECONDS = 1.0
+MOST_TABLEAU_ROWS = 30
+MOST_BASIC = 900
+INTEGRAL = 0.01                 # of a whole number: no row of the tableau is rounded for it
+MULTIPLES = ((1, 1), (1, 2), (1, 3), (2, 1), (4, 1))  # of a divisor
+IN_TABLEAU = ((1, 1), (1, 2), (1, 3), (2, 1))
 FAR = 1e9
 
 
-class Sum(NamedTuple):
-    """Multiples of rows in doubles, as terms at most a side. `shares` are exact."""
+class VariableBound(NamedTuple):
+    """A continuous column is at most `share` times the whole one `column`, by a row in which it has
+    `by`."""
 
-    shares: List[Tuple[int, Fraction]]
-    terms: Dict[int, float]
-    side: float
+    share: float
+    column: int
+    row: int
+    by: float
 
 
-class Rows:
-    """The file's rows in doubles, and the variable bounds among them."""
+def variable_bounds(p: Model) -> Dict[int, List[VariableBound]]:
+    """Those that rows of two columns give, by continuous column."""
+    found: Dict[int, List[VariableBound]] = {}
+    for i, (row, lo, hi) in enumerate(zip(p.rows, p.side_lo, p.side_hi)):
+        if len(row) != 2:
+            continue
+        for sign, side in ((1, hi), (-1, lo)):
+            for (j, a), (y, b) in (row, row[::-1]):
+                if side == 0 and p.whole[y] and not p.whole[j] and sign * a > 0 > sign * b:
+                    found.setdefault(j, []).append(VariableBound(-b / a, y, i, a / p.scale))
+    return found
 
-    def __init__(self, p: Model) -> None:
-        self.p, self.bounds = p, variable_bounds(p)
-        self.doubles = [{j: a / p.scale for j, a in row} for row in p.rows[:p.n_con]]
 
-    def proposals(self, x: Sequence[float]) -> list[Rounded]:
-        """Deepest first."""
+class Source:
+    """Combinations of rows at the optimum x of a relaxation."""
+
+    def __init__(self, m: Model, clp: Clp, x: Sequence[float]) -> None:
+        self.m, self.clp, self.x = m, clp, x
+        self.counts, self.far = Counts(m, x), [0.0] * m.n
+        self.bounds: Dict[int, VariableBound] = {}      # those that columns are nearest to
+        known = variable_bounds(m)
+        for j, is_whole in enumerate(m.whole):
+            if not is_whole:
+                count = self.counts.at(j)
+                self.far[j] = FAR if count is None else count.value
+                for bound in known.get(j, ()):
+                    distance = bound.share * x[bound.column] - x[j]
+                    if distance <= self.far[j]:
+                        self.far[j], self.bounds[j] = distance, bound
+
+    def proposals(self, is_over: Callable[[], bool]) -> list[Rounded]:
+        """Deepest first, of what is made in time."""
         found = []
-        stands = Stands(self.p, x, self.bounds)
-        for made in Sums(self, stands).all():
-            screen = Screen(stands, made.terms, made.side)
-            divisor = screen.best() if screen.is_fit else None
-            if divisor is not None:
-                rounding = MixedRounding(stands, self.exact(made))
-                rounded = rounding.cut(rounding.size(divisor))
-                if rounded is not None:
-                    found.append(rounded)
-        return sorted(found, key=lambda r: -r.depth)
+        for combinations, multiples in ((self.rows(), MULTIPLES), (self.tableau(), IN_TABLEAU)):
+            for shares in combinations:
+                if is_over():
+                    break
+                divisor = screened(self.counts, shares, multiples)
+                made = None if divisor is None else rounded(self.counts, shares, divisor)
+                found += [] if made is None else [made]
+        return sorted(found, key=lambda made: -made.depth)
 
-    def exact(self, made: Sum) -> Row:
-        p, terms, total = self.p, dict[int, Fraction](), Fraction(0)
-        for i, share in made.shares:
-            side = p.side_hi[i] if share > 0 else p.side_lo[i]
-            assert side is not None
-            total += share * Fraction(side, p.unit)
-            for j, a in p.rows[i]:
-                terms[j] = terms.get(j, Fraction(0)) + share * Fraction(a, p.scale)
-        return Row({j: a for j, a in terms.items() if a}, total)
+    # sums of rows ------------------------------------------------------------------
 
+    def rows(self) -> Iterator[Shares]:
+        """Each row, and sums that take out continuous columns which stand between bounds."""
+        p = self.m
+        for i in range(p.m):
+            for sign, side in ((1.0, p.side_hi[i]), (-1.0, p.side_lo[i])):
+                if side is not None and p.rows[i]:
+                    yield from self.sums({i: sign})
 
-class Sums:
-    """Rows, and sums of rows that take out continuous columns which stand between bounds."""
-
-    def __init__(self, rows: Rows, stands: Stands) -> None:
-        self.rows, self.p = rows, rows.p
-        self.far = [0.0 if is_whole else FAR if at is None else at.distance
-                    for is_whole, at in zip(self.p.whole, stands.slack)]
-
-    def all(self) -> Iterator[Sum]:
-        p = self.p
-        for i, row in enumerate(self.rows.doubles):
-            for sign, side in ((1, p.side_hi[i]), (-1, p.side_lo[i])):
-                if side is not None and row:
-                    terms = row if sign > 0 else {j: -a for j, a in row.items()}
-                    yield from self.sums(Sum([(i, Fraction(sign))], terms, sign * side / p.unit))
-
-    def sums(self, made: Sum) -> Iterator[Sum]:
+    def sums(self, shares: Shares) -> Iterator[Shares]:
         for _ in range(MOST_SUMMED):
-            yield made
-            between = [j for j in made.terms if self.far[j] > LEAST]
+            total = summed(self.m, shares, 1 / self.m.scale)
+            yield self.counted(shares, total)
+            between = [j for j, a in total.items()
+                       if j < self.m.n and abs(a) > TINY and self.far[j] > LEAST]
             if not between:
                 return
             column = max(between, key=lambda j: self.far[j])
-            other = self.other(made, column)
+            other = self.other(shares, column, total[column])
             if other is None:
                 return
-            made = self.without(made, column, other)
+            row, a = other
+            shares = {**shares, row: -total[column] * self.m.scale / a}
 
-    def other(self, made: Sum, column: int) -> int | None:
-        """The row that takes the column out and brings in least between bounds."""
-        p = self.p
-        found = []
-        used = {i for i, _ in made.shares}
+    def other(self, shares: Shares, column: int, at: float) -> tuple[int, int] | None:
+        """The row that takes the column out and brings in least between bounds, and what the
+        column has in it."""
+        p, found = self.m, []
         for k, a in p.by_column[column]:
             lo, hi = p.side_lo[k], p.side_hi[k]
-            if k in used or k >= p.n_con or len(p.rows[k]) == 2 and lo != hi:
+            if k in shares or len(p.rows[k]) == 2 and lo != hi:
                 continue
-            if (hi if made.terms[column] * a < 0 else lo) is not None:
-                found.append((sum(self.far[j] for j, _ in p.rows[k]), k))
-        return min(found)[1] if found else None
+            if (hi if at * a < 0 else lo) is not None:
+                found.append((sum([self.far[j] for j, _ in p.rows[k]]), k, a))
+        return min(found)[1:] if found else None
 
-    def without(self, made: Sum, column: int, other: int) -> Sum:
-        """With the multiple of another row that takes a column out."""
-        p = self.p
-        there = sum(share * self.coefficient(i, column) for i, share in made.shares)
-        share = -there / self.coefficient(other, column)
-        terms, near = dict(made.terms), float(share)
-        for j, a in self.rows.doubles[other].items():
-            terms[j] = terms.get(j, 0.0) + near * a
-        del terms[column]
-        side = p.side_hi[other] if share > 0 else p.side_lo[other]
-        assert side is not None
-        return Sum([*made.shares, (other, share)],
-                   {j: a for j, a in terms.items() if abs(a) > TINY},
-                   made.side + near * side / p.unit)
+    def counted(self, shares: Shares, total: Dict[int, float]) -> Shares:
+        """With the rows of the bounds that columns are counted from."""
+        made = dict(shares)
+        for j in self.bounds.keys() & total.keys():
+            bound = self.bounds[j]
+            made[bound.row] = made.get(bound.row, 0.0) - total[j] / bound.by
+        return made
 
-    def coefficient(self, i: int, column: int) -> Fraction:
-        return Fraction(next((a for j, a in self.p.rows[i] if j == column), 0), self.p.scale)
+    # rows of the tableau -----------------------------------------------------------
+
+    def tableau(self) -> Iterator[Shares]:
+        """Those of basic columns that are to be whole."""
+        m, x, (basic, tight) = self.m, self.x, self.clp.basis()
+        apart = {k: abs(x[j] - math.floor(x[j]) - 0.5) for k, j in enumerate(basic) if m.whole[j]}
+        fractional = sorted((k for k, v in apart.items() if v < 0.5 - INTEGRAL),
+                            key=apart.__getitem__)
+        if len(basic) != len(tight) or len(basic) > MOST_BASIC or not fractional:
+            return
+        try:
+            factor = Factor([[(i, a / m.scale) for i, a in m.by_column[j]] for j in basic], tight)
+        except Singular:
+            return
+        for k in fractional[:MOST_TABLEAU_ROWS]:
+            yield {i: v for i, v in factor.row(k).items() if abs(v) > TINY}
 
 
 class Proof(NamedTuple):
-    """The parts of a lemma: a split of `column`, or where that is None the plane of `form`; both
-    at `at`, with a tree each."""
+    """Of a lemma: the plane of `form` at `at`, which is row `row` in the leaves of its parts."""
 
-    column: int | None
     form: Dict[int, int]
     at: int
-    low: Tree
-    high: Tree
+    row: int
+    low: Leaf
+    high: Leaf
 
 
-def proved(p: Model, r: Rounded, spool: Spool, watch: Watch) -> Proof | None:
-    """Each part closes by a small tree for the sum of the terms, maximised."""
-    column, at, forms = None, r.low, [Added(r.form)]
-    if len(r.form) == 1:
-        (column, e), = r.form.items()
-        at = math.floor(Fraction(r.low, e)) if e > 0 else math.ceil(Fraction(r.low, e)) - 1
-        forms = []
-    q = p.with_rows(forms) if forms else p
-    q = q.with_form({j: -a for j, a in r.terms.items()})
-    search = Search(q, Goal(Fraction(-r.at)), spool, watch, watch.spent() + SECONDS,
-                    NODES, strong=2, forms=range(p.m, q.m))
-    split, trees = p.n if column is None else column, []
-    for part in (0, 1):
-        search.begin([Step(split, at, part, 0.0, 0.0, search.clp.keep())])
-        try:
-            trees.append(search.run())
-        except (Stopped, Better):
+def proved(m: Model, r: Rounded, spool: Spool) -> Proof | None:
+    """Where both leaves close."""
+    q = m.with_rows([Added(r.form, r.low + 1, r.low)])
+    closer = Closer(q.with_form({j: -a for j, a in r.terms.items()}), Fraction(-r.at))
+    leaves: List[Leaf] = []
+    for numbers in r.leaves:
+        closed = closer.attempt(numbers, Box(m.lo, m.hi))
+        if closed is None or not closed.leaf.is_narrow():
             return None
-    return Proof(column, r.form, at, trees[0], trees[1])
+        leaves.append(Leaf(spool.put(closed.leaf),
+                           tuple(i for i in closed.leaf.numbers if m.n_con <= i < m.m)))
+    return Proof(r.form, r.low, m.m, leaves[0], leaves[1])

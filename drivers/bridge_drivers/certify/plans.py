@@ -2,8 +2,7 @@
 shortest, since cuts make some trees longer.
 
 *plain*: no spine; *thin*: forms of a reduced lattice are split beside columns; *lemma*:
-mixed-integer rounding, where there are continuous columns; *cover*: covers, cliques, rounded rows;
-*tableau*: rows of the tableau on top of them.
+mixed-integer rounding; *clique*: cliques too.
 """
 
 from __future__ import annotations
@@ -25,7 +24,7 @@ from .shared import Shared
 from .short import trivial
 from .spine import Figures, Maker, Row, Spined, Value
 from .tree import Spool
-from .turns import KINDS, LEAST_GAIN, TINY, Turns
+from .turns import KINDS, TINY, Turns
 from .watch import Paused, Stopped, Watch
 from ..files import naming
 
@@ -35,7 +34,6 @@ PLAIN, THIN, CUTS, FEWER_CUTS, AGAIN = 4.0, 15.0, 12.0, 5.0, 15.0
 LEAST_AGAIN = 2.0
 RESERVE = 0.93                  # of the time, for plans; the rest is for a bound
 MOST_THIN = 45                  # whole columns
-CLOSED = 0.03                   # of the gap: spines that close it by less than that are near
 DIGITS = 3                      # of the gap, that a bound has
 LOOSER = (0.0, 1e-9, 1e-7, 1e-5, 1e-3)  # of a bound, by which it is lowered until it closes
 
@@ -50,14 +48,6 @@ class Shaped(NamedTuple):
     figures: Figures
     name: str
     seconds: float
-
-
-class Spine(NamedTuple):
-    """Rows of one kind, and the share of the gap that they close."""
-
-    name: str
-    rows: Sequence[Row]
-    gain: float
 
 
 @dataclass
@@ -197,13 +187,16 @@ class Plans:
         self.thin(self.more(THIN, min(self.left() / 3, THIN * self.share)))
         if self.is_short() or self.left() <= 0:
             return
-        for spine in self.spines():
+        rows: list[Row] = []
+        for name, kinds in KINDS.items():
+            seconds = self.more(FEWER_CUTS, CUTS * self.share)
+            count, rows = len(rows), self.maker.cuts(kinds, rows, self.until(seconds))
             if self.left() < 1 or self.is_short():
                 break
-            plan = next((plan for plan in self.going if plan.name == spine.name
-                         and len(plan.rows) >= len(spine.rows)), None)
-            plan = plan or self.begun(spine.name, spine.rows)
-            self.ends(plan, self.more(AGAIN, self.left()))
+            if len(rows) > count:
+                plan = next((plan for plan in self.going if plan.name == name
+                             and len(plan.rows) >= len(rows)), None)
+                self.ends(plan or self.begun(name, rows), self.more(AGAIN, self.left()))
 
     def more(self, again: float, first: float) -> float:
         """Seconds for what might give a shorter text: not more than the one that there is took;
@@ -226,27 +219,6 @@ class Plans:
             return []
         units = (self.maker.base - float(p.constant)) / float(self.step.size)
         return directions(p, self.step.form, Fraction(max(self.value.at - units, 0.5)))
-
-    def spines(self) -> list[Spine]:
-        """Those with rows, by how much of the gap they close; of two that are near, the one with
-        fewer rows comes first."""
-        if self.maker.relaxed([]) is None:
-            return []
-        root, seconds = self.maker.base, self.more(FEWER_CUTS, CUTS * self.share)
-        gap = max(self.maker.goal - root, 1e-9)
-        found: list[Spine] = []
-
-        def made(name: str, rows: Sequence[Row]) -> None:
-            gain = (self.maker.base - root) / gap
-            if rows and gain >= LEAST_GAIN and all(len(rows) > len(s.rows) or name == "lemma"
-                                                   for s in found):
-                found.append(Spine(name, rows, gain))
-        few = self.maker.cuts(KINDS["cover"], [], self.until(seconds))
-        made("cover", few)
-        more = self.maker.cuts(KINDS["tableau"], few, self.until(seconds))
-        made("tableau", more)
-        made("lemma", self.maker.lemmas([], self.until(seconds)))
-        return sorted(found, key=lambda s: (-round(s.gain / CLOSED), len(s.rows)))
 
     # a bound -----------------------------------------------------------------------
 

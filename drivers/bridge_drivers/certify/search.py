@@ -13,7 +13,7 @@ from . import tree as trees
 from .choice import Choice
 from .clp import Clp, State
 from .leaves import Closed, Closer, Multipliers
-from .model import TIGHT, Model, Point
+from .model import TIGHT, Box, Model, Point
 from .parts import Better, Branch, Done, Owner, Parts
 from .tree import Empty, Leaf, Spool, Tree
 from .watch import Paused, Stopped, Watch
@@ -293,36 +293,46 @@ class Search(Parts):
     def leaf(self, closed: Closed | None) -> Done | None:
         if closed is None:
             return None
-        closed = self.closer.thinned(closed, self.box)
+        needed, slack = self.needed(closed)
+        lo, hi = ([end if owner in needed else own for end, owner, own in zip(*part)]
+                  for part in ((self.box.lo, self.owner_lo, self.model.lo),
+                               (self.box.hi, self.owner_hi, self.model.hi)))
+        closed = self.closer.thinned(closed._replace(slack=slack), Box(lo, hi))
         self.nodes += 1
-        return Done(self.spooled(closed), self.needs(closed))
+        return Done(self.spooled(closed), needed & self.needs(closed))
 
     def spooled(self, closed: Closed) -> Leaf:
         added = tuple(i for i in closed.leaf.numbers if i >= self.model.n_con)
         return Leaf(self.spool.put(closed.leaf), added)
 
-    def needs(self, closed: Closed) -> set[Owner]:
-        """The splits whose bounds a leaf uses. What it has over the target is spent on the
-        file's own bounds instead, the deepest split first."""
-        p, used = self.model, []
+    def bounds_used(self, closed: Closed) -> list[tuple[Owner, int, int]]:
+        """The splits that gave them, with the columns and their reduced costs."""
+        used = []
         for j, r in enumerate(closed.reduced):
             if r:
                 owner = self.owner_lo[j] if r > 0 else self.owner_hi[j]
                 if owner is not None:
                     used.append((owner, j, r))
-        needed, slack = set(), closed.slack
-        for owner, j, r in sorted(used, reverse=True):
-            own = p.lo[j] if r > 0 else p.hi[j]
-            bound = self.box.lo[j] if r > 0 else self.box.hi[j]
-            if own is not None and bound is not None:
-                loss = r * (bound - own)
-                if loss <= slack:
-                    slack -= loss
-                    continue
-            needed.add(owner)
+        return used
+
+    def needs(self, closed: Closed) -> set[Owner]:
+        """The splits whose bounds and sides a leaf uses."""
+        needed = {owner for owner, _, _ in self.bounds_used(closed)}
         for row, owners in self.form_owners.items():
             y = closed.leaf.numbers.get(row)
             form_owner = owners[0 if y > 0 else 1] if y else None
             if form_owner is not None:
                 needed.add(form_owner)
         return needed
+
+    def needed(self, closed: Closed) -> tuple[set[Owner], int]:
+        """The same, and what is left of what the leaf has over the target: that is spent on the
+        file's own bounds in place of those of splits, the deepest first."""
+        p, needed, slack = self.model, self.needs(closed), closed.slack
+        for owner, j, r in sorted(self.bounds_used(closed), reverse=True):
+            own = p.lo[j] if r > 0 else p.hi[j]
+            bound = self.box.lo[j] if r > 0 else self.box.hi[j]
+            if own is not None and bound is not None and r * (bound - own) <= slack:
+                slack -= r * (bound - own)
+                needed.remove(owner)
+        return needed, slack

@@ -13,6 +13,7 @@ from math import lcm
 from typing import Iterator, Mapping, NamedTuple, Sequence
 
 from .clp import Clp, Linear, State
+from .decimals import alone, decimals_by_rows, inner, nearest, pair
 from .exact import solved
 from .leaves import MOST_MENDED, Closer, Judged, Multipliers
 from .model import Box, Model, Point, over_one
@@ -20,13 +21,11 @@ from .numbers import is_narrow
 
 PLACES = (9, 8, 7, 6, 5)         # decimals of a point
 MOST_PLACES = 14                # digits of its largest value
-MOST_MORE = 12                  # decimals that a column has beyond others
 MOVED = 1e-6                    # of the greatest dual, from which on others move
 SHARES = (0.0, 1e-9, 1e-7, 1e-5)        # room of costs, of the largest one
 NEAR = 1e-6                     # of the objective: a bound that is good enough
 DUAL_PLACES = (8, 10, 12)       # beyond the first of the greatest dual
 DIGITS = 9                      # of a bound
-APART = 20                      # rooms between the ends of what is tightened
 FREE = 1e3                      # rooms that a column of a basis of equations has
 ROUNDS = 12                     # of giving room to rows
 ZERO = Fraction(0)
@@ -68,6 +67,7 @@ class Rounding:
                           and side == p.side_hi[i] and i not in self.alone}
         self.exact = dict(self.equations)
         self.tight: set[int] | None = None
+        self.in_pairs = False
         self.more = decimals_by_rows(p, x) if by_rows else [0] * p.n
         self.most = max(self.more, default=0)
 
@@ -77,10 +77,12 @@ class Rounding:
         left = MOST_PLACES - max(0, math.ceil(math.log10(max(self.size, 1.0))))
         wanted = list(dict.fromkeys(min(places, left) for places in PLACES)) \
             if not any(self.more) else list(PLACES)
-        for places in wanted:
-            found = self.solved(places)
-            if found is not None and self.fits(found):
-                yield found
+        for self.in_pairs in (False, True):
+            for places in wanted:
+                found = self.solved(places)
+                if found is not None and self.fits(found):
+                    yield found
+        self.in_pairs = False
         for places in wanted[:2]:
             found = self.step_by_step(places)
             if found is not None:
@@ -167,12 +169,12 @@ class Rounding:
                 over[j] = hi * ten
         den = ten * p.unit
         moved: dict[int, Fraction] = {}
-        if self.exact:
-            found = self.by_basis(over, ten)
+        if self.exact or self.in_pairs:
+            found = self.by_pairs(over, ten) if self.in_pairs else self.by_basis(over, ten)
             if found is None:
                 return None
             moved = found
-        for i, (j, a) in self.alone.items():
+        for i, (j, a) in self.alone.items() if not self.in_pairs else ():
             side = p.side_lo[i]
             assert side is not None
             moved[j] = self.rest(i, side, over, ten, moved) / a
@@ -189,6 +191,9 @@ class Rounding:
 
     def way(self) -> str:
         rows = len(self.exact) - len(self.equations)
+        if self.in_pairs:
+            both = len(self.exact) + len(self.alone)
+            return f"rounding is taken up by pairs of columns of {counted(both, 'row')}"
         ways = [f"columns of {counted(len(self.alone), 'equation')} alone"] if self.alone else []
         ways += [f"a basis of {counted(len(self.equations), 'equation')}" +
                  (f" and {counted(rows, 'row')}" if rows else "")] if self.exact else []
@@ -206,11 +211,7 @@ class Rounding:
     def by_basis(self, over: Sequence[int], ten: int) -> dict[int, Fraction] | None:
         """By how much columns move that stand far enough from their bounds: those that the
         elimination leaves free stay. None where others would have to."""
-        p = self.p
-        far = [FREE * p.unit * 10 ** (self.most - by) for by in self.more]
-        free = [(lo is None or v - lo * ten > room) and (hi is None or hi * ten - v > room)
-                for v, lo, hi, room in zip(over, p.lo, p.hi, far)]
-        system = []
+        p, free, system = self.p, self.free(over, ten), []
         for i, side in self.exact.items():
             terms = {j: a for j, a in p.rows[i] if free[j]}
             left = self.rest(i, side, over, ten)
@@ -220,51 +221,34 @@ class Rounding:
         return None if found is None else {j: v for j, v in found.items() if v}
 
 
-def nearest(value: float, places: int, ten: int) -> int:
-    """A double with so many decimals, which may stand left of the point, over `ten`."""
-    power: int = 10 ** abs(places)
-    if places < 0:
-        return round(value / power) * power * ten
-    return round(value * power) * (ten // power)
+    def free(self, over: Sequence[int], ten: int) -> list[bool]:
+        """Columns that stand far enough from their bounds."""
+        p, far = self.p, [FREE * self.p.unit * 10 ** (self.most - by) for by in self.more]
+        return [(lo is None or v - lo * ten > room) and (hi is None or hi * ten - v > room)
+                for v, lo, hi, room in zip(over, p.lo, p.hi, far)]
 
-
-def decimals_by_rows(p: Model, x: Sequence[float]) -> list[int]:
-    """By column the decimals by which a rounding of its value is as small beside each of its rows
-    as that of 1 beside 1."""
-    share = [0.0] * p.n
-    for row, lo, hi in zip(p.rows, p.side_lo, p.side_hi):
-        sizes = [abs(a * x[j]) / p.scale for j, a in row]
-        sizes += [abs(side) / p.unit for side in (lo, hi) if side is not None]
-        size = max(sizes, default=0.0) * p.scale
-        for j, a in row if size else ():
-            share[j] = max(share[j], abs(a) / size)
-    return [max(-MOST_MORE, min(math.ceil(math.log10(v)), MOST_MORE)) if v else 0 for v in share]
+    def by_pairs(self, over: Sequence[int], ten: int) -> dict[int, Fraction] | None:
+        """By how much pairs of columns move so that both are decimals: fractions of many rows make
+        the objective wide. None where a row has no pair that no row before it has."""
+        p, seen, moved = self.p, set[int](), dict[int, Fraction]()
+        free = self.free(over, ten)
+        is_high = [hi is not None and v >= hi * ten for v, hi in zip(over, p.hi)]
+        for i in (*self.exact, *self.alone):
+            side = self.exact.get(i, p.side_lo[i])
+            assert side is not None
+            fresh = [(j, a) for j, a in p.rows[i] if j not in seen and p.lo[j] != p.hi[j]]
+            firsts = [(j, a) for j, a in fresh if free[j] or j == self.alone.get(i, (-1, 0))[0]]
+            seen.update(j for j, _ in p.rows[i])
+            rest = self.rest(i, side, over, ten, moved)
+            found = pair(firsts, fresh, rest, is_high) if rest else {}
+            if found is None:
+                return None
+            moved.update(found)
+        return moved
 
 
 def counted(number: int, word: str) -> str:
     return f"{number} {word}{'' if number == 1 else 's'}"
-
-
-def alone(p: Model) -> dict[int, tuple[int, int]]:
-    """By equation a column that stands in it and nowhere else, with its coefficient: 1 where there
-    is such a one."""
-    starts = p.columns.starts
-    single = [j for j in range(p.n) if starts[j + 1] - starts[j] == 1
-              and (p.lo[j] is None or p.lo[j] != p.hi[j])]
-    found: dict[int, tuple[int, int]] = {}
-    for j in single:
-        (i, a), = p.terms.column(j)
-        if p.side_lo[i] is not None and p.side_lo[i] == p.side_hi[i]:
-            if i not in found or abs(a) == p.scale != abs(found[i][1]):
-                found[i] = j, a
-    return found
-
-
-def inner(lo: float | None, hi: float | None, room: float) -> tuple[float | None, float | None]:
-    """The ends without the room on each side, where they are far enough apart."""
-    if lo is not None and hi is not None and hi - lo < APART * room:
-        return lo, hi
-    return None if lo is None else lo + room, None if hi is None else hi - room
 
 
 # duals -------------------------------------------------------------------------------

@@ -9,12 +9,13 @@ from __future__ import annotations
 
 import math
 from fractions import Fraction
-from typing import Callable, Dict, Iterator, NamedTuple, Sequence
+from typing import Callable, Dict, Iterator, Mapping, NamedTuple, Sequence
 
-from . import lemmas, text
+from . import text
+from .cliques import Proposal, cliques
 from .clp import Clp, State
-from .cuts import KINDS, Proposal
-from .lemmas import Proof
+from .lemmas import Proof, Source, proved
+from .mixed import Rounded
 from .model import Added, Model, Step
 from .parts import Better
 from .search import Goal, Search
@@ -25,9 +26,8 @@ from .watch import Stopped, Watch
 ROUNDS = 30
 EACH = 20                       # cuts of one round
 EACH_LEMMA = 40
-STALLED = 2                     # rounds without gain
-GAIN = 1e-4                     # of the gap, in one round
-LEMMA_GAIN, LEMMA_STALLED = 1e-3, 3
+STALLED = 10                    # rounds without gain
+GAIN = 1e-3                     # of the gap, in one round
 LEAST_DEPTH = 1e-3
 PARALLEL = 0.81                 # the squared cosine of cuts that are too much alike
 BEYOND_NODES = 12
@@ -100,10 +100,8 @@ class Maker:
     def is_over(self, until: float) -> bool:
         return self.watch.spent() > until or self.watch.is_stopped
 
-    # cuts --------------------------------------------------------------------------
-
     def cuts(self, kinds: Sequence[str], before: Sequence[Row], until: float) -> list[Row]:
-        """The rows of before, and cuts of these kinds below them."""
+        """The rows of before, and those of these kinds below them."""
         rows = list(before)
         seen = {key(row.terms, row.at) for row in rows}
         stalled, last = 0, -math.inf
@@ -112,45 +110,48 @@ class Maker:
             if relaxed is None or relaxed.base >= self.goal + 1e-9:
                 break
             gain = relaxed.base - last
-            stalled = stalled + 1 if gain < GAIN * max(1.0, self.goal - relaxed.base) else 0
+            stalled = stalled + 1 if gain < GAIN * (self.goal - relaxed.base) else 0
             if stalled > self.stalled:
                 break
-            last = relaxed.base
-            found = self.proposed(relaxed, kinds, seen, until)
-            taken = self.taken(found, rows, seen, until)
-            if not taken or self.is_over(until):
+            last, count = relaxed.base, len(rows)
+            used: list[dict[int, int]] = []
+            for cut in self.proposed(relaxed, kinds, used, until):
+                if self.is_over(until):
+                    break
+                if key(cut.terms, cut.at) in seen:
+                    continue
+                seen.add(key(cut.terms, cut.at))
+                if not any(is_parallel(cut.terms, other) for other in used) \
+                        and self.is_proved(cut, rows, relaxed.model):
+                    used.append(cut.terms)
+            if len(rows) == count or self.is_over(until):
                 break
         return rows
 
-    def proposed(self, relaxed: Tableau, kinds: Sequence[str], seen: set[object],
-                 until: float) -> list[Proposal]:
-        """Deepest first."""
-        found = []
-        for kind in kinds:
-            for cut in KINDS[kind](relaxed.model, relaxed.clp, relaxed.x):
-                if cut.depth > LEAST_DEPTH and key(cut.terms, cut.at) not in seen:
-                    norm = math.sqrt(sum(a * a for a in cut.terms.values()))
-                    found.append(cut._replace(depth=cut.depth / norm))
-            if self.is_over(until):
+    def proposed(self, relaxed: Tableau, kinds: Sequence[str], used: Sequence[object],
+                 until: float) -> Iterator[Proposal | Rounded]:
+        """Cliques and lemmas, of each the deepest first, as long as fewer than there may be in one
+        round are used."""
+        m, clp, x, _ = relaxed
+        found = [cut for cut in cliques(m, x) if cut.depth > LEAST_DEPTH] \
+            if "clique" in kinds else []
+        for cut in sorted(found, key=lambda cut: -cut.depth / norm(cut.terms)):
+            if len(used) >= EACH:
                 break
-        return sorted(found, key=lambda cut: -cut.depth)
+            yield cut
+        most = len(used) + EACH_LEMMA
+        source = Source(m, clp, x)
+        for lemma in source.proposals(lambda: self.is_over(until)) if "row" in kinds else ():
+            if len(used) >= most:
+                break
+            yield lemma
 
-    def taken(self, found: Sequence[Proposal], rows: list[Row], seen: set[object],
-              until: float) -> int:
-        """Those whose part beyond closes, unless nearly parallel to one that was taken."""
-        used: list[dict[int, int]] = []
-        for cut in found:
-            if key(cut.terms, cut.at) in seen or len(used) >= EACH or self.is_over(until):
-                continue
-            seen.add(key(cut.terms, cut.at))
-            if any(is_parallel(cut.terms, other) for other in used):
-                continue
-            if self.is_proved(cut, rows):
-                used.append(cut.terms)
-        return len(used)
-
-    def is_proved(self, cut: Proposal, rows: list[Row]) -> bool:
+    def is_proved(self, cut: Proposal | Rounded, rows: list[Row], model: Model) -> bool:
         """With what comes before it; as far as that goes, it is among the rows."""
+        if isinstance(cut, Rounded):
+            proof = proved(model, cut, self.spool)
+            rows += [] if proof is None else [Row(cut.terms, cut.at, proof)]
+            return proof is not None
         for one in (*cut.before, cut):
             if one is cut or all(row.terms != one.terms or row.at != one.at for row in rows):
                 tree = self.beyond(one, rows)
@@ -169,39 +170,13 @@ class Maker:
         except (Stopped, Better):
             return None
 
-    # lemmas ------------------------------------------------------------------------
-
-    def lemmas(self, before: Sequence[Row], until: float) -> list[Row]:
-        """The rows of before, and mixed-integer rounding of the file's rows."""
-        rows, seen = list(before), {key(row.terms, row.at) for row in before}
-        source = lemmas.Rows(self.model)
-        stalled, last = 0, -math.inf
-        for _ in range(ROUNDS):
-            relaxed = self.relaxed(rows)
-            if relaxed is None or relaxed.base >= self.goal - 1e-9 or self.is_over(until):
-                break
-            gain = relaxed.base - last
-            stalled = stalled + 1 if gain < LEMMA_GAIN * (self.goal - relaxed.base) else 0
-            if stalled > LEMMA_STALLED:
-                break
-            last = relaxed.base
-            count = len(rows)
-            for found in source.proposals(relaxed.x):
-                if len(rows) - count >= EACH_LEMMA or self.is_over(until):
-                    break
-                if key(found.terms, found.at) in seen:
-                    continue
-                seen.add(key(found.terms, found.at))
-                proof = lemmas.proved(self.model, found, self.spool, self.watch)
-                if proof is not None:
-                    rows.append(Row(found.terms, found.at, proof))
-            if len(rows) == count:
-                break
-        return rows
-
 
 def key(terms: Dict[int, int], at: int) -> object:
     return (tuple(sorted(terms.items())), at)
+
+
+def norm(terms: Mapping[int, int]) -> float:
+    return math.sqrt(sum([a * a for a in terms.values()]))
 
 
 def is_parallel(a: Dict[int, int], b: Dict[int, int]) -> bool:
@@ -229,9 +204,10 @@ class Spined:
         self.start = model.m + len(value.added())
         used = rows_used(tree)
         for k in range(len(rows) - 1, -1, -1):
-            proof = rows[k].proof
-            if self.start + k in used and not isinstance(proof, Proof):
-                used |= rows_used(proof)
+            if self.start + k in used:
+                proof = rows[k].proof
+                parts = (proof.low, proof.high) if isinstance(proof, Proof) else (proof,)
+                used.update(*map(rows_used, parts))
         self.kept = [k for k in range(len(rows)) if self.start + k in used]
         self.place = {self.start + k: self.start + at for at, k in enumerate(self.kept)}
 
@@ -239,8 +215,7 @@ class Spined:
         nodes = count(self.tree) + 2 * len(self.value.added()) + len(self.kept)
         for k in self.kept:
             proof = self.rows[k].proof
-            parts = (proof.low, proof.high) if isinstance(proof, Proof) else (proof,)
-            nodes += sum(map(count, parts)) + isinstance(proof, Proof)
+            nodes += 3 if isinstance(proof, Proof) else count(proof)
         return Figures(nodes, len(self.kept), len(self.rows))
 
     def lines(self) -> Iterator[str]:
@@ -250,9 +225,9 @@ class Spined:
             yield from text.plane_lines(step.form, self.value.at)
         for at, k in enumerate(self.kept):
             terms, side, proof = self.rows[k]
-            number = self.start + at
             if isinstance(proof, Proof):
-                yield from text.lemma_lines(m, terms, side, proof, self.spool, {}, number)
+                yield from text.lemma_lines(terms, side, proof, self.spool,
+                                            {**self.place, proof.row: self.start + at})
             else:
                 yield from text.plane_lines(terms, side)
         yield from text.tree_lines(self.searched, self.tree, self.spool,

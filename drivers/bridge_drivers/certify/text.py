@@ -97,20 +97,15 @@ def form_of(model: Model, cut: Cut) -> dict[int, int]:
     return {j: a // model.scale for j, a in model.rows[cut.row]}
 
 
-def lemma_lines(model: Model, terms: Mapping[int, int], at: int, proof: Proof, spool: Spool,
-                place: Mapping[int, int], first: int) -> Iterator[str]:
-    """The lemma and its proof; a plane in it takes the number that the lemma gets below."""
+def lemma_lines(terms: Mapping[int, int], at: int, proof: Proof, spool: Spool,
+                place: Mapping[int, int]) -> Iterator[str]:
+    """The lemma and its proof, whose plane takes the number that the lemma gets below."""
     yield f"lemma {len(terms)} {written(at)}"
     for j in sorted(terms):
         yield f"{j} {written(terms[j])}"
-    below = first
-    if proof.column is None:
-        yield from plane_lines(proof.form, proof.at)
-        place, below = {**place, model.m: first}, first + 1
-    else:
-        yield f"split {proof.column} {written(proof.at)}"
-    for tree in (proof.low, proof.high):
-        yield from tree_lines(model, tree, spool, Naming(place, below, -1))
+    yield from plane_lines(proof.form, proof.at)
+    for leaf in (proof.low, proof.high):
+        yield from leaf_lines(spool.get(leaf.place), Naming(place, 0, -1), {})
 
 
 def head(claim: str, objective: int | None, value: Fraction | None = None,

@@ -24,8 +24,9 @@ LEAST_TURN = 0.25               # seconds that a plan goes on
 LATE = 2.0                      # seconds, before which no lattice is reduced
 LEAST_GAIN = 0.01               # of the gap, that rows close
 TINY = 1e-9                     # seconds
+MOST_VAIN = 10                  # times that rows are made in vain
 WORTH = 2.0                     # of the share of a gap that is left: that of the time
-KINDS = {"cover": ("cover", "clique", "row"), "tableau": ("tableau", "cover", "clique", "row")}
+KINDS = {"lemma": ("row",), "clique": ("row", "clique")}
 
 
 @dataclass
@@ -35,6 +36,7 @@ class Making:
     name: str
     rows: List[Row] = field(default_factory=list)
     gain: float = 0.0               # what they close of the gap
+    vain: int = 0                   # times that they were made without more of it
 
 
 class Turns:
@@ -43,7 +45,7 @@ class Turns:
     def __init__(self, plans: Plans) -> None:
         self.plans, self.began = plans, plans.watch.spent()
         self.live: list[Plan] = []
-        self.makings = [Making(name) for name in ("lemma", "cover", "thin", "tableau")]
+        self.makings = [Making(name) for name in ("lemma", "clique", "thin")]
 
     def run(self) -> bool:
         """Whether there is a tree."""
@@ -95,14 +97,11 @@ class Turns:
             return
         root = maker.base
         until = plans.until(min(room, max(self.total(), LEAST_MAKING)))
-        if making.name == "lemma":
-            making.rows = maker.lemmas(making.rows, until)
-        else:
-            few = making.rows or self.rows("cover")
-            making.rows = maker.cuts(KINDS[making.name], few, until)
+        making.rows = maker.cuts(KINDS[making.name], making.rows or self.rows("lemma"), until)
         gain, before = (maker.base - root) / max(maker.goal - root, 1e-9), making.gain
         making.gain = gain
-        if not maker.is_over(until) or gain < before + LEAST_GAIN or WORTH * (1 - gain) <= 1:
+        making.vain = making.vain + 1 if gain < before + LEAST_GAIN else 0
+        if not maker.is_over(until) or making.vain > MOST_VAIN or WORTH * (1 - gain) <= 1:
             self.makings.remove(making)
             if making.rows and gain >= LEAST_GAIN:
                 self.begin(making, gain)
