@@ -18,7 +18,7 @@ ghost use Rattle.command_parts.specs.ToldLines.{TellsLine, TellsPlace};
 /// among the files of the command, and one of its lines or the line after the last, and never line
 /// 0. What is told of a file that does not fold or scale may name a row or the objective instead. A
 /// fault of the fold at a place of the file stands at one of its lines.
-#[tactic(auto, using(crate::proofs::FaultLines::text_told, crate::proofs::FaultLines::sol_told, crate::proofs::FaultLines::names_told, crate::proofs::FaultLines::proof_told, crate::proofs::FaultLines::certificate_told, crate::proofs::FaultLines::mps_told, crate::proofs::FaultLines::fixed_told, crate::proofs::FaultLines::fault_lines))]
+#[tactic(auto, using(crate::proofs::FaultLines::text_told, crate::proofs::FaultLines::sol_told, crate::proofs::FaultLines::mps_told, crate::proofs::FaultLines::fixed_told, crate::proofs::FaultLines::fault_lines))]
 pub fn told_lines_are_lines()
     ensures nl { (text told : List ℕ) → HasTextRefusal text told → TellsLine 1 text told }
     ensures sol { (file : ℕ) (text told : List ℕ) → IsSolRefused file text told
