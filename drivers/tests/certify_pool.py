@@ -213,7 +213,7 @@ class OfThisMachine(Pooled):
 
     def started(self) -> tuple[subprocess.Popen, list[int]]:
         """A process that searches long in a group of its own, and those that it started."""
-        self.put(families.made("split", 4))
+        self.put(families.made("split", 6))
         child = subprocess.Popen([sys.executable, __file__, self.stub + ".nl", self.folder],
                                  stdin=subprocess.DEVNULL, stdout=subprocess.PIPE,
                                  stderr=subprocess.STDOUT, text=True, start_new_session=True)
@@ -306,7 +306,7 @@ class OfACluster(Pooled):
         self.assertEqual(pool.fault, "")
 
     def interrupted(self, pool: Pool) -> None:
-        work = self.work(families.made("split", 4), pool=pool)
+        work = self.work(families.made("split", 6), pool=pool)
         timer = threading.Timer(3, os.kill, (os.getpid(), signal.SIGINT))
         timer.start()
         self.addCleanup(timer.cancel)
