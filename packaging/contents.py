@@ -197,8 +197,8 @@ class Project:
         """Where shells look for them below PREFIX/share; `zsh` is zsh's folder. Those of bash and
         fish are one text under the name of each command."""
         made = Completion()
-        yield File(place("zsh", "", self.name, zsh), made.zsh().encode())
-        for shell, text in (("bash", made.bash().encode()), ("fish", made.fish().encode())):
+        yield File(place("zsh", "", self.name, zsh), made.text("zsh").encode())
+        for shell, text in (("bash", made.text("bash").encode()), ("fish", made.text("fish").encode())):
             for name in self.scripts:
                 yield File(place(shell, "", name), text)
 

@@ -9,6 +9,7 @@ from functools import cached_property
 from typing import Mapping, Sequence
 
 from .codes import Code
+from .miss import NONE, Miss, miss, missing
 from .options import Options
 from .program import Program
 from .solvers.base import Outcome
@@ -44,6 +45,15 @@ class Answer:
         """Of its values."""
         return {name: float(text) for name, text in (self.values or {}).items()}
 
+    @cached_property
+    def missed(self) -> Miss:
+        """By how much its values miss the model."""
+        if self.values is None:
+            return NONE
+        if self.apart:
+            return missing(self.most_apart, "a whole number")
+        return miss(self.program, self.values, self.whole)
+
     def rounded(self, values: Mapping[str, Number]) -> Mapping[str, Number]:
         """Whole columns at the whole numbers that they are near."""
         if not self.whole:
@@ -72,9 +82,6 @@ class Answer:
                          "nearest ones are written")
         return notes
 
-    def without_duals(self) -> Answer:
-        return self.with_duals(None)
-
     def with_duals(self, duals: Mapping[str, str] | None) -> Answer:
         other = copy.copy(self)
         other.duals = None if duals is None else dict(duals)
@@ -99,7 +106,7 @@ class Answer:
             outcome.duals = {**old, **duals}
         other = Answer(self.program, replace(outcome, costs=None), self.options)
         other.outcome, other.costs = outcome, self.costs
-        return other if self.duals is not None else other.without_duals()
+        return other if self.duals is not None else other.with_duals(None)
 
     def is_integer(self) -> bool:
         return bool(self.program.whole) and not self.options.relax

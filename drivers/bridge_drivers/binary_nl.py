@@ -15,6 +15,10 @@ LISTS = (11, 12, 54, 59, 60, 61, 70, 71, 74)            # opcodes with a count o
 PAIRS = frozenset((*range(11), 20, 21, 22, 23, 24, 28, 29, 30, 48, 55, 56, 57, 58, 73, 75))
 TRIPLES = (35, 65, 72)
 PIECEWISE = 64
+# the numbers of a segment's head, n a count of what follows; doubles and numbers of sides by kind
+SEGMENTS = {"C": "i", "L": "i", "O": "ii", "V": "ini", "J": "in", "G": "in", "S": "in", "F": "iii",
+            "d": "n", "x": "n", "k": "n", "r": "", "b": ""}
+SIDES = {"0": "dd", "1": "d", "2": "d", "3": "", "4": "d", "5": "ii"}
 
 
 def shortest(x: float) -> str:
@@ -39,11 +43,8 @@ class Bytes:
         self.at += 1
         return chr(self.data[self.at - 1])
 
-    def whole(self) -> int:
-        return int(self.take("i"))
-
-    def short(self) -> int:
-        return int(self.take("h"))
+    def whole(self, form: str = "i") -> int:
+        return int(self.take(form))
 
     def count(self) -> int:
         """A number of things that follow, each of at least a byte."""
@@ -76,23 +77,31 @@ class Converter:
         self.end = len(data)
         self.out = ["g" + head[0][1:]] + head[1:10]
         counts = [int(w) for w in head[1].split("#")[0].split()]
-        self.variables, self.constraints = counts[0], counts[1]
+        self.sizes = {"b": counts[0], "r": counts[1]}
 
     def text(self) -> bytes:
         while self.bytes.at < self.end:
-            letter = self.bytes.letter()
-            segment = getattr(self, "segment_" + letter, None) if letter.isalpha() else None
-            if segment is None:
-                raise ValueError(f"an unknown segment {letter!r}")
-            segment()
+            self.segment(self.bytes.letter())
         return ("\n".join(self.out) + "\n").encode("latin-1")
 
-    def put(self, letter: str, *numbers: int) -> None:
-        self.out.append(letter + " ".join(str(n) for n in numbers))
+    def segment(self, letter: str) -> None:
+        b = self.bytes
+        if letter not in SEGMENTS:
+            raise ValueError(f"an unknown segment {letter!r}")
+        numbers = [b.count() if kind == "n" else b.whole() for kind in SEGMENTS[letter]]
+        name = [b.name()] if letter in "FS" else []
+        self.out.append(letter + " ".join([*map(str, numbers), *name]))
+        count = numbers[SEGMENTS[letter].find("n")] if numbers else 0
+        if letter in "VJGSdx":
+            self.pairs(count, letter == "S" and not numbers[0] & 4)
+        if letter in "CLOV":
+            self.tree()
+        if letter in "rb":
+            self.sides(self.sizes[letter])
+        if letter == "k":
+            self.out += [str(b.whole()) for _ in range(count)]
 
-    # pieces of segments ------------------------------------------------------
-
-    def pairs(self, n: int, whole: bool = False) -> None:
+    def pairs(self, n: int, whole: bool) -> None:
         """n lines `index value`."""
         for _ in range(n):
             i = self.bytes.whole()
@@ -112,23 +121,20 @@ class Converter:
             return self.operator(b.whole())
         if letter == "f":
             function, n = b.whole(), b.count()
-            self.put("f", function, n)
+            self.out.append(f"f{function} {n}")
             return n
-        if letter == "n":
-            self.out.append("n" + b.double())
-        elif letter in "sl":
-            self.put("n", b.short() if letter == "s" else b.whole())
-        elif letter == "v":
-            self.put("v", b.whole())
-        elif letter == "h":
+        if letter == "h":
             name = b.name()
             self.out.append(f"h{len(name)}:{name}")
+        elif letter in "nslv":
+            number = b.double() if letter == "n" else b.whole("h" if letter == "s" else "i")
+            self.out.append(f"{'v' if letter == 'v' else 'n'}{number}")
         else:
             raise ValueError(f"an unknown node {letter!r}")
         return 0
 
     def operator(self, opcode: int) -> int:
-        self.put("o", opcode)
+        self.out.append(f"o{opcode}")
         if opcode in LISTS:
             n = self.bytes.count()
             self.out.append(str(n))
@@ -142,80 +148,10 @@ class Converter:
         b = self.bytes
         for _ in range(n):
             kind = b.letter()
-            if kind == "0":
-                self.out.append(f"0 {b.double()} {b.double()}")
-            elif kind in "124":
-                self.out.append(f"{kind} {b.double()}")
-            elif kind == "3":
-                self.out.append("3")
-            elif kind == "5":
-                self.out.append(f"5 {b.whole()} {b.whole()}")
-            else:
+            if kind not in SIDES:
                 raise ValueError(f"an unknown side {kind!r}")
-
-    # segments ----------------------------------------------------------------
-
-    def segment_C(self) -> None:
-        self.put("C", self.bytes.whole())
-        self.tree()
-
-    def segment_L(self) -> None:
-        self.put("L", self.bytes.whole())
-        self.tree()
-
-    def segment_O(self) -> None:
-        self.put("O", self.bytes.whole(), self.bytes.whole())
-        self.tree()
-
-    def segment_V(self) -> None:
-        i, n, usage = self.bytes.whole(), self.bytes.count(), self.bytes.whole()
-        self.put("V", i, n, usage)
-        self.pairs(n)
-        self.tree()
-
-    def segment_F(self) -> None:
-        b = self.bytes
-        self.out.append(f"F{b.whole()} {b.whole()} {b.whole()} {b.name()}")
-
-    def segment_S(self) -> None:
-        kind, n = self.bytes.whole(), self.bytes.count()
-        self.out.append(f"S{kind} {n} {self.bytes.name()}")
-        self.pairs(n, whole=not kind & 4)
-
-    def start(self, letter: str) -> None:
-        n = self.bytes.count()
-        self.put(letter, n)
-        self.pairs(n)
-
-    def segment_d(self) -> None:
-        self.start("d")
-
-    def segment_x(self) -> None:
-        self.start("x")
-
-    def segment_r(self) -> None:
-        self.out.append("r")
-        self.sides(self.constraints)
-
-    def segment_b(self) -> None:
-        self.out.append("b")
-        self.sides(self.variables)
-
-    def segment_k(self) -> None:
-        n = self.bytes.count()
-        self.put("k", n)
-        self.out += [str(self.bytes.whole()) for _ in range(n)]
-
-    def terms(self, letter: str) -> None:
-        i, n = self.bytes.whole(), self.bytes.count()
-        self.put(letter, i, n)
-        self.pairs(n)
-
-    def segment_J(self) -> None:
-        self.terms("J")
-
-    def segment_G(self) -> None:
-        self.terms("G")
+            ends = (b.double() if form == "d" else str(b.whole()) for form in SIDES[kind])
+            self.out.append(" ".join([kind, *ends]))
 
 
 def text_of_binary(data: bytes) -> bytes:

@@ -11,6 +11,7 @@ import tempfile
 from typing import Callable, Mapping, NamedTuple, Sequence
 
 from . import explaining
+from .codes import Code, Failure
 from .interrupts import with_child
 
 PACKAGE = os.path.dirname(os.path.abspath(__file__))
@@ -24,8 +25,11 @@ ENDED = {4: "a file could not be read", 5: "its output could not be written", 6:
 BAD_WORDS, INPUT_FAULT = 3, 4
 
 
-class Missing(Exception):
+class Missing(Failure):
     """No program `bridge` was found, or it cannot be started."""
+
+    def __init__(self, text: str) -> None:
+        super().__init__(Code.NOT_FOUND, text)
 
 
 class Reply(NamedTuple):

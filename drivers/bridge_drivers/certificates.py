@@ -22,7 +22,6 @@ from .certify.watch import Watch
 from .codes import Code
 from .job import Job
 from .keeping import Keeper, Kept
-from .names import Names
 from .sol import duals_of, values_of
 from .solvers.base import BASIC
 from .values import plain, text_of
@@ -51,13 +50,12 @@ class End(NamedTuple):
 
 
 class Certifier:
-    """Asks `bridge` over the .nl file at `nl`. `stub` is where AMPL writes names beside it.
-    `values_alone`: no .sol can be made."""
+    """Asks `bridge` over the .nl file at `nl`. `values_alone`: no .sol can be made."""
 
     values_alone = False
 
-    def __init__(self, bridge: Bridge, nl: str, job: Job, stub: str) -> None:
-        self.bridge, self.nl, self.job, self.stub = bridge, nl, job, stub
+    def __init__(self, bridge: Bridge, nl: str, job: Job) -> None:
+        self.bridge, self.nl, self.job = bridge, nl, job
         self.program = job.program
         self.relaxed = bool(job.program.whole) and bool(job.options.relax)
         self.linear = not job.program.whole or self.relaxed
@@ -142,7 +140,7 @@ class Certifier:
             return verdict
         except Refused as fault:
             if fault.told.endswith("dual too wide"):
-                return self.as_it_stands(work, answer.without_duals())
+                return self.as_it_stands(work, answer.with_duals(None))
             return Verdict(WITHOUT + fault.line())
 
     def numbers(self, answer: Answer) -> tuple[list[str], list[str]]:
@@ -171,20 +169,15 @@ class Certifier:
         """What is told of a verdict. A search that was asked for and cannot be made is told as
         `not proved`, with what is proved without it."""
         said = verdicts.read(verdict.line) if verdict.is_proved() else None
-        kept, last, lines = self.kept(verdict), verdict.line, self.words(said, verdict.note)
-        if self.pool_note:
-            lines.append(self.pool_note)
-        if self.lacks_search(said):
+        kept, last, options = self.kept(verdict), verdict.line, self.job.options
+        lines = [*self.words(said, verdict.note), self.pool_note]
+        if options.prove and options.check and clp.library() is None \
+                and (said is None or not said.is_settled()):
             lines.append(NO_SEARCH)
             if said is not None:
                 last = f"{WITHOUT}there was no search; without it: {last}"
-        kept_line = kept.line if kept else ""
-        return End([*lines, *filter(None, (kept_line, verdict.note)), last], said, kept)
-
-    def lacks_search(self, said: Said | None) -> bool:
-        options = self.job.options
-        return bool(options.prove and options.check) and clp.library() is None \
-            and (said is None or not said.is_settled())
+        lines += [kept.line if kept else "", verdict.note, last]
+        return End(list(filter(None, lines)), said, kept)
 
     @staticmethod
     def rounding(verdict: Verdict, answer: Answer, told: str) -> str:
@@ -244,8 +237,8 @@ class Certifier:
         return f"the reduced cost of {thing} has no bound to rest on"
 
     def thing(self, kind: str, number: int) -> str:
-        """A constraint or variable, by its name where AMPL wrote stub.row or stub.col."""
-        names = self.program.names or Names(self.stub)
+        """A constraint or variable, by its name where there is one."""
+        names = self.program.names
         return names.constraint(number) if kind == "row" else names.variable(number)
 
     def named(self, exported: str) -> str:

@@ -122,24 +122,18 @@ def tables() -> dict[str, Mapping[str, Option]]:
     found = {f"bridge-{name}": Options(solvers.load(name).options).known for name in solvers.NAMES}
     every = {o.name: o for known in found.values() for o in known.values()}
     found["bridge-certify"] = {**every, **{o.name: o for o in OPTIONS}}
-    return {command: dict(sorted(known.items())) for command, known in found.items()}
-
-
-def values(option: Option) -> str:
-    """What follows the sign =: `files`, `folders`, words, or nothing."""
-    if option.kind in (FILE, FOLDER):
-        return "files" if option.kind is FILE else "folders"
-    return " ".join(option.kind.words())
-
-
-def quoted(text: str) -> str:
-    return "'" + text.replace("'", "'\\''") + "'"
+    return {command: dict(sorted(known.items())) for command, known in sorted(found.items())}
 
 
 def described(words: Mapping[str, str], indent: str) -> str:
     """Lines of zsh's lists, `'word:what it is'`."""
-    return "\n".join(indent + quoted(word.replace(":", "\\:") + ":" + text)
-                     for word, text in words.items())
+    return "\n".join(indent + "'" + (word.replace(":", "\\:") + ":" + text).replace("'", "'\\''")
+                     + "'" for word, text in words.items())
+
+
+def fished(text: str) -> str:
+    """A word of fish: within single quotes, where they and the backslash are escaped."""
+    return "'" + text.replace("\\", "\\\\").replace("'", "\\'") + "'"
 
 
 class Completion:
@@ -149,7 +143,6 @@ class Completion:
         self.options = tables()
         self.known = {name: o for known in self.options.values() for name, o in known.items()}
         self.known = dict(sorted({**self.known, **{o.name: o for o in COMMON}}.items()))
-        self.all = " ".join(["nl-bridge", *sorted(self.options)])
         self.texts: dict[str, str] = {}
         for row in (*commands.COMMANDS, *commands.OWN):
             self.texts.setdefault(row.word, row.text)
@@ -158,69 +151,61 @@ class Completion:
         self.behind["help"] = sorted([*self.texts, *self.options, "refusals"])
         self.behind["explain"] += sorted({row.word for row in commands.COMMANDS})
 
-    def bash(self) -> str:
-        listed, lists, behind = [], [], []
-        for name, option in self.known.items():
-            what = values(option)
-            make = {"files": "-f", "folders": "-d"}.get(what, f"-W '{what}'")
-            if what:
-                files = "compopt -o filenames 2>/dev/null; " if make[1] in "fd" else ""
-                listed.append(f'    {name}) {files}COMPREPLY=($(compgen {make} -- "$cur")) ;;')
-        for command, options in sorted(self.options.items()):
-            words = [f"{name}=" for name in options]
-            words += list(DASHED) if command != "bridge-certify" else []
-            lists.append(f"    {command}) echo '{' '.join(words)}' ;;")
-        for word, after in self.behind.items():
-            if after:
-                behind.append(f"        {word}) COMPREPLY=($(compgen -W '{' '.join(after)}' "
-                              '-- "$cur")) ;;')
-        return BASH % {"values": "\n".join(listed), "options": "\n".join(lists), "all": self.all,
-                       "commands": " ".join(sorted(self.texts)), "behind": "\n".join(behind),
-                       "ends": " ".join(ENDS)}
+    def values(self, line: str, files: str, folders: str, words: str) -> str:
+        """A line of each option that has files, folders or known words."""
+        made = {name: files if o.kind is FILE else folders if o.kind is FOLDER
+                else words % " ".join(o.kind.known) if o.kind.known else ""
+                for name, o in self.known.items()}
+        return "\n".join(line % pair for pair in made.items() if pair[1])
 
-    def zsh(self) -> str:
-        listed, lists = [], []
-        for name, option in self.known.items():
-            what = values(option)
-            make = {"files": "_files", "folders": "_files -/"}.get(what, f"compadd -- {what}")
-            if what:
-                listed.append(f"            {name}) {make} ;;")
-        for command, options in sorted(self.options.items()):
-            words = described({name: o.text for name, o in options.items()}, " " * 12)
-            lists.append(f"        {command}) words_of=(\n{words}\n            ) ;;")
-        behind = [f"            {word}) compadd -- {' '.join(after)} ;;"
-                  for word, after in self.behind.items() if after]
-        return ZSH % {"values": "\n".join(listed), "options": "\n".join(lists), "all": self.all,
-                      "commands": described(self.texts, " " * 16), "behind": "\n".join(behind),
-                      "dashed": described(DASHED, " " * 8)}
+    def after(self, line: str) -> str:
+        """A line of each word of nl-bridge that known ones may follow."""
+        return "\n".join(line % (word, " ".join(after)) for word, after in self.behind.items()
+                         if after)
 
-    def fish(self) -> str:
-        words = [f"complete -c nl-bridge -n __fish_use_subcommand -f -a {word} -d {fished(text)}"
-                 for word, text in self.texts.items()]
-        behind = [f"complete -c nl-bridge -n '__fish_seen_subcommand_from {word}' -a "
-                  f"{fished(' '.join(after))}" for word, after in self.behind.items() if after]
+    @staticmethod
+    def dashed(command: str) -> Mapping[str, str]:
+        return DASHED if command != "bridge-certify" else {}
+
+    def bash(self) -> dict[str, str]:
+        made = 'COMPREPLY=($(compgen %s -- "$cur"))'
+        files = "compopt -o filenames 2>/dev/null; " + made
+        options = [f"    {command}) echo '"
+                   + " ".join([*(f"{name}=" for name in known), *self.dashed(command)]) + "' ;;"
+                   for command, known in self.options.items()]
+        return {"values": self.values("    %s) %s ;;", files % "-f", files % "-d",
+                                      made % "-W '%s'"),
+                "options": "\n".join(options), "commands": " ".join(sorted(self.texts)),
+                "behind": self.after("        %s) " + made % "-W '%s'" + " ;;"),
+                "ends": " ".join(ENDS)}
+
+    def zsh(self) -> dict[str, str]:
+        options = [f"        {command}) words_of=(\n"
+                   + described({name: o.text for name, o in known.items()}, " " * 12)
+                   + "\n            ) ;;" for command, known in self.options.items()]
+        return {"values": self.values(" " * 12 + "%s) %s ;;", "_files", "_files -/",
+                                      "compadd -- %s"),
+                "options": "\n".join(options), "commands": described(self.texts, " " * 16),
+                "behind": self.after(" " * 12 + "%s) compadd -- %s ;;"),
+                "dashed": described(DASHED, " " * 8)}
+
+    def fish(self) -> dict[str, str]:
         lines = []
-        for command, options in sorted(self.options.items()):
-            for name, option in options.items():
-                what = values(option)
-                made = " ".join(f"{name}={word}" for word in what.split()) \
-                    if what not in ("", "files", "folders") else f"{name}="
-                lines.append(f"complete -c {command} -a {fished(made)} -d {fished(option.text)}")
-            if command != "bridge-certify":
-                lines += [f"complete -c {command} -a {fished(word)} -d {fished(text)}"
-                          for word, text in DASHED.items()]
-        return FISH % {"all": self.all, "commands": "\n".join(words), "behind": "\n".join(behind),
-                       "options": "\n".join(lines)}
+        for command, known in self.options.items():
+            words = {" ".join(f"{name}={word}" for word in o.kind.known or [""]): o.text
+                     for name, o in known.items()}
+            lines += [f"complete -c {command} -a {fished(word)} -d {fished(text)}"
+                      for word, text in {**words, **self.dashed(command)}.items()]
+        own = [f"complete -c nl-bridge -n __fish_use_subcommand -f -a {word} -d {fished(text)}"
+               for word, text in self.texts.items()]
+        return {"commands": "\n".join(own), "options": "\n".join(lines), "behind": self.after(
+            "complete -c nl-bridge -n '__fish_seen_subcommand_from %s' -a '%s'")}
 
     def text(self, shell: str) -> str:
         """For one of SHELLS."""
-        made: dict[str, str] = {"bash": self.bash(), "fish": self.fish(), "zsh": self.zsh()}
-        return made[shell]
-
-
-def fished(text: str) -> str:
-    """A word of fish: within single quotes, where they and the backslash are escaped."""
-    return "'" + text.replace("\\", "\\\\").replace("'", "\\'") + "'"
+        made = {"bash": self.bash, "fish": self.fish, "zsh": self.zsh}[shell]()
+        form = {"bash": BASH, "fish": FISH, "zsh": ZSH}[shell]
+        return form % {**made, "all": " ".join(["nl-bridge", *self.options])}
 
 
 def place(shell: str, prefix: str, command: str, folder: str = "") -> str:

@@ -2,25 +2,34 @@
 
 from __future__ import annotations
 
+import contextlib
 import os
 import shutil
 import sys
 import tempfile
-from typing import Sequence, TextIO
+from typing import Iterator, Sequence, TextIO
 
 from . import VERSION, colour, console, kinds, minizinc, report, showing, solvers, words
-from .bridge import BESIDE, Bridge, Missing, find
+from .bridge import BESIDE, Bridge, find
 from .codes import Code, Failure, Status
 from .files import Places, own_folder
-from .inputs import Absent, Input, Inputs
+from .inputs import Input, Inputs
 from .interrupts import SIGNALS, Interrupted
 from .job import Clock
-from .mps_file import Damaged
 from .mps_solving import MpsSolving
-from .names import Names
 from .options import BadOption, Option, Options
 from .sol import bare, with_message
 from .solving import Result, Solving
+
+
+@contextlib.contextmanager
+def writing(path: str) -> Iterator[None]:
+    """A fault of writing ends the run."""
+    try:
+        yield
+    except OSError as fault:
+        raise Failure(Code.FILE, f"{fault.filename or path}: {fault.strerror}",
+                      Status.UNWRITTEN) from None
 
 
 class Run:
@@ -76,10 +85,8 @@ class Run:
         word = self.words.stub or ""
         try:
             self.model = self.inputs.model(word)
-        except Absent as fault:
-            self.missing = Failure(Code.FILE, str(fault), Status.UNREAD)
-        except Damaged as fault:
-            self.missing = Failure(Code.REFUSED, str(fault))
+        except Failure as fault:
+            self.missing = fault
         except OSError as fault:
             self.missing = Failure(Code.FILE, f"{word}: {fault.strerror}", Status.UNREAD)
         if self.missing is not None:
@@ -93,24 +100,23 @@ class Run:
     def take_options(self) -> None:
         """An older .sol goes once the model can be read, before anything else can go wrong: it
         must not pass for this run's."""
+        o = self.options
         if (self.words.ampl or self.words.save) and not self.is_mps:
             self.remove_older()
-        try:
-            self.options.environment(self.name)
-            self.options.take(self.words.options)
-        except BadOption as fault:
-            raise Failure(Code.BAD_OPTION, str(fault)) from None
-        if (self.options.prove or self.options.strict) and not self.options.check:
-            raise Failure(Code.BAD_OPTION, "check=0 proves nothing: it does not go with prove=1 "
-                          "or strict=1")
-        if self.options.format and not self.is_mps and self.missing is None:
-            raise Failure(Code.BAD_OPTION, f"format={self.options.format} is for MPS files, and "
-                          f"{self.model.shown} is none")
-        if self.is_mps:
-            self.suit_mps()
-        self.options.prove = int(bool(self.options.prove or self.options.strict))
-        self.clock.tells = self.options.outlev >= 2
-        self.options.is_written = self.writes()
+        o.environment(self.name)
+        o.take(self.words.options)
+        if (o.prove or o.strict) and not o.check:
+            raise BadOption("check=0 proves nothing: it does not go with prove=1 or strict=1")
+        if o.format and not self.is_mps and self.missing is None:
+            raise BadOption(f"format={o.format} is for MPS files, and {self.model.shown} is none")
+        if self.is_mps and self.writes():       # it is judged as it stands
+            raise BadOption("a .sol is the answer to an .nl file: wantsol=2 prints the values of "
+                            f"{self.model.shown}, `nl-bridge import` makes an .nl of it")
+        if self.is_mps and o.shortest:
+            raise BadOption("shortest=1 is for .nl files: an MPS file is read as it stands")
+        o.prove = int(bool(o.prove or o.strict))
+        self.clock.tells = o.outlev >= 2
+        o.is_written = self.writes()
         self.begin()
         if self.writes():
             self.remove_older()
@@ -118,34 +124,18 @@ class Run:
     def begin(self) -> None:
         """Before anything is done."""
 
-    def suit_mps(self) -> None:
-        """An MPS file has no .sol, and is judged as it stands."""
-        if self.writes():
-            raise Failure(Code.BAD_OPTION, "a .sol is the answer to an .nl file: wantsol=2 prints "
-                          f"the values of {self.model.shown}, `nl-bridge import` makes an .nl of "
-                          "it")
-        if self.options.shortest:
-            raise Failure(Code.BAD_OPTION, "shortest=1 is for .nl files: an MPS file is read as it "
-                          "stands")
-
     def remove_older(self) -> None:
         """Where the model is missing an answer stays: it is of no run that could be."""
-        if not os.path.isfile(self.nl) or not os.access(self.nl, os.R_OK):
-            return
-        try:
-            Places([self.nl]).remove(self.sol)
-        except OSError as fault:
-            raise Failure(Code.FILE, f"{self.sol}: {fault.strerror}", Status.UNWRITTEN) from None
+        if os.path.isfile(self.nl) and os.access(self.nl, os.R_OK):
+            with writing(self.sol):
+                Places([self.nl]).remove(self.sol)
 
     def writes(self) -> bool:
         return self.words.ampl or self.words.save or bool(self.options.wantsol & 1)
 
     def find_bridge(self) -> Bridge:
-        try:
-            self.bridge_words = find(self.options.bridge, BESIDE)
-            return Bridge(self.bridge_words, self.clock.note)
-        except Missing as fault:
-            raise Failure(Code.NOT_FOUND, str(fault)) from None
+        self.bridge_words = find(self.options.bridge, BESIDE)
+        return Bridge(self.bridge_words, self.clock.note)
 
     def find_solver(self) -> str:
         """The absolute path, since the solver runs in another folder."""
@@ -169,11 +159,13 @@ class Run:
         bridge = self.find_bridge()
         bridge.shown[self.nl] = self.model.shown
         solver_path = "" if self.options.only else self.find_solver()
+        make = self.make_mps_solving if self.is_mps else self.make_solving
         with SIGNALS.kept(True):
             folder = self.folder()
             try:
-                with SIGNALS.kept(False):
-                    return self.work_in(folder, bridge, solver_path)
+                with SIGNALS.kept(False), writing(folder):
+                    return make(self.solver, self.options, bridge, self.clock, self.model,
+                                solver_path, os.path.abspath(folder)).result()
             finally:
                 if not self.options.keep:
                     shutil.rmtree(folder, ignore_errors=True)
@@ -182,23 +174,9 @@ class Run:
         """For files in between. One that is kept is this run's alone."""
         if not self.options.keep:
             return tempfile.mkdtemp(prefix=self.name + "-")
-        try:
+        with writing(self.options.keep):
             self.kept_in = own_folder(self.options.keep, self.name)
-            return self.kept_in
-        except OSError as fault:
-            raise Failure(Code.FILE, f"{fault.filename}: {fault.strerror}",
-                          Status.UNWRITTEN) from None
-
-    def work_in(self, folder: str, bridge: Bridge, solver_path: str) -> Result:
-        try:
-            make = self.make_mps_solving if self.is_mps else self.make_solving
-            return make(self.solver, self.options, bridge, self.clock, self.model, solver_path,
-                        os.path.abspath(folder)).result()
-        except Missing as fault:
-            raise Failure(Code.NOT_FOUND, str(fault)) from None
-        except OSError as fault:
-            raise Failure(Code.FILE, f"{fault.filename or folder}: {fault.strerror}",
-                          Status.UNWRITTEN) from None
+        return self.kept_in
 
     # after the run -----------------------------------------------------------------
 
@@ -225,13 +203,6 @@ class Run:
             return Status.UNWRITTEN
         return Status.DONE if result.is_final else Status.NOT_SETTLED
 
-    @staticmethod
-    def satisfied(result: Result) -> str:
-        """What a proved point is where there is no objective."""
-        is_point = result.lines[-1] in ("optimal 0", "feasible 0")
-        answer = result.answer
-        return "satisfied" if is_point and answer and not answer.program.has_objective() else ""
-
     def deliver_sol(self, result: Result, lines: Sequence[str]) -> None:
         """Where it is asked for, and in a folder that is kept."""
         o = self.options
@@ -248,7 +219,7 @@ class Run:
         answer = self.result.answer if self.result else None
         if answer is None:
             return []
-        names = answer.program.names or Names(self.model.stub)
+        names = answer.program.names
         return showing.named(getattr(answer, key), names.row if key == "duals" else names.column)
 
     def write_solution(self) -> str:
@@ -257,31 +228,24 @@ class Run:
         if not values:
             return f"{path} is not written: there are no values"
         data = showing.solution(path, values, self.pairs("duals"))
-        try:
+        with writing(path):
             Places([self.nl, self.model.shown], bool(self.options.overwrite)).write(path, data)
-        except OSError as fault:
-            raise Failure(Code.FILE, f"{path}: {fault.strerror}", Status.UNWRITTEN) from None
         return f"{path} is written"
 
     def put(self, sol: bytes) -> None:
-        try:
-            with SIGNALS.kept(True):
-                Places([self.nl], overwrite=True).write(self.sol, sol)
-                self.is_put = True
-        except OSError as fault:
-            raise Failure(Code.FILE, f"{self.sol}: {fault.strerror}", Status.UNWRITTEN) from None
+        with writing(self.sol), SIGNALS.kept(True):
+            Places([self.nl], overwrite=True).write(self.sol, sol)
+            self.is_put = True
 
     def failed(self, fault: Failure) -> int:
         """With -AMPL a .sol with the code, and exit 0 with it."""
         self.fault = fault
         if self.words.ampl and not self.is_mps and fault.code != Code.STOPPED \
                 and not self.options.failexit:
-            try:
+            with contextlib.suppress(Failure, OSError, ValueError, IndexError):
                 self.put(bare(self.nl, fault.code, self.options.objno - 1,
                               [f"{self.name}: {fault.text}"]))
                 return Status.DONE
-            except (Failure, OSError, ValueError, IndexError):
-                return fault.status
         return fault.status
 
     def numbers(self) -> dict[str, dict[str, str]]:
@@ -353,8 +317,11 @@ class Driver(Run):
             else:
                 colour.tell_all(lines, self.out())
         if o.failexit:
-            unsure = f"{lines[0]}; " if result.code == Code.UNSURE else ""
-            minizinc.tell(f"{self.name}: {unsure}{self.satisfied(result) or lines[-1]}")
+            unsure, last, answer = f"{lines[0]}; ", lines[-1], result.answer
+            if last in ("optimal 0", "feasible 0") and answer \
+                    and not answer.program.has_objective():
+                last = "satisfied"
+            minizinc.tell(f"{self.name}: {unsure if result.code == Code.UNSURE else ''}{last}")
         if not self.words.ampl:
             self.show()
         if self.clock.tells:

@@ -35,13 +35,11 @@ class NotInstalled(BridgeError):
     """The proved program or the solver is not there."""
 
 
-KINDS = {Status.REFUSED: ModelRefused, Status.BAD_WORDS: WrongOption, Status.UNREAD: FileFault,
-         Status.UNWRITTEN: FileFault, Status.NOT_THERE: NotInstalled}
+KINDS: dict[int, type[BridgeError]] = {
+    Status.REFUSED: ModelRefused, Status.BAD_WORDS: WrongOption, Status.UNREAD: FileFault,
+    Status.UNWRITTEN: FileFault, Status.NOT_THERE: NotInstalled}
 
 
 def error_of(report: Report) -> BridgeError:
     """That of its status."""
-    try:
-        return KINDS.get(Status(report.status), BridgeError)(report)
-    except ValueError:
-        return BridgeError(report)
+    return KINDS.get(report.status, BridgeError)(report)

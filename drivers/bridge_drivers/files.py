@@ -4,7 +4,6 @@ from __future__ import annotations
 
 import contextlib
 import errno
-import io
 import itertools
 import os
 import re
@@ -16,6 +15,7 @@ from typing import BinaryIO, Iterator, Sequence
 from .interrupts import SIGNALS
 
 NO_ONE = 0o222              # the bits of a mode that let someone write
+READ = "it is what this command reads"
 OPEN = re.compile(r"/dev/std(?P<name>out|err)|/(?:dev|proc/self)/fd/(?P<number>\d+)")
 
 
@@ -48,22 +48,19 @@ def added_to(path: str) -> BinaryIO:
     return os.fdopen(os.dup(int(number)), "wb")
 
 
-def put(source: str, target: str) -> None:
-    """A copy of a file that stands at its place at once or not at all: it is written beside it and
-    renamed. What is no plain file is added to. A file that nobody may write stays."""
-    with open(source, "rb") as data:
-        put_all(data, target)
+def fill(path: str, data: BinaryIO | bytes) -> str:
+    """Makes a file of this run's own; its path."""
+    with naming(path), open(path, "wb") as out:
+        out.write(data) if isinstance(data, bytes) else shutil.copyfileobj(data, out)
+    return path
 
 
 def write(target: str, data: bytes) -> None:
-    """The same with these bytes."""
-    put_all(io.BytesIO(data), target)
-
-
-def put_all(data: BinaryIO, target: str) -> None:
+    """A file stands at its place at once or not at all: it is written beside it and renamed. What
+    is no plain file is added to. A file that nobody may write stays."""
     if is_special(target):
         with naming(target), added_to(target) as out:
-            shutil.copyfileobj(data, out)
+            out.write(data)
         return
     place = os.path.realpath(target)
     mode = stat.S_IMODE(os.stat(place).st_mode) if os.path.exists(place) else None
@@ -74,7 +71,7 @@ def put_all(data: BinaryIO, target: str) -> None:
         try:
             with naming(target), beside(place) as out:
                 part = out.name
-                shutil.copyfileobj(data, out)
+                out.write(data)
                 out.flush()
                 os.fsync(out.fileno())
             if mode is not None:
@@ -115,19 +112,21 @@ class Places:
     def __init__(self, reads: Sequence[str], overwrite: bool = False) -> None:
         self.reads, self.overwrite = reads, overwrite
 
-    def stays(self, target: str, data: bytes | None = None) -> str:
+    def is_read(self, target: str) -> bool:
+        return os.path.exists(target) and any(
+            os.path.exists(path) and os.path.samefile(path, target) for path in self.reads)
+
+    def stays(self, target: str, data: bytes) -> str:
         """Why what stands there stays; nothing where it may be written. Nothing is lost where it
         is empty, or has the data already."""
-        if not os.path.exists(target):
-            return ""
-        if any(os.path.exists(path) and os.path.samefile(path, target) for path in self.reads):
-            return "it is what this command reads"
+        if self.is_read(target):
+            return READ
         if self.overwrite or not os.path.isfile(target) or is_special(target) \
-                or os.path.getsize(target) == 0 or data is not None and has(target, data):
+                or os.path.getsize(target) == 0 or has(target, data):
             return ""
         return "it stands there, and this run did not make it; overwrite=1 replaces it"
 
-    def check(self, target: str, data: bytes | None = None) -> None:
+    def check(self, target: str, data: bytes) -> None:
         why = self.stays(target, data)
         if why:
             raise FileExistsError(errno.EEXIST, why, target)
@@ -136,17 +135,10 @@ class Places:
         self.check(target, data)
         write(target, data)
 
-    def put(self, source: str, target: str) -> None:
-        """A copy of a file."""
-        with open(source, "rb") as data:
-            self.check(target, data.read())
-        put(source, target)
-
     def remove(self, target: str) -> None:
         """An answer that is older than its model's reading; nothing where there is none."""
-        if any(os.path.exists(path) and os.path.exists(target) and os.path.samefile(path, target)
-               for path in self.reads):
-            raise FileExistsError(errno.EEXIST, "it is what this command reads", target)
+        if self.is_read(target):
+            raise FileExistsError(errno.EEXIST, READ, target)
         with contextlib.suppress(FileNotFoundError):
             os.unlink(target)
 

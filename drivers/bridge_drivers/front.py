@@ -9,21 +9,22 @@ import re
 import signal
 import subprocess
 import sys
-from typing import Callable, Mapping, NamedTuple, Sequence
+from typing import TYPE_CHECKING, Callable, Mapping, NamedTuple, Sequence
 
 from . import VERSION, colour, commands, console, explaining, interface, kinds, reasons
 from .bridge import BESIDE, PACKAGE, Missing, find, is_plain
 from .built import built, state
-from .codes import Status
+from .codes import Code, Failure, Status
 from .commands import COMMANDS, NAME, OWN, SHELLS, VERDICTS, WORDS
 from .errors import BridgeError
 from .importing import imported
 from .inputs import Inputs, is_flow, named
 from .interrupts import with_child
-from .mps_file import Damaged, unpacked
 from .near import near
-from .options import Option
 from .report import Report, sum_of
+
+if TYPE_CHECKING:
+    from .driver import Driver
 
 NUMBERS = ("K", "SEED", "SIZE")             # words of the table that are no files
 MODELS = ("NL", "FILE")                     # those that may be a stub
@@ -97,7 +98,7 @@ def command(words: Sequence[str]) -> int:
         return Status.BAD_WORDS
     except Missing as fault:
         sys.stderr.write(f"{NAME}: {fault}\n")
-        return Status.NOT_THERE
+        return fault.status
 
 
 def done(call: Call) -> int:
@@ -105,11 +106,16 @@ def done(call: Call) -> int:
     own: dict[str, Callable[[Call], Report]] = {
         "explain": explained, "stats": figures, "version": version}
     if call.word == "completion":
-        return completed(call)
-    if call.word in own or call.word == "verify" and (call.json or is_model(call.rest)):
-        return shown(call, own.get(call.word, verified))
+        if len(call.rest) != 1 or call.rest[0] not in SHELLS:
+            raise BadWords("completion takes " + ", ".join(SHELLS))
+        print(completion(call.rest[0]), end="")
+        return Status.DONE
+    if call.word == "verify" and (call.json or is_model(call.rest)):
+        return shown(call, verified)
     if call.word == "import" and len(call.rest) == 2:
-        return show_import(call)
+        return shown(call, import_into)
+    if call.word in own:
+        return shown(call, own[call.word])
     return passed_on(find("", BESIDE), [call.word, *call.rest])
 
 
@@ -130,7 +136,7 @@ def helped(call: Call) -> int:
     text = commands.help_of(topic) or reasons.listed() * (topic == "refusals") \
         or helped_driver(topic)
     if not text:
-        meant = near(topic, [*WORDS, "refusals", *options()])
+        meant = near(topic, [*WORDS, "refusals", *certifier().options.known])
         raise BadWords(f"no help on {topic};{meant}".rstrip(";"))
     sys.stdout.write(text)
     return Status.DONE
@@ -139,21 +145,20 @@ def helped(call: Call) -> int:
 def helped_driver(topic: str) -> str:
     """Of a driver, or of an option that one has."""
     from . import solvers
-    from .certify.command import Command
     from .driver import Driver
     name = topic.removeprefix("bridge-")
-    if topic == "bridge-certify":
-        return Command(solvers.NAMES[0]).told("-?")
     if topic != name and name in solvers.NAMES:
         return Driver(name).told("-?")
-    return options()[topic].line() + "\n" if topic in options() else ""
+    known = certifier().options.known
+    return certifier().told("-?") if topic == "bridge-certify" else \
+        known[topic].line() + "\n" if topic in known else ""
 
 
-def options() -> Mapping[str, Option]:
-    """Those of all drivers and of bridge-certify."""
+def certifier() -> Driver:
+    """bridge-certify, which has the options of all drivers."""
     from . import solvers
     from .certify.command import Command
-    return Command(solvers.NAMES[0]).options.known
+    return Command(solvers.NAMES[0])
 
 
 # what is here -------------------------------------------------------------------------
@@ -238,35 +243,24 @@ def version(call: Call) -> Report:
     return told.end()
 
 
-def show_import(call: Call) -> int:
+def import_into(call: Call) -> Report:
     """An MPS text into a file, with its names beside it."""
     told = Report(NAME, model=call.rest[0])
-    try:
-        with interface.asked(told, "") as (bridge, inputs):
-            path = plain(inputs, "MPS", call.rest[0])
-            bridge.shown[path] = call.rest[0]
-            try:
-                print(imported(bridge, path, call.rest[1], call.overwrite))
-                return Status.DONE
-            except OSError as fault:
-                sys.stderr.write(f"{NAME}: {fault.filename}: {fault.strerror}\n")
-                return Status.UNWRITTEN
-    except BridgeError as fault:
-        sys.stderr.write(f"{NAME}: {fault}\n")
-        return fault.status
+    with interface.asked(told, "") as (bridge, inputs):
+        path = plain(inputs, "MPS", call.rest[0])
+        bridge.shown[path] = call.rest[0]
+        try:
+            told.say(imported(bridge, path, call.rest[1], call.overwrite))
+        except OSError as fault:
+            raise Failure(Code.FILE, f"{fault.filename}: {fault.strerror}",
+                          Status.UNWRITTEN) from None
+    return told
 
 
 def completion(shell: str) -> str:
     """Of all commands. The drivers are read for it alone."""
     from .completion import Completion
     return Completion().text(shell)
-
-
-def completed(call: Call) -> int:
-    if len(call.rest) != 1 or call.rest[0] not in SHELLS:
-        raise BadWords("completion takes " + ", ".join(SHELLS))
-    print(completion(call.rest[0]), end="")
-    return Status.DONE
 
 
 # the proved program's own -------------------------------------------------------------
@@ -297,8 +291,7 @@ def plain(inputs: Inputs, name: str, word: str) -> str:
         return word
     found = named(word) if name in MODELS and not os.path.isfile(word) else word
     path = inputs.plain(found)
-    packed = os.path.isfile(path) and kinds.is_packed(path)
-    path = unpacked(path, inputs.place()) if packed else path
+    path = kinds.unpacked(path, inputs.place()) if kinds.is_packed(path) else path
     return path if is_plain(path) else inputs.linked(path)
 
 
@@ -311,9 +304,9 @@ def passed_on(place: Sequence[str], words: Sequence[str]) -> int:
     with Inputs() as inputs:
         try:
             paths = [plain(inputs, *pair) for pair in zip(names_of(words) or (), words[1:])]
-        except Damaged as fault:
+        except kinds.Damaged as fault:
             sys.stderr.write(f"{NAME}: {fault}\n")
-            return Status.REFUSED
+            return fault.status
         return ended(run(place, [words[0], *paths], words), words)
 
 
@@ -324,12 +317,11 @@ def run(place: Sequence[str], call: Sequence[str], words: Sequence[str]) -> int:
     is_coloured = words[0] in VERDICTS and colour.is_wanted(sys.stdout)
     out, err = (subprocess.PIPE if wanted else None for wanted in (is_coloured, faulty))
     try:
-        said: list[bytes] = []
-        status = with_child(lambda child: ran(child, said), [*place, *call], stdout=out,
-                            stderr=err)
+        said, status = with_child(lambda child: (child.communicate(), child.returncode),
+                                  [*place, *call], stdout=out, stderr=err)
     except OSError as fault:
         raise Missing(f"{place[0]} could not be run: {fault.strerror}") from None
-    line, told = (part.decode("utf-8", "surrogateescape") for part in said)
+    line, told = ((part or b"").decode("utf-8", "surrogateescape") for part in said)
     if line.strip():
         colour.tell(line.rstrip("\n"), sys.stdout)
     if status == Status.UNREAD and faulty:
@@ -337,12 +329,6 @@ def run(place: Sequence[str], call: Sequence[str], words: Sequence[str]) -> int:
         told = f"{NAME}: {explaining.unreadable(explaining.files_of(call), shown)}\n"
     sys.stderr.write(told)
     return status
-
-
-def ran(child: subprocess.Popen[bytes], said: list[bytes]) -> int:
-    out, err = child.communicate()
-    said += [out or b"", err or b""]
-    return child.returncode
 
 
 def ended(status: int, words: Sequence[str]) -> int:

@@ -5,22 +5,24 @@ from __future__ import annotations
 
 import os
 import re
-import shutil
 import sys
 import tempfile
-from types import TracebackType
 from typing import NamedTuple, Sequence
 
 from . import kinds
-from .files import naming
-from .mps_file import mended_file, unpacked
+from .codes import Code, Failure, Status
+from .files import fill
+from .mps_mended import mended
 
 STANDARD = re.compile(r"-|/dev/stdin|(?:/dev|/proc/self)/fd/\d+")
 NAMELESS = "stdin"              # what a model is called beside which no file can stand
 
 
-class Absent(Exception):
+class Absent(Failure):
     """There is no such model; the text says what is there."""
+
+    def __init__(self, text: str) -> None:
+        super().__init__(Code.FILE, text, Status.UNREAD)
 
 
 class Input(NamedTuple):
@@ -38,32 +40,28 @@ class Inputs:
     """The files of one call. What is made for them is removed at its end."""
 
     def __init__(self) -> None:
-        self.folder, self.count = "", 0
+        self.made: tempfile.TemporaryDirectory[str] | None = None
+        self.count = 0
 
     def __enter__(self) -> Inputs:
         return self
 
-    def __exit__(self, kind: type[BaseException] | None, fault: BaseException | None,
-                 trace: TracebackType | None) -> None:
-        if self.folder:
-            shutil.rmtree(self.folder, ignore_errors=True)
+    def __exit__(self, *fault: object) -> None:
+        if self.made is not None:
+            self.made.cleanup()
 
     def place(self) -> str:
         """A path for a file that is made."""
-        if not self.folder:
-            self.folder = tempfile.mkdtemp(prefix="nl-bridge-")
+        self.made = self.made or tempfile.TemporaryDirectory(prefix="nl-bridge-")
         self.count += 1
-        return os.path.join(self.folder, f"given{self.count}")
+        return os.path.join(self.made.name, f"given{self.count}")
 
     def plain(self, word: str) -> str:
         """The path of a plain file with what a word names: the word itself where that is one."""
         if not is_flow(word):
             return word
-        target = self.place()
-        data = open(sys.stdin.fileno(), "rb", closefd=False) if word == "-" else open(word, "rb")
-        with data, naming(target), open(target, "wb") as out:
-            shutil.copyfileobj(data, out)
-        return target
+        with open(sys.stdin.fileno() if word == "-" else word, "rb", closefd=word != "-") as data:
+            return fill(self.place(), data)
 
     def linked(self, path: str) -> str:
         """A path of UTF-8, which the proved program needs, to one that is not."""
@@ -72,8 +70,8 @@ class Inputs:
         return target
 
     def model(self, word: str) -> Input:
-        """Absent where there is none, mps_file.Damaged where what is packed cannot be unpacked,
-        OSError where it cannot be read."""
+        """Absent where there is none, Damaged where what is packed cannot be unpacked, OSError
+        where it cannot be read."""
         found = named(word)
         path = self.plain(found)
         if not os.path.isfile(path):
@@ -81,10 +79,12 @@ class Inputs:
         is_mps = kinds.is_mps(path) or kinds.end_of(found) == ".mps"
         notes = []
         if kinds.is_packed(path):
-            path = unpacked(path, self.place())
+            path = kinds.unpacked(path, self.place())
             notes.append(f"what is judged is the text that {os.path.basename(found)} unpacks to")
         if is_mps:
-            path, told = mended_file(path, self.place())
+            with open(path, "rb") as f:
+                text, told = mended(f.read())
+            path = fill(self.place(), text) if told else path
             notes += told
         return Input(found, path, stub_of(found), is_mps, notes)
 

@@ -11,12 +11,10 @@ import os
 from typing import TYPE_CHECKING, Iterator, Mapping, Sequence, Union
 
 from . import explaining
-from .bridge import BESIDE, Bridge, Missing, Refused, find
-from .codes import Code, Status
+from .bridge import BESIDE, Bridge, Refused, find
+from .codes import Code, Failure, Status
 from .errors import error_of
-from .inputs import Absent, Inputs
-from .mps_file import Damaged
-from .nl import BadFile
+from .inputs import Inputs
 from .report import Report, fill
 from .subjects import Subject, subject
 from .words import Words
@@ -59,7 +57,9 @@ def solved(command: str, kind: type[Run], solver: str, model: Path,
     from .solvers import NAMES
     told = Report(command)
     if solver not in NAMES:
-        raise wrong(told, f"no driver of {solver}: " + ", ".join(NAMES))
+        told.code = int(Code.BAD_OPTION)
+        told.say(f"no driver of {solver}: " + ", ".join(NAMES), Status.BAD_WORDS)
+        raise error_of(told.end())
     run = kind(solver)
     words = [f"{name}={text_of(value)}" for name, value in options.items() if value is not None]
     told.status = run.run(Words(os.fspath(model), echo=False, options=words))
@@ -76,13 +76,6 @@ def text_of(value: object) -> str:
     return str(os.fspath(value) if isinstance(value, os.PathLike) else value)
 
 
-def wrong(told: Report, text: str) -> Exception:
-    """Words that no command takes."""
-    told.status, told.code, told.text, told.lines = \
-        Status.BAD_WORDS, int(Code.BAD_OPTION), text, [text]
-    return error_of(told.end())
-
-
 # nl-bridge --------------------------------------------------------------------------
 
 
@@ -96,17 +89,12 @@ def asked(told: Report, bridge: str) -> Iterator[tuple[Bridge, Inputs]]:
             yield Bridge(place, lambda argv: None), inputs
             return
         except Refused as fault:
-            told.status, told.text = fault.status, fault.line()
+            told.say(fault.line(), fault.status)
             told.refusal = explaining.object_of(fault.words, fault.told, fault.shown)
-        except (Damaged, BadFile) as fault:
-            told.status, told.text = Status.REFUSED, str(fault)
-        except Absent as fault:
-            told.status, told.text = Status.UNREAD, str(fault)
-        except Missing as fault:
-            told.status, told.text = Status.NOT_THERE, str(fault)
+        except Failure as fault:
+            told.say(str(fault), fault.status)
         except OSError as fault:
-            told.status, told.text = Status.UNREAD, f"{fault.filename}: {fault.strerror}"
-    told.lines = [told.text]
+            told.say(f"{fault.filename}: {fault.strerror}", Status.UNREAD)
     raise error_of(told.end()) from None
 
 
@@ -174,6 +162,5 @@ def called(call: Sequence[str], words: Sequence[str]) -> Report:
         if reply.status not in (0, 1):
             raise Refused(call[0], reply, call, shown)
         said = reply.out.decode("utf-8", "replace").strip() if reply.status else "is not refused"
-        told.status, told.text = reply.status, f"{''.join([*shown.values()][:1])}: {said}"
-        told.lines = [told.text]
+        told.say(f"{''.join([*shown.values()][:1])}: {said}", reply.status)
     return told.end()

@@ -2,7 +2,6 @@
 
 from __future__ import annotations
 
-import os
 from typing import NamedTuple
 
 from . import verdicts
@@ -32,17 +31,17 @@ class Keeper:
     def kept(self, source: str, line: str, target: str) -> Kept:
         """The certificate in the file `source`, whose verdict is the line, at `target`."""
         try:
-            self.places.put(source, target)
-            size = os.path.getsize(source)
-        except FileExistsError as fault:
-            older = self.proved_by(verdicts.read(line), target)
+            with open(source, "rb") as f:
+                data = f.read()
+            self.places.write(target, data)
+        except OSError as fault:
+            older = self.proved_by(verdicts.read(line), target) \
+                if isinstance(fault, FileExistsError) else ""
             if older:
                 return Kept(f"{target} stays as it is: it proves `{older}`; overwrite=1 replaces "
                             "it", target)
             return Kept(f"the certificate is not kept: {target}: {fault.strerror}", None, True)
-        except OSError as fault:
-            return Kept(f"the certificate is not kept: {target}: {fault.strerror}", None, True)
-        return Kept(f"{target} is written: the certificate of `{line}`, {size} bytes", target)
+        return Kept(f"{target} is written: the certificate of `{line}`, {len(data)} bytes", target)
 
     def proved_by(self, new: Said | None, target: str) -> str:
         """What an older certificate proves of the model as it is now, where that is no less."""

@@ -10,6 +10,9 @@ import re
 import zlib
 from typing import Any, BinaryIO, Callable, NamedTuple, cast
 
+from .codes import Code, Failure
+from .files import fill
+
 ELF = b"\x7fELF"
 READ = 4096                     # bytes of a file's start that tell what it is
 OPENERS: dict[bytes, Callable[..., Any]] = {
@@ -53,20 +56,40 @@ IS_LP = re.compile(rb"(?:(?:\\[^\n]*|[^\S\n]*|//[^\n]*)\n|/\*.*?\*/[^\S\n]*)*"
                    rb"(?:min|max)(?:imi[sz]e|imum)?\s*(?::|\n|\s)", re.I | re.S)
 
 
-def opened(path: str) -> BinaryIO:
-    """A file, unpacked where its start says that it is packed."""
+class Damaged(Failure):
+    """A packed or binary file that cannot be read."""
+
+    def __init__(self, text: str) -> None:
+        super().__init__(Code.REFUSED, text)
+
+
+def opener(path: str) -> Callable[..., Any] | None:
+    """What opens a packed file; None of another one."""
     with open(path, "rb") as f:
         start = f.read(6)
-    for mark, opener in OPENERS.items():
-        if start.startswith(mark):
-            return cast(BinaryIO, opener(path, "rb"))
-    return open(path, "rb")
+    return next((OPENERS[mark] for mark in OPENERS if start.startswith(mark)), None)
 
 
 def is_packed(path: str) -> bool:
-    with open(path, "rb") as f:
-        start = f.read(6)
-    return any(start.startswith(mark) for mark in OPENERS)
+    return os.path.isfile(path) and opener(path) is not None
+
+
+def opened(path: str) -> BinaryIO:
+    """A file, unpacked where its start says that it is packed."""
+    return cast(BinaryIO, (opener(path) or open)(path, "rb"))
+
+
+def unpacked(path: str, target: str) -> str:
+    """What is packed in a file, in `target`."""
+    try:
+        with opened(path) as source:
+            return fill(target, source)
+    except DAMAGED as fault:
+        raise Damaged(f"{path}: the packed file ends too soon or is damaged ({fault})") from None
+    except OSError as fault:
+        if fault.errno is None:                     # of gzip and bz2
+            raise Damaged(f"{path}: the packed file is damaged ({fault})") from None
+        raise
 
 
 def start_of(path: str) -> bytes:

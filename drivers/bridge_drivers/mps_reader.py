@@ -12,6 +12,7 @@ import itertools
 from array import array
 from collections import Counter
 from fractions import Fraction
+from functools import lru_cache
 from typing import Dict, Iterator, List, NamedTuple, Optional, Sequence
 
 from .values import wholes_of
@@ -110,12 +111,10 @@ class Text:
         self.number.extend(array("i", list(map(self.number_of, values))))
 
     def read_rhs(self, part: Part) -> None:
-        for words in lines(part):
-            self.rhs[self.places[words[2]]] = words[3]
+        self.rhs = {self.places[row]: value for _, _, row, value in lines(part)}
 
     def read_ranges(self, part: Part) -> None:
-        for words in lines(part):
-            self.ranges[self.places[words[2]]] = words[3]
+        self.ranges = {self.places[row]: value for _, _, row, value in lines(part)}
 
     def read_bounds(self, part: Part) -> None:
         """Each line gets four words: where there is no value, one stands empty in front of the
@@ -168,7 +167,7 @@ class Text:
     def without_low(self) -> List[int]:
         """Columns whose upper bound takes the lower one away."""
         return [j for j, (low, high) in enumerate(zip(self.low, self.high))
-                if low is None and high and is_below_zero(high)]
+                if low is None and high and high.startswith(b"-") and exact(high) < 0]
 
     def sides(self) -> tuple[List[Optional[int]], List[Optional[int]], int]:
         """Lower and upper ones of constraints, and what they are over."""
@@ -225,5 +224,7 @@ def marks(block: bytes, values: Sequence[bytes]) -> List[int]:
     return [k for k, value in enumerate(values) if value in MARKS]
 
 
-def is_below_zero(text: bytes) -> bool:
-    return text.startswith(b"-") and Fraction(text.decode()) < 0
+@lru_cache(maxsize=1 << 16)
+def exact(text: bytes) -> Fraction:
+    """A number of the text: most stand many times."""
+    return Fraction(text.decode())

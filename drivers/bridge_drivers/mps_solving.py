@@ -7,9 +7,8 @@ from .answer import Answer
 from .bridge import Refused
 from .certificates import Certifier
 from .certify.text import answer_lines
-from .codes import Code, Failure, Status
-from .mps_file import Reading, judged, reading
-from .mps_text import MpsProgram
+from .codes import Code, Failure
+from .mps_file import judged, reading
 from .nl import Prepared
 from .program import Program
 from .solving import Solving
@@ -25,24 +24,20 @@ class MpsCertifier(Certifier):
         return b""
 
     def numbers(self, answer: Answer) -> tuple[list[str], list[str]]:
-        assert answer.values is not None
         duals = answer.duals if self.linear else None
-        return list(answer.values.values()), list((duals or {}).values())
+        return list((answer.values or {}).values()), list((duals or {}).values())
 
     def checked(self, answer: Answer) -> str:
-        assert answer.values is not None
-        lines = answer_lines(list(answer.values.values()), [], 0)
+        lines = answer_lines(self.numbers(answer)[0], [], 0)
         path = self.job.write("values.certificate", ("\n".join(lines) + "\n").encode())
         try:
             verdict = self.job.clock.timed("check", self.bridge.verdict, "verify", self.nl, path)
         except Refused as fault:
             return fault.line().removeprefix(path + ": ")
         words = verdict.split()
-        if words[0] == "feasible":
-            return self.reading(f"yes {words[1]}", False)
         if words[0] == "variable":
             return f"{self.thing('column', int(words[1]))} is not whole"
-        return self.reading(verdict, False)
+        return self.reading(f"yes {words[1]}" if words[0] == "feasible" else verdict, False)
 
 
 class MpsSolving(Solving):
@@ -57,14 +52,14 @@ class MpsSolving(Solving):
         if self.options.objno != 1:
             raise Failure(Code.REFUSED, f"{self.model.shown}: objno={self.options.objno}: no such "
                           "objective: the first N row of an MPS file is its objective, and its "
-                          "only one", Status.REFUSED)
+                          "only one")
         self.notes = []
         return Prepared(self.nl, self.notes)
 
     def exported(self, nl: str) -> Program:
         """Its own program, and what `bridge` makes of the file."""
-        clock, form = self.clock, self.options.format
-        read: Reading = clock.timed("reading", reading, self.bridge, nl, form)
-        program: MpsProgram = clock.timed("export", judged, self.bridge, nl, self.folder, read)
+        timed = self.clock.timed
+        read = timed("reading", reading, self.bridge, nl, self.options.format)
+        program = timed("export", judged, self.bridge, nl, self.folder, read)
         self.notes += [*read.notes, *program.notes]
         return program

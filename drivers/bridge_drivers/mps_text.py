@@ -5,34 +5,25 @@ from __future__ import annotations
 
 import copy
 from array import array
-from fractions import Fraction
 from itertools import compress
 from typing import Iterator
 
-from .mps_reader import MARKS, OBJECTIVE, OTHER, Text
+from .mps_reader import MARKS, OBJECTIVE, OTHER, Text, exact
 from .names import Names
-from .printable import in_a_line
+from .printable import in_a_line, some
 from .program import Program
 
 MOST_NAMED = 3                          # columns that a note names
 
 
-class MpsProgram(Program):
-    """An MPS file's own program, with the file's own names. `notes` say what other readers take
-    otherwise."""
-
-    is_exported = False
-
-    def __init__(self, text: bytes, read: Text, names: Names, notes: list[str]) -> None:
-        super().__init__(text, read)
-        self.names, self.notes = names, notes
-
-
-def program_of(text: bytes) -> MpsProgram:
-    """Of a text in its written form."""
+def program_of(text: bytes) -> Program:
+    """Of a text in its written form, with the file's own names."""
     read = Text(text)
-    own = exported(read)
-    return MpsProgram(b"\n".join(lines(own)) + b"\n", own, names_of(read), notes_of(read))
+    own, names = exported(read), Names("", len(read.columns), len(read.constraints))
+    objective = [read.objective] if read.objective else []
+    names.lists = {".row": list(map(shown, read.constraints + objective)),
+                   ".col": list(map(shown, read.columns))}
+    return Program(b"\n".join(lines(own)) + b"\n", own, names, notes_of(read))
 
 
 def exported(read: Text) -> Text:
@@ -44,9 +35,9 @@ def exported(read: Text) -> Text:
     own.columns = [b"x%d" % j for j in range(len(read.columns))]
     own.kinds, own.ranges = list(read.kinds), {}
     own.rhs = {i: text for i, text in read.rhs.items() if i >= 0
-               or i == OBJECTIVE and Fraction(text.decode())}
+               or i == OBJECTIVE and exact(text)}
     for i, text in read.ranges.items():
-        if i < 0 or read.kinds[i] == "E" and not Fraction(text.decode()):
+        if i < 0 or read.kinds[i] == "E" and not exact(text):
             continue
         if read.kinds[i] == "E":
             own.kinds[i] = "L" if text.startswith(b"-") else "G"
@@ -108,31 +99,18 @@ def bound_lines(column: bytes, low: bytes | None, high: bytes | None) -> Iterato
 
 def notes_of(read: Text) -> list[str]:
     """On columns whose bounds other readers take otherwise."""
-    bare = [name for name, whole, low, high in zip(read.columns, read.whole, read.low, read.high)
+    bare = [shown(name) for name, whole, low, high
+            in zip(read.columns, read.whole, read.low, read.high)
             if whole and low is None and high is None]
-    below = [read.columns[j] for j in read.without_low()]
+    below = [shown(read.columns[j]) for j in read.without_low()]
     told = []
     if bare:
-        told.append(f"whole columns without bounds go from 0 on: {some(bare)}; cbc and glpsol, "
-                    "where they read the file, take 0 and 1 for their bounds")
+        told.append(f"whole columns without bounds go from 0 on: {some(bare, MOST_NAMED)}; cbc and "
+                    "glpsol, where they read the file, take 0 and 1 for their bounds")
     if below:
-        told.append(f"columns with an upper bound below 0 and no lower one have no lower end: "
-                    f"{some(below)}")
+        told.append("columns with an upper bound below 0 and no lower one have no lower end: "
+                    + some(below, MOST_NAMED))
     return told
-
-
-def names_of(read: Text) -> Names:
-    found = Names("", len(read.columns), len(read.constraints))
-    objective = [read.objective] if read.objective else []
-    found.lists = {".row": list(map(shown, read.constraints + objective)),
-                   ".col": list(map(shown, read.columns))}
-    return found
-
-
-def some(names: list[bytes]) -> str:
-    """The first of a list, and how many more."""
-    more = len(names) - MOST_NAMED
-    return ", ".join(map(shown, names[:MOST_NAMED])) + (f" and {more} more" if more > 0 else "")
 
 
 def shown(name: bytes) -> str:

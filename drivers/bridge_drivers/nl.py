@@ -12,14 +12,12 @@ import struct
 from typing import NamedTuple
 
 from .binary_nl import shortest, text_of_binary
-from .files import naming
+from .files import fill
+from .kinds import Damaged
 
 LOOKED_AT = 1 << 20             # bytes that are looked through for printed doubles
+MOST_DIGITS = 16                # and more have decimals that are printed doubles
 LONG = re.compile(rb"(?<![^\sn])-?\d+\.\d+(?:[eE][-+]?\d+)?(?!\S)")
-
-
-class BadFile(Exception):
-    """A binary file that cannot be turned into text."""
 
 
 class Header(NamedTuple):
@@ -64,12 +62,12 @@ def prepared(path: str, target: str, shorter: bool, is_told: bool = True) -> Pre
         f.seek(0)
         data = f.read()
     if os.path.exists(target) and os.path.samefile(path, target):
-        raise BadFile(f"{target} is the model itself, and would be overwritten: give another keep")
+        raise Damaged(f"{target} is the model itself, and would be overwritten: give another keep")
     if binary:
         try:
             text = text_of_binary(data)
         except (struct.error, IndexError, ValueError) as fault:
-            raise BadFile(f"{path}: the binary .nl file ends too soon or is damaged "
+            raise Damaged(f"{path}: the binary .nl file ends too soon or is damaged "
                           f"({fault})") from None
         note = "the binary .nl file was turned into text, which is not proved"
     else:
@@ -77,16 +75,19 @@ def prepared(path: str, target: str, shorter: bool, is_told: bool = True) -> Pre
         note = f"{count} numbers of the .nl file were read in their shortest spelling"
         if not count:
             return Prepared(path, [])
-    with naming(target), open(target, "wb") as f:
-        f.write(text)
-    return Prepared(target, [note])
+    return Prepared(fill(target, text), [note])
+
+
+def digits_of(text: bytes) -> int:
+    """How many significant ones a decimal has."""
+    return sum(c in b"0123456789" for c in re.split(rb"[eE]", text)[0].lstrip(b"-0."))
 
 
 def long_numbers(data: bytes) -> list[str]:
     """A line where the first decimal of 16 digits or more is that of a double with fewer."""
     for match in LONG.finditer(data):
         text = match.group()
-        if sum(c in b"0123456789" for c in re.split(rb"[eE]", text)[0].lstrip(b"-0.")) >= 16:
+        if digits_of(text) >= MOST_DIGITS:
             short = shortest(float(text))
             told = f"{text.decode()} in the .nl looks like a printed double: shortest=1 reads " \
                    f"such numbers as {short}"
@@ -102,10 +103,7 @@ def shortest_numbers(data: bytes) -> tuple[bytes, int]:
     def one(match: re.Match[bytes]) -> bytes:
         nonlocal changed
         text = match.group()
-        mantissa = re.split(rb"[eE]", text)[0].lstrip(b"-0.")
-        if sum(c in b"0123456789" for c in mantissa) < 16:
-            return text
-        short = shortest(float(text)).encode()
+        short = shortest(float(text)).encode() if digits_of(text) >= MOST_DIGITS else text
         changed += short != text
         return short
     return LONG.sub(one, data), changed

@@ -3,6 +3,7 @@
 from __future__ import annotations
 
 import re
+from typing import Sequence
 
 # of C0 all but the tab and the line's end, DEL, C1, and single bytes that stand for C1
 CONTROLS = re.compile("[\x00-\x08\x0b-\x1f\x7f-\x9f\udc80-\udc9f]")
@@ -21,3 +22,14 @@ def in_a_line(text: str) -> str:
 
 def escaped(found: re.Match[str]) -> str:
     return f"\\x{ord(found.group()) & 0xff:02x}"
+
+
+def either(words: Sequence[str]) -> str:
+    """`a, b or c`."""
+    return " or ".join(filter(None, (", ".join(words[:-1]), *words[-1:])))
+
+
+def some(items: Sequence[str], most: int) -> str:
+    """The first of a list, and how many more."""
+    more = len(items) - most
+    return ", ".join(items[:most]) + (f" and {more} more" if more > 0 else "")

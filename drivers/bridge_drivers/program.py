@@ -6,7 +6,7 @@ from __future__ import annotations
 
 import math
 from functools import cached_property
-from typing import Mapping
+from typing import Mapping, Sequence
 
 from .mps_reader import OBJECTIVE, Text
 from .names import Names
@@ -20,14 +20,14 @@ class Program:
     """`read` has all numbers by place. `rows` are the names in order, the objective's first,
     `kinds` their letters (N, E, L, G); `columns` the names in order, `whole` those that are
     integer. `objective` are its columns and numbers by place, `costs` its coefficients as texts,
-    `objective_rhs` is minus its constant. `is_exported`: `bridge export` wrote it, which scales
-    rows and leaves those without sides out; `names` are those of a file that has its own."""
+    `objective_rhs` is minus its constant. `names` are those of a file that has its own, with
+    `notes` on what other readers take otherwise; else `is_exported`: `bridge export` wrote it,
+    which scales rows and leaves those without sides out."""
 
-    is_exported = True
-    names: Names | None = None
-
-    def __init__(self, text: bytes, read: Text | None = None) -> None:
+    def __init__(self, text: bytes, read: Text | None = None, names: Names | None = None,
+                 notes: Sequence[str] = ()) -> None:
         self.text, self.read = text, read or Text(text)
+        self.is_exported, self.names, self.notes = names is None, names or Names(""), notes
         self.maximise = self.read.maximise
         self.constraints = decoded(self.read.constraints)
         self.columns = decoded(self.read.columns)

@@ -11,18 +11,21 @@ import sys
 import time
 from dataclasses import dataclass, field
 from fractions import Fraction
-from typing import TYPE_CHECKING, Any, Callable, Dict, Optional, Sequence
+from typing import TYPE_CHECKING, Any, Dict, Optional, Sequence
 
 from . import VERSION, verdicts, words
 from .codes import Code
 from .options import BadOption, Options
+from .values import double_of
 from .verdicts import Said
 
 if TYPE_CHECKING:
     from .driver import Driver, Run
 
 Object = Dict[str, Any]
-OPTIONAL = ("values", "duals", "costs", "stats", "explained", "refusal")      # keys
+KEYS = ("command", "version", "status", "code", "claim", "objective", "value", "bound", "text",
+        "lines", "seconds", "model", "certificate", "sums")
+OPTIONAL = ("values", "duals", "costs", "stats", "explained", "refusal")
 SUMMED = ("program", "model", "certificate")
 PIECE = 1 << 20                 # bytes of a file that are read at once
 
@@ -43,13 +46,7 @@ def sum_of(path: str | None) -> str | None:
 
 def number(value: Fraction | None) -> Optional[Object]:
     """Exactly as text, and the nearest double; null where there is none."""
-    if value is None:
-        return None
-    try:
-        double: float | None = float(value)
-    except OverflowError:
-        double = None
-    return {"exact": str(value), "double": double}
+    return None if value is None else {"exact": str(value), "double": double_of(value)}
 
 
 @dataclass
@@ -85,25 +82,26 @@ class Report:
         """Takes what is known at the end of the call: seconds and sums."""
         program = self.program[0] if len(self.program) == 1 else None
         self.seconds = round(time.monotonic() - self.began, 3)
-        self.sums = {"program": sum_of(program), "model": sum_of(self.model),
-                     "certificate": sum_of(self.certificate)}
+        self.sums = dict(zip(SUMMED, map(sum_of, (program, self.model, self.certificate))))
         return self
 
     def object(self) -> Object:
         """As JSON has it."""
-        found = {"command": self.command, "version": self.version, "status": int(self.status),
-                 "code": self.code, "claim": self.claim, "objective": self.objective,
-                 "value": number(self.value), "bound": number(self.bound), "text": self.text,
-                 "lines": list(self.lines), "seconds": self.seconds, "model": self.model,
-                 "certificate": self.certificate, "sums": self.sums, **self.more}
-        there = {key: getattr(self, key) for key in OPTIONAL}
-        return {**found, **{key: what for key, what in there.items() if what is not None}}
+        found = {key: getattr(self, key) for key in KEYS}
+        there = {key: getattr(self, key) for key in OPTIONAL if getattr(self, key) is not None}
+        return {**found, "status": int(self.status), "lines": list(self.lines),
+                "value": number(self.value), "bound": number(self.bound), **self.more, **there}
 
     def show(self) -> int:
         """Prints it; the status."""
         text = json.dumps(self.object(), ensure_ascii=True, indent=1)
         print(text, flush=True)
         return self.status
+
+    def say(self, text: str, status: int | None = None) -> None:
+        """All that there is to say."""
+        self.status = self.status if status is None else status
+        self.text, self.lines = text, [text]
 
     def take(self, said: Said | None) -> None:
         """What is claimed."""
@@ -127,19 +125,15 @@ def is_wanted(given: Sequence[str], options: Options, driver: str) -> bool:
     return bool(options.json)
 
 
-def silently(call: Callable[[], int], shows: bool) -> int:
-    """A call whose standard output is left out, or goes to standard error."""
-    with contextlib.redirect_stdout(sys.stderr if shows else io.StringIO()):
-        return call()
-
-
 def reported(driver: Driver, argv: Sequence[str]) -> int:
-    """The exit status of a driver's call; with json=1 what it tells goes into an object."""
+    """The exit status of a driver's call; with json=1 what it tells goes into an object, and what
+    else it prints nowhere, or to standard error."""
     asked, options = words.read(argv), Options(driver.solver.options)
     if asked.ask is not None or not is_wanted(asked.options, options, driver.name):
         return driver.main(argv)
     told = Report(driver.name)
-    told.status = silently(lambda: driver.main(argv), bool(options.outlev))
+    with contextlib.redirect_stdout(sys.stderr if options.outlev else io.StringIO()):
+        told.status = driver.main(argv)
     fill(told, driver)
     return told.end().show()
 
@@ -148,8 +142,7 @@ def fill(told: Report, run: Run) -> None:
     """What is known after a run."""
     told.model, told.program = run.model.shown or None, run.bridge_words
     if run.fault is not None:
-        told.text = f"{run.name}: {run.fault.text}"
-        told.lines = [told.text]
+        told.say(f"{run.name}: {run.fault.text}")
         told.code = None if run.fault.code == Code.STOPPED else int(run.fault.code)
     elif run.result is not None:
         result, end = run.result, run.result.end

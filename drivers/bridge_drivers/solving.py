@@ -17,8 +17,10 @@ from .files import Places
 from .inputs import Input
 from .interrupts import Interrupted
 from .job import Clock, Job
-from .miss import NONE, ROUNDING, Miss, largest_share, miss, missing
-from .nl import BadFile, Prepared, header, prepared
+from .kinds import Damaged
+from .miss import ROUNDING, largest_share
+from .names import Names
+from .nl import Prepared, header, prepared
 from .options import Options
 from .program import Program
 from .settled import Facts, is_final, proved_duals, settled
@@ -60,104 +62,94 @@ class Solving:
         self.solver, self.options, self.bridge, self.clock = solver, options, bridge, clock
         self.model, self.nl = model, model.path
         self.solver_path, self.folder = solver_path, folder
+        self.gap = 0.0                      # that is asked for
 
     def result(self) -> Result:
         """The outcome. Failure where there is none."""
         kept = os.path.join(self.folder, self.kept_name)
         try:
-            text_form = self.prepared(kept)
-        except BadFile as fault:
-            raise Failure(Code.REFUSED, str(fault).replace(self.nl, self.model.shown)) from None
-        self.bridge.shown[text_form.path] = self.model.shown
+            form = self.prepared(kept)
+        except Damaged as fault:
+            raise Failure(fault.code, fault.text.replace(self.nl, self.model.shown)) from None
+        self.bridge.shown[form.path] = self.model.shown
         if self.options.keep:
-            keep_model(text_form.path, kept)
+            keep_model(form.path, kept)
         try:
-            program = self.exported(text_form.path)
+            program = self.exported(form.path)
         except Refused as fault:
-            if fault.told.endswith(": empty interval"):
-                strict = bool(self.options.strict)
-                return Result(Code.UNSURE if strict else Code.INFEASIBLE,
-                              [f"infeasible: {fault.line()}",
-                               WITHOUT + "bridge refuses the model for this"], is_final=not strict)
-            status = Status.REFUSED if fault.status == 2 else Status.FAILED
-            raise Failure(Code.REFUSED, self.refusal(fault, text_form.path), status) from None
+            return self.refused(fault, form.path)
         if program.whole and not self.solver.integers and not self.options.relax:
             raise Failure(Code.TAKES_NO_INTEGERS,
                           f"{self.solver.title} takes no integer variables, and the model has "
-                          f"{len(program.whole)}; relax=1 drops that they are whole",
-                          Status.REFUSED)
+                          f"{len(program.whole)}; relax=1 drops that they are whole")
         if self.options.only:
             return self.only_written(program)
-        job = self.make_job(program, self.options, self.folder, self.solver_path, self.extra(),
-                            self.clock)
+        try:
+            extra = shlex.split(self.options.extra)
+        except ValueError:
+            raise Failure(Code.BAD_OPTION, "extra: a quote does not end") from None
+        self.gap = float(self.options.own.get("mipgap", 0.0))
+        job = self.make_job(program, self.options, self.folder, self.solver_path, extra, self.clock)
         job.read = lambda line: self.solver.said(line, program)
         if self.options.keep:
             job.write("model.mps", program.text)
-        return self.told(job, text_form.path, *self.answered(job),
-                         [*self.model.notes, *text_form.notes])
+        return self.told(job, form.path, self.answered(job), [*self.model.notes, *form.notes])
 
     def prepared(self, target: str) -> Prepared:
         """The model as the proved program reads it."""
         is_told = not any(word.startswith("shortest") for word in self.options.given)
         return prepared(self.nl, target, bool(self.options.shortest), is_told)
 
-    def refusal(self, fault: Refused, nl: str) -> str:
-        """In words; an objective that is not there by the number that the option says."""
-        if not fault.told.endswith(": no such objective"):
-            return fault.line()
-        count = header(nl).objectives
-        return (f"{self.model.shown}: objno={self.options.objno}: no such objective: the file has "
-                f"{count}, and objno counts from 1")
-
     def exported(self, nl: str) -> Program:
         words = ["export", nl]
         if self.options.objno != 1:
             words.append(str(self.options.objno - 1))
-        return Program(self.clock.timed("export", self.bridge.text, *words))
+        program = Program(self.clock.timed("export", self.bridge.text, *words))
+        program.names = Names(self.model.stub)
+        return program
+
+    def refused(self, fault: Refused, nl: str) -> Result:
+        """In words; an objective that is not there by the number that the option says."""
+        line, strict = fault.line(), bool(self.options.strict)
+        if fault.told.endswith(": empty interval"):
+            return Result(Code.UNSURE if strict else Code.INFEASIBLE,
+                          [f"infeasible: {line}", WITHOUT + "bridge refuses the model for this"],
+                          is_final=not strict)
+        if fault.told.endswith(": no such objective"):
+            line = (f"{self.model.shown}: objno={self.options.objno}: no such objective: the file "
+                    f"has {header(nl).objectives}, and objno counts from 1")
+        raise Failure(Code.REFUSED, line, Status.REFUSED if fault.status == 2 else Status.FAILED)
 
     def only_written(self, program: Program) -> Result:
         """With only=mps: the text that the solver reads, beside the model, and how it is called
         with it."""
-        path = f"{self.stub()}.{self.solver.name}.mps"
+        path = f"{self.model.stub}.{self.solver.name}.mps"
         Places([self.nl], bool(self.options.overwrite)).write(path, self.solver.text(
             given(program, bool(self.options.relax))))
         words = shlex.join(self.solver.command(program, path, self.options.solver))
         return Result(Code.LIMIT, [f"{path} is written, and nothing was solved; "
                                    f"{self.solver.title} reads and solves it by", words])
 
-    def stub(self) -> str:
-        """The model's path without its end."""
-        return self.model.stub
-
-    def extra(self) -> list[str]:
-        try:
-            return shlex.split(self.options.extra)
-        except ValueError:
-            raise Failure(Code.BAD_OPTION, "extra: a quote does not end",
-                          Status.BAD_WORDS) from None
-
     # the solver --------------------------------------------------------------------
 
-    def answered(self, job: Job) -> tuple[Outcome, Answer, Miss]:
-        """What the solver answered, its answer text, and by how much it misses the model. Where
-        that is much, or the answer says little, the solver is asked once more in another way."""
-        empty = None if self.options.relax else hollow(job.program)
-        if empty:
-            outcome = Outcome(Code.INFEASIBLE, "infeasible", notes=[EMPTY.format(
-                self.solver.title)])
-            return outcome, Answer(job.program, outcome, self.options), NONE
-        outcome, answer, missed = self.asked_twice(job)
-        if outcome.code == Code.INFEASIBLE_OR_UNBOUNDED or missed.is_much():
-            other = self.in_another_way(job, of_answer(outcome))
-            if other is not None and other[0].code != Code.INFEASIBLE_OR_UNBOUNDED \
-                    and not other[2].is_much():
-                outcome, answer, missed = other
-        if outcome.code == Code.INFEASIBLE_OR_UNBOUNDED and self.options.failexit:
+    def answered(self, job: Job) -> Answer:
+        """What the solver answered. Where that misses the model by much, or says little, the
+        solver is asked once more in another way."""
+        if not self.options.relax and hollow(job.program):
+            return Answer(job.program, Outcome(Code.INFEASIBLE, "infeasible", notes=[
+                EMPTY.format(self.solver.title)]), self.options)
+        answer = self.asked_twice(job)
+        if answer.outcome.code == Code.INFEASIBLE_OR_UNBOUNDED or answer.missed.is_much():
+            other = self.in_another_way(job, of_answer(answer.outcome))
+            if other is not None and other.outcome.code != Code.INFEASIBLE_OR_UNBOUNDED \
+                    and not other.missed.is_much():
+                answer = other
+        if answer.outcome.code == Code.INFEASIBLE_OR_UNBOUNDED and self.options.failexit:
             # MiniZinc would say that it is infeasible
-            raise Failure(Code.NO_ANSWER, f"{self.solver.title}: {outcome.text}")
-        return outcome, answer, missed
+            raise Failure(Code.NO_ANSWER, f"{self.solver.title}: {answer.outcome.text}")
+        return answer
 
-    def asked_twice(self, job: Job) -> tuple[Outcome, Answer, Miss]:
+    def asked_twice(self, job: Job) -> Answer:
         """Once more in another way where it gives no answer."""
         try:
             return self.asked(job, False)
@@ -167,15 +159,15 @@ class Solving:
                 raise
             return other
 
-    def asked(self, job: Job, again: bool) -> tuple[Outcome, Answer, Miss]:
+    def asked(self, job: Job, again: bool) -> Answer:
         try:
             job.again = again
             job.remove_answers()
             outcome = self.solver.solve(job)
-            if job.is_interrupted:
-                outcome = interrupted(outcome)
-            answer = Answer(job.program, outcome, self.options)
-            missed = NONE if answer.values is None else self.missed(job.program, answer)
+            answer = Answer(job.program, interrupted(outcome) if job.is_interrupted else outcome,
+                            self.options)
+            answer.missed                   # a value may be none
+            return answer
         except (Unclear, BadValue, LookupError, ValueError, ArithmeticError) as fault:
             if job.is_interrupted:
                 raise Interrupted(signal.SIGINT) from None
@@ -186,26 +178,19 @@ class Solving:
         except OSError as fault:
             raise Failure(Code.NOT_FOUND, f"{fault.filename or self.solver_path} could not be "
                           f"run or written: {fault.strerror}") from None
-        return outcome, answer, missed
 
-    def in_another_way(self, job: Job, was: str) -> tuple[Outcome, Answer, Miss] | None:
+    def in_another_way(self, job: Job, was: str) -> Answer | None:
         """None where it was asked so before, or gives no answer. `was` says what the first answer
         was."""
         if job.again or not self.solver.again or job.is_interrupted:
             return None
         try:
-            outcome, answer, missed = self.asked(job, True)
+            answer = self.asked(job, True)
         except Failure:
             return None
-        outcome.notes.append(f"{self.solver.title} was asked once more {self.solver.again}: its "
-                             f"first answer {was}")
-        return outcome, answer, missed
-
-    def missed(self, program: Program, answer: Answer) -> Miss:
-        assert answer.values is not None
-        if answer.apart:
-            return missing(answer.most_apart, "a whole number")
-        return miss(program, answer.values, answer.whole)
+        answer.outcome.notes.append(f"{self.solver.title} was asked once more {self.solver.again}: "
+                                    f"its first answer {was}")
+        return answer
 
     # the message -------------------------------------------------------------------
 
@@ -222,13 +207,11 @@ class Solving:
             line += " (integer variables relaxed)"
         return line
 
-    def told(self, job: Job, nl: str, outcome: Outcome, answer: Answer, missed: Miss,
-             notes: list[str]) -> Result:
+    def told(self, job: Job, nl: str, answer: Answer, notes: list[str]) -> Result:
         """The .sol by `bridge return`, with a message whose last line is the verdict."""
-        certifier = self.make_certifier(self.bridge, nl, job, self.stub())
-        lines = [*notes, *outcome.notes]
-        far = self.solver.far_note(job.program)
-        lines += [far] if far else []
+        certifier = self.make_certifier(self.bridge, nl, job)
+        outcome, missed = answer.outcome, answer.missed
+        lines = [*notes, *outcome.notes, *self.solver.far_notes(job.program)]
         if missed.is_much():
             lines.append(f"its point misses {certifier.named(missed.name)} by {missed.share:.2g} "
                          "of the largest term")
@@ -237,10 +220,11 @@ class Solving:
             if verdict.contradicted and outcome.code == Code.SOLVED:
                 other = self.in_another_way(job, of_answer(outcome))
                 if other is not None:
-                    return self.told(job, nl, *other, notes)
+                    return self.told(job, nl, other, notes)
             if certifier.is_interrupted:
                 lines.append("interrupted: the search for a certificate was ended")
-            found = settled(answer, verdict, self.facts(missed))
+            found = settled(answer, verdict, Facts(missed, self.gap, bool(self.options.check),
+                                                   bool(self.options.strict)))
             if found.text is not None:
                 own = self.headline(job, answer).partition(": ")[2]
                 lines.insert(0, f"its own answer: {own}")
@@ -259,18 +243,11 @@ class Solving:
                                    *answer.notes(), *end.lines], sol, answer, verdict.figures, end,
                       not self.options.strict or is_final(verdict))
 
-    def gap(self) -> float:
-        """That was asked for."""
-        return float(self.options.own.get("mipgap", 0.0))
-
-    def facts(self, missed: Miss) -> Facts:
-        return Facts(missed, self.gap(), bool(self.options.check), bool(self.options.strict))
-
     def words(self, outcome: Outcome) -> str:
         """Its text; of a gap that is reached with what was asked for."""
         if not outcome.is_gap:
             return outcome.text
-        return f"stopped at the gap of {percent(self.gap())} that was asked for" if self.gap() \
+        return f"stopped at the gap of {percent(self.gap)} that was asked for" if self.gap \
             else "stopped at a gap that was asked for"
 
     def checked(self, certifier: Certifier, answer: Answer, verdict: Verdict, lines: list[str],
@@ -297,7 +274,7 @@ class Solving:
             if not fault.told.endswith("dual too wide"):
                 raise
             lines.insert(before, f"duals are left out: {fault.line()}")
-        answer = answer.without_duals()
+        answer = answer.with_duals(None)
         return answer, certifier.returned(answer, lines)
 
     def verdict(self, certifier: Certifier, answer: Answer) -> Verdict:

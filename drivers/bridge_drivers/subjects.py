@@ -3,12 +3,12 @@
 from __future__ import annotations
 
 import contextlib
+import tempfile
 from typing import Iterator, NamedTuple, Sequence
 
-from . import mps_file
-from .bridge import Bridge, Refused, Reply
+from .bridge import Bridge, Reply
 from .inputs import Input, Inputs
-from .mps_text import MpsProgram
+from .mps_file import FAULT, judged, reading
 from .names import Names
 from .nl import header, prepared
 from .program import Program
@@ -21,7 +21,7 @@ class Subject(NamedTuple):
     bridge: Bridge
     given: Input
     path: str
-    own: MpsProgram | None = None
+    own: Program | None = None
     notes: Sequence[str] = ()
 
     def constraints(self) -> int:
@@ -29,7 +29,7 @@ class Subject(NamedTuple):
 
     def names(self) -> Names:
         """Those of the file itself, or beside it."""
-        if self.own is not None and self.own.names is not None:
+        if self.own is not None:
             return self.own.names
         head = header(self.path)
         return Names(self.given.stub, head.variables, head.constraints)
@@ -39,23 +39,25 @@ class Subject(NamedTuple):
         if self.own is None:
             return Program(self.bridge.text("export", self.path, objective))
         if objective != "0":
-            reply = Reply(mps_file.FAULT, b"", f"refused objective {objective}: no such objective")
-            words = self.bridge.in_full(("verify", self.path, ""))
-            raise Refused(words[0], reply, words, self.bridge.shown)
+            reply = Reply(FAULT, b"", f"refused objective {objective}: no such objective")
+            raise self.bridge.refused(("verify", self.path, ""), reply)
         return self.own
 
 
 @contextlib.contextmanager
 def subject(bridge: Bridge, inputs: Inputs, word: str) -> Iterator[Subject]:
     """With `verify` of this bridge being that of the model. Refused where an MPS file is none,
-    Damaged or BadFile where what is packed or binary cannot be read, Absent or OSError where there
-    is no model."""
+    Damaged where what is packed or binary cannot be read, Absent or OSError where there is no
+    model."""
     given = inputs.model(word)
     bridge.shown[given.path] = given.shown
-    if given.is_mps:
-        with mps_file.opened(bridge, given.path) as found:
-            yield Subject(bridge, given, found.path, found.program, [*given.notes, *found.notes])
+    if not given.is_mps:
+        form = prepared(given.path, inputs.place(), False)
+        bridge.shown[form.path] = given.shown
+        yield Subject(bridge, given, form.path, None, [*given.notes, *form.notes])
         return
-    form = prepared(given.path, inputs.place(), False)
-    bridge.shown[form.path] = given.shown
-    yield Subject(bridge, given, form.path, None, [*given.notes, *form.notes])
+    with tempfile.TemporaryDirectory(prefix="nl-bridge-") as folder:
+        read = reading(bridge, given.path)
+        program = judged(bridge, given.path, folder, read)
+        yield Subject(bridge, given, given.path, program,
+                      [*given.notes, *read.notes, *program.notes])

@@ -93,6 +93,14 @@ def texts_of(values: Sequence[Number]) -> tuple[list[str], int]:
     return [found[id(v)] for v in values], sum(id(v) in loose for v in values) if loose else 0
 
 
+def double_of(value: Fraction | int) -> float | None:
+    """The nearest one; None beyond doubles."""
+    try:
+        return float(value)
+    except OverflowError:
+        return None
+
+
 def plain(fraction: str) -> str:
     """The text `p/q` of a verdict as a decimal, where it has one."""
     return exact_decimal(Fraction(fraction)) or fraction

@@ -45,7 +45,6 @@ import families                                         # noqa: E402
 from bridge_drivers import kinds                        # noqa: E402
 from bridge_drivers.bridge import BESIDE, Bridge, Refused, find     # noqa: E402
 from bridge_drivers.inputs import Inputs                # noqa: E402
-from bridge_drivers.mps_file import Damaged             # noqa: E402
 from bridge_drivers.subjects import subject             # noqa: E402
 
 SOURCES = ("/usr/share/doc/glpk-utils/examples/*.mod", "/usr/share/doc/glpk-utils/examples/*.mps",
@@ -122,7 +121,7 @@ def shape(bridge: list[str], path: str) -> list[str]:
         with Inputs() as inputs, subject(Bridge(bridge, lambda argv: None), inputs,
                                          path) as model:
             p = model.program()
-    except (Refused, Damaged):
+    except (Refused, kinds.Damaged):
         return ["", "", ""]
     return [str(len(p.columns)), str(len(p.whole)), str(len(p.constraints))]
 

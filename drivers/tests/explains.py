@@ -17,7 +17,8 @@ from models import MODELS, nl
 
 from bridge_drivers import BridgeError, front, interface
 from bridge_drivers.bridge import Bridge
-from bridge_drivers.explained import command, reading, sums
+from bridge_drivers.codes import Status
+from bridge_drivers.explained import reading, sums
 from bridge_drivers.explained.command import Explaining, Files
 from bridge_drivers.inputs import Input
 from bridge_drivers.subjects import Subject
@@ -239,7 +240,7 @@ class Explained(Case):
                             (knap, full_tree(3, "bound 0 -1")), (WIDE, full_tree(5, "bound 0 9"))):
             told = self.object(model, text)
             drawn = told.tree()
-            for found in sums.sums(told.bounds, told.wording, [d.place for d in drawn.drawn
+            for found in sums.sums(told.wording, [d.place for d in drawn.drawn
                                    if told.certificate.nodes[d.place].is_leaf()]):
                 products = [F(line.split(")")[-1].split("=")[0].strip()) for line in found.lines
                             if "\u00d7" in line]
@@ -262,7 +263,7 @@ class Explained(Case):
 
     def test_picture(self) -> None:
         told = self.object(self.example("knap.nl"), self.example("knap.certificate"))
-        root = xml.fromstring(told.picture(True))
+        root = xml.fromstring(told.picture())
         groups = root.findall(SVG + "g")
         self.assertEqual([g.get("class") for g in groups],
                          ["cut", "duals", "cut", "cut", "duals", "weights", "weights"])
@@ -274,7 +275,7 @@ class Explained(Case):
 
     def test_without_a_tree(self) -> None:
         told = self.object(ENDLESS, text_of("feasible 0/point 0"))
-        texts = [t.text for t in xml.fromstring(told.picture(True)).iter(SVG + "text")]
+        texts = [t.text for t in xml.fromstring(told.picture()).iter(SVG + "text")]
         self.assertEqual(texts, ["the certificate has no tree"])
         self.assertNotIn("Its tree", told.page())
 
@@ -282,7 +283,7 @@ class Explained(Case):
         """A large tree is folded to a depth, but for the path to the leaf that fails."""
         for claim, fails in (("bound 0 45", False), ("bound 0 40", True)):
             told = self.object(WIDE, full_tree(9, claim))
-            picture = Picture(told.certificate, told.wording, told.bounds, told.fails, told.holds)
+            picture = Picture(told.wording, told.fails, told.holds)
             depths = [told.certificate.nodes[d.place].depth for d in picture.drawn]
             root = xml.fromstring(picture.svg(True))
             kinds = [g.get("class") for g in root.findall(SVG + "g")]
@@ -298,25 +299,25 @@ class Explained(Case):
 
     def test_all_that_do_not_close_are_marked(self) -> None:
         told = self.object(self.example("knap.nl"), full_tree(3, "bound 0 10"))
-        picture = Picture(told.certificate, told.wording, told.bounds, told.fails, told.holds)
+        picture = Picture(told.wording, told.fails, told.holds)
         self.assertEqual([picture.closes(at) for at, node in enumerate(told.certificate.nodes)
                           if node.is_leaf()], [True, False, True, False, True, False, False, False])
 
     def test_names_are_escaped(self) -> None:
         self.put(b"<b>&\n\x1b[31mb\nz\n", ".col")
         told = self.object(self.example("knap.nl"), self.example("knap.certificate"))
-        for text in (told.page(), told.picture(True)):
+        for text in (told.page(), told.picture()):
             self.assertNotIn("<b>", text)
             self.assertEqual(printable(text), text)
             self.assertIn("&lt;b&gt;&amp; \u2264 0", text)
-        xml.fromstring(told.picture(True))
+        xml.fromstring(told.picture())
 
     def test_pages_that_cannot_be_written(self) -> None:
         self.put(self.example("knap.nl"))
         self.put(self.example("knap.certificate"), ".certificate")
         told = interface.explain(self.stub, self.stub + ".certificate", html="/nonexistent/x.html")
         self.assertEqual((told.status, told.lines[-1]),
-                         (command.UNWRITTEN, "/nonexistent/x.html is not written: No such file or "
+                         (Status.UNWRITTEN, "/nonexistent/x.html is not written: No such file or "
                                              "directory"))
 
     def test_pages_do_not_overwrite_what_they_are_of(self) -> None:
@@ -326,7 +327,7 @@ class Explained(Case):
         nl, certificate = self.stub + ".nl", self.stub + ".certificate"
         told = interface.explain(nl, certificate, svg=certificate)
         with open(certificate, "rb") as f:
-            self.assertEqual((told.status, f.read()), (command.UNWRITTEN, text))
+            self.assertEqual((told.status, f.read()), (Status.UNWRITTEN, text))
 
     @unittest.skipUnless(BROWSER, "no chromium")
     def test_in_a_browser(self) -> None:

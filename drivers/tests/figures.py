@@ -26,7 +26,7 @@ class Importing(Case):
         """Continuous, binary, integer, each in the order of the columns; constraints, then the
         objective."""
         self.assertEqual(importing.lists_of(self.TEXT), importing.Lists(
-            ["both", "cap", "cost"], ["c", "'MARKER'", "b", "v", "i", "low"]))
+            [b"both", b"cap", b"cost"], [b"c", b"'MARKER'", b"b", b"v", b"i", b"low"]))
 
     @NEEDS_PROGRAM
     def test_against_the_program(self) -> None:

@@ -185,7 +185,8 @@ class Keeping(Case):
     def test_standard_output(self) -> None:
         """Where it is a file, the certificate is added to it."""
         code = ("import os, sys; sys.path[:0] = sys.argv[1:2]; from bridge_drivers.files import "
-                "put; print('before'); put(sys.argv[2], '/dev/stdout'); print('behind')")
+                "write; print('before'); write('/dev/stdout', open(sys.argv[2], 'rb').read()); "
+                "print('behind')")
         self.put(OPTIMAL, ".certificate")
         with open(self.stub, "wb") as out:
             subprocess.run([sys.executable, "-c", code, os.path.join(HERE, ".."), self.target],

@@ -166,7 +166,7 @@ class Read(Case):
             names = program_of(read.text).names
             assert names is not None
             at = {names.column(j): f"x{j}" for j in range(len(own.low))}
-            place = {f"x{k}": at[name] for k, name in enumerate(order)}
+            place = {f"x{k}": at[name.decode()] for k, name in enumerate(order)}
             self.assertEqual({place[x]: ends for x, ends in other.bounds().items()}, own.bounds(),
                              text)
             self.assertEqual({place[x]: whole for x, whole in other.whole.items()}, own.whole, text)

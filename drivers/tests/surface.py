@@ -154,10 +154,10 @@ class Models(Case):
                     self.assertEqual(Path(given.path).read_bytes(), data)
                 self.assertEqual((given.stub, given.is_mps, bool(given.notes)),
                                  (self.stub, end == ".mps", bool(packed)))
-                self.assertEqual(os.path.exists(inputs.folder), False)
+                self.assertFalse(inputs.made and os.path.exists(inputs.made.name))
         with Inputs() as inputs:
             self.assertEqual(inputs.model(self.stub).path, self.stub + ".nl")
-            self.assertEqual(inputs.folder, "")
+            self.assertIsNone(inputs.made)
             os.rename(self.stub + ".nl", self.stub + ".txt")
             self.assertEqual(inputs.model(self.stub + ".txt").is_mps, False)
             for word in (self.stub, self.folder, "/nonexistent"):

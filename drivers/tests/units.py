@@ -13,7 +13,7 @@ from fractions import Fraction as F
 from unittest import mock
 
 from support import HERE, Case
-from bridge_drivers import binary_nl, bridge, nl, progress, sol, solvers, values, words
+from bridge_drivers import binary_nl, bridge, kinds, nl, progress, sol, solvers, values, words
 from bridge_drivers.bridge import Refused, Reply
 from bridge_drivers.interrupts import SIGNALS, Interrupted, Signals, with_child
 from bridge_drivers.options import BadOption, Options
@@ -128,7 +128,7 @@ class Files(Case):
             for cut in (data[:-3], data[:100], data + b"?", b"b"):
                 with open(self.stub + ".cut.nl", "wb") as f:
                     f.write(cut)
-                self.assertRaises(nl.BadFile, nl.prepared, self.stub + ".cut.nl", target, False)
+                self.assertRaises(kinds.Damaged, nl.prepared, self.stub + ".cut.nl", target, False)
 
     def test_big_endian(self) -> None:
         """The other byte order, and an S segment."""

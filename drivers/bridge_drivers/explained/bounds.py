@@ -21,13 +21,13 @@ class Row(NamedTuple):
 
 class Goal(NamedTuple):
     """What a leaf has to show: no point has a better value of the form than `target`; None where
-    that is not known. `lemma` is the place of the lemma whose proof the leaf is in, else -1."""
+    that is not known. `lemma` is the line of the lemma whose proof the leaf is in, else 0."""
 
     costs: Mapping[int, Fraction]
     constant: Fraction
     maximise: bool
     target: Fraction | None
-    lemma: int = -1
+    lemma: int = 0
 
 
 class Part(NamedTuple):
@@ -48,38 +48,35 @@ class Bounds:
         costs = {j: sign * c for j, c in enumerate(model.cost) if c}
         self.goal = Goal(costs, sign * model.constant, model.maximise, target)
 
+    def over_unit(self, number: int | None) -> End:
+        return None if number is None else Fraction(number, self.model.unit)
+
     def row(self, number: int) -> Row:
         """A constraint."""
         model = self.model
-        low, high = (None if side is None else Fraction(side, model.unit)
-                     for side in (model.side_lo[number], model.side_hi[number]))
-        return Row([(j, Fraction(a, model.scale)) for j, a in model.rows[number]], low, high)
+        return Row([(j, Fraction(a, model.scale)) for j, a in model.rows[number]],
+                   self.over_unit(model.side_lo[number]), self.over_unit(model.side_hi[number]))
 
     def ends(self, column: int) -> tuple[End, End]:
-        low, high = (None if end is None else Fraction(end, self.model.unit)
-                     for end in (self.model.lo[column], self.model.hi[column]))
-        return low, high
+        return self.over_unit(self.model.lo[column]), self.over_unit(self.model.hi[column])
 
     def part(self, place: int) -> Part:
         """What is true at the node, by the parts above it."""
         ends: dict[int, tuple[End, End]] = {}
         added: list[Row] = []
-        goal, nodes = self.goal, self.certificate.nodes
-        path = self.certificate.path(place)
-        for above, below in zip(path, path[1:]):
-            node, part = nodes[above], nodes[below].part
+        goal = self.goal
+        for node, part in self.certificate.steps(place):
+            at = Fraction(node.at)
             if node.kind == SPLIT:
                 low, high = ends.get(node.column) or self.ends(node.column)
-                at = Fraction(node.at)
                 if part == 0:
                     ends[node.column] = low, at if high is None else min(at, high)
                 else:
                     ends[node.column] = at + 1 if low is None else max(at + 1, low), high
                 continue
             terms = [(j, Fraction(a)) for j, a in node.pairs]
-            at = Fraction(node.at)
             if node.kind == LEMMA and part == 0:
-                goal = Goal(dict(terms), Fraction(0), True, at, above)
+                goal = Goal(dict(terms), Fraction(0), True, at, node.line)
             elif node.kind == PLANE and part == 1:
                 added.append(Row(terms, at + 1, None))
             else:

@@ -2,27 +2,24 @@
 
 from __future__ import annotations
 
-import os
 import tempfile
 from fractions import Fraction
-from typing import Callable, NamedTuple, Sequence
+from typing import NamedTuple, Sequence
 
 from .. import verdicts
 from ..bridge import Refused
 from ..certify.model import Model, Unfit, model_of
+from ..codes import Status
 from ..files import Places
 from ..printable import in_a_line
-from ..report import sum_of
 from ..subjects import Subject
 from .bounds import Bounds
-from .page import Page, Used, text_of
+from .page import text_of
 from .picture import Picture
 from .reading import Certificate, read
 from .sums import both, sums
 from .words import Wording, claim_words, tally
 
-MOST_USED = 200                 # rows on a page
-UNWRITTEN = 5
 TALLIED = ("nodes", "splits", "planes", "lemmas", "leaves", "weights", "depth", "added")
 
 
@@ -105,31 +102,15 @@ class Explaining:
     def tree(self) -> Picture | None:
         """None where the certificate has none."""
         if self.drawn is None and self.certificate.nodes:
-            self.drawn = Picture(self.certificate, self.wording, self.bounds, self.fails,
-                                 self.holds)
+            self.drawn = Picture(self.wording, self.fails, self.holds)
         return self.drawn
 
-    def picture(self, alone: bool) -> str:
-        drawn = self.tree() or Picture(self.certificate, self.wording, self.bounds)
-        return drawn.svg(alone)
+    def picture(self) -> str:
+        """In a file of its own."""
+        return (self.tree() or Picture(self.wording)).svg(True)
 
     def page(self) -> str:
-        lines = [line.partition(" ") for line in self.wording.lines()]
-        facts = [(head, text.strip()) for head, _, text in lines if head != "uses"]
-        facts += [("model's sum", f"SHA-256 {sum_of(self.path)}"),
-                  ("certificate's sum", f"SHA-256 {sum_of(self.files.certificate)}")]
-        failure = self.wording.failure(self.verdict) if not self.holds else []
-        texts = [line[10:] for line in failure]
-        path = self.wording.path(self.fails) if self.fails is not None else []
-        used = sorted(self.tally.rows.items(), key=lambda item: (-item[1], item[0]))
-        more = f"and {len(used) - MOST_USED} rows more" if len(used) > MOST_USED else ""
-        drawn = self.tree()
-        return text_of(Page(
-            os.path.basename(self.shown), os.path.basename(self.files.certificate),
-            self.verdict, self.holds, self.said(), facts, texts[0] if texts else "", path,
-            [Used(self.wording.row(i), times) for i, times in used[:MOST_USED]],
-            self.tally.leaves, more, self.picture(False) if self.certificate.nodes else "",
-            self.points(), drawn.parts() if drawn else (), self.sums(drawn)))
+        return text_of(self)
 
     def points(self) -> list[tuple[str, str]]:
         """The values of the point that are not 0, by name."""
@@ -137,12 +118,12 @@ class Explaining:
         return [(self.wording.column(j), both(value)) for j, value in point.items()]
 
     def sums(self, drawn: Picture | None) -> list[tuple[str, Sequence[str], str]]:
-        """Those of the leaves that are drawn."""
+        """Those of the leaves that are drawn: heads, lines, and what they show."""
         nodes = self.certificate.nodes
         places = [d.place for d in drawn.drawn if nodes[d.place].is_leaf()] if drawn else []
         return [(f"line {nodes[found.place].line}, leaf {nodes[found.place].leaf}: "
                  + (", ".join(self.wording.cuts(found.place)) or "all points"), found.lines,
-                 found.shows) for found in sums(self.bounds, self.wording, places)]
+                 found.shows) for found in sums(self.wording, places)]
 
 
 class Told(NamedTuple):
@@ -161,25 +142,16 @@ def explained(model: Subject, files: Files) -> Told:
     reply = bridge.call("verify", model.path, files.certificate)
     if reply.status not in (0, 1):
         raise bridge.refused(("verify", model.path, files.certificate), reply)
-    verdict = reply.out.decode("utf-8", "replace").strip()
-    told = Explaining(model, files, verdict, reply.status == 0)
+    verdict, status = reply.out.decode("utf-8", "replace").strip(), reply.status
+    told = Explaining(model, files, verdict, status == 0)
     lines = [*map(in_a_line, told.lines()), *model.notes]
-    status = reply.status
     places = Places([model.given.path, model.given.shown, files.certificate], files.overwrite)
-    pages: Sequence[tuple[str, Callable[[], str]]] = (
-        (files.html, told.page), (files.svg, lambda: told.picture(True)))
-    for path, text in pages:
+    for path, text in ((files.html, told.page), (files.svg, told.picture)):
         if path:
-            fault = put(path, text, places)
-            status = UNWRITTEN if fault else status
-            lines.append(f"{path} is not written: {fault}" if fault else f"{path} is written")
+            try:
+                places.write(path, text().encode("utf-8", "backslashreplace"))
+                lines.append(f"{path} is written")
+            except OSError as fault:
+                status = Status.UNWRITTEN
+                lines.append(f"{path} is not written: {fault.strerror or fault}")
     return Told(status, verdict, lines, told.object())
-
-
-def put(path: str, text: Callable[[], str], places: Places) -> str:
-    """Writes a page; why it could not be, or nothing."""
-    try:
-        places.write(path, text().encode("utf-8", "backslashreplace"))
-    except OSError as fault:
-        return fault.strerror or str(fault)
-    return ""

@@ -2,9 +2,15 @@
 
 from __future__ import annotations
 
-import re
+import os
 from html import escape
-from typing import NamedTuple, Sequence
+from typing import TYPE_CHECKING, Sequence
+
+from ..report import sum_of
+
+if TYPE_CHECKING:
+    from .command import Explaining
+    from .picture import Picture
 
 STYLE = """
 :root { color-scheme: light dark; --ink: #1b1f24; --pale: #59636e; --paper: #ffffff;
@@ -45,145 +51,113 @@ summary { cursor: pointer; margin: .5rem 0; }
 """
 
 
-class Used(NamedTuple):
-    """A row of the model, and in how many leaves it is used."""
-
-    name: str
-    times: int
-
-
-class Part(NamedTuple):
-    """A node that is drawn: its line, what is true there, the bound, how it goes on or closes."""
-
-    line: int
-    depth: int
-    part: str
-    bound: str
-    way: str
-
-
-class Page(NamedTuple):
-    """What is on it. `failure` and `path` are empty where the certificate holds; `point` has names
-    and values, `sums` heads, lines and what they show."""
-
-    model: str
-    certificate: str
-    verdict: str
-    holds: bool
-    claim: str
-    facts: Sequence[tuple[str, str]]
-    failure: str
-    path: Sequence[str]
-    used: Sequence[Used]
-    leaves: int
-    more: str
-    svg: str
-    point: Sequence[tuple[str, str]] = ()
-    parts: Sequence[Part] = ()
-    sums: Sequence[tuple[str, Sequence[str], str]] = ()
-
-
-def row(head: str, text: str) -> str:
-    return f"<tr><th scope=\"row\">{escape(head)}</th><td>{escape(text)}</td></tr>"
-
-
-def text_of(page: Page) -> str:
-    """The page, without scripts and without anything from elsewhere."""
-    mark, word = ("yes", "holds of") if page.holds else ("no", "does not hold of")
-    parts = [
-        "<!DOCTYPE html>", '<html lang="en">', "<head>", '<meta charset="utf-8">',
-        '<meta name="viewport" content="width=device-width, initial-scale=1">',
-        f"<title>{escape(page.verdict)} \u00b7 {escape(page.certificate)}</title>",
-        f"<style>{STYLE}</style>", "</head>", "<body>", "<main>",
-        f"<h1>{escape(page.certificate)} {word} {escape(page.model)}</h1>",
-        f'<p class="verdict {mark}">{escape(page.verdict)}</p>',
-        f"<p>{escape(page.claim[:1].upper() + page.claim[1:])}.</p>"]
-    parts += failure_of(page)
-    parts += ["<h2>The certificate</h2>", "<table>", *(row(*fact) for fact in page.facts),
-              "</table>"]
-    parts += [*point_of(page), *tree_of(page), *sums_of(page)]
-    parts += used_of(page)
-    parts += ['<p class="pale">The verdict is that of the proved program. What is told beside it '
-              "is worked out by the drivers, and not proved.</p>",
-              "</main>", "</body>", "</html>", ""]
-    return "\n".join(parts)
-
-
 LETTER = 0.62                   # the width of one in fixed width, in its height, and a little more
 AROUND = 60                     # what a page has beside the picture, in its units
+MOST_USED = 200                 # rows on a page
 LEGEND = (("duals", "closes: its duals show the bound"), ("weights", "closes: its rows contradict"),
           ("cut", "goes on by a split, a plane or a lemma"), ("folded", "goes on, not drawn"),
           ("broken", "does not close"))
 
 
-def tree_of(page: Page) -> list[str]:
+def text_of(told: Explaining) -> str:
+    """The page, without scripts and without anything from elsewhere."""
+    mark, word = ("yes", "holds of") if told.holds else ("no", "does not hold of")
+    model, certificate = (os.path.basename(path) for path in (told.shown, told.files.certificate))
+    lines = [line.partition(" ") for line in told.wording.lines()]
+    facts = [(head, text.strip()) for head, _, text in lines if head != "uses"]
+    facts += [("model's sum", f"SHA-256 {sum_of(told.path)}"),
+              ("certificate's sum", f"SHA-256 {sum_of(told.files.certificate)}")]
+    drawn = told.tree()
+    return "\n".join([
+        "<!DOCTYPE html>", '<html lang="en">', "<head>", '<meta charset="utf-8">',
+        '<meta name="viewport" content="width=device-width, initial-scale=1">',
+        f"<title>{escape(told.verdict)} \u00b7 {escape(certificate)}</title>",
+        f"<style>{STYLE}</style>", "</head>", "<body>", "<main>",
+        f"<h1>{escape(certificate)} {word} {escape(model)}</h1>",
+        f'<p class="verdict {mark}">{escape(told.verdict)}</p>',
+        f"<p>{sentence(told.said())}</p>", *failure_of(told),
+        "<h2>The certificate</h2>", "<table>",
+        *(f"<tr><th scope=\"row\">{escape(head)}</th><td>{escape(text)}</td></tr>"
+          for head, text in facts), "</table>",
+        *point_of(told.points()), *(tree_of(drawn) if drawn else []), *sums_of(told.sums(drawn)),
+        *used_of(told),
+        '<p class="pale">The verdict is that of the proved program. What is told beside it '
+        "is worked out by the drivers, and not proved.</p>",
+        "</main>", "</body>", "</html>", ""])
+
+
+def sentence(text: str) -> str:
+    return escape(text[:1].upper() + text[1:]) + "."
+
+
+def tree_of(drawn: Picture) -> list[str]:
     """The picture, its colours, and each part that is drawn, in full."""
-    if not page.svg:
-        return []
-    found = re.search(r'width="(\d+)"', page.svg)
-    width = int(found[1]) + AROUND if found else 0
     legend = "".join(f'<li class="{name}"><i></i>{text}</li>' for name, text in LEGEND)
     rows = [f'<tr><td>{part.line}</td><td style="padding-left: {0.5 + min(part.depth, 12)}rem">'
             f"{escape(part.part)}</td><td>{escape(part.bound)}</td><td>{escape(part.way)}</td></tr>"
-            for part in page.parts]
+            for part in drawn.parts()]
     return ["<h2>Its tree</h2>",
             '<p class="pale">Each part follows from the one on its left by a split; what is '
             "claimed is shown where all parts on the right close. The number in a box is its line "
             "in the certificate.</p>", f'<ul class="legend">{legend}</ul>',
-            f"<style>@media (max-width: {width}px) {{ .hint {{ display: block; }} }}</style>",
+            f"<style>@media (max-width: {drawn.size()[0] + AROUND}px) "
+            "{ .hint { display: block; } }</style>",
             '<p class="pale hint">The picture is wider than this page: scroll it sideways, or read '
             "the list of its parts below.</p>",
-            f'<div class="scroll" tabindex="0" role="region" aria-label="the tree">{page.svg}'
-            "</div>",
+            '<div class="scroll" tabindex="0" role="region" aria-label="the tree">'
+            f"{drawn.svg(False)}</div>",
             "<details><summary>Its parts in words</summary>", "<table>",
             "<thead><tr><th>line</th><th>part</th><th>bound</th><th></th></tr></thead>", "<tbody>",
             *rows, "</tbody>", "</table>", "</details>"]
 
 
-def point_of(page: Page) -> list[str]:
+def point_of(point: Sequence[tuple[str, str]]) -> list[str]:
     """The whole point."""
-    if not page.point:
-        return []
     rows = [f'<tr><td>{escape(name)}</td><td class="number">{escape(value)}</td></tr>'
-            for name, value in page.point]
+            for name, value in point]
     return ["<details><summary>The whole point (what is not listed is 0)</summary>", "<table>",
-            *rows, "</table>", "</details>"]
+            *rows, "</table>", "</details>"] if rows else []
 
 
-def sums_of(page: Page) -> list[str]:
-    """How the leaves that are drawn close, in letters so small that the widest line fits."""
-    if not page.sums:
+def sums_of(sums: Sequence[tuple[str, Sequence[str], str]]) -> list[str]:
+    """How the leaves that are drawn close, in letters so small that the widest line fits: heads,
+    lines, and what these show."""
+    if not sums:
         return []
-    widest = max(len(line) for _, lines, shows in page.sums for line in (*lines, shows))
+    widest = max(len(line) for _, lines, shows in sums for line in (*lines, shows))
     size = f"clamp(.5rem, calc((100vw - 4.5rem) / {LETTER * widest:.1f}), .875rem)"
     found = [f'<h3>{escape(head)}</h3>\n<pre tabindex="0" style="font-size: {size}">'
-             + escape("\n".join([*lines, shows])) + "</pre>" for head, lines, shows in page.sums]
+             + escape("\n".join([*lines, shows])) + "</pre>" for head, lines, shows in sums]
     return ["<h2>The sums of its leaves</h2>",
             '<p class="pale">Each number times the side of a row or bound that holds in that part; '
             "on the left what the sum of the rows is, which is the objective, or nothing.</p>",
             *found]
 
 
-def failure_of(page: Page) -> list[str]:
-    if not page.failure:
+def failure_of(told: Explaining) -> list[str]:
+    if told.holds:
         return []
-    steps = [f"<li>{escape(step)}</li>" for step in page.path]
-    return ["<h2>Where it does not hold</h2>", '<div class="fails">',
-            f"<p>{escape(page.failure[:1].upper() + page.failure[1:])}.</p>",
+    failure = told.wording.failure(told.verdict)[0][10:]
+    path = told.wording.path(told.fails) if told.fails is not None else []
+    steps = [f"<li>{escape(step)}</li>" for step in path]
+    return ["<h2>Where it does not hold</h2>", '<div class="fails">', f"<p>{sentence(failure)}</p>",
             *(["<p>The splits that lead there:</p>", "<ol>", *steps, "</ol>"] if steps else []),
             "</div>"]
 
 
-def used_of(page: Page) -> list[str]:
-    if not page.used:
+def used_of(told: Explaining) -> list[str]:
+    """The rows of the model, and in how many leaves they are used."""
+    used = sorted(told.tally.rows.items(), key=lambda item: (-item[1], item[0]))
+    if not used:
         return []
     rows = []
-    for used in page.used:
-        width = max(1, round(100 * used.times / max(page.leaves, 1)))
-        rows.append(f"<tr><td>{escape(used.name)}</td><td>{used.times}</td>"
+    for number, times in used[:MOST_USED]:
+        width = max(1, round(100 * times / max(told.tally.leaves, 1)))
+        rows.append(f"<tr><td>{escape(told.wording.row(number))}</td><td>{times}</td>"
                     f'<td class="share"><span class="bar" style="width: {min(width, 100)}%"></span>'
                     "</td></tr>")
+    more = len(used) - MOST_USED
     return ["<h2>Rows that its leaves use</h2>", "<table>",
             "<thead><tr><th>row</th><th>leaves</th><th></th></tr></thead>", "<tbody>", *rows,
-            "</tbody>", "</table>", *([f'<p class="pale">{escape(page.more)}</p>'] if page.more
-                                      else [])]
+            "</tbody>", "</table>",
+            *([f'<p class="pale">and {more} rows more</p>'] if more > 0 else [])]

@@ -10,8 +10,7 @@ from html import escape
 from typing import Iterator, NamedTuple
 
 from .bounds import Bounds
-from .page import Part
-from .reading import DUALS, LEMMA, PLANE, ROOT, SPLIT, WEIGHTS, Certificate
+from .reading import DUALS, LEMMA, PLANE, ROOT, SPLIT, WEIGHTS
 from .words import Wording, short
 
 MOST_SHOWN = 64                 # nodes before a tree is folded
@@ -53,6 +52,16 @@ class Drawn(NamedTuple):
     y: int
 
 
+class Part(NamedTuple):
+    """A node that is drawn: its line, what is true there, the bound, how it goes on or closes."""
+
+    line: int
+    depth: int
+    part: str
+    bound: str
+    way: str
+
+
 def cut(text: str, most: int = MOST_TEXT) -> str:
     return text if len(text) <= most else text[:most - 1] + "\u2026"
 
@@ -61,17 +70,12 @@ class Picture:
     """Of one certificate. `fails` is the place of the first leaf that does not close; `holds`: all
     of them do."""
 
-    def __init__(self, certificate: Certificate, wording: Wording, bounds: Bounds | None,
-                 fails: int | None = None, holds: bool = True) -> None:
-        self.certificate, self.wording, self.fails = certificate, wording, fails
-        self.bounds, self.holds = bounds, holds
-        path = certificate.path(fails)[:MOST_PATH] if fails is not None else []
-        self.on_path = set(path)
+    def __init__(self, wording: Wording, fails: int | None = None, holds: bool = True) -> None:
+        self.certificate, self.wording, self.fails = wording.certificate, wording, fails
+        self.bounds, self.holds = wording.bounds, holds
+        self.on_path = set(self.certificate.path(fails)[:MOST_PATH] if fails is not None else [])
         self.depth = self.folded_depth()
-        self.values: dict[int, Fraction | None] = {}
-        nodes = certificate.nodes
-        if bounds is not None and nodes:
-            self.values = bounds_of(certificate, bounds)
+        self.values = bounds_of(self.bounds) if self.bounds is not None else {}
         self.drawn: list[Drawn] = []
         self.lowest = MARGIN
         self.lay_out()
@@ -115,11 +119,6 @@ class Picture:
                             heights[place]) for place in order]
 
     # what a node says ----------------------------------------------------------------
-
-    def texts(self, place: int) -> list[str]:
-        """Its lines: the part, the bound, how it goes on or closes."""
-        return list(filter(None, (self.part_text(place), self.bound_text(place),
-                                  self.way_text(place))))
 
     def part_text(self, place: int, most: int = 0) -> str:
         """`z \u2264 0`; of a long form the start alone stands before the sign."""
@@ -224,49 +223,40 @@ class Picture:
 
     def boxes(self) -> Iterator[str]:
         for d in self.drawn:
-            texts = self.texts(d.place)
             line = self.certificate.nodes[d.place].line
-            whole = escape("\n".join([*filter(None, texts), f"line {line}"]))
+            texts = list(filter(None, (self.bound_text(d.place), self.way_text(d.place))))
+            whole = escape("\n".join([self.part_text(d.place), *texts, f"line {line}"]))
             yield (f'<g class="{self.css_class(d.place)}"><title>{whole}</title>'
                    f'<rect x="{d.x}" y="{d.y}" width="{WIDTH}" height="{HEIGHT}" rx="6"/>')
             yield f'<text class="line" x="{d.x + WIDTH - 8}" y="{d.y + 18}">{line}</text>'
-            for k, text in enumerate([self.part_text(d.place, MOST_PART), *texts[1:]]):
+            for k, text in enumerate([self.part_text(d.place, MOST_PART), *texts]):
                 mark = ' class="part"' if k == 0 else ""
                 yield (f'<text{mark} x="{d.x + 8}" y="{d.y + 18 + 16 * k}">'
                        f'{escape(cut(text))}</text>')
             yield "</g>"
 
 
-def bounds_of(certificate: Certificate, bounds: Bounds) -> dict[int, Fraction | None]:
+def bounds_of(bounds: Bounds) -> dict[int, Fraction | None]:
     """The bound that is shown at each node: that of a leaf's numbers, and else of the worse part;
     None where there is no point. A lemma has that of its second tree. Nodes with a leaf whose
     numbers show nothing are left out, and those that are left when time is over."""
     values: dict[int, Fraction | None] = {}
-    nodes, end = certificate.nodes, time.monotonic() + SECONDS
-    for place in range(len(nodes) - 1, -1, -1):
-        node = nodes[place]
+    certificate, end = bounds.certificate, time.monotonic() + SECONDS
+    for place, node in reversed(list(enumerate(certificate.nodes))):
         if time.monotonic() > end:
             break
         if node.kind == WEIGHTS:
             values[place] = None
         elif node.kind == DUALS:
-            part = bounds.part(place)
-            shown = bounds.shown(place, part)
+            shown = bounds.shown(place, bounds.part(place))
             if shown is not None:
                 values[place] = shown
         else:
             below = certificate.children(place)[1 if node.kind == LEMMA else 0:]
             if all(child in values for child in below):
-                worse = max if is_maximised(place, certificate, bounds) else min
+                in_proof = any(above.kind == LEMMA and part == 0
+                               for above, part in certificate.steps(place))
+                worse = max if in_proof or bounds.goal.maximise else min
                 values[place] = worse((value for child in below
                                        if (value := values[child]) is not None), default=None)
     return values
-
-
-def is_maximised(place: int, certificate: Certificate, bounds: Bounds) -> bool:
-    """Whether the goal at a node is to be maximised."""
-    path = certificate.path(place)
-    for above, below in zip(path, path[1:]):
-        if certificate.nodes[above].kind == LEMMA and certificate.nodes[below].part == 0:
-            return True
-    return bounds.goal.maximise

@@ -4,7 +4,7 @@ are as they must be; other texts are a ValueError or an IndexError."""
 from __future__ import annotations
 
 from fractions import Fraction
-from typing import Iterator, NamedTuple
+from typing import Iterator, List, NamedTuple, Tuple
 
 SPLIT, PLANE, LEMMA, DUALS, WEIGHTS = "split", "plane", "lemma", "duals", "weights"
 POINTED = ("optimal", "within", "feasible", "unbounded")
@@ -57,40 +57,38 @@ class Certificate(NamedTuple):
             place = self.nodes[place].parent
         return found[::-1]
 
+    def steps(self, place: int) -> list[tuple[Node, int]]:
+        """The nodes above a node, from the root on, each with the part of it that leads there."""
+        path = self.path(place)
+        return [(self.nodes[above], self.nodes[below].part) for above, below in zip(path, path[1:])]
+
     def place_of_leaf(self, number: int) -> int:
         return next(p for p, node in enumerate(self.nodes) if node.leaf == number)
 
 
-class Lines:
-    """Lines with words, each with its number from 1."""
-
-    def __init__(self, path: str) -> None:
-        self.path = path
-
-    def __iter__(self) -> Iterator[tuple[int, list[str]]]:
-        with open(self.path, encoding="ascii") as f:
-            for number, line in enumerate(f, 1):
-                words = line.split()
-                if words:
-                    yield number, words
+Lines = Iterator[Tuple[int, List[str]]]         # those with words, each with its number from 1
 
 
-def pairs_from(lines: Iterator[tuple[int, list[str]]], count: int) -> list[tuple[int, str]]:
-    found = []
-    for _ in range(count):
-        _, words = next(lines)
-        found.append((int(words[0]), words[1]))
-    return found
+def lines_of(path: str) -> Lines:
+    with open(path, encoding="ascii") as f:
+        for number, line in enumerate(f, 1):
+            words = line.split()
+            if words:
+                yield number, words
 
 
-def listed(lines: Iterator[tuple[int, list[str]]]) -> dict[int, Fraction]:
+def pairs_from(lines: Lines, count: int) -> list[tuple[int, str]]:
+    return [(int(words[0]), words[1]) for _, words in (next(lines) for _ in range(count))]
+
+
+def listed(lines: Lines) -> dict[int, Fraction]:
     """A point or a ray."""
     _, words = next(lines)
     return {j: Fraction(value) for j, value in pairs_from(lines, int(words[1]))}
 
 
 def read(path: str) -> Certificate:
-    lines = iter(Lines(path))
+    lines = lines_of(path)
     try:
         next(lines)
         _, words = next(lines)
@@ -104,7 +102,7 @@ def read(path: str) -> Certificate:
     return Certificate(claim, objective, [Fraction(word) for word in words[2:]], point, ray, nodes)
 
 
-def tree_from(lines: Iterator[tuple[int, list[str]]]) -> list[Node]:
+def tree_from(lines: Lines) -> list[Node]:
     nodes: list[Node] = []
     wanted = [(ROOT, 0)]            # parts that are to come: their parents, and which they are
     leaves = 0

@@ -44,17 +44,17 @@ def both(value: Fraction) -> str:
 
 def terms_of(bounds: Bounds, wording: Wording, place: int, part: Part) -> Iterator[Term]:
     """Those of rows, then those of the variables with the costs that rows leave."""
-    def term(number: Fraction, what: str, ends: tuple[End, End]) -> Term | None:
-        side = bounds.side(place, part, number, ends)
-        sign = "\u2265" if bounds.is_lower(place, part, number) else "\u2264"
-        return None if side is None else Term(number, f"{what} {sign} {side}", side)
+    found: list[tuple[Fraction, str, tuple[End, End]]] = []
     for number, text in bounds.certificate.nodes[place].pairs:
         row = bounds.row_at(number, part)
-        yield from filter(None, [term(Fraction(text), wording.row(number, place),
-                                      (row.low, row.high))])
-    for j, cost in bounds.left(place, part)[1].items():
-        yield from filter(None, [term(cost, wording.column(j),
-                                      part.ends.get(j) or bounds.ends(j))])
+        found.append((Fraction(text), wording.row(number, place), (row.low, row.high)))
+    found += [(cost, wording.column(j), part.ends.get(j) or bounds.ends(j))
+              for j, cost in bounds.left(place, part)[1].items()]
+    for value, what, ends in found:
+        side = bounds.side(place, part, value, ends)
+        sign = "\u2265" if bounds.is_lower(place, part, value) else "\u2264"
+        if side is not None:
+            yield Term(value, f"{what} {sign} {side}", side)
 
 
 def sum_at(bounds: Bounds, wording: Wording, place: int) -> Sum | None:
@@ -74,7 +74,7 @@ def sum_at(bounds: Bounds, wording: Wording, place: int) -> Sum | None:
     if is_weights:
         shows = f"0 \u2265 {both(total)}: " + ("no point" if total > 0 else "true")
     else:
-        of = "objective" if part.goal.lemma < 0 else "lemma's form"
+        of = "lemma's form" if part.goal.lemma else "objective"
         shows = f"{of} {chr(0x2264) if part.goal.maximise else chr(0x2265)} {both(total)}"
     return Sum(place, lines_of(terms, total), shows)
 
@@ -91,14 +91,12 @@ def lines_of(terms: Sequence[Term], total: Fraction) -> list[str]:
     return [*lines, "\u2500" * width, f"{products[-1]:>{width}}"]
 
 
-def sums(bounds: Bounds | None, wording: Wording, places: Sequence[int]) -> list[Sum]:
+def sums(wording: Wording, places: Sequence[int]) -> Iterator[Sum]:
     """Of these leaves, as far as there is time."""
-    if bounds is None:
-        return []
-    found, end = [], time.monotonic() + SECONDS
+    end = time.monotonic() + SECONDS
     for place in places:
-        if time.monotonic() > end:
-            break
-        made = sum_at(bounds, wording, place)
-        found += [made] if made is not None else []
-    return found
+        if wording.bounds is None or time.monotonic() > end:
+            return
+        made = sum_at(wording.bounds, wording, place)
+        if made is not None:
+            yield made

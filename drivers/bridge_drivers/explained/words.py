@@ -10,7 +10,8 @@ from typing import Mapping, NamedTuple, Sequence
 
 from .. import verdicts
 from ..names import Names
-from ..values import exact_decimal
+from ..printable import some
+from ..values import double_of, exact_decimal
 from ..verdicts import Said, decimal, share
 from .bounds import Bounds, Part
 from .reading import LEMMA, PLANE, SPLIT, WEIGHTS, Certificate, Node
@@ -30,10 +31,8 @@ def short(value: Fraction) -> str:
     text = exact_decimal(value)
     if text is not None and len(text) <= 12:
         return text
-    try:
-        return f"{ABOUT}{float(value):.6g}"
-    except OverflowError:
-        return BEYOND
+    double = double_of(value)
+    return BEYOND if double is None else f"{ABOUT}{double:.6g}"
 
 
 class Tally(NamedTuple):
@@ -83,18 +82,12 @@ class Wording:
         """A constraint, or a row that was added above the node."""
         if number < self.constraints:
             return self.names.constraint(number)
-        added = self.added_above(place)
+        added = [node for node, part in self.certificate.steps(place)
+                 if node.kind == PLANE or node.kind == LEMMA and part == 1]
         if number - self.constraints < len(added):
-            node = self.certificate.nodes[added[number - self.constraints]]
+            node = added[number - self.constraints]
             return f"the {node.kind} of line {node.line}"
         return f"row {number}"
-
-    def added_above(self, place: int) -> list[int]:
-        """The planes above a node, and the lemmas in whose second tree it is."""
-        nodes, path = self.certificate.nodes, self.certificate.path(place)
-        return [above for above, below in zip(path, path[1:])
-                if nodes[above].kind == PLANE
-                or nodes[above].kind == LEMMA and nodes[below].part == 1]
 
     def form(self, pairs: Sequence[tuple[int, str]]) -> str:
         """`10 a + 7 b - z`, of many terms the first."""
@@ -141,22 +134,18 @@ class Wording:
 
     def path(self, place: int) -> list[str]:
         """The cuts from the root to a node, each with its line."""
-        nodes = self.certificate.nodes
-        return [f"{cut} (line {nodes[above].line})"
-                for cut, above in zip(self.cuts(place), self.certificate.path(place))]
+        return [f"{self.cut(node, part)} (line {node.line})"
+                for node, part in self.certificate.steps(place)]
 
     def cuts(self, place: int) -> list[str]:
         """The same without lines."""
-        nodes, path = self.certificate.nodes, self.certificate.path(place)
-        return [self.cut(nodes[above], nodes[below].part) for above, below in zip(path, path[1:])]
+        return [self.cut(node, part) for node, part in self.certificate.steps(place)]
 
     # what holds ----------------------------------------------------------------------
 
     def values(self, point: Mapping[int, Fraction]) -> str:
-        texts = [f"{self.column(j)} {value}" for j, value in list(point.items())[:MOST_LISTED]]
-        more = len(point) - MOST_LISTED
-        rest = f" and {more} more" if more > 0 else ""
-        return (", ".join(texts) or "all 0") + rest + ("; the others 0" if texts else "")
+        texts = [f"{self.column(j)} {value}" for j, value in point.items()]
+        return (some(texts, MOST_LISTED) or "all 0") + ("; the others 0" if texts else "")
 
     def lines(self) -> list[str]:
         """What the certificate is made of."""
@@ -239,10 +228,7 @@ class Wording:
         if part is None or part.goal.target is None:
             return shows.format("no point") + ", which is not what is claimed"
         goal, what = part.goal, "no point of this part"
-        wanted = "the claim needs"
-        if goal.lemma >= 0:
-            line = self.certificate.nodes[goal.lemma].line
-            wanted = f"the lemma of line {line} needs"
+        wanted = f"the lemma of line {goal.lemma} needs" if goal.lemma else "the claim needs"
         assert goal.target is not None
         away = abs(value - goal.target)
         sense = "too high" if goal.maximise else "too low"

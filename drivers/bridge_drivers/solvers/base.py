@@ -69,13 +69,12 @@ class Solver:
         found = re.search(self.version, log) if self.version else None
         return self.title + (" " + found.group(1) if found else "")
 
-    def far_note(self, program: Program) -> str:
+    def far_notes(self, program: Program) -> list[str]:
         """A line where the program has sides or bounds that are none to this solver."""
         count = program.far(float(self.infinite)) if self.infinite else 0
-        if not count:
-            return ""
-        return f"the model has {count} {'side or bound' if count == 1 else 'sides or bounds'} " \
-               f"from {self.infinite} on, which {self.title} may take for none"
+        ends = "side or bound" if count == 1 else "sides or bounds"
+        return [f"the model has {count} {ends} from {self.infinite} on, which {self.title} may "
+                "take for none"] if count else []
 
     def solve(self, job: Job) -> Outcome:
         raise NotImplementedError

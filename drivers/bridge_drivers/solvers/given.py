@@ -6,8 +6,8 @@ from __future__ import annotations
 import copy
 import math
 import re
-from fractions import Fraction
 
+from ..mps_reader import exact
 from ..program import Program
 
 BOUND = re.compile(rb"^ (LO|UP) (\S+) (\S+) (\S*[.eE]\S*)$", re.M)
@@ -24,8 +24,7 @@ def given(program: Program, relaxed: bool = False) -> Program:
         kind, label, name, text = found.groups()
         if name not in whole:
             return found.group()
-        value = Fraction(text.decode())
-        end = math.ceil(value) if kind == b"LO" else math.floor(value)
+        end = math.ceil(exact(text)) if kind == b"LO" else math.floor(exact(text))
         return b" %s %s %s %d" % (kind, label, name, end)
     bounds = BOUND.sub(rounded, program.text[start:]) if start >= 0 else b""
     if start < 0 or bounds == program.text[start:]:
@@ -39,6 +38,6 @@ def hollow(program: Program) -> str | None:
     """A whole column without a whole number between its bounds."""
     for name, low, high in zip(program.columns, *program.read.bounds()) if program.whole else ():
         if low and high and name in program.whole and \
-                math.floor(Fraction(high.decode())) < math.ceil(Fraction(low.decode())):
+                math.floor(exact(high)) < math.ceil(exact(low)):
             return name
     return None
