@@ -198,7 +198,8 @@ class Project:
         fish are one text under the name of each command."""
         made = Completion()
         yield File(place("zsh", "", self.name, zsh), made.text("zsh").encode())
-        for shell, text in (("bash", made.text("bash").encode()), ("fish", made.text("fish").encode())):
+        for shell in ("bash", "fish"):
+            text = made.text(shell).encode()
             for name in self.scripts:
                 yield File(place(shell, "", name), text)
 

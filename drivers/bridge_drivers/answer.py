@@ -13,7 +13,7 @@ from .miss import NONE, Miss, miss, missing
 from .options import Options
 from .program import Program
 from .solvers.base import Outcome
-from .values import Number, texts_of
+from .values import Number, double_of, texts_of
 
 NEAR_WHOLE = 1e-5
 NEAR_DUAL = 1e-7
@@ -38,7 +38,6 @@ class Answer:
             self.duals, self.loose_duals = by_name(program.constraints, outcome.duals)
         if outcome.costs is not None:       # they are checked by nothing, exact or not
             self.costs, _ = by_name(program.columns, outcome.costs)
-        self.lines: list[str] | None = None
 
     @cached_property
     def doubles(self) -> dict[str, float]:
@@ -84,8 +83,9 @@ class Answer:
 
     def with_duals(self, duals: Mapping[str, str] | None) -> Answer:
         other = copy.copy(self)
+        other.__dict__.pop("body", None)
         other.duals = None if duals is None else dict(duals)
-        other.costs, other.lines, other.loose_duals = None, None, 0
+        other.costs, other.loose_duals = None, 0
         return other
 
     def at(self, values: Mapping[str, Number], duals: Mapping[str, Fraction], code: Code,
@@ -95,7 +95,8 @@ class Answer:
         outcome = replace(self.outcome, values=values, objective=None, code=code)
         if not is_own:
             known = {row: duals[row] for row in self.program.constraints if row in duals}
-            lacks = len(known) < len(self.program.constraints) or self.is_integer()
+            is_integer = bool(self.program.whole) and not self.options.relax
+            lacks = len(known) < len(self.program.constraints) or is_integer
             return Answer(self.program, replace(outcome, duals=None if lacks else known,
                                                 costs=None, column_basis=None, row_basis=None),
                           self.options)
@@ -107,9 +108,6 @@ class Answer:
         other = Answer(self.program, replace(outcome, costs=None), self.options)
         other.outcome, other.costs = outcome, self.costs
         return other if self.duals is not None else other.with_duals(None)
-
-    def is_integer(self) -> bool:
-        return bool(self.program.whole) and not self.options.relax
 
     def with_code(self, code: Code) -> Answer:
         other = copy.copy(self)
@@ -127,51 +125,34 @@ class Answer:
             return None
         figure = self.outcome.objective
         if isinstance(figure, Fraction):
-            text = str(figure)
-            if len(text) > 40:
-                text = f"{shown(figure)} (a fraction of {len(text)} digits)"
-            return text
+            text, double = str(figure), double_of(figure)
+            near = "beyond doubles" if double is None else f"{double:.17g}"
+            return text if len(text) <= 40 else f"{near} (a fraction of {len(text)} digits)"
         return f"{self.program.figure(self.doubles):.10g}"
 
+    @cached_property
     def body(self) -> list[str]:
-        if self.lines is None:
-            self.lines = self.made()
-        return self.lines
-
-    def made(self) -> list[str]:
         lines, o = [], self.outcome
         if self.values is not None:
             lines += [f"col {c} {v}" for c, v in self.values.items()]
         if self.duals is not None:
             lines += [f"row {r} {v}" for r, v in self.duals.items()]
         if self.costs is not None:
-            lines += self.cost_lines(self.costs)
+            told = {c: v for c, v in self.costs.items() if v != "0"}    # one says: all are known
+            lines += [f"suffix 4 rc {c} {v}"
+                      for c, v in (told or dict(list(self.costs.items())[:1])).items()]
         if o.column_basis and o.row_basis is not None and self.costs is not None:
             lines += [f"suffix 0 sstatus {c} {s}" for c, s in o.column_basis.items()]
             lines += [f"suffix 1 sstatus {r} {s}" for r, s in o.row_basis.items()]
         return lines
 
-    @staticmethod
-    def cost_lines(costs: Mapping[str, str]) -> list[str]:
-        """Those that are not 0; where all are 0, one, which says that they are known."""
-        told = {c: v for c, v in costs.items() if v != "0"} or dict(list(costs.items())[:1])
-        return [f"suffix 4 rc {c} {v}" for c, v in told.items()]
-
     def text(self, message: Sequence[str]) -> bytes:
         lines = ["answer 1", f"status {int(self.outcome.code)}", f"objno {self.options.objno - 1}"]
         lines += [f"message {m}" for m in message]
-        return ("\n".join(lines + self.body()) + "\n").encode()
+        return ("\n".join(lines + self.body) + "\n").encode()
 
 
 def by_name(names: Sequence[str], values: Mapping[str, Number]) -> tuple[dict[str, str], int]:
     """Decimal texts, with how many are not exact."""
     texts, loose = texts_of([values[name] for name in names])
     return dict(zip(names, texts)), loose
-
-
-def shown(figure: Fraction) -> str:
-    """A long fraction as a double."""
-    try:
-        return f"{float(figure):.17g}"
-    except OverflowError:
-        return "beyond doubles"

@@ -22,7 +22,7 @@ from .certify.watch import Watch
 from .codes import Code
 from .job import Job
 from .keeping import Keeper, Kept
-from .sol import duals_of, values_of
+from .sol import numbers_of
 from .solvers.base import BASIC
 from .values import plain, text_of
 from .verdicts import Said
@@ -145,8 +145,8 @@ class Certifier:
 
     def numbers(self, answer: Answer) -> tuple[list[str], list[str]]:
         """The values and duals of an answer as they are written."""
-        sol = self.returned(answer, [], "numbers")
-        return values_of(sol), duals_of(sol) if self.linear else []
+        duals, values = numbers_of(self.returned(answer, [], "numbers"))
+        return values, duals if self.linear else []
 
     def given(self, answer: Answer) -> Given:
         """The answer by position: the solver's numbers, whole ones as they are written."""

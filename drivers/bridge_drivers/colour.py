@@ -7,7 +7,7 @@ import os
 from typing import Sequence, TextIO
 
 from . import verdicts
-from .console import raw
+from .console import is_terminal, raw
 
 GREEN, YELLOW, RED = 32, 33, 31
 PROVED = ("yes ", "proved")             # verdicts of `check` and `prove`
@@ -21,12 +21,8 @@ def of(verdict: str) -> int:
 
 
 def is_wanted(stream: TextIO) -> bool:
-    if os.environ.get("NO_COLOR") or os.environ.get("TERM") == "dumb":
-        return False
-    try:
-        return stream.isatty()
-    except (OSError, ValueError):
-        return False
+    return not os.environ.get("NO_COLOR") and os.environ.get("TERM") != "dumb" \
+        and is_terminal(stream)
 
 
 def tell(line: str, stream: TextIO, verdict: str = "") -> None:

@@ -61,6 +61,13 @@ def guarded(call: Callable[[], Result]) -> Result:
         raise OutputBroken(fault.strerror or str(fault)) from None
 
 
+def is_terminal(stream: TextIO) -> bool:
+    try:
+        return stream.isatty()
+    except (OSError, ValueError):
+        return False
+
+
 def own_name() -> str:
     """The name that this command was called by."""
     return os.path.basename(sys.argv[0]).removesuffix(".exe")

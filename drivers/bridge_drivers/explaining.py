@@ -65,11 +65,6 @@ def meaning(reason: str) -> str:
     return f" ({text})" if text else ""
 
 
-def without_files(told: str) -> str:
-    """A told line with its meaning, where the words of the call are not known."""
-    return told + meaning(told.rpartition(": ")[2])
-
-
 def fault_at(path: str) -> str:
     """Why a file cannot be read; nothing where it can, or is no plain file, of which nothing is
     taken here."""
@@ -77,10 +72,8 @@ def fault_at(path: str) -> str:
         if os.path.isfile(path) or os.path.isdir(path) or not os.path.exists(path):
             with open(path, "rb"):
                 pass
-    except OSError as fault:
-        return fault.strerror or str(fault)
-    except ValueError as fault:             # a byte 0 in the path
-        return str(fault)
+    except (OSError, ValueError) as fault:          # a byte 0 in the path
+        return getattr(fault, "strerror", "") or str(fault)
     return ""
 
 
@@ -156,14 +149,6 @@ def place_of(segment: Segment, line: int, names: Names) -> str:
             b"x": "guesses of values", b"S": "suffix", b"F": "imported function"}[letter]
 
 
-def expression_at(segment: Segment, line: int, names: Names) -> str:
-    """The expression that begins on the line, or nothing."""
-    start = line - segment.head_line - 1
-    if not segment.head or start < 0 or start >= len(segment.body):
-        return ""
-    return Expression(names).text(segment.body[start:])
-
-
 def fault_of(reason: str, expression: str) -> str:
     """`(x0 * x1) is nonlinear`, or the reason with its meaning."""
     opcode = OPCODE.match(reason)
@@ -180,41 +165,44 @@ def fault_of(reason: str, expression: str) -> str:
 
 class Refusal:
     """One refusal: `words` are those of the call, `told` is its line, `shown` the paths that the
-    user knows files by. Names are looked for beside the first file as it is shown."""
+    user knows files by. Names are looked for beside the first file as it is shown. `line` says all
+    of it."""
 
     def __init__(self, words: Sequence[str], told: str, shown: Mapping[str, str]) -> None:
-        self.command, self.words, self.told = words[0], words, told
+        self.command, self.told = "".join(words[:1]), told
         self.files = files_of(words)
         self.shown = [shown.get(file, file) for file in self.files]
         self.parts = parsed(told)
         self.is_model = self.command in NL_FIRST and bool(self.files)
-        stub = self.shown[0] if self.shown else ""
-        self.names = Names(kinds.stub_of(stub),
+        self.names = Names(kinds.stub_of("".join(self.shown[:1])),
                            *(counts_of(self.files[0]) if self.is_model else (None, None)))
         self.segment: Segment | None = None
+        self.line = in_a_line(self.text())
 
-    def line(self) -> str:
-        """All of it in one line."""
-        return in_a_line(self.text())
+    def file(self) -> str:
+        """As it is shown; nothing where it is not known which one it is."""
+        t = self.parts
+        return self.shown[t.file - 1] if t and 1 <= t.file <= len(self.files) else ""
 
     def text(self) -> str:
-        t = self.parts
-        if t is None or not 1 <= t.file <= len(self.files):
-            return without_files(self.told)
-        file = self.shown[t.file - 1]
+        t, file = self.parts, self.file()
+        if t is None or not file:
+            return self.told + meaning(self.told.rpartition(": ")[2])
         if t.kind == "line":
             return f"{file} line {t.number}: {self.at_line(t)}"
-        thing = self.thing(t)
-        return f"{file}: {thing}{t.reason}{meaning(t.reason)}"
+        return f"{file}: {self.thing(t)}{t.reason}{meaning(t.reason)}"
 
     def at_line(self, t: Told) -> str:
-        if t.file == 1 and self.is_model and t.reason == "bad first line":
+        is_mps = t.file == 1 and self.command in mps_faults.COMMANDS
+        if t.file == 1 and (is_mps and t.number == 1
+                            or self.is_model and t.reason == "bad first line"):
             kind = kinds.kind_of(self.files[0])
-            if kind is not None:
+            if kind is not None and not (is_mps and kind is kinds.MPS):
                 return f"{t.reason}: it {kinds.told(self.files[0], kind, self.shown[0])}"
-        if t.file == 1 and self.command in mps_faults.COMMANDS:
-            return self.at_mps_line(t)
-        if t.reason == "bad first line" and self.file_two(t):
+        if is_mps:
+            word = mps_faults.fault(self.files[0], t.number, t.reason)
+            return f"{t.reason} {word}" if word else t.reason + meaning(t.reason)
+        if t.reason == "bad first line" and t.file == 2 and self.command in FIRST_LINES:
             return f"{t.reason} (it does not begin with `{FIRST_LINES[self.command]}`)"
         if t.file != 1 or not self.is_model or t.reason in AT_END:
             return t.reason + meaning(t.reason)
@@ -222,39 +210,25 @@ class Refusal:
             self.segment = segment = segment_at(self.files[0], t.number)
         except OSError:
             return t.reason + meaning(t.reason)
-        expression = ""
-        if not t.reason.startswith(("short", "extra", "bad line")):
-            expression = expression_at(segment, t.number, self.names)
+        start, expression = t.number - segment.head_line - 1, ""
+        if not t.reason.startswith(("short", "extra", "bad line")) and segment.head and start >= 0:
+            expression = Expression(self.names).text(segment.body[start:])
         return f"{place_of(segment, t.number, self.names)}: {fault_of(t.reason, expression)}"
-
-    def at_mps_line(self, t: Told) -> str:
-        """By the word that is at fault, or by what the file is that is none."""
-        kind = kinds.kind_of(self.files[0]) if t.number == 1 else None
-        if kind is not None and kind is not kinds.MPS:
-            return f"{t.reason}: it {kinds.told(self.files[0], kind, self.shown[0])}"
-        word = mps_faults.fault(self.files[0], t.number, t.reason)
-        return f"{t.reason} {word}" if word else t.reason + meaning(t.reason)
-
-    def file_two(self, t: Told) -> bool:
-        """Whether it is the second file of a command, whose first line is known."""
-        return t.file == 2 and self.command in FIRST_LINES
 
     def thing(self, t: Told) -> str:
         """`constraint 3 (Cap): ` for a row of the model; rows of an MPS text have no names here."""
         if not t.kind:
             return ""
-        if t.kind == "row" and self.is_model:
-            return self.names.constraint(t.number) + ": "
-        if t.kind == "objective" and self.is_model:
-            return self.names.objective(t.number) + ": "
+        own = {"row": self.names.constraint, "objective": self.names.objective}
+        if self.is_model and t.kind in own:
+            return own[t.kind](t.number) + ": "
         return f"{t.kind} {t.number}: "
 
     def more(self) -> list[str]:
         """Further lines: the whole expression with the fault marked, the lines around, what
         helps."""
-        self.line()
         t, lines = self.parts, []
-        if t is None or not 1 <= t.file <= len(self.files):
+        if t is None or not self.file():
             return []
         if self.segment is not None and self.segment.body:
             whole = Expression(self.names, t.number - self.segment.head_line - 1)
@@ -287,9 +261,7 @@ def around(path: str, line: int, before: int = 2, after: int = 3) -> list[str]:
 
 def in_words(words: Sequence[str], told: str, shown: Mapping[str, str]) -> str:
     """A told line in words. Without words its meaning alone."""
-    if not words:
-        return without_files(told)
-    return Refusal(words, told, shown).line()
+    return Refusal(words, told, shown).line
 
 
 def object_of(words: Sequence[str], told: str,
@@ -299,8 +271,6 @@ def object_of(words: Sequence[str], told: str,
     if t is None or not words:
         return None
     refusal = Refusal(words, told, shown)
-    more = refusal.more()
     return {"told": told, "reason": t.reason, "kind": t.kind or None,
-            "number": t.number if t.kind else None,
-            "file": refusal.shown[t.file - 1] if 1 <= t.file <= len(refusal.shown) else None,
-            "more": more}
+            "number": t.number if t.kind else None, "file": refusal.file() or None,
+            "more": refusal.more()}

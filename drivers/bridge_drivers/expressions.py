@@ -30,17 +30,6 @@ MOST_MARKED = 160
 MOST_TERMS = 6
 
 
-def operator_name(opcode: int) -> str:
-    return NAMES.get(opcode, f"opcode {opcode}")
-
-
-def operands_of(opcode: int) -> int:
-    """How many operands an operator has that no count follows."""
-    if opcode in TRIPLES:
-        return 3
-    return 2 if opcode in PAIRS or opcode in COUNTS else 1
-
-
 class Part(NamedTuple):
     """A piece of text, and whether the mark is in it."""
 
@@ -131,8 +120,9 @@ class Expression:
             return Operator(-1, comment_of(line) or f"function {number}", wanted, is_fault)
         if words[0][:1] != b"o" or number == PIECEWISE:
             return None
-        wanted = -1 if number in LISTS else operands_of(number)
-        return Operator(number, operator_name(number), wanted, is_fault)
+        wanted = -1 if number in LISTS else 3 if number in TRIPLES \
+            else 2 if number in PAIRS or number in COUNTS else 1
+        return Operator(number, NAMES.get(number, f"opcode {number}"), wanted, is_fault)
 
     def leaf(self, line: bytes) -> str:
         """A number, a variable, a string; nothing for another line."""

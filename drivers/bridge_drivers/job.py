@@ -11,7 +11,7 @@ import threading
 import time
 from typing import Any, Callable, Mapping, NamedTuple, Sequence, TypeVar
 
-from .files import naming
+from .files import fill
 from .interrupts import SIGNALS, kill, send, with_child
 from .options import Options
 from .program import Program
@@ -85,10 +85,7 @@ class Job:
         return os.path.join(self.folder, name)
 
     def write(self, name: str, data: bytes) -> str:
-        path = self.path(name)
-        with naming(path), open(path, "wb") as f:
-            f.write(data)
-        return path
+        return fill(self.path(name), data)
 
     def run(self, argv: Sequence[str], log: str = LOG) -> Ran:
         """One run of a solver in the folder, where paths of the folder become plain names. It is
@@ -96,15 +93,13 @@ class Job:
         inside = self.folder + os.sep
         argv = [w[len(inside):] if w.startswith(inside) else w for w in argv]
         self.clock.note(argv, self.folder)
-        ran = self.clock.timed("solver", self.process, argv)
+        ran = self.clock.timed("solver", lambda: with_child(
+            self.followed, argv, stdin=subprocess.DEVNULL, stdout=subprocess.PIPE,
+            stderr=subprocess.STDOUT, cwd=self.folder, start_new_session=True))
         self.write(log, ran.log.encode("utf-8", "replace"))
         if log == LOG:
             self.log, self.status = ran.log, ran.status
         return ran
-
-    def process(self, argv: Sequence[str]) -> Ran:
-        return with_child(self.followed, argv, stdin=subprocess.DEVNULL, stdout=subprocess.PIPE,
-                          stderr=subprocess.STDOUT, cwd=self.folder, start_new_session=True)
 
     def followed(self, child: subprocess.Popen[bytes]) -> Ran:
         """To its end, or that of its time."""

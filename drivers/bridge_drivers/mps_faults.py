@@ -6,6 +6,7 @@ import re
 from typing import Iterable, NamedTuple, Sequence
 
 from .near import near
+from .printable import either
 
 COMMANDS = ("mps", "fixed", "import", "verify_mps", "verify_fixed")     # whose first file is one
 SECTIONS = ("NAME", "OBJSENSE", "ROWS", "COLUMNS", "RHS", "RANGES", "BOUNDS", "ENDATA")
@@ -16,6 +17,9 @@ BEYOND = {**dict.fromkeys(("SOS", "SOS1", "SOS2", "SETS"), "special ordered sets
           "LAZYCONS": "lazy rows", "USERCUTS": "cuts"}
 KINDS = ("LO", "UP", "FX", "FR", "MI", "PL", "BV", "LI", "UI")
 BARE = ("FR", "MI", "PL", "BV")         # kinds of bounds that have no number
+PLAIN = {"column again": (0, "the lines of a column must stand together"),
+         "repeated row": (-1, "a line before has it"),
+         "bad marker": (-1, "'INTORG' or 'INTEND' is wanted")}     # which word, and what of it
 NUMBER = re.compile(r"[-+]?(\d+\.?\d*|\.\d+)([eEdD][-+]?\d+)?")
 
 
@@ -52,11 +56,14 @@ def fault(path: str, number: int, reason: str) -> str:
         line = line_at(path, number)
     except OSError:
         return ""
+    if not line.words:
+        return ""
+    if reason in PLAIN:
+        at, text = PLAIN[reason]
+        return of(line.words[at], text)
     ways = {"bad section": section, "bad bound kind": kind, "bad number": decimal,
-            "unknown row": row, "unknown column": column, "bad marker": marker, "bad line": plain,
-            "column again": again, "repeated row": repeated}
-    way = ways.get(reason)
-    return way(line) if way is not None and line.words else ""
+            "unknown row": row, "unknown column": column, "bad line": plain}
+    return ways[reason](line) if reason in ways else ""
 
 
 def of(word: str, text: str, known: Iterable[str] = ()) -> str:
@@ -74,10 +81,9 @@ def section(line: Line) -> str:
 
 
 def kind(line: Line) -> str:
-    word = line.words[0]
-    if word.upper() in ("SC", "SI"):
-        return of(word, "semi-continuous columns are not read")
-    return of(word, "not " + ", ".join(KINDS[:-1]) + " or " + KINDS[-1])
+    is_semi = line.words[0].upper() in ("SC", "SI")
+    return of(line.words[0], "semi-continuous columns are not read" if is_semi
+              else "not " + either(KINDS))
 
 
 def decimal(line: Line) -> str:
@@ -105,18 +111,6 @@ def unknown(words: Sequence[str], known: Iterable[str]) -> str:
     names = set(known)
     word = next((word for word in words if word not in names), "")
     return of(word, "no line before has it", sorted(names)) if word else ""
-
-
-def again(line: Line) -> str:
-    return of(line.words[0], "the lines of a column must stand together")
-
-
-def repeated(line: Line) -> str:
-    return of(line.words[-1], "a line before has it")
-
-
-def marker(line: Line) -> str:
-    return of(line.words[-1], "'INTORG' or 'INTEND' is wanted")
 
 
 def plain(line: Line) -> str:

@@ -10,6 +10,8 @@ import threading
 import time
 from typing import Mapping, TextIO
 
+from .console import is_terminal
+
 FIRST, EVERY = 1.0, 0.5         # seconds on a terminal
 EVERY_LINE = 5.0                # seconds between lines elsewhere
 CLEAR = "\r\x1b[K"
@@ -83,13 +85,6 @@ class Progress:
             self.stream.flush()
         except (OSError, ValueError):       # a stream that is closed
             self.ended.set()
-
-
-def is_terminal(stream: TextIO) -> bool:
-    try:
-        return stream.isatty()
-    except (OSError, ValueError):
-        return False
 
 
 def width(stream: TextIO) -> int:

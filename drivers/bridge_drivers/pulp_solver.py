@@ -27,6 +27,14 @@ MOST_BYTES = 255                # of a name in an MPS file
 WORDS = (("relax=1", "mip=False"), ("prove=1", "prove=True"), ("timelim=", "timeLimit="),
          ("mipgap=", "gapRel="), ("solver=PATH", "options=['solver=PATH']"),
          ("bridge=PATH", "bridge='PATH'"))              # a driver's, and what they are here
+STATUSES = (                    # of codes below the first number
+    (100, pulp.LpStatusOptimal, pulp.LpSolutionOptimal),
+    (200, pulp.LpStatusNotSolved, pulp.LpSolutionNoSolutionFound),
+    (290, pulp.LpStatusInfeasible, pulp.LpSolutionInfeasible),
+    (300, pulp.LpStatusUndefined, pulp.LpSolutionNoSolutionFound),
+    (400, pulp.LpStatusUnbounded, pulp.LpSolutionUnbounded),
+    (401, pulp.LpStatusNotSolved, pulp.LpSolutionIntegerFeasible),
+    (1000, pulp.LpStatusNotSolved, pulp.LpSolutionNoSolutionFound))
 
 
 class BridgeCmd(pulp.LpSolver_CMD):
@@ -194,18 +202,6 @@ def completed(mps: str, maximise: bool, objective: str, constant: float | None) 
 def statuses_of(code: int, last: str = "") -> tuple[int, int]:
     """PuLP's status of the problem and of its solution. A point that a limit left, or that the
     message's last line calls feasible, is that and no more; one that misses its rows is none."""
-    if code < 100:
-        return pulp.LpStatusOptimal, pulp.LpSolutionOptimal
-    if code < 200 and last.split(" ")[0] in ("feasible", "within", "optimal"):
+    if 100 <= code < 200 and last.split(" ")[0] in ("feasible", "within", "optimal"):
         return pulp.LpStatusNotSolved, pulp.LpSolutionIntegerFeasible
-    if code < 200:
-        return pulp.LpStatusNotSolved, pulp.LpSolutionNoSolutionFound
-    if code < 290:
-        return pulp.LpStatusInfeasible, pulp.LpSolutionInfeasible
-    if code < 300:
-        return pulp.LpStatusUndefined, pulp.LpSolutionNoSolutionFound
-    if code < 400:
-        return pulp.LpStatusUnbounded, pulp.LpSolutionUnbounded
-    if code == 400:
-        return pulp.LpStatusNotSolved, pulp.LpSolutionIntegerFeasible
-    return pulp.LpStatusNotSolved, pulp.LpSolutionNoSolutionFound
+    return next((status, solution) for end, status, solution in STATUSES if code < end)

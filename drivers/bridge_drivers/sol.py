@@ -24,22 +24,19 @@ def with_message(sol: bytes, message: Sequence[str]) -> bytes:
     return encoded(list(map(in_a_line, message))) + sol[sol.index(MARK):]
 
 
+def numbers_of(sol: bytes) -> tuple[list[str], list[str]]:
+    """The duals and values of a .sol that `bridge return` wrote, in order."""
+    lines = sol.decode().split("\n")
+    at = lines.index("Options")
+    at += 2 + int(lines[at + 1])
+    first = at + 4
+    middle = first + int(lines[at + 1])
+    return lines[first:middle], lines[middle:middle + int(lines[at + 3])]
+
+
 def duals_of(sol: bytes) -> list[str]:
-    """The dual values of a .sol that `bridge return` wrote, in the order of the constraints."""
-    lines = sol.decode().split("\n")
-    at = lines.index("Options")
-    at += 2 + int(lines[at + 1])
-    count = int(lines[at + 1])
-    return lines[at + 4:at + 4 + count]
-
-
-def values_of(sol: bytes) -> list[str]:
-    """Its values, in the order of the variables."""
-    lines = sol.decode().split("\n")
-    at = lines.index("Options")
-    at += 2 + int(lines[at + 1])
-    duals, count = int(lines[at + 1]), int(lines[at + 3])
-    return lines[at + 4 + duals:at + 4 + duals + count]
+    """In the order of the constraints."""
+    return numbers_of(sol)[0]
 
 
 def encoded(lines: Sequence[str]) -> bytes:

@@ -16,27 +16,27 @@ from functools import lru_cache
 from typing import Union
 
 from .bridge import Bridge
-from .mps_reader import OBJECTIVE
+from .files import fill
+from .mps_reader import OBJECTIVE, exact
 from .names import Names
+from .printable import some
 from .program import TIED, TIED_ROW, Program
 from .sol import duals_of
 from .subjects import Subject
 from .terms import entries_of
+from .values import double_of
 
 Exact = Union[int, Fraction]
 MOST_NAMED = 5                  # rows and numbers that are named of a long list
 INFINITE = 10 ** 20             # a solver takes it for no bound
+KINDS = ("continuous", "binary", "integer")
 
 
-def is_held(text: str) -> bool:
+def is_held(value: Fraction) -> bool:
     """Whether a solver that reads doubles reads this number: it is a double, or the shortest
     decimal of the one that is read."""
-    value = Fraction(text)
-    try:
-        double = float(text)
-        return Fraction(double) == value or Fraction(repr(double)) == value
-    except (OverflowError, ValueError):
-        return False
+    double = double_of(value)
+    return double is not None and value in (Fraction(double), Fraction(repr(double)))
 
 
 @dataclass
@@ -51,16 +51,18 @@ class Range:
         self.low = size if self.low is None else min(self.low, size)
         self.high = size if self.high is None else max(self.high, size)
 
-    def ends(self) -> list[float] | None:
-        """In doubles; None where there are none, or are beyond these."""
-        try:
-            return [float(end) for end in (self.low, self.high) if end is not None] or None
-        except OverflowError:
-            return None
+    def doubles(self) -> list[float | None]:
+        """Both; nothing where there are none."""
+        return [double_of(end) for end in (self.low, self.high) if end is not None]
+
+    def ends(self) -> list[float | None] | None:
+        """The same; None where there are none, or are beyond these."""
+        found = self.doubles()
+        return found if found and None not in found else None
 
     def line(self) -> str:
-        ends = [figure(end) for end in (self.low, self.high) if end is not None]
-        return " to ".join(ends) or "none"
+        return " to ".join("beyond doubles" if end is None else f"{end:g}"
+                           for end in self.doubles()) or "none"
 
 
 @dataclass
@@ -86,12 +88,18 @@ class Figures:
         return [name for name, letter in self.kinds.items()
                 if name != TIED_ROW and (not kind or letter == kind)]
 
+    def number(self, where: str, text: bytes) -> Exact:
+        value, held = known(text)
+        if not held:
+            self.lost.append((where, text.decode()))
+        return value
 
-def figure(value: Exact) -> str:
-    try:
-        return f"{float(value):g}"
-    except OverflowError:
-        return "beyond doubles"
+
+@lru_cache(maxsize=1 << 16)
+def known(text: bytes) -> tuple[Exact, bool]:
+    """A number, and whether it is held: most texts stand many times."""
+    value = exact(text)
+    return value.numerator if value.denominator == 1 else value, is_held(value)
 
 
 def figures_of(program: Program) -> Figures:
@@ -101,29 +109,15 @@ def figures_of(program: Program) -> Figures:
                 len(read.ranges))
     entries(f, program)
     for i, side in [*read.rhs.items(), *read.ranges.items()]:
-        value = number(f, program.rows[i + 1], side)
+        value = f.number(program.rows[i + 1], side)
         if i != OBJECTIVE and value:
             f.sides.take(value)
             f.infinite += not -INFINITE < value < INFINITE
     for name, low, high in zip(program.columns, read.low, read.high):
         for end in (low,) if low == high else (low, high):
-            value = number(f, name, end) if end else 0
+            value = f.number(name, end) if end else 0
             f.infinite += not -INFINITE < value < INFINITE
     return f
-
-
-@lru_cache(maxsize=1 << 16)
-def known(text: bytes) -> tuple[Exact, bool]:
-    """A number, and whether it is held: most texts stand many times."""
-    value = Fraction(text.decode())
-    return value.numerator if value.denominator == 1 else value, is_held(text.decode())
-
-
-def number(f: Figures, where: str, text: bytes) -> Exact:
-    value, held = known(text)
-    if not held:
-        f.lost.append((where, text.decode()))
-    return value
 
 
 def entries(f: Figures, program: Program) -> None:
@@ -165,12 +159,6 @@ def columns_of(program: Program) -> dict[str, int]:
 # the lines --------------------------------------------------------------------------
 
 
-def columns_line(f: Figures) -> str:
-    k = f.columns
-    return (f"{k['continuous'] + k['binary'] + k['integer']}: {k['continuous']} continuous, "
-            f"{k['binary']} binary, {k['integer']} integer; {k['free']} free, {k['fixed']} fixed")
-
-
 def sense_line(f: Figures) -> str:
     line = "maximise" if f.maximise else "minimise"
     if not f.costs:
@@ -182,12 +170,6 @@ def sense_line(f: Figures) -> str:
     return line
 
 
-def named(items: list[str]) -> str:
-    """The first of a list, and how many more."""
-    more = len(items) - MOST_NAMED
-    return ", ".join(items[:MOST_NAMED]) + (f" and {more} more" if more > 0 else "")
-
-
 def row_name(row: str, names: Names) -> str:
     name = names.row(int(row[1:])) if row[1:].isdigit() else ""
     return f"{row} ({name})" if name else row
@@ -195,21 +177,24 @@ def row_name(row: str, names: Names) -> str:
 
 def lines_of(f: Figures, factors: dict[str, str], names: Names) -> list[str]:
     """What is printed, one figure a line."""
-    rows = f"{len(f.rows())}: " + ", ".join(
-        f"{len(f.rows(kind))} {sign}" for kind, sign in (("L", "<="), ("G", ">="), ("E", "=")))
-    lines = [f"sense         {sense_line(f)}", f"columns       {columns_line(f)}",
-             f"rows          {rows}; {f.ranged} with two sides",
+    signs = ", ".join(f"{len(f.rows(kind))} {sign}"
+                      for kind, sign in (("L", "<="), ("G", ">="), ("E", "=")))
+    kinds = ", ".join(f"{f.columns[kind]} {kind}" for kind in KINDS)
+    lost = [f"{text[:45]} ({where})" for where, text in f.lost]
+    scaled = [f"{row_name(row, names)} by {factor}" for row, factor in factors.items()
+              if factor != "1"]
+    lines = [f"sense         {sense_line(f)}",
+             f"columns       {sum(map(f.columns.__getitem__, KINDS))}: {kinds}; "
+             f"{f.columns['free']} free, {f.columns['fixed']} fixed",
+             f"rows          {len(f.rows())}: {signs}; {f.ranged} with two sides",
              f"entries       {f.entries} in rows, {f.costs} in the objective",
              f"coefficients  {f.sizes.line()} in rows, {f.cost_sizes.line()} in the objective",
              f"sides         {f.sides.line()}"]
     if f.infinite:
         lines.append(f"infinite      {f.infinite} sides and bounds from 1e20 on: none to highs, to "
                      "cbc and clp from 1e25, to lp_solve from 1e30")
-    lost = [f"{text[:45]} ({where})" for where, text in f.lost]
-    lines.append("not doubles   " + (f"{len(lost)} numbers: {named(lost)}" if lost else "none"))
-    scaled = [f"{row_name(row, names)} by {factor}" for row, factor in factors.items()
-              if factor != "1"]
-    lines.append("scaled rows   " + (f"{len(scaled)}: {named(scaled)}" if scaled else "none"))
+    for head, what, items in (("not doubles   ", " numbers", lost), ("scaled rows   ", "", scaled)):
+        lines.append(head + (f"{len(items)}{what}: {some(items, MOST_NAMED)}" if items else "none"))
     return lines
 
 
@@ -217,10 +202,9 @@ def factors_of(bridge: Bridge, nl: str, objective: str, rows: list[str]) -> dict
     """What `export` multiplied each written row by: duals of 1, as `return` gives them back."""
     if not rows:
         return {}
+    answer = f"answer 1\nobjno {objective}\n" + "".join(f"row {r} 1\n" for r in rows)
     with tempfile.TemporaryDirectory(prefix="nl-bridge-") as folder:
-        path = os.path.join(folder, "ones.txt")
-        with open(path, "w", encoding="ascii") as f:
-            f.write(f"answer 1\nobjno {objective}\n" + "".join(f"row {r} 1\n" for r in rows))
+        path = fill(os.path.join(folder, "ones.txt"), answer.encode())
         duals = duals_of(bridge.text("return", nl, path))
     return {row: duals[int(row[1:])] for row in rows}
 
@@ -250,11 +234,10 @@ class Stats:
     def object(self) -> dict[str, object]:
         """The same for programs: counts, and ranges in doubles."""
         f = self.figures
-        kinds = f.columns
         return {"sense": "maximise" if f.maximise else "minimise",
                 "constant": None if f.tied_by is not None else str(-Fraction(f.constant)),
                 "tied_by": None if f.tied_by is None else str(f.tied_by),
-                "columns": sum(kinds[k] for k in ("continuous", "binary", "integer")), **kinds,
+                "columns": sum(map(f.columns.__getitem__, KINDS)), **f.columns,
                 "rows": len(f.rows()), "at_most": len(f.rows("L")), "at_least": len(f.rows("G")),
                 "equations": len(f.rows("E")), "two_sides": f.ranged, "entries": f.entries,
                 "costs": f.costs, "coefficients": f.sizes.ends(),

@@ -44,37 +44,26 @@ def read(argv: Sequence[str]) -> Words:
     """In any order: what is `name=value`, or begins with `-`, is an option, the first other word
     the model, and what follows it options of the form `name value`. After `--` nothing begins
     with `-`, and the first word is the model."""
-    words = Words()
-    left = list(argv)[::-1]
+    words, left, is_plain = Words(), list(argv)[::-1], False
     if argv[:1] == ["help"] and not any(map(os.path.exists, ("help", "help.nl"))):
         words.ask, words.topic = "-?", argv[1] if len(argv) > 1 else ""
         return words
     while left:
         word = left.pop()
-        if word == "--":
-            take_plain(words, left)
-        elif word in ASKS:
+        if word == "--" and not is_plain:
+            is_plain = True
+        elif word in ASKS and not is_plain:
             words.ask = words.ask or ASKS[word]
-        elif word in ("-AMPL", "-e", "-s"):
+        elif word in ("-AMPL", "-e", "-s") and not is_plain:
             words.ampl, words.save = words.ampl or word == "-AMPL", words.save or word == "-s"
             words.echo = words.echo and word != "-e"
-        elif is_option(word, left):
+        elif not is_plain and is_option(word, left):
             words.options += [word, *rest_of(word, left)]
         elif words.stub is None:
             words.stub = word
         else:
             words.options.append(word)
     return words
-
-
-def take_plain(words: Words, left: list[str]) -> None:
-    """All that is left, none of it an option."""
-    while left:
-        word = left.pop()
-        if words.stub is None:
-            words.stub = word
-        else:
-            words.options.append(word)
 
 
 def is_option(word: str, left: Sequence[str]) -> bool:

@@ -6,6 +6,7 @@ import os
 import random
 import tempfile
 import unittest
+from fractions import Fraction as F
 
 from support import NEEDS_PROGRAM, PROGRAM, Case
 
@@ -103,7 +104,7 @@ class Figures(unittest.TestCase):
         self.assertTrue(lines[1].startswith("columns       1: 1 continuous"))
 
     def test_what_doubles_hold(self) -> None:
-        held = {text: stats.is_held(text) for text in ("0.1", "0.5", "1e400", str(2 ** 100),
+        held = {text: stats.is_held(F(text)) for text in ("0.1", "0.5", "1e400", str(2 ** 100),
                                                       str(2 ** 100 + 1), "1e-400", "0")}
         self.assertEqual([text for text, is_held in held.items() if not is_held],
                          ["1e400", str(2 ** 100 + 1), "1e-400"])
