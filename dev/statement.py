@@ -26,7 +26,7 @@ from graphlib import TopologicalSorter
 from pathlib import Path
 from typing import Any, TypeVar
 
-from theorems import ARITHMETIC, CLOSING, COMMANDS, DOUBTS, LEGEND, OPENING, THEOREMS, Theorem
+from theorems import ARITHMETIC, CLOSING, COMMANDS, DOUBTS, HEADLINE, LEGEND, OPENING, THEOREMS, Theorem
 
 TOP = Path(__file__).resolve().parent.parent
 READING = TOP / "docs" / "verify" / "reading.md"
@@ -369,7 +369,7 @@ def reading(statement: Statement) -> str:
     lines = [*OPENING, "", "| theorem | definitions that say it | what they are | definitions, lines; files, crates; types of code |",
              "|---|---|---|---|"]
     for it in THEOREMS:
-        roots = ", ".join(f"`{root}`" for root in it.roots)
+        roots = ", ".join("headline" if root == HEADLINE else f"`{root}`" for root in it.roots)
         keys = statement.of(it)
         files, crates = len({key[:2] for key in keys}), len({key[0] for key in keys})
         count = f"{len(keys)}, {sum(len(statement[key].own_lines) for key in keys)}; {files}, {crates}; {len(types_of(statement, keys))}"
