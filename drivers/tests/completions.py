@@ -91,20 +91,6 @@ class Texts(Case):
                 self.assertIn(f" {name}", text)
 
     @unittest.skipUnless(shutil.which("zsh"), "no zsh")
-    def test_zsh(self) -> None:
-        """It loads by its name, and answers."""
-        with open(os.path.join(self.folder, "_nl-bridge"), "w", encoding="utf-8") as f:
-            f.write(front.completion("zsh"))
-        code = (f"fpath=({self.folder} $fpath); autoload -Uz compinit && compinit -u -d "
-                f"{self.folder}/dump; print $_comps[bridge-cbc] $_comps[nl-bridge]; "
-                "autoload +X _nl-bridge && which _nl-bridge | wc -l")
-        ran = subprocess.run(["zsh", "-f", "-c", code], capture_output=True, text=True,
-                             check=False)
-        lines = ran.stdout.split("\n")
-        self.assertEqual((lines[0], ran.stderr), ("_nl-bridge _nl-bridge", ""))
-        self.assertGreater(int(lines[1]), 50)
-
-    @unittest.skipUnless(shutil.which("zsh"), "no zsh")
     def test_zsh_answers(self) -> None:
         """As it is typed, on a terminal of its own."""
         with open(os.path.join(self.folder, "_nl-bridge"), "w", encoding="utf-8") as f:

@@ -17,7 +17,7 @@ from models import MODELS, nl
 
 from bridge_drivers import BridgeError, front, interface
 from bridge_drivers.bridge import Bridge
-from bridge_drivers.explained import command, reading, sums
+from bridge_drivers.explained import reading, sums
 from bridge_drivers.explained.command import Explaining, Files
 from bridge_drivers.inputs import Input
 from bridge_drivers.subjects import Subject
@@ -219,17 +219,6 @@ class Explained(Case):
             assert told.bounds is not None
             self.assertEqual(told.bounds.shown(at, told.bounds.part(at)), F(found.group(2)))
 
-    def test_leaves_meet_what_is_claimed(self) -> None:
-        """Each leaf of a certificate that holds, by what is worked out here."""
-        told = self.object(self.example("knap.nl"), self.example("knap.certificate"))
-        assert told.bounds is not None
-        for at, node in enumerate(told.certificate.nodes):
-            if node.is_leaf():
-                part = told.bounds.part(at)
-                shown = told.bounds.shown(at, part)
-                assert shown is not None
-                self.assertTrue(shown > 0 if node.kind == "weights" else shown <= 17)
-
     def test_sums(self) -> None:
         """Their lines add up to what the program tells of each leaf, in one width, nothing cut."""
         knap, lemma = self.example("knap.nl"), text_of(
@@ -310,23 +299,6 @@ class Explained(Case):
             self.assertEqual(printable(text), text)
             self.assertIn("&lt;b&gt;&amp; \u2264 0", text)
         xml.fromstring(told.picture(True))
-
-    def test_pages_that_cannot_be_written(self) -> None:
-        self.put(self.example("knap.nl"))
-        self.put(self.example("knap.certificate"), ".certificate")
-        told = interface.explain(self.stub, self.stub + ".certificate", html="/nonexistent/x.html")
-        self.assertEqual((told.status, told.lines[-1]),
-                         (command.UNWRITTEN, "/nonexistent/x.html is not written: No such file or "
-                                             "directory"))
-
-    def test_pages_do_not_overwrite_what_they_are_of(self) -> None:
-        self.put(self.example("knap.nl"))
-        text = self.example("knap.certificate")
-        self.put(text, ".certificate")
-        nl, certificate = self.stub + ".nl", self.stub + ".certificate"
-        told = interface.explain(nl, certificate, svg=certificate)
-        with open(certificate, "rb") as f:
-            self.assertEqual((told.status, f.read()), (command.UNWRITTEN, text))
 
     @unittest.skipUnless(BROWSER, "no chromium")
     def test_in_a_browser(self) -> None:
