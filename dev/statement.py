@@ -18,7 +18,6 @@ statement. Files named `Inside..` have what only contracts of private code cite:
 """
 from __future__ import annotations
 
-import os
 import re
 import sys
 from dataclasses import dataclass, field
@@ -26,9 +25,9 @@ from graphlib import TopologicalSorter
 from pathlib import Path
 from typing import Any, TypeVar
 
+from made import TOP, asked, piped
 from theorems import ARITHMETIC, CLOSING, COMMANDS, DOUBTS, HEADLINE, LEGEND, OPENING, THEOREMS, Theorem
 
-TOP = Path(__file__).resolve().parent.parent
 READING = TOP / "docs" / "verify" / "reading.md"
 
 Key = tuple[str, str, str]  # crate, file, name
@@ -404,8 +403,6 @@ def complaints(statement: Statement) -> list[str]:
 
 
 def main(words: list[str]) -> int:
-    if not words:
-        sys.exit(__doc__)
     statement = Statement()
     if words == ["--all"]:
         print(all_texts(), end="")
@@ -433,11 +430,4 @@ def main(words: list[str]) -> int:
 
 
 if __name__ == "__main__":
-    if {"-h", "--help"} & set(sys.argv[1:]):
-        print(__doc__)
-        sys.exit()
-    try:
-        sys.exit(main(sys.argv[1:]))
-    except BrokenPipeError:
-        os.dup2(os.open(os.devnull, os.O_WRONLY), sys.stdout.fileno())
-        sys.exit(1)
+    sys.exit(piped(main, asked(__doc__, 1)))
