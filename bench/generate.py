@@ -1,19 +1,50 @@
 #!/usr/bin/env python3
-"""Writes a large valid .nl text of linear constraints.
+"""Writes large valid texts: the same words give the same text.
 
-    generate.py OUT.nl VARIABLES ROWS TERMS_PER_ROW [FORM]
+    generate.py rows OUT.nl VARIABLES ROWS TERMS_PER_ROW [FORM]     an .nl text of linear constraints
+    generate.py nested OUT.nl VARIABLES SHAPE       one row: a tree in which each variable stands once
+    generate.py leaves FOLDER DEPTH                 leaves.nl, and a certificate `bound 3`: 2^DEPTH leaves
+    generate.py planes FOLDER COUNT                 planes.nl, and one that is a chain of planes
 
-FORM  linear   the terms stand under J (what modelling systems write)
-      list     each term is an expression, in a list under C
-      defined  each row's terms belong to a defined variable of its own
-Half of the variables are whole. Coefficients are decimals of one to six digits
-behind the point. The same arguments give the same text.
+FORM   linear       the terms stand under J (what modelling systems write)
+       list         each term is an expression, in a list under C
+       defined      each row's terms belong to a defined variable of its own
+SHAPE  right        v + (v + (v + ..))
+       left         ((.. + v) + v) + v
+       products     c v + (c v + (c v + ..))
+       differences  v - (v - (v - ..))
+       negations    -(v + -(v + -(v + ..)))
+       lists        v + v + (v + v + (..)), each a list of three
+       balanced     the sum of two halves, each of which is such a sum
+       spine        v + .. + v of 200 variables, and a tree of that shape, added up
+Of `rows` half of the variables are whole, and coefficients have one to six digits behind the point. The program of
+certificates has 1,000 whole variables from 0 to 9 and 1,000 rows of 10 terms; each leaf with duals names three rows.
 """
 from __future__ import annotations
 
 import random
 import sys
+from collections.abc import Iterator
+from itertools import accumulate
+from pathlib import Path
 
+SIDE = 200
+VARIABLES = ROWS = 1000
+TERMS = 10
+GOAL = 30  # the objective is the sum of so many variables: those of rows 0, 1 and 2, and of each hundredth after them
+
+
+def header(variables: int, rows: int, binary: int, integer: int, terms: int, slopes: int, defined: int = 0) -> str:
+    return (f"g3 1 1 0\n {variables} {rows} 1 0 0\n 0 0\n 0 0\n 0 0 0\n 0 0 0 1\n {binary} {integer} 0 0 0\n {terms} {slopes}\n 0 0\n"
+            f" {defined} 0 0 0 0\n")
+
+
+def columns_before(counts: list[int]) -> str:
+    """The segment k of so many terms a column."""
+    return f"k{len(counts) - 1}\n" + "".join(f"{total}\n" for total in accumulate(counts[:-1]))
+
+
+# ---- rows
 
 def decimal(rnd: random.Random) -> str:
     """A decimal text that is not 0."""
@@ -22,70 +53,149 @@ def decimal(rnd: random.Random) -> str:
     return text if float(text) != 0 else "0.5"
 
 
-def header(variables: int, rows: int, binary: int, integer: int, terms: int, defined: int) -> str:
-    return (
-        "g3 1 1 0\t# a large text\n"
-        f" {variables} {rows} 1 0 0\n 0 0\n 0 0\n 0 0 0\n 0 0 0 1\n"
-        f" {binary} {integer} 0 0 0\n {terms} {variables}\n 0 0\n {defined} 0 0 0 0\n"
-    )
-
-
-def main() -> None:
-    if {"-h", "--help"} & set(sys.argv[1:]):
-        print(__doc__)
-        sys.exit()
-    if len(sys.argv) < 5:
-        sys.exit(__doc__)
-    out = sys.argv[1]
-    variables, rows, per_row = (int(a) for a in sys.argv[2:5])
-    form = sys.argv[5] if len(sys.argv) > 5 else "linear"
+def rows(variables: int, count: int, per_row: int, form: str) -> Iterator[str]:
     rnd = random.Random(1)
     per_row = min(per_row, variables)
     binary = variables // 4
     integer = variables // 2 - binary
-    columns = [sorted(rnd.sample(range(variables), per_row)) for _ in range(rows)]
+    columns = [sorted(rnd.sample(range(variables), per_row)) for _ in range(count)]
+    yield header(variables, count, binary, integer, count * per_row, variables, count if form == "defined" else 0)
+    if form == "defined":
+        for i, row in enumerate(columns):
+            yield f"V{variables + i} {len(row)} 0\n" + "".join(f"{j} {decimal(rnd)}\n" for j in row) + "n0\n"
+    for i, row in enumerate(columns):
+        if form == "list":
+            yield f"C{i}\no54\n{len(row)}\n" + "".join(f"o2\nn{decimal(rnd)}\nv{j}\n" for j in row)
+        else:
+            yield f"C{i}\nv{variables + i}\n" if form == "defined" else f"C{i}\nn0\n"
+    yield "O0 1\nn12.5\nr\n"
+    for i in range(count):
+        yield (f"1 {per_row * 50}\n", f"2 -{per_row * 50}\n", f"0 -{i % 999} 7\n")[i % 3]
+    yield "b\n"
+    for j in range(variables - binary - integer):
+        yield ("2 0\n", "0 -10 20.5\n", "3\n", "1 100\n")[j % 4]
+    yield "0 0 1\n" * binary + "0 0 40\n" * integer
     counts = [0] * variables
     for row in columns:
         for j in row:
             counts[j] += 1
-    with open(out, "w") as text:
-        write = text.write
-        defined = rows if form == "defined" else 0
-        write(header(variables, rows, binary, integer, rows * per_row, defined))
-        if form == "defined":
-            for i, row in enumerate(columns):
-                write(f"V{variables + i} {len(row)} 0\n")
-                write("".join(f"{j} {decimal(rnd)}\n" for j in row))
-                write("n0\n")
-        for i, row in enumerate(columns):
-            if form == "list":
-                write(f"C{i}\no54\n{len(row)}\n")
-                write("".join(f"o2\nn{decimal(rnd)}\nv{j}\n" for j in row))
-            elif form == "defined":
-                write(f"C{i}\nv{variables + i}\n")
-            else:
-                write(f"C{i}\nn0\n")
-        write("O0 1\nn12.5\nr\n")
-        for i in range(rows):
-            write((f"1 {per_row * 50}\n", f"2 -{per_row * 50}\n", f"0 -{i % 999} 7\n")[i % 3])
-        write("b\n")
-        for j in range(variables - binary - integer):
-            write(("2 0\n", "0 -10 20.5\n", "3\n", "1 100\n")[j % 4])
-        write("0 0 1\n" * binary)
-        write("0 0 40\n" * integer)
-        write(f"k{variables - 1}\n")
-        total = 0
-        for count in counts[:-1]:
-            total += count
-            write(f"{total}\n")
-        for i, row in enumerate(columns):
-            write(f"J{i} {len(row)}\n")
-            if form == "linear":
-                write("".join(f"{j} {decimal(rnd)}\n" for j in row))
-            else:
-                write("".join(f"{j} 0\n" for j in row))
-        write(f"G0 {variables}\n")
-        write("".join(f"{j} {decimal(rnd)}\n" for j in range(variables)))
+    yield columns_before(counts)
+    for i, row in enumerate(columns):
+        yield f"J{i} {len(row)}\n" + "".join(f"{j} {decimal(rnd) if form == 'linear' else 0}\n" for j in row)
+    yield f"G0 {variables}\n" + "".join(f"{j} {decimal(rnd)}\n" for j in range(variables))
 
 
-main()
+# ---- nested trees
+
+def right(variables: list[str], front: str = "o0\n") -> Iterator[str]:
+    """Each variable beside the tree of those after it."""
+    for variable in variables[:-1]:
+        yield f"{front}{variable}"
+    yield variables[-1]
+
+
+def left(variables: list[str]) -> Iterator[str]:
+    """Each variable beside the tree of those before it."""
+    yield "o0\n" * (len(variables) - 1)
+    yield from variables
+
+
+def lists(variables: list[str]) -> Iterator[str]:
+    """Two variables and the tree of those after them, in a list."""
+    for place in range(0, len(variables) - 2, 2):
+        yield f"o54\n3\n{variables[place]}{variables[place + 1]}"
+    yield from variables[-1:] if len(variables) % 2 else ("o0\n", *variables[-2:])
+
+
+def balanced(variables: list[str]) -> Iterator[str]:
+    """The sum of two halves."""
+    waiting = [(0, len(variables))]
+    while waiting:
+        first, end = waiting.pop()
+        if end - first == 1:
+            yield variables[first]
+        else:
+            half = (first + end) // 2
+            waiting += [(half, end), (first, half)]
+            yield "o0\n"
+
+
+def spine(variables: list[str]) -> Iterator[str]:
+    """Chains of some variables, each beside the tree of those after it."""
+    for first in range(0, len(variables) - SIDE, SIDE):
+        yield "o0\n"
+        yield from right(variables[first:first + SIDE])
+    yield from right(variables[(len(variables) - 1) // SIDE * SIDE:])
+
+
+def nested(count: int, shape: str) -> Iterator[str]:
+    rnd = random.Random(1)
+    places = list(range(count))
+    rnd.shuffle(places)
+    variables = [f"v{place}\n" for place in places]
+    if shape == "products":
+        variables = [f"o2\nn{rnd.randint(1, 99999) / 100}\n{it}" for it in variables]
+    fronts = {"right": "o0\n", "products": "o0\n", "differences": "o1\n", "negations": "o16\no0\n"}
+    yield header(count, 1, 0, 0, count, 0) + "C0\n"
+    if shape in fronts:
+        yield from right(variables, fronts[shape])
+    else:
+        yield from {"left": left, "lists": lists, "balanced": balanced, "spine": spine}[shape](variables)
+    yield "O0 0\nn0\nr\n1 10\nb\n" + "2 0\n" * count + columns_before([1] * count)
+    yield f"J0 {count}\n" + "".join(f"{place} 0\n" for place in range(count))
+
+
+# ---- certificates
+
+def program() -> Iterator[str]:
+    """Each row's sum is at least 1, the least objective is 3; the variables of rows repeat after a hundred."""
+    yield header(VARIABLES, ROWS, 0, VARIABLES, ROWS * TERMS, GOAL)
+    yield "".join(f"C{row}\nn0\n" for row in range(ROWS)) + "O0 0\nn0\nr\n" + "2 1\n" * ROWS + "b\n" + "0 0 9\n" * VARIABLES
+    yield columns_before([ROWS // VARIABLES * TERMS] * VARIABLES)
+    for row in range(ROWS):
+        start = row % (VARIABLES // TERMS) * TERMS
+        yield f"J{row} {TERMS}\n" + "".join(f"{column} 1\n" for column in range(start, start + TERMS))
+    yield f"G0 {GOAL}\n" + "".join(f"{column} 1\n" for column in range(GOAL))
+
+
+def duals(leaf: int) -> str:
+    """A leaf that closes by the duals 1 of three rows."""
+    first = leaf % (ROWS // 100) * 100
+    return "duals 3\n" + "".join(f"{row} 1\n" for row in range(first, first + 3))
+
+
+def leaves(depth: int) -> Iterator[str]:
+    """A balanced tree: on the way down each level splits a variable of its own."""
+    for leaf in range(1 << depth):
+        above = depth if leaf == 0 else (leaf & -leaf).bit_length() - 1
+        yield "".join(f"split {GOAL + level} 4\n" for level in range(depth - above, depth)) + duals(leaf)
+
+
+def planes(count: int) -> Iterator[str]:
+    """A chain: "x0 at most -1 - k" contradicts that x0 is at least 0; the rest goes on below "x0 at least -k"."""
+    for number in range(count):
+        yield f"plane 1 {-1 - number}\n0 1\nweights 1\n{ROWS + number} -1\n"
+    yield duals(0)
+
+
+def main(kind: str, out: str, size: str, *more: str) -> None:
+    if kind == "rows":
+        texts = {Path(out): rows(int(size), int(more[0]), int(more[1]), *(more[2:] or ("linear",)))}
+    elif kind == "nested":
+        texts = {Path(out): nested(int(size), *more)}
+    else:
+        made = {"leaves": leaves, "planes": planes}[kind](int(size))
+        texts = {Path(out, f"{kind}.nl"): program(), Path(out, f"{kind}.certificate"): made}
+    for path, parts in texts.items():
+        with path.open("w") as stream:
+            stream.write("certificate 1\nbound 0 3\n" if path.suffix == ".certificate" else "")
+            stream.writelines(parts)
+
+
+if __name__ == "__main__":
+    if {"-h", "--help"} & set(sys.argv[1:]):
+        print(__doc__)
+        sys.exit()
+    if len(sys.argv) < 4:
+        sys.exit(__doc__)
+    main(*sys.argv[1:])

@@ -1,9 +1,7 @@
 #!/usr/bin/env bash
 # Times the built program: `export` beside a plain converter on AMPL's own library (asl2mps.c, which is built here where
 # Debian's libamplsolver-dev is there) and of nested trees beside smaller ones, `mps`, which reads and writes, beside clp,
-# which reads alone (coinor-clp), `verify_mps` beside `verify` of the same program as .nl, `verify` of large certificates,
-# and `prove` beside `verify` on one tree of an integer program (coinor-libcoinutils-dev has it, coinor-libclp1 serves the
-# search for the tree, which takes about half a minute).
+# which reads alone (coinor-clp), `verify_mps` beside `verify` of the same program as .nl, and `verify` of large certificates.
 #
 #     [TERMS="1000000 2000000 4000000"] [RUNS=5] bench/run.sh PROGRAM [BASELINE]
 #
@@ -69,9 +67,9 @@ nl_text() {
     if [ -f "$text" ]; then
         :
     elif [ "$2" = wide ]; then
-        python3 "$here/generate.py" "$text" "$1" "$1" 1 linear
+        python3 "$here/generate.py" rows "$text" "$1" "$1" 1 linear
     else
-        python3 "$here/generate.py" "$text" $((rows < 100000 ? rows : 100000)) "$rows" 10 "$2"
+        python3 "$here/generate.py" rows "$text" $((rows < 100000 ? rows : 100000)) "$rows" 10 "$2"
     fi
     echo "$text"
 }
@@ -106,12 +104,12 @@ for form in list defined; do
 done
 
 echo
-echo "export of one row that is a nested tree (nested.py), beside a quarter of its size: more than 4.5 times is a defect, but for"
+echo "export of one row that is a nested tree (of generate.py), beside a quarter of its size: more than 4.5 times is a defect, but for"
 echo "spine, whose sides are large"
 printf '%9s %12s %8s %8s %6s %17s\n' variables shape export quarter times "bytes a variable"
 for shape in right left products differences negations lists balanced spine; do
-    python3 "$here/nested.py" "$shape" 160000 "$work/nested.nl"
-    python3 "$here/nested.py" "$shape" 40000 "$work/quarter.nl"
+    python3 "$here/generate.py" nested "$work/nested.nl" 160000 "$shape"
+    python3 "$here/generate.py" nested "$work/quarter.nl" 40000 "$shape"
     times=$(measure 0 "$program" export "$work/nested.nl" ::: 0 "$program" export "$work/quarter.nl")
     read -r seconds peak quarter _ <<<"$times"
     printf '%9s %12s %8s %8s %6s %17s\n' 160000 "$shape" "$seconds" "$quarter" "$(ratio "$seconds" "$quarter")" "$(bytes_each "$peak" 160000)"
@@ -152,21 +150,7 @@ echo "verify: trees of splits with 2^18 and 2^20 leaves of three rows, chains of
 printf '%16s %8s %14s %15s\n' certificate verify "bytes of text" "peak, kilobytes"
 for made in "leaves 18" "leaves 20" "planes 16384" "planes 65535"; do
     read -r kind size <<<"$made"
-    python3 "$here/certificates.py" "$kind" "$size" "$work"
+    python3 "$here/generate.py" "$kind" "$work" "$size"
     read -r seconds peak <<<"$(measure 0 "$program" verify "$work/$kind.nl" "$work/$kind.certificate")"
     printf '%16s %8s %14s %15s\n' "$made" "$seconds" "$(stat -c %s "$work/$kind.certificate")" "$peak"
 done
-
-echo
-echo "prove and verify: one tree of splits, that no point of lseu (89 binary variables, 28 rows) is better than 1120"
-lseu=/usr/share/coin/Data/Sample/lseu.mps
-if [ ! -f "$lseu" ]; then
-    echo "no $lseu: Debian's coinor-libcoinutils-dev is not there"
-elif "$program" import "$lseu" >"$work/lseu.nl" && figures=$(python3 "$here/proofs.py" "$program" "$work/lseu.nl" 1120 "$work"); then
-    words=(0 "$program" prove "$work/lseu.nl" "$work/lseu.proof" ::: 0 "$program" verify "$work/lseu.nl" "$work/lseu.certificate")
-    read -r seconds _ beside _ <<<"$(measure "${words[@]}")"
-    printf '%26s %8s %8s\n' tree prove verify
-    printf '%26s %8s %8s\n' "$figures" "$seconds" "$beside"
-else
-    echo "no tree was found: bench/proofs.py says why"
-fi

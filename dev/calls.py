@@ -10,16 +10,14 @@ empty bodies: their clauses are the laws, and they are listed with them.
 """
 from __future__ import annotations
 
-import os
 import re
 import sys
 from collections.abc import Iterator, Sequence
 from dataclasses import dataclass
-from pathlib import Path
 
+from made import TOP, asked, piped
 from map import rooms
 
-TOP = Path(__file__).resolve().parent.parent
 PAGE = TOP / "docs" / "verify" / "calls.md"
 TESTS = ("call_tests", "command_tests")
 
@@ -141,9 +139,6 @@ def main(words: list[str]) -> int:
         for call in (found := untested()):
             print(f"{call.crate}: {call.name} may want memory, and no test makes it (docs/verify/calls.md)")
         return 1 if found else 0
-    if {"-h", "--help"} & set(words):
-        print(__doc__)
-        return 0
     if unknown := set(words) - set(crates()):
         print(f"dev/calls.py: no crate {', '.join(sorted(unknown))}", file=sys.stderr)
         return 3
@@ -152,8 +147,4 @@ def main(words: list[str]) -> int:
 
 
 if __name__ == "__main__":
-    try:
-        sys.exit(main(sys.argv[1:]))
-    except BrokenPipeError:
-        os.dup2(os.open(os.devnull, os.O_WRONLY), sys.stdout.fileno())
-        sys.exit(1)
+    sys.exit(piped(main, asked(__doc__)))

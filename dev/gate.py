@@ -13,9 +13,9 @@ import subprocess
 import sys
 import time
 from collections import deque
-from pathlib import Path
 
-TOP = Path(__file__).resolve().parent.parent
+from made import TOP, asked
+
 LOG = TOP / "out" / "gate.log"
 PROVED = re.compile(r"^rt: (?:\w+ proved$|\w+ is kept: )")
 REFUSED = re.compile(r"refused, as it must be")
@@ -66,9 +66,5 @@ def watched() -> int:
 
 
 if __name__ == "__main__":
-    if {"-h", "--help"} & set(sys.argv[1:]):
-        print(__doc__)
-        sys.exit()
-    if len(sys.argv) > 1:
-        sys.exit(__doc__)
+    asked(__doc__, 0, 0)
     sys.exit(watched())

@@ -17,7 +17,8 @@ from dataclasses import dataclass
 from functools import lru_cache
 from pathlib import Path
 
-TOP = Path(__file__).resolve().parent.parent
+from made import TOP, asked
+
 CRATES = TOP / "crates"
 IMPORT = re.compile(
     r"^\s*(?P<head>(?:pub |ghost |unfoldable )*)use (?:Rattle\.)?(?P<module>[\w.]+)"
@@ -126,7 +127,4 @@ def main(arguments: list[str]) -> int:
 
 
 if __name__ == "__main__":
-    if {"-h", "--help"} & set(sys.argv[1:]):
-        print(__doc__)
-        sys.exit()
-    sys.exit(main(sys.argv[1:]))
+    sys.exit(main(asked(__doc__)))

@@ -18,6 +18,7 @@ from dataclasses import dataclass, field
 from pathlib import Path
 
 from imports import CRATES, DEFINED, IMPORT, TOP, WORD, imports_of
+from made import asked
 
 BEGINS = re.compile(r"^\s*(?:pub |abbrev |unfoldable |record |data )*(?P<name>[^\s:(){}]+)[^=]*? : ")
 HEADER = re.compile(r"^\s*(?:module |mutual|(?:pub )?ruleset )")
@@ -172,7 +173,4 @@ def main(arguments: list[str]) -> int:
 
 
 if __name__ == "__main__":
-    if {"-h", "--help"} & set(sys.argv[1:]):
-        print(__doc__)
-        sys.exit()
-    sys.exit(main(sys.argv[1:]))
+    sys.exit(main(asked(__doc__)))

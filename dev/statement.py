@@ -18,7 +18,6 @@ statement. Files named `Inside..` have what only contracts of private code cite:
 """
 from __future__ import annotations
 
-import os
 import re
 import sys
 from dataclasses import dataclass, field
@@ -26,9 +25,9 @@ from graphlib import TopologicalSorter
 from pathlib import Path
 from typing import Any, TypeVar
 
-from theorems import ARITHMETIC, CLOSING, COMMANDS, DOUBTS, LEGEND, OPENING, THEOREMS, Theorem
+from made import TOP, asked, piped
+from theorems import ARITHMETIC, CLOSING, COMMANDS, DOUBTS, HEADLINE, LEGEND, OPENING, THEOREMS, Theorem
 
-TOP = Path(__file__).resolve().parent.parent
 READING = TOP / "docs" / "verify" / "reading.md"
 
 Key = tuple[str, str, str]  # crate, file, name
@@ -369,7 +368,7 @@ def reading(statement: Statement) -> str:
     lines = [*OPENING, "", "| theorem | definitions that say it | what they are | definitions, lines; files, crates; types of code |",
              "|---|---|---|---|"]
     for it in THEOREMS:
-        roots = ", ".join(f"`{root}`" for root in it.roots)
+        roots = ", ".join("headline" if root == HEADLINE else f"`{root}`" for root in it.roots)
         keys = statement.of(it)
         files, crates = len({key[:2] for key in keys}), len({key[0] for key in keys})
         count = f"{len(keys)}, {sum(len(statement[key].own_lines) for key in keys)}; {files}, {crates}; {len(types_of(statement, keys))}"
@@ -404,8 +403,6 @@ def complaints(statement: Statement) -> list[str]:
 
 
 def main(words: list[str]) -> int:
-    if not words:
-        sys.exit(__doc__)
     statement = Statement()
     if words == ["--all"]:
         print(all_texts(), end="")
@@ -433,11 +430,4 @@ def main(words: list[str]) -> int:
 
 
 if __name__ == "__main__":
-    if {"-h", "--help"} & set(sys.argv[1:]):
-        print(__doc__)
-        sys.exit()
-    try:
-        sys.exit(main(sys.argv[1:]))
-    except BrokenPipeError:
-        os.dup2(os.open(os.devnull, os.O_WRONLY), sys.stdout.fileno())
-        sys.exit(1)
+    sys.exit(piped(main, asked(__doc__, 1)))

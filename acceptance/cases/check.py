@@ -24,25 +24,14 @@ EXACT = {
 }
 
 
-def verdict(name: str, primals: Sequence[object], duals: Sequence[object], line: str, program: bytes = MINIMISED) -> Case:
-    holds = line.startswith("yes")
-    return texts.done(name, "check", program, sol(1, len(primals), primals, duals), out=line + "\n", status=0 if holds else 1)
+def verdict(name: str, primals: str, duals: str, line: str, program: bytes = MINIMISED) -> Case:
+    values = primals.split()
+    answer = sol(1, len(values), values, duals.split())
+    return texts.done(name, "check", program, answer, out=line + "\n", status=0 if line.startswith("yes") else 1)
 
 
 def cases() -> Iterator[Case]:
-    yield verdict("optimal", [3, 1], [3], "yes 9")
-    yield verdict("a dual too small", [3, 1], [2.5], "gap 9 17/2")
-    yield verdict("a point too dear", [0, 4], [3], "gap 12 9")
-    yield verdict("a row broken", [3, 0], [3], "row 0 broken")
-    yield verdict("a bound broken", [4, 0], [3], "bound 0 broken")
-    yield verdict("a row without the side", [3, 1], [-1], "row 0 has no side")
-    yield verdict("a bound without the side", [3, 1], [4], "bound 1 has no side")
-    yield verdict("maximised", [3, 1], [3], "yes -9", MAXIMISED)
-    yield verdict("maximised, a gap", [3, 1], [2.5], "gap -9 -17/2", MAXIMISED)
-    yield verdict("maximised, no side", [3, 1], [-1], "row 0 has no side", MAXIMISED)
-    yield verdict("a row that is not exported", [0], [0], "yes 0", FREE_ROW)
-    yield verdict("a dual on it", [0], [1], "row 0 has no side", FREE_ROW)
-    yield verdict("a wide value", ["1.1102230246251565e-32", 4], [3], "too wide at row 0")
+    yield from texts.table("check", globals())
     for name, value in EXACT.items():
         files = [texts.data("data", "certificates", f"{name}.{kind}") for kind in ("nl", "sol")]
         yield texts.done(f"an exact solver's answer to {name}", "check", *files, out=f"yes {value}\n")

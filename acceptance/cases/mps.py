@@ -24,6 +24,10 @@ def refused(name: str, lines: list[str], told: str) -> Case:
     return texts.refused(name, "mps", text(lines), told=told)
 
 
+def after_front(name: str, more: str, told: str) -> Case:
+    return refused(name, FRONT + more.split("/"), told)
+
+
 def cases() -> Iterator[Case]:
     yield written("an MPS text", PAIRS, PAIRS_MPS)
     yield written("an MPS text by CR LF", PAIRS, PAIRS_MPS, end="\r\n")
@@ -36,10 +40,4 @@ def cases() -> Iterator[Case]:
     yield bad_words("mps and a number", "mps", "A", "0")
     yield refused("no objective", ["ROWS", " L R", "COLUMNS"], "line 3: no objective")
     yield refused("words after COLUMNS", ["ROWS", " L R", "COLUMNS x"], "line 3: bad section")
-    yield refused("an unknown row", FRONT + ["RHS", " R 1 Q x"], "line 9: unknown row")
-    yield refused("a bad number", FRONT + ["RHS", " R 1 R x"], "line 9: bad number")
-    yield refused("a repeated entry", FRONT + ["RHS", " R 1 R 1"], "line 9: repeated entry")
-    yield refused("a second set", FRONT + ["RHS", " S R 1", " C 1"], "line 10: second set")
-    yield refused("a range on a free row", FRONT + ["RANGES", " F x"], "line 9: range on free row")
-    yield refused("a repeated bound", FRONT + ["BOUNDS", " UP X 1", " FX X 1"], "line 10: repeated bound")
-    yield refused("a column again", FRONT + [" X R 2"], "line 8: column again")
+    yield from texts.table("mps", globals())

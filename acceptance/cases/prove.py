@@ -28,20 +28,6 @@ def refused(name: str, proof: str, told: str, program: bytes = WHOLE) -> Case:
     return texts.refused(name, "prove", program, lines(proof), told=f"file 2 {told}")
 
 
-def verdict_cases() -> Iterator[Case]:
-    yield verdict("a value", WHOLE, "value 0 2 / " + SPLIT, "proved")
-    yield verdict("a value beyond", WHOLE, "value 0 2.5 / " + SPLIT, "leaf 1 gap 2")
-    yield verdict("infeasible", EMPTY, "infeasible / weights 1 / 0 1", "proved")
-    yield verdict("weights that give 0", EMPTY, "infeasible / weights 0", "leaf 0 gap 0")
-    yield verdict("maximised", MAXIMISED, "value 0 -2 / split 0 1 / weights 1 / 0 -1 / duals 0", "proved")
-    yield verdict("a row without the side", WHOLE, "value 0 2 / split 0 1 / weights 1 / 0 -1 / duals 0", "leaf 0 row 0 has no side")
-    yield verdict("a variable split twice", WHOLE, "value 0 2 / split 0 3 / " + SPLIT + " / duals 0", "proved")
-    yield verdict("an empty box", WHOLE, "value 0 2 / split 0 1 / split 0 -1 / weights 1 / 0 1 / weights 1 / 0 1 / duals 0", "proved")
-    yield verdict("the first leaf that does not close", WHOLE, "value 0 3 / split 0 2 / duals 0 / split 0 3 / duals 0 / duals 0", "leaf 0 gap 0")
-    yield verdict("the knapsack", text(KNAPSACK), KNAPSACK_PROOF, "proved")
-    yield verdict("the knapsack, a value too good", text(KNAPSACK), KNAPSACK_PROOF.replace("0 17", "0 16"), "leaf 0 gap 17")
-
-
 def made_cases() -> Iterator[Case]:
     for name in MADE:
         files = [texts.data("..", "drivers", "tests", "nl", f"{name}.nl"), texts.data("data", "proofs", f"{name}.proof")]
@@ -78,36 +64,15 @@ def raised(splits: int) -> list[str]:
     return [line for part in parts for line in part] + closed(splits)
 
 
-def fault_cases() -> Iterator[Case]:
-    """Each fault of a proof text, and the order of two at one line."""
-    yield refused("no first line", "", "line 2: bad first line")
-    yield refused("another first line", "proof 2", "line 1: bad first line")
-    yield refused("no claim", "proof 1", "line 2: short file")
-    yield refused("no tree", "proof 1 / value 0 2", "line 3: short file")
-    yield refused("pairs to come", "proof 1 / value 0 2 / duals 1", "line 4: short file")
-    yield refused("a line after the tree", "proof 1 / value 0 2 / duals 0 / x", "line 4: extra line")
-    yield refused("an unknown claim", "proof 1 / x", "line 2: bad line")
-    yield refused("an unknown node", "proof 1 / value 0 2 / x", "line 3: bad line")
-    yield refused("duals under infeasible", "proof 1 / infeasible / duals 0", "line 3: bad line")
-    yield refused("a value", "proof 1 / value 0 x", "line 2: bad number")
-    yield refused("a value that no fraction is", "proof 1 / value 0 1e-40", "line 2: bad number")
-    yield refused("a node where a pair is", "proof 1 / value 0 2 / duals 1 / duals 1", "line 4: bad number")
-    yield refused("a pair of three words", "proof 1 / value 0 2 / duals 1 / split 0 1", "line 4: bad line")
-    yield refused("a variable", "proof 1 / value 0 2 / split 1 0", "line 3: index out of range")
-    yield refused("a row", "proof 1 / value 0 2 / duals 1 / 1 0", "line 4: index out of range")
-    yield refused("a row again", "proof 1 / value 0 2 / duals 2 / 0 1 / 0 1", "line 5: repeated index")
-    yield refused("a split that is not whole", "proof 1 / value 0 2 / " + SPLIT, "line 3: not whole", program=REAL)
-    yield refused("a part that is not whole", "proof 1 / value 0 2 / split 0 0.5", "line 3: bad number")
+def cases() -> Iterator[Case]:
+    yield from texts.table("prove", globals())
+    yield verdict("the knapsack", text(KNAPSACK), KNAPSACK_PROOF, "proved")
+    yield verdict("the knapsack, a value too good", text(KNAPSACK), KNAPSACK_PROOF.replace("0 17", "0 16"), "leaf 0 gap 17")
+    yield from made_cases()
+    yield from large_cases()
     yield refused("a long line", "x" * 65537, "line 1: line too long")
     many = text(["proof 1", "value 0 2"] + ["split 0 1"] * 65537)
     yield texts.refused("a node too many", "prove", WHOLE, many, told="file 2 line 65539: too large")
-
-
-def cases() -> Iterator[Case]:
-    yield from verdict_cases()
-    yield from made_cases()
-    yield from large_cases()
-    yield from fault_cases()
     yield texts.refused("no such objective", "prove", WHOLE, lines("proof 1 / value 1 2 / duals 0"), told="objective 1: no such objective")
     yield texts.refused("a fault of the first file", "prove", b"x\n", b"y\n", told="line 1: bad first line")
     yield texts.missing("no proof", "prove", WHOLE)

@@ -5,7 +5,7 @@ from collections.abc import Iterator, Sequence
 from . import texts
 from .check import MINIMISED, sol
 from .mps import FRONT, PAIRS
-from .returned import MAXIMISED, THIRDS, UNBOUNDED_ROW
+from .returned import MAXIMISED, THIRDS, UNBOUNDED_ROW    # noqa: F401  (the table names them)
 from .prove import WHOLE
 from .texts import Case, BIG, doubled, file, head, lines, one_term, text, with_line
 
@@ -23,16 +23,20 @@ def tree(name: str, nodes: str, told: str) -> Case:
     return nl(name, file(TWO, f"C0 / {nodes}" + ENDS), told)
 
 
-def header(name: str, number: int, line: str, told: str) -> Case:
-    return nl(name, with_line(head(1, 1, 0, 0, 0, 0, 0, 0), number, line), f"line {number}: {told}")
+def header(name: str, number: int | str, line: str, told: str) -> Case:
+    return nl(name, with_line(head(1, 1, 0, 0, 0, 0, 0, 0), int(number), line), f"line {number}: {told}")
 
 
-def body(name: str, content: str, told: str, counts: Sequence[int] = ONE) -> Case:
+def body(name: str, content: str, told: str, counts: Sequence[int] | str = ONE) -> Case:
     return nl(name, file(counts, content), told)
 
 
 def mps(name: str, content: list[str], told: str, command: str = "mps") -> Case:
     return texts.refused(f"refusals: {name}", command, text(content), told=told)
+
+
+def front(name: str, more: str, told: str) -> Case:
+    return mps(name, FRONT + more.split("/"), told)
 
 
 def model_cases() -> Iterator[Case]:
@@ -44,30 +48,17 @@ def model_cases() -> Iterator[Case]:
         yield tree(name, nodes, "line 12: nonlinear")
     for name, number, operands in [("sin", 41, "v0"), ("if", 35, "v0 / v0 / v0"), ("exp", 44, "v0")]:
         yield tree(name, f"o{number} / {operands}", f"line 12: refused opcode {number}")
-    yield tree("an imported function", "f0 1 / v0", "line 12: refused leaf")
-    yield tree("a string", "h3:abc", "line 12: refused leaf")
-    yield header("logical constraints", 2, "1 1 0 0 0 1", "refused count")
-    yield header("complementarity pairs", 3, "0 0 1 0", "refused count")
-    yield header("a network", 4, "0 1", "refused count")
-    yield header("imported functions", 6, "0 1 0 1", "refused count")
-    yield body("a complementarity condition", "r / 5 1 1", "line 12: complementarity")
     for letter in "FKL":
         yield body(f"a piece {letter}", f"{letter}0", "line 11: refused segment")
-    yield body("sets by sosno", "S0 1 sosno", "line 11: special ordered sets")
-    yield header("a binary file", 1, "b3 1 1 0", "binary file")
-    yield tree("a divisor of 0 by value", "o3 / v0 / o1 / n2 / n2", "line 12: division by zero")
     for name, exponent in [("negative", "-1"), ("not whole", "0.5"), ("above 127", "128")]:
         yield tree(f"an exponent that is {name}", f"o5 / n2 / n{exponent}", "line 12: refused power")
     yield nl("a wide sum of constants", doubled(130), "line 516: too wide")
-    yield tree("many divisors", f"o0 / o3 / n1 / n{BIG} / o3 / n1 / n{BIG - 4}", "line 12: too wide")
-    yield tree("a wide row", f"o0 / o3 / v0 / n{BIG} / o3 / v1 / n{BIG - 4}", "row 0: row too wide")
     wide = f"O0 0 / o0 / o3 / v0 / n{BIG} / o3 / v1 / n{BIG - 4} / b / 3 / 3"
     yield body("a wide objective", wide, "objective 0: objective too wide", (2, 0, 1, 0, 0, 0, 2, 0))
     first = ["V4096 4096 0", *(f"{j} 1" for j in range(4096)), "n0"]
     others = [line for k in range(4097, 6145) for line in (f"V{k} 0 0", f"v{k - 1}")]
     yield nl("definitions that use each other", head(4096, 0, 0, 0, 0, 0, 0, 2049) + first + others + ["b"] + ["3"] * 4096, "line 8203: fold too large")
     yield nl("no objective 0 to 3", one_term("1"), "objective 3: no such objective", "3")
-    yield header("variables beyond the limit", 2, "1048577 1 0 0 0", "too large")
 
 
 def reader_cases() -> Iterator[Case]:
@@ -76,62 +67,22 @@ def reader_cases() -> Iterator[Case]:
         yield header(f"the first line {line}", 1, line, "bad first line")
     for name, line in [("five options", "g5 1 1 0 1 1"), ("fewer than said", "g3 1 1"), ("3 as the second", "g3 1 3 0")]:
         yield header(name, 1, line, "refused options")
-    yield header("a word that is no number", 8, "0 x", "bad header number")
-    yield header("a number that is missing", 9, "0", "bad header number")
-    yield header("more of both than of one kind", 5, "1 0 1", "counts disagree")
     yield nl("more nonlinear variables than variables", with_line(head(*ONE), 5, "2 0 0"), "line 7: counts disagree")
-    yield header("more binary variables than variables", 7, "2 0 0 0 0", "counts disagree")
     yield nl("nine lines", head(*ONE)[:9], "line 10: end in header")
-    yield body("a letter", "Q", "line 11: unknown segment")
     for name, line in [("no word", "C"), ("a word more", "C0 1"), ("a wrong word", "Cx")]:
         yield body(f"a head with {name}", line, "line 11: bad segment head")
-    yield body("a constraint out of range", "C1", "line 11: index out of range")
-    yield body("a variable out of range", "C0 / v1", "line 12: index out of range")
-    yield body("a term out of range", "r / 3 / b / 3 / J0 1 / 1 1", "line 16: index out of range", (1, 1, 0, 0, 0, 1, 0, 0))
-    yield body("a piece twice", "C0 / n0 / C0", "line 13: repeated segment")
-    yield body("a guess twice", "x2 / 0 1 / 0 1", "line 13: repeated index")
-    yield body("a head before the piece is full", "x1 / b", "line 12: short segment")
-    yield body("the end before it", "x1", "line 12: short segment")
-    yield body("a line after the piece is full", "x1 / 0 1 / 0 1", "line 13: extra line")
-    yield body("three words of a pair", "x1 / 0 1 1", "line 12: bad line")
-    yield body("a side's word", "r / 1 x", "line 12: bad number")
-    yield body("a value that is not whole", "S0 1 s / 0 0.5", "line 12: bad number")
-    yield body("a number beyond reach", "x1 / 0 1e401", "line 12: bad number")
-    yield body("sides that cross", "r / 0 2 1", "line 12: empty interval")
-    yield body("bounds that cross", "b / 0 2 1", "line 12: empty interval")
-    yield body("a binary variable up to 2", "b / 0 0 2", "line 12: binary bounds", (1, 0, 0, 1, 0, 0, 0, 0))
-    yield body("a use before its piece", "C0 / v1 / V1 0 0 / n0", "line 12: undefined", (1, 1, 0, 0, 0, 0, 0, 1))
-    yield body("no O", "b / 3", "line 13: missing segment", (1, 0, 1, 0, 0, 0, 0, 0))
-    yield body("no r", "b / 3", "line 13: missing segment")
-    yield body("no b", "r / 3", "line 13: missing segment")
-    yield body("other terms than line 8 says", "r / 3 / b / 3", "line 15: nonzero count", (1, 1, 0, 0, 0, 1, 0, 0))
-    counted = "r / 3 / b / 3 / 3 / k1 / 0 / J0 1 / 0 1"
-    yield body("other counts in k", counted, "line 20: column count", (2, 1, 0, 0, 0, 1, 0, 0))
     yield body("a line of 65,537 bytes", "b" + " " * 65536, "line 11: line too long")
 
 
 def mps_cases() -> Iterator[Case]:
     """MPS texts."""
     yield mps("RANGES before COLUMNS", FRONT[:4] + ["RANGES"], "line 5: bad section")
-    yield mps("a section twice", FRONT + ["RHS", "RHS"], "line 9: bad section")
-    for name in ("SOS", "QUADOBJ"):
-        yield mps(name, FRONT + [name], "line 8: bad section")
     yield mps("a name with a blank", ["ROWS", " N my row"], "line 2: bad line")
-    yield mps("a number of a row", FRONT + [" Z R x"], "line 8: bad number")
-    yield mps("a kind of bound", FRONT + ["BOUNDS", " XX X 1"], "line 9: bad bound kind")
-    yield mps("a marker", FRONT + [" M 'MARKER' 'INTEND'"], "line 8: bad marker")
-    yield mps("an unknown row", FRONT + [" Z Q 1"], "line 8: unknown row")
-    yield mps("an unknown column", FRONT + ["BOUNDS", " UP Z 1"], "line 9: unknown column")
     yield mps("a row again", ["ROWS", " N C", " L C"], "line 3: repeated row")
-    yield mps("a column again", FRONT + [" X R 2"], "line 8: column again")
-    yield mps("an entry again", FRONT + [" Y R 2"], "line 8: repeated entry")
-    yield mps("a bound again", FRONT + ["BOUNDS", " UP X 1", " UP X 1"], "line 10: repeated bound")
-    yield mps("two right sides", FRONT + ["RHS", " S R 1", " T C 1"], "line 10: second set")
-    yield mps("two sets of ranges", FRONT + ["RANGES", " S R 1", " T R 1"], "line 10: second set")
-    yield mps("two sets of bounds", FRONT + ["BOUNDS", " UP S X 1", " UP T Y 1"], "line 10: second set")
-    yield mps("a range of an N row", FRONT + ["RANGES", " S F 1"], "line 9: range on free row")
     yield mps("no N row", ["ROWS", " L R", "COLUMNS"], "line 3: no objective")
     yield mps("no ENDATA", FRONT, "line 8: no end")
+    for name in ("SOS", "QUADOBJ"):
+        yield mps(name, FRONT + [name], "line 8: bad section")
     wide = ["ROWS", " N C", " E R", "COLUMNS", " X C 1", "RHS", " R R 1e30", "RANGES", " G R 1e-30", "ENDATA"]
     yield mps("sides without a decimal", wide, "row 1: too wide", "import")
     yield mps("a column without a value", PAIRS[:16] + [" LO BN X -3"] + PAIRS[16:], "column 0: empty interval", "import")
@@ -143,17 +94,9 @@ def answer(name: str, content: str, told: str, program: bytes = MAXIMISED) -> Ca
 
 def return_cases() -> Iterator[Case]:
     """The way back."""
-    yield answer("a column that is not there", "col x1 1", "file 2 line 2: unknown name")
-    yield answer("a row that is not there", "row c1 1", "file 2 line 2: unknown name")
-    yield answer("a row without a side", "row c0 1", "file 2 line 2: unknown name", UNBOUNDED_ROW)
-    yield answer("some columns", "col x0 1", "file 2 line 3: partial answer", THIRDS)
     both = text(file((1, 2, 0, 0, 0, 2, 0, 0), "r / 1 7 / 1 7 / b / 3 / J0 1 / 0 1 / J1 1 / 0 1"))
     yield answer("some rows", "row c1 1", "file 2 line 3: partial answer", both)
-    yield answer("a value twice", "col x0 1 / col x0 1", "file 2 line 3: repeated")
-    yield answer("a word", "columns 1", "file 2 line 2: bad line")
-    yield answer("a fraction", "col x0 1/3", "file 2 line 2: bad number")
     yield texts.refused("refusals: another first line", "return", MAXIMISED, b"answer\n", told="file 2 line 1: bad first line")
-    yield answer("a wide dual", f"row c0 {BIG}", "row 0: dual too wide", THIRDS)
     yield texts.refused("refusals: another file's .sol", "check", MINIMISED, sol(1, 3, [3, 1, 0], [3]), told="file 2: other counts")
     yield texts.refused("refusals: no point", "check", MINIMISED, sol(1, 2, [], [3]), told="file 2: no primal values")
     yield texts.refused("refusals: no duals", "check", MINIMISED, sol(1, 2, [3, 1], []), told="file 2: no dual values")
@@ -176,6 +119,7 @@ def verdict_cases() -> Iterator[Case]:
 
 
 def cases() -> Iterator[Case]:
+    yield from texts.table("refusals", globals())
     yield from model_cases()
     yield from reader_cases()
     yield from mps_cases()

@@ -23,34 +23,8 @@ def refused(name: str, words: str, told: str) -> Case:
     return texts.refused(name, "sol", lines(words), told=told)
 
 
-def fault_cases() -> Iterator[Case]:
-    """Each fault of a .sol text, and the order of two at one line."""
-    yield refused("no options", "done", "line 2: no options")
-    yield refused("the second option", "Options / 3 / 1 / 3 / 0", "line 4: refused options")
-    yield refused("ten options", "Options / 10", "line 2: refused options")
-    yield refused("a number of options", "Options / x", "line 2: bad number")
-    yield refused("two words", "Options / 0 0", "line 2: bad line")
-    yield refused("a given number", "Options / 0 / 2 / 1", "line 4: counts disagree")
-    yield refused("many constraints", "Options / 0 / 1048577", "line 3: too large")
-    yield refused("a dual", "Options / 0 / 1 / 1 / 0 / 0 / x", "line 7: bad number")
-    yield refused("short", "Options / 0 / 1 / 1 / 0 / 0", "line 7: short file")
-    yield refused("extra", FRONT + " / 5", "line 10: extra line")
-    yield refused("extra before its words", FRONT + " / x objno", "line 10: extra line")
-    yield refused("objno again", FRONT + " / objno 0 0 / objno 0 0", "line 11: extra line")
-    yield refused("objno after a suffix", FRONT + " / suffix 0 0 2 0 0 / a / objno 0 0", "line 12: extra line")
-    yield refused("words of objno", FRONT + " / objno 0", "line 10: bad line")
-    yield refused("a number of objno", FRONT + " / objno 0 x", "line 10: bad number")
-    yield refused("words of a suffix", FRONT + " / suffix 0 1 2 0", "line 10: bad line")
-    yield refused("kind of a suffix", FRONT + " / suffix 256 1 2 0 0", "line 10: bad number")
-    yield refused("a name of two words", FRONT + " / suffix 0 1 2 0 0 / a b", "line 11: bad line")
-    yield refused("an empty name", FRONT + " / suffix 0 1 2 0 0 / ", "line 11: bad line")
-    yield refused("table lines", FRONT + " / suffix 0 1 2 0 65537", "line 10: too large")
-    yield refused("index", FRONT + " / suffix 0 1 2 0 0 / a / 2 1", "line 12: index out of range")
-    yield refused("an index that is none", FRONT + " / suffix 0 1 2 0 0 / a / -1 1", "line 12: bad number")
-    yield refused("a value that is not whole", FRONT + " / suffix 0 1 2 0 0 / a / 1 0.5", "line 12: bad number")
-    yield refused("index again", FRONT + " / suffix 0 2 2 0 0 / a / 1 1 / 1 1", "line 13: repeated index")
-    yield refused("a long line", "x" * 65537, "line 1: line too long")
-    yield refused("a short suffix", FRONT + " / suffix 0 2 2 0 0 / a / 1 1", "line 13: short file")
+def behind(name: str, more: str, told: str) -> Case:
+    return refused(name, f"{FRONT} / {more}", told)
 
 
 def message_cases() -> Iterator[Case]:
@@ -73,7 +47,8 @@ def cases() -> Iterator[Case]:
     yield written("a message of one blank", [" ", "Options", "0", "0", "0", "0", "0"], [" ", "", "Options", "0", "0", "0", "0", "0"])
     twice = " / suffix 0 0 2 0 0 / a" * 2
     yield written("a suffix twice", (FRONT + twice).split(" / "), ("x / " + FRONT[1:] + twice).split(" / "))
-    yield from fault_cases()
+    yield from texts.table("sol", globals())
+    yield refused("a long line", "x" * 65537, "line 1: line too long")
     yield from message_cases()
     yield texts.missing("no .sol file", "sol")
     yield bad_words("sol alone", "sol")

@@ -1,9 +1,10 @@
 """Texts that the examples share, and the form of an example."""
 from __future__ import annotations
 
-from collections.abc import Mapping, Sequence
 import os
+from collections.abc import Iterator, Mapping, Sequence
 from dataclasses import dataclass
+from typing import Any
 
 HERE = os.path.dirname(os.path.dirname(os.path.abspath(__file__)))
 BIG = 2**127 - 1
@@ -17,8 +18,8 @@ def head(v: int, c: int, o: int, nbv: int, niv: int, nzc: int, nzo: int, d: int)
     ]
 
 
-def file(counts: Sequence[int], body: str) -> list[str]:
-    return head(*counts) + body.split(" / ")
+def file(counts: Sequence[int] | str, body: str) -> list[str]:
+    return head(*(map(int, counts.split()) if isinstance(counts, str) else counts)) + body.split(" / ")
 
 
 def mps(body: str) -> str:
@@ -143,6 +144,14 @@ def data(*path: str) -> bytes:
     """The bytes of a file beside the examples."""
     with open(os.path.join(HERE, *path), "rb") as stream:
         return stream.read()
+
+
+def table(name: str, names: Mapping[str, Any]) -> Iterator[Case]:
+    """The cases of `tables/NAME.txt`: in each row what of these names makes it, and its words; those in capitals stand for values."""
+    for row in data("tables", f"{name}.txt").decode().splitlines():
+        if not row.startswith("# "):
+            made, *cells = row.split(" | ")
+            yield names[made](*(names.get(cell, cell) if cell.isupper() else cell for cell in cells))
 
 
 def lines(words: str) -> bytes:

@@ -59,56 +59,6 @@ def refused(name: str, certificate: str, told: str, program: bytes = WHOLE) -> C
     return texts.refused(name, "verify", program, lines(certificate), told=f"file 2 {told}")
 
 
-def third_cases() -> Iterator[Case]:
-    """The least x with 3 x at least 1: a third, or 1 where x is whole."""
-    yield verdict("a third", THIRD, "optimal 0 / point 1 / 0 1/3 / duals 1 / 0 1/3", "optimal 1/3")
-    yield verdict("6/4 is 3/2", THIRD, "feasible 0 / point 1 / 0 6/4", "feasible 3/2")
-    yield verdict("a point that is not the best", THIRD, "optimal 0 / point 1 / 0 1/2 / duals 1 / 0 1/3", "leaf 0 gap 1/3")
-    yield verdict("a dual that asks for a bound", THIRD, "optimal 0 / point 1 / 0 1/3 / duals 1 / 0 1/2", "leaf 0 bound 0 has no side")
-    yield verdict("a dual that asks for a side", THIRD, "optimal 0 / point 1 / 0 1/3 / duals 1 / 0 -1/3", "leaf 0 row 0 has no side")
-    yield verdict("a row broken", THIRD, "optimal 0 / point 0 / duals 1 / 0 1/3", "row 0 broken")
-    yield verdict("a bound of the value", THIRD, "bound 0 1/3 / duals 1 / 0 1/3", "bound 1/3")
-    yield verdict("a bound that is too good", THIRD, "bound 0 1/2 / duals 1 / 0 1/3", "leaf 0 gap 1/3")
-    yield verdict("a weaker bound", THIRD, "bound 0 -.5 / duals 1 / 0 1/3", "bound -1/2")
-    yield verdict("stopped at a gap", THIRD, "within 0 1/3 / point 1 / 0 1 / duals 1 / 0 1/3", "within 1/3 1")
-    yield verdict("stopped at a wider gap", THIRD, "within 0 -2 / point 1 / 0 2/5 / duals 1 / 0 1/3", "within -2 2/5")
-    yield verdict("a gap that is not shown", THIRD, "within 0 1/2 / point 1 / 0 1 / duals 1 / 0 1/3", "leaf 0 gap 1/3")
-    yield verdict("a gap, the point broken", THIRD, "within 0 1/3 / point 0 / duals 1 / 0 1/3", "row 0 broken")
-    yield verdict("whole", WHOLE, "optimal 0 / point 1 / 0 1 / split 0 0 / weights 1 / 0 1 / duals 0", "optimal 1")
-    yield verdict("a whole variable that is not whole", WHOLE, "optimal 0 / point 1 / 0 1/3 / split 0 0 / weights 1 / 0 1 / duals 0", "variable 0 not whole")
-    yield verdict("weights that give 0", WHOLE, "optimal 0 / point 1 / 0 1 / split 0 0 / weights 0 / duals 0", "leaf 0 gap 0")
-    yield verdict("the gap of weights, which is no bound: 15 is reached", TWO, "bound 1 16 / weights 0", "leaf 0 gap 0")
-    yield verdict("the second leaf", WHOLE, "optimal 0 / point 1 / 0 2 / split 0 0 / weights 1 / 0 1 / duals 0", "leaf 1 gap 1")
-    yield verdict("a bound broken", row(bound="0 0 5"), "feasible 0 / point 1 / 0 6", "bound 0 broken")
-    yield verdict("the second objective", TWO, "optimal 1 / point 1 / 0 5 / duals 0", "optimal 15 of objective 1")
-    yield verdict("the second objective, a gap left", TWO, "within 1 31/2 / point 1 / 0 5 / duals 0", "within 31/2 15 of objective 1")
-    yield verdict("the second objective, a bound", TWO, "bound 1 16 / duals 0", "bound 16 of objective 1")
-    yield verdict("the second objective, a point", TWO, "feasible 1 / point 1 / 0 2", "feasible 6 of objective 1")
-    yield verdict("the second objective, no end", TWO_ENDLESS, "unbounded 1 / point 1 / 0 1 / ray 1 / 0 1", "unbounded of objective 1")
-    yield verdict("the first objective is not named", TWO, "feasible 0 / point 1 / 0 2", "feasible 2")
-    yield verdict("none is named where nothing holds", TWO, "optimal 1 / point 0 / duals 0", "row 0 broken")
-    yield verdict("the second objective, the value of the first", TWO, "bound 1 5 / duals 0", "leaf 0 gap 15")
-
-
-def parity_cases() -> Iterator[Case]:
-    """A plane: the sum is at most 166 or at least 167, and three times it is 500."""
-    yield verdict("parity", PARITY, f"infeasible / {PLANE} / weights 2 / 0 1/3 / 1 -1 / weights 2 / 0 -1/3 / 1 1", "infeasible")
-    yield verdict("a side of a plane that is not there", PARITY, f"infeasible / {PLANE} / weights 2 / 0 1/3 / 1 1 / weights 2 / 0 -1/3 / 1 1", "leaf 0 row 1 has no side")
-    yield verdict("weights that do not cancel", PARITY, f"infeasible / {PLANE} / weights 2 / 0 1/4 / 1 -1 / weights 2 / 0 -1/3 / 1 1", "leaf 0 bound 0 has no side")
-    yield verdict("no whole third", NO_OBJECTIVE, "infeasible / split 0 0 / weights 1 / 0 1 / weights 1 / 0 -1", "infeasible")
-
-
-def ray_cases() -> Iterator[Case]:
-    """A ray along which the objective gets better without end."""
-    yield verdict("unbounded", ENDLESS, "unbounded 0 / point 0 / ray 2 / 0 1 / 1 1", "unbounded")
-    yield verdict("a ray that is not whole", ENDLESS, "unbounded 0 / point 0 / ray 2 / 0 1/3 / 1 1/2", "unbounded")
-    yield verdict("a ray that leaves a row", ENDLESS, "unbounded 0 / point 0 / ray 1 / 0 1", "ray row 0 broken")
-    yield verdict("a ray that leaves a bound", ENDLESS, "unbounded 0 / point 0 / ray 2 / 0 -1 / 1 2", "ray bound 0 broken")
-    yield verdict("no ray", ENDLESS, "unbounded 0 / point 0 / ray 0", "ray does not improve")
-    yield verdict("a point that is not feasible", ENDLESS, "unbounded 0 / point 1 / 0 3 / ray 2 / 0 1 / 1 1", "row 0 broken")
-    yield verdict("a ray in the wrong sense", row(bound="2 0"), "unbounded 0 / point 1 / 0 1 / ray 1 / 0 1", "ray does not improve")
-
-
 def plane_cases() -> Iterator[Case]:
     """A plane on the objective: at most 17, or at least 18, where each part is a contradiction; a rounded row, whose part beyond is one."""
     found, plane = "optimal 0 / point 2 / 0 1 / 1 1", "plane 3 {} / 0 10 / 1 7 / 2 12 / duals 1 / 1 1"
@@ -118,21 +68,13 @@ def plane_cases() -> Iterator[Case]:
     yield verdict("the same as a bound", program, f"bound 0 17 / {plane.format(17)} / {beyond}", "bound 17")
     yield verdict("a plane that cuts the point off", program, f"{found} / {plane.format(16)} / {beyond}", "leaf 1 gap 0")
     yield verdict("a part beyond that has points of the relaxation", program, f"{found} / {plane.format(17)} / weights 1 / 1 1", "leaf 1 gap -11")
-    cut = "plane 2 1 / 0 1 / 1 1 / duals 1 / 1 1 / weights 2 / 0 -1 / 1 2"
-    yield verdict("a rounded row", ROUNDED, f"optimal 0 / point 1 / 0 1 / {cut}", "optimal 1")
-    yield verdict("a row that is not rounded", ROUNDED, "optimal 0 / point 1 / 0 1 / duals 1 / 0 1/2", "leaf 0 gap 3/2")
 
 
 def lemma_cases() -> Iterator[Case]:
     """A lemma over a continuous variable, y - 7 x at most 0."""
     rest = " / duals 1 / 1 1"
-    yield verdict("a lemma", CHARGE, "bound 0 7 / " + LEMMA.format(0) + rest, "bound 7")
-    yield verdict("a lemma that is not shown", CHARGE, "bound 0 7 / " + LEMMA.format(-1) + rest, "leaf 0 gap 0")
-    yield verdict("a lemma that is too weak", CHARGE, "bound 0 7 / " + LEMMA.format("4/3") + rest, "leaf 2 gap 25/3")
-    yield verdict("a lemma with a fraction", CHARGE, "bound 0 22/3 / " + LEMMA.format("1/3") + rest, "bound 22/3")
     within = "bound 0 7 / lemma 1 7 / 0 1 / " + LEMMA.format(0) + rest + rest
     yield verdict("a lemma in the proof of a lemma", CHARGE, within, "bound 7")
-    yield verdict("an optimum by a lemma", CHARGE, "optimal 0 / point 2 / 0 7 / 1 1 / " + LEMMA.format(0) + rest, "optimal 7")
     yield verdict("duals in the proof of a lemma under infeasible", NO_OBJECTIVE,
                   "infeasible / lemma 1 2/3 / 0 1 / duals 1 / 0 1/3 / split 0 0 / weights 1 / 0 1 / weights 1 / 1 -1", "infeasible")
 
@@ -212,63 +154,19 @@ def large_cases() -> Iterator[Case]:
     yield verdict("65,536 lemmas in a chain", far, [f"bound 0 {count}", *lemmas, "duals 1", f"{count} -1"], f"bound {count}", seconds=10)
 
 
-def fault_cases() -> Iterator[Case]:
-    """Each fault of a text, and the order of two at one line."""
-    yield refused("no first line", "", "line 2: bad first line")
-    yield refused("another first line", "certificate 2", "line 1: bad first line")
-    yield refused("a proof", "proof 1", "line 1: bad first line")
-    yield refused("no claim", "certificate 1", "line 2: short file")
-    yield refused("an unknown claim", "certificate 1 / best 0", "line 2: bad line")
-    yield refused("a claim of a word more", "certificate 1 / optimal 0 0", "line 2: bad line")
-    yield refused("an objective that is no number", "certificate 1 / optimal x", "line 2: bad number")
-    yield refused("an objective beyond the greatest", "certificate 1 / optimal 2147483648", "line 2: bad number")
-    yield refused("a bound that is no number", "certificate 1 / bound 0 1/0", "line 2: bad number")
-    yield refused("a bound that fits nothing", "certificate 1 / within 0 1e-40", "line 2: bad number")
-    yield refused("a numerator beyond", f"certificate 1 / bound 0 {BIG + 1}/{BIG + 1}", "line 2: bad number")
-    yield refused("no point", "certificate 1 / optimal 0", "line 3: short file")
-    yield refused("a tree where a point is awaited", "certificate 1 / optimal 0 / duals 0", "line 3: bad line")
-    yield refused("a point without its value", "certificate 1 / feasible 0 / point 1", "line 4: short file")
-    yield refused("a ray where nothing is", "certificate 1 / feasible 0 / point 0 / ray 0", "line 4: extra line")
-    yield refused("no ray", "certificate 1 / unbounded 0 / point 0 / duals 0", "line 4: bad line")
-    yield refused("no tree", "certificate 1 / bound 0 1", "line 3: short file")
-    yield refused("half a tree", "certificate 1 / bound 0 1 / split 0 0 / duals 0", "line 5: short file")
-    yield refused("a lemma without the rest", "certificate 1 / bound 0 1 / lemma 1 0 / 0 1 / duals 0", "line 6: short file")
-    yield refused("a line after the tree", "certificate 1 / bound 0 1 / duals 0 / x", "line 4: extra line")
-    yield refused("an unknown node", "certificate 1 / bound 0 1 / leaf", "line 3: bad line")
-    yield refused("duals under infeasible", "certificate 1 / infeasible / duals 0", "line 3: bad line")
-    yield refused("duals where a lemma goes on", "certificate 1 / infeasible / lemma 1 0 / 0 1 / duals 0 / duals 0", "line 6: bad line")
-    yield refused("a variable that is none", "certificate 1 / feasible 0 / point 1 / 1 0", "line 4: index out of range")
-    yield refused("a row that is none", "certificate 1 / bound 0 1 / duals 1 / 1 0", "line 4: index out of range")
-    yield refused("the row of a lemma in its own proof", "certificate 1 / bound 0 1 / lemma 1 0 / 0 1 / duals 1 / 1 1", "line 6: index out of range")
-    yield refused("an index again", "certificate 1 / bound 0 1 / plane 1 0 / 0 1 / duals 2 / 1 1 / 1 1", "line 7: index out of order")
-    yield refused("indices that descend", "certificate 1 / bound 0 1 / plane 1 0 / 0 1 / duals 2 / 1 1 / 0 1", "line 7: index out of order")
-    yield refused("a head where a line is awaited", "certificate 1 / bound 0 1 / duals 1 / point 3", "line 4: bad number")
-    yield refused("a value that is no number", "certificate 1 / feasible 0 / point 1 / 0 1/-3", "line 4: bad number")
-    yield refused("a line of three words", "certificate 1 / feasible 0 / point 1 / 0 1 1", "line 4: bad line")
-    yield refused("a split of no variable", "certificate 1 / bound 0 1 / split 1 0", "line 3: index out of range")
-    yield refused("a split that is not whole", "certificate 1 / bound 0 1 / split 0 1/2", "line 3: bad number")
-    yield refused("a split beyond the next number", f"certificate 1 / bound 0 1 / split 0 {BIG}", "line 3: bad number")
-    yield refused("a continuous split", "certificate 1 / bound 0 1 / split 0 0", "line 3: not whole", THIRD)
-    yield refused("a plane of a continuous variable", "certificate 1 / bound 0 1 / plane 1 0 / 0 1", "line 4: not whole", THIRD)
-    yield refused("a plane with a part", "certificate 1 / bound 0 1 / plane 1 0 / 0 1/2", "line 4: bad number")
-    yield refused("an empty plane", "certificate 1 / bound 0 1 / plane 0 0", "line 3: bad number")
-    yield refused("an empty lemma", "certificate 1 / bound 0 1 / lemma 0 0", "line 3: bad number")
-    yield refused("a long line", "x" * 65537, "line 1: line too long")
-    deep = ["certificate 1", "bound 0 1"] + ["plane 1 0", "0 1"] * 65537
-    yield texts.refused("an added row too many", "verify", WHOLE, text(deep), told="file 2 line 131075: too large")
-
-
 def cases() -> Iterator[Case]:
-    yield from third_cases()
-    yield from parity_cases()
-    yield from ray_cases()
+    yield from texts.table("verify", globals())
+    yield verdict("a bound broken", row(bound="0 0 5"), "feasible 0 / point 1 / 0 6", "bound 0 broken")
+    yield verdict("a ray in the wrong sense", row(bound="2 0"), "unbounded 0 / point 1 / 0 1 / ray 1 / 0 1", "ray does not improve")
     yield from plane_cases()
     yield from lemma_cases()
     yield from wide_cases()
     yield from exact_cases()
     yield from collection_cases()
     yield from large_cases()
-    yield from fault_cases()
+    yield refused("a long line", "x" * 65537, "line 1: line too long")
+    deep = ["certificate 1", "bound 0 1"] + ["plane 1 0", "0 1"] * 65537
+    yield texts.refused("an added row too many", "verify", WHOLE, text(deep), told="file 2 line 131075: too large")
     claim = lines("certificate 1 / bound 1 2 / duals 0")
     yield texts.refused("no such objective", "verify", WHOLE, claim, told="objective 1: no such objective")
     claim = lines("certificate 1 / infeasible / weights 0")

@@ -16,10 +16,10 @@ BEST = "optimal 0 / point 1 / 0 2 / split 0 1 / weights 1 / 1 1 / duals 0"
 RANGED = "ROWS/ N C/ {} R/COLUMNS/ X C 1 R 1/RHS/ RHS R {}/RANGES/ RNG R {}/BOUNDS/ FR BND X"
 
 
-def judged(name: str, body: bytes | str, certificate: str, line: str, status: int = 0, command: str = "verify_mps") -> Case:
+def judged(name: str, body: bytes | str, certificate: str, line: str, status: int | str = 0, command: str = "verify_mps") -> Case:
     """What is written on a certificate, given by its lines after the first, for a program of these lines."""
     program = body if isinstance(body, bytes) else mps(body).encode()
-    return texts.done(name, command, program, lines("certificate 1 / " + certificate), out=line + "\n", status=status)
+    return texts.done(name, command, program, lines("certificate 1 / " + certificate), out=line + "\n", status=int(status))
 
 
 def refused(name: str, body: bytes | str, certificate: str, told: str, command: str = "verify_mps") -> Case:
@@ -28,26 +28,15 @@ def refused(name: str, body: bytes | str, certificate: str, told: str, command: 
 
 
 def claim_cases() -> Iterator[Case]:
-    yield judged("a best point", WHOLE, BEST, "optimal 2")
-    yield judged("a point within a gap", WHOLE, "within 0 3/2 / point 1 / 0 2 / duals 1 / 1 1/2", "within 3/2 2")
-    yield judged("a bound", WHOLE, "bound 0 3/2 / duals 1 / 1 1/2", "bound 3/2")
-    yield judged("a point", WHOLE, "feasible 0 / point 1 / 0 5", "feasible 5")
+    yield from texts.table("verify_mps", globals())
     yield judged("no point", BODY.format("13", "UP BND X 5"), "infeasible / weights 1 / 1 1", "infeasible")
     yield judged("no end", "OBJSENSE/ MAX/" + BODY.format("3", "PL BND X"), "unbounded 0 / point 1 / 0 2 / ray 1 / 0 1", "unbounded")
-    yield judged("a bound that is too good", WHOLE, "bound 0 2 / duals 1 / 1 1/2", "leaf 0 gap 3/2", 1)
-    yield judged("the first constraint broken", WHOLE, "feasible 0 / point 2 / 0 2 / 1 1", "row 0 broken", 1)
-    yield judged("the second constraint broken", WHOLE, "feasible 0 / point 0", "row 1 broken", 1)
-    yield judged("a whole column that is not whole", WHOLE, "feasible 0 / point 1 / 0 5/2", "variable 0 not whole", 1)
-    yield judged("a bound broken", WHOLE, "feasible 0 / point 1 / 0 6", "bound 0 broken", 1)
-    yield judged("a ray that leaves a bound", WHOLE, "unbounded 0 / point 1 / 0 2 / ray 1 / 0 1", "ray bound 0 broken", 1)
 
 
 def objective_cases() -> Iterator[Case]:
     """The first N row less its right side; MAX; another N row is not looked at."""
     yield judged("a right side of the objective", BODY.format("3 COST -7", "UP BND X 5"), BEST, "optimal 9")
     yield judged("the greatest value", "OBJSENSE/ MAX/" + WHOLE, "optimal 0 / point 1 / 0 5 / duals 0", "optimal 5")
-    yield judged("the value of the other N row", WHOLE, "bound 0 10 / split 0 1 / weights 1 / 1 1 / duals 0", "leaf 1 gap 2", 1)
-    yield refused("a second objective", WHOLE, "bound 1 2 / duals 0", "objective 1: no such objective")
 
 
 def range_cases() -> Iterator[Case]:
@@ -93,10 +82,6 @@ def fault_cases() -> Iterator[Case]:
     yield refused("a wide coefficient", WHOLE.replace("TWO 2/", "TWO 1e40/"), BEST, "row 3: too wide")
     yield refused("a wide objective", WHOLE.replace("X COST 1 ", "X COST 1e-40 "), BEST, "row 0: too wide")
     yield judged("a wide N row that is not looked at", WHOLE.replace("OTHER 5", "OTHER 1e40"), BEST, "optimal 2")
-    yield refused("a row past the last", WHOLE, "bound 0 2 / duals 1 / 2 1", "file 2 line 4: index out of range")
-    yield refused("a column past the last", WHOLE, "feasible 0 / point 1 / 2 1", "file 2 line 4: index out of range")
-    yield refused("a split on a continuous column", WHOLE, "bound 0 2 / split 1 0", "file 2 line 3: not whole")
-    yield refused("a certificate that ends early", WHOLE, "optimal 0", "file 2 line 3: short file")
     yield texts.missing("no certificate of a program", "verify_mps", mps(WHOLE).encode())
     yield texts.Case("no program", ("verify_mps", "missing", "A"), {"A": lines("certificate 1")}, 4, "", "input fault\n")
     yield bad_words("verify_mps alone", "verify_mps")
@@ -109,7 +94,6 @@ def fixed_cases() -> Iterator[Case]:
     yield judged("fixed columns", program, "feasible 0 / point 2 / 0 3 / 1 2/3", "feasible 1", command="verify_fixed")
     yield judged("fixed columns without end", program, "unbounded 0 / point 0 / ray 1 / 1 1", "unbounded", command="verify_fixed")
     yield judged("a row of fixed columns broken", program, "feasible 0 / point 1 / 0 4", "row 0 broken", 1, command="verify_fixed")
-    yield refused("free form is no text of fixed columns", WHOLE, BEST, "line 3: bad line", command="verify_fixed")
 
 
 def cases() -> Iterator[Case]:

@@ -74,16 +74,6 @@ class Processes(Case):
         words = ["nl-bridge", "verify", "knap.nl", "knap.certificate"]
         self.assertEqual(self.on_a_terminal(*words), (0, b"\x1b[32moptimal 17\x1b[0m\n"))
         self.assertEqual(self.on_a_terminal(*words, NO_COLOR="1"), (0, b"optimal 17\n"))
-        other = os.path.join(self.folder, "other")
-        with open(other, "w", encoding="ascii") as f:
-            f.write("certificate 1\nbound 0 16\nduals 0\n")
-        self.assertEqual(self.on_a_terminal(*words[:3], other),
-                         (1, b"\x1b[31mleaf 0 gap 29\x1b[0m\n"))
         status, told = self.on_a_terminal("nl-bridge", "explain", *words[2:])
         self.assertEqual((status, told.split(b"\n")[0]), (0, b"\x1b[32mknap.certificate holds of "
                                                              b"knap.nl: optimal 17\x1b[0m"))
-
-    def test_drivers(self) -> None:
-        status, told = self.on_a_terminal("bridge-cbc", "knap", "wantsol=0")
-        if status == 0:
-            self.assertRegex(told, rb"\n\x1b\[3[23]m(feasible|optimal) 17\x1b\[0m\n$")

@@ -5,6 +5,7 @@ from __future__ import annotations
 import os
 import pty
 import select
+import shlex
 import shutil
 import signal
 import subprocess
@@ -53,33 +54,21 @@ class Bash(Case):
         self.assertEqual(ran.stderr, "")
         return sorted(ran.stdout.split())
 
-    def test_options_and_values(self) -> None:
-        self.assertEqual(self.answers("bridge-cbc", "knap", "pro"), ["prove="])
-        self.assertEqual(self.answers("bridge-cbc", "knap", "prove", "="), ["0", "1"])
-        self.assertEqual(self.answers("bridge-cbc", "knap", "only", "=", "m"), ["mps"])
-        self.assertEqual(self.answers("/usr/bin/bridge-certify", "knap", "driver", "=", "c"),
-                         ["cbc", "clp"])
-        self.assertEqual(self.answers("bridge-glpsol", "k", "x"), ["xcheck="])
-        self.assertEqual(self.answers("bridge-cbc", "k", "x"), [])
-        self.assertEqual(self.answers("bridge-cbc", "k", "-A"), ["-AMPL"])
-
-    def test_files(self) -> None:
+    def test_answers(self) -> None:
         for name in ("a.nl", "a.certificate", "b.txt", "c.mps", "c.mps.gz", "c.gz"):
             open(os.path.join(self.folder, name), "w", encoding="ascii").close()
-        self.assertEqual(self.answers("bridge-cbc", "a"), ["a.nl"])
-        self.assertEqual(self.answers("bridge-cbc", "c"), ["c.mps", "c.mps.gz"])
-        self.assertEqual(self.answers("bridge-cbc", "c.mps", "format", "=", "f"), ["fixed", "free"])
-        self.assertEqual(self.answers("bridge-cbc", "a", "certificate", "=", "a.c"),
-                         ["a.certificate"])
-        self.assertEqual(self.answers("nl-bridge", "verify", "a.nl", "a"),
-                         ["a.certificate", "a.nl"])
-
-    def test_commands(self) -> None:
-        self.assertEqual(self.answers("nl-bridge", "ex"), ["explain", "export"])
-        self.assertEqual(self.answers("nl-bridge", "explain", "--h"), ["--html"])
-        self.assertEqual(self.answers("nl-bridge", "stats", "m.nl", "js"), ["json=1"])
-        self.assertEqual(self.answers("nl-bridge", "completion", ""),
-                         ["bash", "completion", "fish", "zsh"])
+        for call, answers in (
+                ("bridge-cbc knap pro", "prove="), ("bridge-cbc knap prove =", "0 1"),
+                ("bridge-cbc knap only = m", "mps"), ("bridge-glpsol k x", "xcheck="),
+                ("/usr/bin/bridge-certify knap driver = c", "cbc clp"), ("bridge-cbc k x", ""),
+                ("bridge-cbc k -A", "-AMPL"), ("bridge-cbc a", "a.nl"),
+                ("bridge-cbc c", "c.mps c.mps.gz"), ("bridge-cbc c.mps format = f", "fixed free"),
+                ("bridge-cbc a certificate = a.c", "a.certificate"),
+                ("nl-bridge verify a.nl a", "a.certificate a.nl"),
+                ("nl-bridge ex", "explain export"), ("nl-bridge explain --h", "--html"),
+                ("nl-bridge stats m.nl js", "json=1"),
+                ("nl-bridge completion ''", "bash completion fish zsh")):
+            self.assertEqual(self.answers(*shlex.split(call)), answers.split(), call)
 
 
 class Texts(Case):
@@ -89,20 +78,6 @@ class Texts(Case):
             text = front.completion(shell)
             for name in os.listdir(BIN):
                 self.assertIn(f" {name}", text)
-
-    @unittest.skipUnless(shutil.which("zsh"), "no zsh")
-    def test_zsh(self) -> None:
-        """It loads by its name, and answers."""
-        with open(os.path.join(self.folder, "_nl-bridge"), "w", encoding="utf-8") as f:
-            f.write(front.completion("zsh"))
-        code = (f"fpath=({self.folder} $fpath); autoload -Uz compinit && compinit -u -d "
-                f"{self.folder}/dump; print $_comps[bridge-cbc] $_comps[nl-bridge]; "
-                "autoload +X _nl-bridge && which _nl-bridge | wc -l")
-        ran = subprocess.run(["zsh", "-f", "-c", code], capture_output=True, text=True,
-                             check=False)
-        lines = ran.stdout.split("\n")
-        self.assertEqual((lines[0], ran.stderr), ("_nl-bridge _nl-bridge", ""))
-        self.assertGreater(int(lines[1]), 50)
 
     @unittest.skipUnless(shutil.which("zsh"), "no zsh")
     def test_zsh_answers(self) -> None:

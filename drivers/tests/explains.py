@@ -17,7 +17,6 @@ from models import MODELS, nl
 
 from bridge_drivers import BridgeError, front, interface
 from bridge_drivers.bridge import Bridge
-from bridge_drivers.codes import Status
 from bridge_drivers.explained import reading, sums
 from bridge_drivers.explained.command import Explaining, Files
 from bridge_drivers.inputs import Input
@@ -203,51 +202,33 @@ class Explained(Case):
         self.assertEqual(lines[0], "m.certificate line 1: bad first line (it does not begin with "
                                    "`certificate 1`)")
 
-    def test_bounds_are_those_of_the_program(self) -> None:
-        """What is worked out here of a leaf is what the program tells of it."""
-        knap = self.example("knap.nl")
-        for model, text, place in (
-                (knap, full_tree(3, "bound 0 -1"), None),
-                (knap, text_of("bound 0 16/duals 1/0 3/2"), None),
-                (knap, text_of("bound 0 18/plane 3 1/0 1/1 1/2 1/duals 2/0 1/1 5/duals 1/0 7/4"),
-                 None), (FLOW, text_of("bound 0 -3/split 1 0/duals 1/0 1/duals 1/0 .5"), None),
-                (MODELS["diet"].text, text_of("bound 0 9/duals 2/0 .25/1 .125"), None)):
-            told = self.object(model, text)
-            found = re.fullmatch(r"leaf (\d+) gap (\S+)", told.verdict)
-            if found is None:
-                continue
-            at = told.certificate.place_of_leaf(int(found.group(1)))
-            assert told.bounds is not None
-            self.assertEqual(told.bounds.shown(at, told.bounds.part(at)), F(found.group(2)))
-
-    def test_leaves_meet_what_is_claimed(self) -> None:
-        """Each leaf of a certificate that holds, by what is worked out here."""
-        told = self.object(self.example("knap.nl"), self.example("knap.certificate"))
-        assert told.bounds is not None
-        for at, node in enumerate(told.certificate.nodes):
-            if node.is_leaf():
-                part = told.bounds.part(at)
-                shown = told.bounds.shown(at, part)
-                assert shown is not None
-                self.assertTrue(shown > 0 if node.kind == "weights" else shown <= 17)
-
     def test_sums(self) -> None:
-        """Their lines add up to what the program tells of each leaf, in one width, nothing cut."""
-        knap, lemma = self.example("knap.nl"), text_of(
-            "bound 0 17/lemma 3 17/0 10/1 7/2 12/split 2 0/duals 0/split 0 0/split 1 0/duals 0/"
-            "weights 1/0 -1/weights 1/0 -1/duals 1/1 1")
-        for model, text in ((knap, self.example("knap.certificate")), (knap, lemma),
-                            (knap, full_tree(3, "bound 0 -1")), (WIDE, full_tree(5, "bound 0 9"))):
+        """Their lines add up to what the program tells of a leaf, in one width, nothing cut."""
+        knap = self.example("knap.nl")
+        for model, text in (
+                (knap, self.example("knap.certificate")), (knap, full_tree(3, "bound 0 -1")),
+                (knap, text_of("bound 0 16/duals 1/0 1.5")),
+                (knap, text_of("bound 0 17/lemma 3 17/0 10/1 7/2 12/split 2 0/duals 0/split 0 0/"
+                               "split 1 0/duals 0/weights 1/0 -1/weights 1/0 -1/duals 1/1 1")),
+                (knap, text_of("bound 0 18/plane 3 1/0 1/1 1/2 1/duals 2/0 1/1 5/duals 1/0 1.75")),
+                (FLOW, text_of("bound 0 -3/split 1 0/duals 1/0 1/duals 1/0 .5")),
+                (MODELS["diet"].text, text_of("bound 0 9/duals 2/0 .25/1 .125")),
+                (WIDE, full_tree(5, "bound 0 9"))):
             told = self.object(model, text)
-            drawn = told.tree()
-            for found in sums.sums(told.wording, [d.place for d in drawn.drawn
-                                   if told.certificate.nodes[d.place].is_leaf()]):
-                products = [F(line.split(")")[-1].split("=")[0].strip()) for line in found.lines
+            assert told.bounds is not None
+            found = re.fullmatch(r"leaf (\d+) gap (\S+)", told.verdict)
+            if found is not None:
+                at = told.certificate.place_of_leaf(int(found[1]))
+                self.assertEqual(told.bounds.shown(at, told.bounds.part(at)), F(found[2]))
+            for one in sums.sums(told.wording, [
+                    d.place for d in told.tree().drawn
+                    if told.certificate.nodes[d.place].is_leaf()]):
+                products = [F(line.split(")")[-1].split("=")[0].strip()) for line in one.lines
                             if "\u00d7" in line]
-                total = told.bounds.shown(found.place, told.bounds.part(found.place))
-                self.assertEqual((sum(products), F(found.lines[-1].split("=")[0])), (total, total))
-                self.assertEqual(len({len(line) for line in found.lines}), 1)
-                self.assertIn(found.lines[-1].strip(), told.page())
+                total = told.bounds.shown(one.place, told.bounds.part(one.place))
+                self.assertEqual((sum(products), F(one.lines[-1].split("=")[0])), (total, total))
+                self.assertEqual(len({len(line) for line in one.lines}), 1)
+                self.assertIn(one.lines[-1].strip(), told.page())
 
     def test_the_objective_by_its_name(self) -> None:
         """A plane on it, whatever it is multiplied by, and turned."""
@@ -311,23 +292,6 @@ class Explained(Case):
             self.assertEqual(printable(text), text)
             self.assertIn("&lt;b&gt;&amp; \u2264 0", text)
         xml.fromstring(told.picture())
-
-    def test_pages_that_cannot_be_written(self) -> None:
-        self.put(self.example("knap.nl"))
-        self.put(self.example("knap.certificate"), ".certificate")
-        told = interface.explain(self.stub, self.stub + ".certificate", html="/nonexistent/x.html")
-        self.assertEqual((told.status, told.lines[-1]),
-                         (Status.UNWRITTEN, "/nonexistent/x.html is not written: No such file or "
-                                             "directory"))
-
-    def test_pages_do_not_overwrite_what_they_are_of(self) -> None:
-        self.put(self.example("knap.nl"))
-        text = self.example("knap.certificate")
-        self.put(text, ".certificate")
-        nl, certificate = self.stub + ".nl", self.stub + ".certificate"
-        told = interface.explain(nl, certificate, svg=certificate)
-        with open(certificate, "rb") as f:
-            self.assertEqual((told.status, f.read()), (Status.UNWRITTEN, text))
 
     @unittest.skipUnless(BROWSER, "no chromium")
     def test_in_a_browser(self) -> None:

@@ -2,9 +2,6 @@
 
 from __future__ import annotations
 
-import os
-import random
-import tempfile
 import unittest
 from fractions import Fraction as F
 
@@ -14,7 +11,12 @@ from bridge_drivers import importing, stats
 from bridge_drivers.bridge import Bridge, Reply
 from bridge_drivers.names import Names
 from bridge_drivers.program import Program
-from front import EXPORTED
+
+EXPORTED = (b"NAME nl\nOBJSENSE\n MAX\nROWS\n N obj\n L c0\n G c2\n E c3\nCOLUMNS\n x0 obj 2\n"
+            b" x0 c0 0.5\n x0 c2 1e31\n M0 'MARKER' 'INTORG'\n x1 c0 -3\n x1 c3 0\n"
+            b" x2 c2 0.30000000000000004441\n M1 'MARKER' 'INTEND'\n x3 obj 0\nRHS\n"
+            b" RHS obj -7\n RHS c0 1e30\nRANGES\n RNG c2 5\nBOUNDS\n LO BND x0 0\n UP BND x0 1\n"
+            b" LO BND x1 0\n UP BND x1 1\n FX BND x2 4\n FR BND x3\nENDATA\n")
 
 
 class Importing(Case):
@@ -46,31 +48,6 @@ class Importing(Case):
         self.assertEqual([bounds.column(j) for j in range(6)],
                          ["c", "'MARKER'", "b", "v", "i", "low"])
 
-    @NEEDS_PROGRAM
-    def test_random_ones(self) -> None:
-        """Each column has a bound of its own, which the .nl has at the place of its name."""
-        chance = random.Random(7)
-        for _ in range(20):
-            lines, bounds, wanted = [], [], {}
-            for j in range(12):
-                whole, low, high = chance.random() < .6, chance.choice((0, 1, -1)), \
-                    chance.choice((1, 2 + j))
-                mark = [f" M{j} 'MARKER' 'INTORG'", f" x{j} r 1", f" M{j}e 'MARKER' 'INTEND'"]
-                lines += mark if whole else mark[1:2]
-                bounds += [f" LO BND x{j} {low}", f" UP BND x{j} {high}"]
-                wanted[f"x{j}"] = f"4 {low}" if low == high else f"0 {low} {high}"
-            text = "\n".join(["NAME", "ROWS", " N o", " L r", "COLUMNS", *lines, "RHS", "BOUNDS",
-                              *bounds, "ENDATA", ""])
-            self.put(text.encode(), ".mps")
-            importing.imported(Bridge(PROGRAM, lambda argv: None), self.stub + ".mps", self.stub,
-                               overwrite=True)
-            with open(self.stub + ".nl", encoding="ascii") as f:
-                made = f.read().split("\n")
-            at = made.index("b") + 1
-            names = Names(self.stub)
-            self.assertEqual({names.column(j): made[at + j] for j in range(12)}, wanted)
-
-
 class Figures(unittest.TestCase):
     def test_lines(self) -> None:
         figures = stats.figures_of(Program(EXPORTED))
@@ -86,15 +63,6 @@ class Figures(unittest.TestCase):
             "1e25, to lp_solve from 1e30",
             "not doubles   1 numbers: 0.30000000000000004441 (c2 x2)",
             "scaled rows   1: c0 by 3"])
-
-    def test_controls_in_names(self) -> None:
-        with tempfile.TemporaryDirectory() as folder:
-            stub = os.path.join(folder, "m")
-            with open(stub + ".row", "w", encoding="utf-8") as f:
-                f.write("Cap\x1b[2J\n")
-            lines = stats.lines_of(stats.figures_of(Program(EXPORTED)), {"c0": "3"},
-                                   Names(stub))
-        self.assertEqual(lines[-1], "scaled rows   1: c0 (Cap\\x1b[2J) by 3")
 
     def test_a_tied_objective(self) -> None:
         text = (b"NAME nl\nROWS\n N obj\n E zdef\nCOLUMNS\n x0 zdef 1\n z obj 1\n z zdef -3\nRHS\n"

@@ -10,9 +10,12 @@ import subprocess
 import sys
 import unittest
 
-from support import BIN, DRIVERS, Case
+from support import BIN, DRIVERS, NEEDS_PROGRAM, Case, driven
+from models import MODELS
 
 from bridge_drivers import VERSION
+
+MINIZINC = os.path.join(DRIVERS, "minizinc")
 
 
 class Installing(Case):
@@ -24,6 +27,27 @@ class Installing(Case):
     def paths(self) -> set[str]:
         return {os.path.join(place, name) for place, _, names in os.walk(self.folder)
                 for name in names}
+
+    @NEEDS_PROGRAM
+    def test_another_program(self) -> None:
+        """It is taken into the folder, and configurations name what can be run; also again."""
+        prefix = os.path.join(self.folder, "a prefix")
+        program = self.script("bridge", "echo bad words >&2; exit 3")
+        for words in (["--bridge", program], []):
+            ran = self.install(prefix, *words)
+            self.assertEqual(ran.returncode, 0, ran.stderr)
+        folder = os.path.join(prefix, "share", "minizinc", "solvers")
+        self.assertEqual(sorted(os.listdir(folder)), sorted(os.listdir(MINIZINC)))
+        for name in os.listdir(folder):
+            with open(os.path.join(folder, name)) as f:
+                words = json.load(f)["executable"]
+            self.assertTrue(os.access(words[0], os.X_OK), words)
+            self.assertEqual(words[1:], ["failexit=1", "shortest=1"])
+        self.put(MODELS["knap"].text)
+        ended = driven("cbc", self.stub, "-AMPL", "solver=/bin/true", "outlev=2",
+                       place=os.path.join(prefix, "bin"), BRIDGE="")
+        self.assertIn(os.path.join(prefix, "lib", "bridge-drivers", "bin", "bridge"),
+                      ended.stdout.replace("'", ""))
 
     def test_below_home_and_away_again(self) -> None:
         """Other files stay."""
@@ -67,10 +91,9 @@ class Package(unittest.TestCase):
 
     def test_configurations(self) -> None:
         """MiniZinc's name commands that are there, and this version."""
-        folder = os.path.join(DRIVERS, "minizinc")
         scripts = self.scripts()
-        for name in os.listdir(folder):
-            with open(os.path.join(folder, name), encoding="utf-8") as f:
+        for name in os.listdir(MINIZINC):
+            with open(os.path.join(MINIZINC, name), encoding="utf-8") as f:
                 told = json.load(f)
             self.assertEqual((told["version"], told["name"] + ".msc"), (VERSION, name))
             self.assertIn(os.path.basename(told["executable"][0]), scripts)

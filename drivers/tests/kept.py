@@ -3,15 +3,11 @@ told."""
 
 from __future__ import annotations
 
-import contextlib
-import io
 import os
 import resource
-import shutil
 import signal
 import subprocess
 import sys
-import time
 import unittest
 from fractions import Fraction as F
 from unittest import mock
@@ -21,7 +17,6 @@ from models import MODELS
 
 from bridge_drivers import files, solvers, verdicts
 from bridge_drivers.bridge import Bridge, Late, Reply
-from bridge_drivers.certify import clp, command
 from bridge_drivers.keeping import Keeper, Kept
 from bridge_drivers.program import Program
 from bridge_drivers.verdicts import Said
@@ -221,67 +216,16 @@ class Certify(Case):
                               stdin=subprocess.DEVNULL, capture_output=True, text=True,
                               check=False, **others)                       # type: ignore
 
-    def older(self) -> bytes:
-        self.put(OPTIMAL, ".certificate")
-        return OPTIMAL
-
     @NEEDS_CBC
     def test_failures_leave_an_older_one(self) -> None:
+        self.put(OPTIMAL, ".certificate")
         for model, words, status in (("nonlinear", (), 2),
-                                     ("knap", ("bridge=/nonexistent/b",), 127),
-                                     ("knap", ("driver=clp",), 2)):
+                                     ("knap", ("bridge=/nonexistent/b",), 127)):
             self.put(MODELS[model].text)
-            older = self.older()
             ended = self.certify(*words)
-            if "clp" in ended.stderr and "not found" in ended.stderr:
-                continue
             self.assertEqual(ended.returncode, status, ended.stderr)
             self.assertIn(f"{self.stub}.certificate stays as it was\n", ended.stderr)
-            self.assertEqual(self.bytes_of(".certificate"), older)
-
-    def test_interrupt_leaves_an_older_one(self) -> None:
-        """Ctrl-C while the solver runs."""
-        mark = os.path.join(self.folder, "started")
-        self.script("cbc", f"echo on >{mark}\nexec sleep 60")
-        self.put(MODELS["knap"].text)
-        older = self.older()
-        child = subprocess.Popen([sys.executable, CERTIFY, self.stub], stderr=subprocess.PIPE,
-                                 stdout=subprocess.PIPE, text=True, preexec_fn=lambda:
-                                 signal.signal(signal.SIGINT, signal.SIG_DFL),
-                                 env={**os.environ, "PATH": self.folder + os.pathsep
-                                      + os.environ["PATH"]})
-        for _ in range(600):
-            if os.path.exists(mark) and os.path.getsize(mark):
-                break
-            time.sleep(0.05)
-        child.send_signal(signal.SIGINT)
-        _, err = child.communicate(timeout=30)
-        self.assertEqual(child.returncode, 130, err)
-        self.assertEqual(self.bytes_of(".certificate"), older)
-
-    def test_statuses(self) -> None:
-        """The verdict is told, and the status says that the certificate is not there."""
-        self.put(MODELS["product"].text)
-        for driver in ("cbc", "glpsol", "clp"):
-            for target in ("/nonexistent/x", "/dev/full"):
-                ended = self.certify("certificate=" + target, "driver=" + driver)
-                if "not found" in ended.stderr:
-                    break
-                self.assertEqual(ended.returncode, 5, ended.stderr)
-                self.assertEqual(ended.stdout.split("\n")[-2], "optimal 19")
-                self.assertIn(f"the certificate is not kept: {target}: ", ended.stdout)
-
-    @unittest.skipUnless(shutil.which("cbc"), "no cbc")
-    def test_without_clp(self) -> None:
-        """A search that cannot be made is told, with the package that it needs, and status 1."""
-        self.put(MODELS["knap"].text)
-        out = io.StringIO()
-        with mock.patch.object(clp, "LOADED", [None]), contextlib.redirect_stdout(out):
-            status = command.run([self.stub])
-        self.assertEqual(status, 1)
-        self.assertIn("(Debian: apt install coinor-libclp1)\n", out.getvalue())
-        self.assertEqual(out.getvalue().split("\n")[-2],
-                         "not proved: there was no search; without it: feasible 17")
+            self.assertEqual(self.bytes_of(".certificate"), OPTIMAL)
 
     @NEEDS_CBC
     def test_a_full_disk_is_named(self) -> None:

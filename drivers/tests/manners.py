@@ -11,6 +11,8 @@ from bridge_drivers import VERSION, showing, solvers
 from models import MODELS
 import stored
 
+KNAP = MODELS["knap"].text
+
 
 @NEEDS_PROGRAM
 class Words(Case):
@@ -25,26 +27,19 @@ class Words(Case):
         self.assertEqual(self.sol().code, 0)
 
     def test_wantsol(self) -> None:
+        """Without asking, at most a screen of values."""
         self.put(MODELS["product"].text)
-        ended = self.replay("cbc", "product", self.stub, "wantsol=7", "-e")
-        self.assertEqual(ended.stdout.splitlines()[-5:], ["x0 2", "x1 4", "duals", "c0 1", "c1 0"])
-        self.assertTrue(os.path.exists(self.stub + ".sol"))
+        for words, shown in ((["wantsol=7"], ["x0 2", "x1 4", "duals", "c0 1", "c1 0"]),
+                             ([], ["x0 2", "x1 4"]), (["wantsol=2"], ["x0 2", "x1 4"]),
+                             (["wantsol=0"], []), (["-s"], []), (["-AMPL"], [])):
+            lines = self.replay("cbc", "product", self.stub, "-e", *words).stdout.splitlines()
+            self.assertEqual(lines[lines.index("optimal 19") + 1:], shown, words)
         self.assertEqual(self.replay("cbc", "product", self.stub, "wantsol=8", "-e").stdout, "")
-        ended = self.replay("esolver", "thirds", self.stub, "wantsol=6", "-e")
         self.put(MODELS["thirds"].text)
         ended = self.replay("esolver", "thirds", self.stub, "wantsol=14", "-e")
         self.assertEqual([line.split()[0] for line in ended.stdout.splitlines()],
                          ["x0", "x1", "duals", "c0", "c1"])     # z and zdef are not the model's
-
-    def test_values_by_hand(self) -> None:
-        """Without asking, at most a screen of them; wantsol decides otherwise."""
-        self.put(MODELS["product"].text)
-        for words, shown in (([], True), (["wantsol=0"], False), (["-s"], False),
-                             (["-AMPL"], False), (["wantsol=2"], True)):
-            ended = self.replay("cbc", "product", self.stub, "-e", *words)
-            self.assertEqual("x0 2\nx1 4\n" in ended.stdout, shown, words)
-        many = [(f"x{j}", str(j % 2)) for j in range(100)]
-        told = list(showing.screen(many))
+        told = list(showing.screen([(f"x{j}", str(j % 2)) for j in range(100)]))
         self.assertEqual((len(told), told[0]), (showing.SCREEN + 1, "x1 1"))
         self.assertIn("(80 values more: wantsol=2 prints all", told[-1])
 
@@ -67,26 +62,19 @@ class Words(Case):
                                             "duals": {"c0": "1", "c1": "0"}})
 
     def test_environment(self) -> None:
+        """Options of the call come last."""
         self.put(MODELS["second"].text)
         for name in ("bridge_cbc_options", "bridge-cbc_options"):
-            ended = self.replay("cbc", "second", self.stub, "-AMPL",
-                                environment={name: "objno 2 check = 0"})
-            self.assertEqual(ended.stdout, f"bridge-cbc {VERSION}: objno=2 check=0\n")
+            ended = self.replay("cbc", "second", self.stub, "-AMPL", "objno=2",
+                                environment={name: "objno 7 check = 0"})
+            self.assertEqual(ended.stdout, f"bridge-cbc {VERSION}: objno=7 check=0 objno=2\n")
             sol = self.sol()
             self.assertEqual((sol.objno, sol.code, sol.values), (1, 0, [7]))
             self.assertEqual(sol.message[-1], "not proved: check=0")
 
-    def test_options_of_the_call_come_last(self) -> None:
-        self.put(MODELS["second"].text)
-        self.replay("cbc", "second", self.stub, "-AMPL", "objno=2",
-                    environment={"bridge_cbc_options": "objno=7"})
-        self.assertEqual(self.sol().objno, 1)
-
-    def test_versions_and_listing(self) -> None:
+    def test_versions(self) -> None:
         for driver in solvers.NAMES:
             self.assertRegex(self.replay(driver, "", "-v").stdout, r"^bridge-\w+ \d+\.\d+\.\d+ \(")
-            self.assertIn("timelim", self.replay(driver, "", "-=").stdout)
-            self.assertIn("usage", self.replay(driver, "", "-?").stdout)
             ended = self.replay(driver, "")
             self.assertEqual((ended.returncode, ended.stdout), (3, ""))
             self.assertIn(f"bridge_{driver}_options", ended.stderr)
@@ -124,49 +112,23 @@ class Failures(Case):
                 self.assertFalse(os.path.exists(self.stub + ".sol"), "an older answer stays")
 
     def test_each_code(self) -> None:
-        self.put(MODELS["nonlinear"].text)
-        self.failure(501, 2, "stub.nl line 12: constraint 0: (x0 * x1) is nonlinear", "cbc",
-                     "nonlinear")
-        self.put(MODELS["knap"].text)
-        self.failure(505, 2, "CLP takes no integer variables, and the model has 3; relax=1", "clp",
-                     "knap")
-        self.failure(506, 1, "CBC gave no usable answer: it wrote no answer", "cbc", "nothing")
-        self.failure(501, 2, "stub.nl: objno=3: no such objective: the file has 1, and objno "
-                             "counts from 1", "cbc", "knap", "objno=3")
-        self.failure(502, 3, "extra: a quote does not end", "cbc", "knap", "extra='")
-        self.failure(502, 3, "objno=0: a whole number from 1 on is wanted", "cbc",
-                     "knap", "objno=0")
-
-    def test_unknown_option(self) -> None:
-        """An older .sol is gone here too."""
-        self.put(MODELS["knap"].text)
-        self.put(b"an older answer", ".sol")
-        ended = self.replay("cbc", "knap", self.stub, "-AMPL", "speed=9")
-        self.assertEqual((ended.returncode, self.sol().code), (0, 502))
-        self.assertIn("unknown option speed; -= lists the options", ended.stderr)
-        self.assertEqual(self.replay("cbc", "knap", self.stub, "speed=9").returncode, 3)
-
-    def test_no_model(self) -> None:
-        ended = self.replay("cbc", "knap", self.stub, "-AMPL")
-        self.assertEqual(ended.returncode, 4)
-        self.assertIn("no such file", ended.stderr)
-        self.put(b"neither\n")
-        self.assertEqual(self.replay("cbc", "knap", self.stub, "-AMPL").returncode, 2)
-
-    def test_an_older_answer_in_a_kept_folder_is_not_read(self) -> None:
-        """Each run that finds files in it has a folder of its own below."""
-        self.put(MODELS["knap"].text)
-        kept = os.path.join(self.folder, "kept")
-        for name, code in (("knap", 0), ("nothing", 506)):
-            for driver in ("cbc", "glpsol"):
-                self.replay(driver, name, self.stub, "-AMPL", "keep=" + kept)
-                self.assertEqual(self.sol().code, code)
-        self.assertEqual(sorted(n for n in os.listdir(kept) if n.startswith("bridge-")),
-                         ["bridge-cbc-1", "bridge-glpsol-1", "bridge-glpsol-2"])
-
-    def test_damaged_binary(self) -> None:
-        self.put(b"b3 1 1 0\n 1 1 1 0 0\n")
-        self.failure(501, 2, "ends too soon or is damaged", "cbc", "knap")
+        damaged = b"b3 1 1 0\n 1 1 1 0 0\n"
+        for text, code, status, told, driver, name, *words in (
+                (MODELS["nonlinear"].text, 501, 2,
+                 "stub.nl line 12: constraint 0: (x0 * x1) is nonlinear", "cbc", "nonlinear"),
+                (damaged, 501, 2, "ends too soon or is damaged", "cbc", "knap"),
+                (KNAP, 501, 2, "stub.nl: objno=3: no such objective: the file has 1, and objno "
+                               "counts from 1", "cbc", "knap", "objno=3"),
+                (KNAP, 505, 2, "CLP takes no integer variables, and the model has 3; relax=1",
+                 "clp", "knap"),
+                (KNAP, 506, 1, "CBC gave no usable answer: it wrote no answer", "cbc", "nothing"),
+                (KNAP, 502, 3, "extra: a quote does not end", "cbc", "knap", "extra='"),
+                (KNAP, 502, 3, "unknown option speed; -= lists the options", "cbc", "knap",
+                 "speed=9"),
+                (KNAP, 502, 3, "objno=0: a whole number from 1 on is wanted", "cbc", "knap",
+                 "objno=0")):
+            self.put(text)
+            self.failure(code, status, told, driver, name, *words)
 
     def test_answers_that_do_not_fit(self) -> None:
         """Values that are missing, of another model, or no numbers."""

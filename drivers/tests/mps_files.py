@@ -2,12 +2,9 @@
 
 from __future__ import annotations
 
-import bz2
 import gzip
 import json
-import lzma
 import os
-import random
 import shutil
 import unittest
 from fractions import Fraction as F
@@ -18,9 +15,9 @@ from bridge_drivers import kinds, mps_file, solvers
 from bridge_drivers.bridge import Bridge, Refused
 from bridge_drivers.importing import lists_of
 from bridge_drivers.mps_text import program_of
-from plain import Plain
+from plain import Plain, random_text
 from reports import faults, schema
-from mps_models import BLANK, EMPTY_INTERVAL, FAULTS, FIXED_TEXT, MODELS, sections
+from mps_models import (BLANK, EMPTY_INTERVAL, FAULTS, FIXED_TEXT, MODELS, WHOLE, sections)
 
 SOLVERS = [name for name in solvers.NAMES if solvers.load(name).place()]
 CERTIFICATE = b"certificate 1\nfeasible 0\npoint 2\n0 1\n1 1\n"
@@ -82,13 +79,12 @@ class Kinds(Case):
     def test_what_is_one(self) -> None:
         text = FIXED_TEXT.encode()
         for name, data, wanted in (
-                ("m.mps", text, True), ("afiro", text, True),
-                ("m.mps.gz", gzip.compress(text), True), ("m.bz2", bz2.compress(text), True),
-                ("m.xz", lzma.compress(text), True), ("m.MPS", b"", True),
-                ("m.mps.gz", b"\x1f\x8b\x08", True), ("m.nl", b"g3 1 1\n", False),
+                ("m.mps", text, True), ("afiro", text, True), ("m.MPS", b"", True),
+                ("m.mps.gz", gzip.compress(text), True), ("m.mps.gz", b"\x1f\x8b\x08", True),
+                ("m.nl", b"g3 1 1\n", False),
                 ("m.lp", b"Minimize\n obj: x\n", False), ("m", b"\n" * 4000, False),
                 ("m", b"\n" * 99 + b"* \r\n \t\r\nNAME\r\n", True), ("m", b"", False),
-                ("m.gz", b"\x1f\x8b\x08", False)):
+                ("m.gz", b"\x1f\x8b\x08", False), ("m.mps", b"\x7fELF\x02", False)):
             path = os.path.join(self.folder, name)
             with open(path, "wb") as f:
                 f.write(data)
@@ -133,18 +129,13 @@ class Read(Case):
             read = self.read(model.text)
             self.assertEqual(read.form, "free", name)
             self.assertEqual(bool(read.notes), name == "cut", name)
-        blanks = FIXED_TEXT.replace("    RHS       COST", "              COST")
-        self.assertEqual(self.read(blanks).form, "free")
-        number = FIXED_TEXT.replace(" BV BND       TWO", " FR BND       TWO                  3 ")
-        self.assertEqual(self.read(number).form, "free")
-
-    def test_fixed_alone(self) -> None:
-        """What stands beyond column 61, and would be more words in free form."""
-        text = FIXED_TEXT.replace("    RHS       COST              -5.5   CAP                 10",
-                                  "    RHS       COST              -5.5   CAP                 10"
-                                  "   a remark")
-        read = self.read(text)
-        self.assertEqual((read.form, read.notes), ("fixed", []))
+        pair = "    RHS       COST              -5.5   CAP                 10"
+        for old, new, form in (         # no set's name, a number that is not looked at, a remark
+                ("    RHS       COST", "              COST", "free"),
+                (" BV BND       TWO", " FR BND       TWO                  3 ", "free"),
+                (pair, pair + "   a remark", "fixed")):
+            read = self.read(FIXED_TEXT.replace(old, new))
+            self.assertEqual((read.form, read.notes), (form, []))
 
     def test_refusals(self) -> None:
         """The word that is at fault, and what helps with it alone."""
@@ -155,49 +146,28 @@ class Read(Case):
 
     def test_as_import_has_it(self) -> None:
         """Random programs against those that `import` and `export` make of them."""
-        made = random.Random(3)
-        for _ in range(40):
-            text = random_text(made)
-            read = self.read(text)
-            own = Plain(program_of(read.text).text)
-            order = lists_of(read.text).columns
-            self.put(bridge().text("import", self.stub + ".mps"))
+        taken = 0
+        for seed in range(90):
+            text = random_text(seed)
+            self.put(text, ".mps")
+            made = bridge().call("import", self.stub + ".mps")
+            if made.status:             # such as one with an empty interval
+                continue
+            self.put(made.out)
+            own = Plain(program_of(text).text)
             other = Plain(bridge().text("export", self.stub + ".nl"))
-            names = program_of(read.text).names
+            names = program_of(text).names
             assert names is not None
             at = {names.column(j): f"x{j}" for j in range(len(own.low))}
-            place = {f"x{k}": at[name.decode()] for k, name in enumerate(order)}
-            self.assertEqual({place[x]: ends for x, ends in other.bounds().items()}, own.bounds(),
-                             text)
-            self.assertEqual({place[x]: whole for x, whole in other.whole.items()}, own.whole, text)
+            place = {f"x{k}": at[name.decode()] for k, name in enumerate(lists_of(text).columns)}
+            for ours, theirs in ((own.bounds(), other.bounds()), (own.whole, other.whole)):
+                self.assertEqual({place[x]: told for x, told in theirs.items()}, ours, text)
             self.assertEqual({(row, place[x]): a for (row, x), a in other.entries.items() if a},
                              {key: a for key, a in own.entries.items() if a}, text)
             self.assertEqual((other.maximise, other.sides(), other.rhs.get("obj", 0)),
                              (own.maximise, own.sides(), own.rhs.get("obj", 0)), text)
-
-
-def random_text(made: random.Random) -> str:
-    """With rows, ranges and bounds of all kinds."""
-    def number() -> str:
-        return made.choice(["1", "-2", "0.5", "3e1", "-1.25", "7", "0"])
-    rows = [(made.choice("LGEN"), f"r{i}") for i in range(made.randint(1, 5))]
-    rows.insert(made.randint(0, len(rows)), ("N", "o"))
-    columns, bounds = [], []
-    for j in range(made.randint(1, 5)):
-        line = [f"v{j} {name} {number()}" for _, name in rows if made.random() < 0.7]
-        line = line or [f"v{j} o 1"]
-        columns += [f"M 'MARKER' 'INTORG' / {' / '.join(line)} / M 'MARKER' 'INTEND'"] \
-            if made.random() < 0.4 else line
-        for kind in made.choice([(), ("UP",), ("LO",), ("FX",), ("FR",), ("MI",), ("PL",), ("BV",),
-                                 ("MI", "UP"), ("LI",), ("UI",), ("PL", "LO")]):
-            low = kind in ("LO", "LI")
-            value = "" if kind in ("FR", "MI", "PL", "BV") else "-4" if low else number()
-            bounds.append(f"{kind} B v{j} {value}")
-    sides = [f"{name} {number()}" for _, name in rows if made.random() < 0.7]
-    ranges = [f"{name} {number()}" for kind, name in rows if kind != "N" and made.random() < 0.5]
-    return sections(" / ".join(" ".join(row) for row in rows), " / ".join(columns),
-                    f"RHS {' / '.join(sides)} ; RANGES {' / '.join(ranges)} ; "
-                    f"BOUNDS {' / '.join(bounds)}", made.choice(["", "MAX", "MIN"]))
+            taken += 1
+        self.assertGreater(taken, 20)
 
 
 @NEEDS_MPS
@@ -227,48 +197,33 @@ class Driven(Case):
                         values = {x: F(told["values"][x]) for x in model.values}
                         self.assertEqual(values, {x: F(v) for x, v in model.values.items()})
 
-    def test_packed(self) -> None:
-        told = self.told(SOLVERS[0], MODELS["free"].text, end=".mps.gz")
-        self.assertEqual((told["text"], told["values"]), ("optimal -3/2", {"x": "1.5"}))
-        self.assertIn("what is judged is the text that stub.mps.gz unpacks to", told["lines"])
-
-    def test_forms_that_differ(self) -> None:
-        """The second pair of a line stands beyond what fixed columns have."""
-        told = self.told(SOLVERS[0], MODELS["cut"].text)
-        self.assertIn("it is read in free form; in fixed columns it is another program, which "
-                      "format=fixed reads", told["lines"])
-        told = self.told(SOLVERS[0], MODELS["cut"].text, "format=fixed")
-        self.assertEqual(told["text"], "optimal -33/2")
-
-    def test_names_in_messages(self) -> None:
-        text = sections("N o / E row", "M 'MARKER' 'INTORG' / col o 1 row 1 / M 'MARKER' 'INTEND'",
-                        "RHS row 1.5")
-        told = self.told(SOLVERS[0], text, "relax=1")
-        self.assertIn("variable 0 (col) is not whole", "\n".join(told["lines"]))
+    def test_lines(self) -> None:
+        whole = sections("N o / E row", WHOLE.format("col o 1 row 1"), "RHS row 1.5")
+        for text, words, code, last, line in (
+                (MODELS["cut"].text, [], 0, "optimal -23/2", "it is read in free form; in fixed "
+                 "columns it is another program, which format=fixed reads"),
+                (MODELS["cut"].text, ["format=fixed"], 0, "optimal -33/2", ""),
+                (whole, ["relax=1"], None, None, "variable 0 (col) is not whole"),
+                (EMPTY_INTERVAL, [], 200, None, "stub.mps: column 1 (low): empty interval")):
+            told = self.told(SOLVERS[0], text, *words)
+            self.assertIn(told["code"], (told["code"] if code is None else code,))
+            self.assertIn(last or told["text"], told["text"])
+            self.assertIn(line, "\n".join(told["lines"]))
 
     def test_refusals(self) -> None:
-        for text, words, status, line in (
-                (BLANK, [], 2, "names with blanks are not read"),
-                (FIXED_TEXT, ["objno=2"], 2, "objno=2: no such objective"),
-                (FIXED_TEXT, ["shortest=1"], 3, "shortest=1 is for .nl files"),
-                (FIXED_TEXT, ["format=nl"], 3, "format=nl: free or fixed is wanted"),
-                (FIXED_TEXT, ["-AMPL"], 3, "a .sol is the answer to an .nl file: wantsol=2 "),
-                (FIXED_TEXT, ["-s"], 3, "a .sol is the answer to an .nl file: wantsol=2 ")):
-            self.put(text.encode(), ".mps")
-            ended = driven(SOLVERS[0], self.stub + ".mps", *words)
+        packed = gzip.compress(FIXED_TEXT.encode())[:60]
+        no_sol = "a .sol is the answer to an .nl file: wantsol=2 "
+        for data, word, status, line in (
+                (packed, "", 2, "stub.mps: the packed file ends too soon or is damaged"),
+                (BLANK.encode(), "", 2, "names with blanks are not read"),
+                (FIXED_TEXT.encode(), "objno=2", 2, "objno=2: no such objective"),
+                (FIXED_TEXT.encode(), "shortest=1", 3, "shortest=1 is for .nl files"),
+                (FIXED_TEXT.encode(), "format=nl", 3, "format=nl: free or fixed is wanted"),
+                (FIXED_TEXT.encode(), "-AMPL", 3, no_sol), (FIXED_TEXT.encode(), "-s", 3, no_sol)):
+            self.put(data, ".mps")
+            ended = driven(SOLVERS[0], self.stub + ".mps", *filter(None, [word]))
             self.assertEqual((ended.returncode, line in ended.stderr), (status, True), ended.stderr)
         self.assertEqual(os.listdir(self.folder), ["stub.mps"])
-
-    def test_empty_interval(self) -> None:
-        told = self.told(SOLVERS[0], EMPTY_INTERVAL)
-        self.assertEqual((told["code"], told["claim"]), (200, None))
-        self.assertIn("stub.mps: column 1 (low): empty interval", told["lines"][0])
-
-    def test_damaged(self) -> None:
-        self.put(gzip.compress(FIXED_TEXT.encode())[:60], ".mps.gz")
-        ended = driven(SOLVERS[0], self.stub + ".mps.gz")
-        self.assertEqual(ended.returncode, 2)
-        self.assertIn("stub.mps.gz: the packed file ends too soon or is damaged", ended.stderr)
 
     def test_certificates(self) -> None:
         """Beside the model, for each of its ends; the model itself is never written over."""
@@ -282,8 +237,11 @@ class Driven(Case):
             os.unlink(self.stub + ".certificate")
             told = self.told(SOLVERS[0], MODELS["free"].text, "overwrite=1",
                              f"certificate={self.stub}{end}", end=end)
-            self.assertIn("the certificate is not kept: ", "\n".join(told["lines"]))
-            self.assertIn("it is what this command reads", "\n".join(told["lines"]))
+            lines = "\n".join(told["lines"])
+            self.assertIn("the certificate is not kept: ", lines)
+            self.assertIn("it is what this command reads", lines)
+            self.assertEqual("what is judged is the text that stub.mps.gz unpacks to" in lines,
+                             end == ".mps.gz")
 
 
 @NEEDS_MPS
@@ -301,61 +259,46 @@ class Front(Case):
         ended = ran("nl-bridge", command, *words)
         return Ended(ended.returncode, *(text.replace(self.stub, "m") for text in ended[1:]))
 
-    def test_verify(self) -> None:
-        for command, end in (("verify", ".mps"), ("verify_mps", ".mps"), ("verify_fixed", ".mps"),
-                             ("verify", ".mps.gz")):
-            ran = self.call(command, end, ".certificate")
-            self.assertEqual((ran.returncode, ran.stdout), (0, "feasible -23/2\n"), command)
-        self.put(CERTIFICATE.replace(b"1 1\n", b"1 3/2\n"), ".certificate")
-        ran = self.call("verify", ".mps", ".certificate")
-        self.assertEqual((ran.returncode, ran.stdout), (1, "row 0 broken\n"))
-        self.put(b"certificate 1\nfeasible 1\npoint 0\n", ".certificate")
-        ran = self.call("verify", ".mps", ".certificate")
-        self.assertEqual((ran.returncode, ran.stdout), (2, ""))
-        self.assertIn("nl-bridge: m.mps: objective 1: no such objective", ran.stderr)
-        ran = self.call("verify", ".mps", ".mps")
-        self.assertIn("line 1: bad first line (it does not begin with `certificate 1`)", ran.stderr)
+    def test_calls(self) -> None:
+        """Of the files as they are put, or with other ends: texts that are printed."""
+        self.put(CERTIFICATE.replace(b"1 1\n", b"1 3/2\n"), ".high")
+        self.put(CERTIFICATE.replace(b"1 1\n", b"2 1\n"), ".over")
+        self.put(b"certificate 1\nfeasible 1\npoint 0\n", ".second")
+        self.put(BLANK.encode(), ".blank")
+        self.put(MODELS["free"].text.replace("RHS\n cap 3", "RHS\n cap 0.1234567890123456789")
+                 .encode(), ".digits")
+        for call, status, told in (
+                ("verify .mps .certificate", 0, "feasible -23/2\n"),
+                ("verify_mps .mps .certificate", 0, "feasible -23/2\n"),
+                ("verify_fixed .mps .certificate", 0, "feasible -23/2\n"),
+                ("verify .mps.gz .certificate", 0, "feasible -23/2\n"),
+                ("verify .mps .high", 1, "row 0 broken\n"),
+                ("verify .mps .second", 2, "nl-bridge: m.mps: objective 1: no such objective"),
+                ("verify .mps .mps", 2, "line 1: bad first line (it does not begin with "
+                                        "`certificate 1`)"),
+                ("explain .mps .certificate", 0, "m.certificate holds of m.mps: feasible -23/2\n"
+                 "claim     a point has the objective -11.5\n"
+                 "point     ONE 1, TWO 1; the others 0\n"),
+                ("explain .mps.gz .over", 1, "fails     constraint 0 (CAP) is 23/2 at the point, "
+                                             "and at most 10: 1.5 too much"),
+                ("explain .mps", 0, "m.mps: is not refused\n"),
+                ("explain .blank", 2, "  >      8     MY ONE    COST"),
+                ("stats .mps.gz", 0, "sense         minimise, constant 11/2\ncolumns       3: 0 "
+                                     "continuous, 3 binary, 0 integer; 0 free, 0 fixed\n"),
+                ("stats .mps 1", 2, ""),
+                ("stats .digits", 0, "not doubles   1 numbers: 0.1234567890123456789 (cap)\n")):
+            ran = self.call(*call.split())
+            self.assertEqual(ran.returncode, status, call)
+            self.assertIn(told, ran.stdout + ran.stderr)
 
     def test_json(self) -> None:
-        ran = self.call("verify", ".mps", ".certificate", "json=1")
-        told = json.loads(ran.stdout)
-        self.assertEqual((told["claim"], told["value"]["exact"], told["model"]),
-                         ("feasible", "-23/2", "m.mps"))
-        self.assertEqual(faults(told, schema()), [])
-        told = json.loads(self.call("stats", ".mps.gz", "json=1").stdout)
-        self.assertEqual((told["stats"]["columns"], faults(told, schema())), (3, []))
-        self.put(b"\x1f\x8b", ".mps.gz")
-        told = json.loads(self.call("stats", ".mps.gz", "json=1").stdout)
-        self.assertEqual((told["status"], told["claim"], faults(told, schema())), (2, None, []))
-
-    def test_explain(self) -> None:
-        ran = self.call("explain", ".mps", ".certificate")
-        self.assertEqual((ran.returncode, ran.stdout.split("\n")[:3]),
-                         (0, ["m.certificate holds of m.mps: feasible -23/2",
-                              "claim     a point has the objective -11.5",
-                              "point     ONE 1, TWO 1; the others 0"]))
-        self.put(CERTIFICATE.replace(b"1 1\n", b"2 1\n"), ".certificate")
-        ran = self.call("explain", ".mps.gz", ".certificate")
-        self.assertEqual(ran.returncode, 1)
-        self.assertIn("fails     constraint 0 (CAP) is 23/2 at the point, and at most 10: 1.5 too "
-                      "much", ran.stdout)
-        self.assertEqual(self.call("explain", ".mps"), (0, "m.mps: is not refused\n", ""))
-        self.put(BLANK.encode(), ".mps")
-        ran = self.call("explain", ".mps")
-        self.assertEqual(ran.returncode, 2)
-        self.assertIn("  >      8     MY ONE    COST", ran.stdout)
-
-    def test_stats(self) -> None:
-        ran = self.call("stats", ".mps.gz")
-        self.assertEqual(ran.returncode, 0)
-        self.assertIn("sense         minimise, constant 11/2\n", ran.stdout)
-        self.assertIn("columns       3: 0 continuous, 3 binary, 0 integer; 0 free, 0 fixed\n",
-                      ran.stdout)
-        self.assertEqual(self.call("stats", ".mps", "1").returncode, 2)
-        self.put(MODELS["free"].text.replace("RHS\n cap 3", "RHS\n cap 0.1234567890123456789")
-                 .encode(), ".mps")
-        self.assertIn("not doubles   1 numbers: 0.1234567890123456789 (cap)\n",
-                      self.call("stats", ".mps").stdout)
+        for call, place, wanted in (
+                ("verify .mps .certificate", ("value", "exact"), "-23/2"),
+                ("stats .mps.gz", ("stats", "columns"), 3), ("stats .certificate", ("status",), 2)):
+            told = found = json.loads(self.call(*call.split(), "json=1").stdout)
+            for key in place:
+                found = found[key]
+            self.assertEqual((found, faults(told, schema())), (wanted, []))
 
 
 @unittest.skipUnless(PROGRAM and shutil.which("sh"), "no bridge, or no shell")

@@ -5,7 +5,7 @@ from __future__ import annotations
 from dataclasses import dataclass
 from typing import Mapping
 
-FREE, FIXED, BOTH = ("free",), ("fixed",), ("free", "fixed")
+FREE, BOTH = ("free",), ("free", "fixed")
 
 
 @dataclass
@@ -32,6 +32,11 @@ def sections(rows: str, columns: str, rest: str, sense: str = "") -> str:
     return text + "ENDATA\n"
 
 
+def of(line: str, rows: str, columns: str, rest: str, sense: str = "", **values: str) -> Mps:
+    code = {"infeasible": 200, "unbounded": 300}.get(line, 0)
+    return Mps(sections(rows, columns, rest, sense), line, code, values or None)
+
+
 WHOLE = "M 'MARKER' 'INTORG' / {} / M 'MARKER' 'INTEND'"
 # three bounded columns; the objective's constant is minus its right side, 5.5
 FIXED_TEXT = """\
@@ -54,56 +59,43 @@ BOUNDS
  UP BND       THREE                1
 ENDATA
 """
+KNAP = {"ONE": "1", "TWO": "1", "THREE": "0"}
 MODELS = {
-    "fixed": Mps(FIXED_TEXT, "optimal -23/2", values={"ONE": "1", "TWO": "1", "THREE": "0"},
-                 forms=BOTH),
+    "fixed": Mps(FIXED_TEXT, "optimal -23/2", 0, KNAP, BOTH),
     # beyond column 61 nothing is read in fixed columns: a whole second pair here
     "cut": Mps(FIXED_TEXT.replace("    ONE       COST               -10   CAP                  5",
                                   "    ONE       COST               -10" + " " * 26 + "CAP 5"),
-               "optimal -23/2", values={"ONE": "1", "TWO": "1", "THREE": "0"}, forms=BOTH),
-    "free": Mps(sections("N a_long_name_of_a_row / L cap", "x a_long_name_of_a_row -1 cap 2",
-                         "RHS cap 3"), "optimal -3/2", values={"x": "1.5"}),
-    "two_objectives": Mps(sections("N first / L cap / N second / G low",
-                                   "x second 5 first 1 / x low 2 / y second 1 cap 1",
-                                   "RHS second 7 low 3 / cap 2"),
-                          "optimal 3/2", values={"x": "1.5"}),
-    "range_l": Mps(sections("N o / L r", "x o 1 r 1", "RHS r 4 ; RANGES r 2.5"), "optimal 3/2",
-                   values={"x": "1.5"}),
-    "range_l_below_zero": Mps(sections("N o / L r", "x o 1 r 1", "RHS r 4 ; RANGES r -2.5"),
-                              "optimal 3/2", values={"x": "1.5"}),
-    "range_g": Mps(sections("N o / G r", "x o -1 r 1", "RHS r 4 ; RANGES r 2.5"), "optimal -13/2",
-                   values={"x": "6.5"}),
-    "range_g_below_zero": Mps(sections("N o / G r", "x o -1 r 1", "RHS r 4 ; RANGES r -2.5"),
-                              "optimal -13/2", values={"x": "6.5"}),
-    "range_e": Mps(sections("N o / E r", "x o -1 r 1", "RHS r 4 ; RANGES r 2.5"), "optimal -13/2",
-                   values={"x": "6.5"}),
-    "range_e_below_zero": Mps(sections("N o / E r", "x o 1 r 1", "RHS r 4 ; RANGES r -2.5"),
-                              "optimal 3/2", values={"x": "1.5"}),
-    "range_e_zero": Mps(sections("N o / E r", "x o 1 r 1", "RHS r 4 ; RANGES r 0"), "optimal 4",
-                        values={"x": "4"}),
-    "upper_below_zero": Mps(sections("N o / G r", "x o 1 r 1 / y o 1 r 1",
-                                     "RHS r -5 ; BOUNDS UP B x -2 / UP B y 1"), "optimal -5"),
-    "upper_and_lower_below_zero": Mps(sections("N o / G r", "x o -1 r 1", "RHS r -9 ; "
-                                               "BOUNDS LO B x -7 / UP B x -2"), "optimal 2",
-                                      values={"x": "-2"}),
-    "constant": Mps(sections("N o / G r", "x o 2 r 1", "RHS o 3 r 5"), "optimal 7",
-                    values={"x": "5"}),
-    "most": Mps(sections("N o / L r", "x o 2 r 3", "RHS o -1 r 5", "MAX"), "optimal 13/3"),
-    "whole": Mps(sections("N o / L r / L s", WHOLE.format("x o 2 r 3 / y o 1 r 1") + " / z o 1 s 2",
-                          "RHS r 10 s 3 ; BOUNDS UP B y 2", "MAX"), "optimal 17/2"),
-    "whole_by_bounds": Mps(sections("N o / L r", "x o 2 r 3 / y o 3 r 4",
-                                    "RHS r 11 ; BOUNDS LI B x 0 / UI B y 1", "MAXIMIZE"),
-                           "optimal 7", values={"x": "2", "y": "1"}),
-    "binary": Mps(sections("N o / L r", "x o 2 r 1 / y o 3 r 1", "RHS r 1.5 ; BOUNDS BV B x / "
-                           "BV B y", "MAX"), "optimal 3", values={"x": "0", "y": "1"}),
-    "infeasible": Mps(sections("N o / G r / L s", "x o 1 r 1 / x s 1", "RHS r 3 s 2"), "infeasible",
-                      200),
-    "whole_infeasible": Mps(sections("N o / E r", WHOLE.format("x o 1 r 2 / y r 4"), "RHS r 13 ; "
-                                     "BOUNDS UP B x 10 / UP B y 10"), "infeasible", 200),
-    "unbounded": Mps(sections("N o / L r", "x o 1 r 1 / y o 1 r -1", "RHS r 3", "MAX"), "unbounded",
-                     300),
-    "only_second_objective": Mps(sections("N o / N p / G r", "y p 1 / x o 1 r 1", "RHS r 3"),
-                                 "optimal 3"),
+               "optimal -23/2", 0, KNAP, BOTH),
+    "free": of("optimal -3/2", "N a_long_name_of_a_row / L cap", "x a_long_name_of_a_row -1 cap 2",
+               "RHS cap 3", x="1.5"),
+    "two_objectives": of("optimal 3/2", "N first / L cap / N second / G low",
+                         "x second 5 first 1 / x low 2 / y second 1 cap 1",
+                         "RHS second 7 low 3 / cap 2", x="1.5"),
+    **{f"range of {kind}, {width}": of(
+        line, f"N o / {kind} r", f"x o {cost} r 1", f"RHS r 4 ; RANGES r {width}", x=x)
+       for kind, width, cost, line, x in (
+           ("L", "2.5", 1, "optimal 3/2", "1.5"), ("L", "-2.5", 1, "optimal 3/2", "1.5"),
+           ("G", "2.5", -1, "optimal -13/2", "6.5"), ("G", "-2.5", -1, "optimal -13/2", "6.5"),
+           ("E", "2.5", -1, "optimal -13/2", "6.5"), ("E", "-2.5", 1, "optimal 3/2", "1.5"),
+           ("E", "0", 1, "optimal 4", "4"))},
+    "upper_below_zero": of("optimal -5", "N o / G r", "x o 1 r 1 / y o 1 r 1",
+                           "RHS r -5 ; BOUNDS UP B x -2 / UP B y 1"),
+    "upper_and_lower_below_zero": of("optimal 2", "N o / G r", "x o -1 r 1",
+                                     "RHS r -9 ; BOUNDS LO B x -7 / UP B x -2", x="-2"),
+    "constant": of("optimal 7", "N o / G r", "x o 2 r 1", "RHS o 3 r 5", x="5"),
+    "most": of("optimal 13/3", "N o / L r", "x o 2 r 3", "RHS o -1 r 5", "MAX"),
+    "whole": of("optimal 17/2", "N o / L r / L s",
+                WHOLE.format("x o 2 r 3 / y o 1 r 1") + " / z o 1 s 2",
+                "RHS r 10 s 3 ; BOUNDS UP B y 2", "MAX"),
+    "whole_by_bounds": of("optimal 7", "N o / L r", "x o 2 r 3 / y o 3 r 4",
+                          "RHS r 11 ; BOUNDS LI B x 0 / UI B y 1", "MAXIMIZE", x="2", y="1"),
+    "binary": of("optimal 3", "N o / L r", "x o 2 r 1 / y o 3 r 1",
+                 "RHS r 1.5 ; BOUNDS BV B x / BV B y", "MAX", x="0", y="1"),
+    "infeasible": of("infeasible", "N o / G r / L s", "x o 1 r 1 / x s 1", "RHS r 3 s 2"),
+    "whole_infeasible": of("infeasible", "N o / E r", WHOLE.format("x o 1 r 2 / y r 4"),
+                           "RHS r 13 ; BOUNDS UP B x 10 / UP B y 10"),
+    "unbounded": of("unbounded", "N o / L r", "x o 1 r 1 / y o 1 r -1", "RHS r 3", "MAX"),
+    "only_second_objective": of("optimal 3", "N o / N p / G r", "y p 1 / x o 1 r 1", "RHS r 3"),
 }
 BLANK = FIXED_TEXT.replace("    ONE       COST", "    MY ONE    COST")
 EMPTY_INTERVAL = sections("N o / G r", "x o 1 r 1 / low o 1", "BOUNDS LO B low 3 / UP B low 2")

@@ -1,9 +1,7 @@
-"""Drivers as processes of their own: programs that are missing, fail, or go on too long; signals;
-the installer."""
+"""Drivers as processes: programs that are missing, fail, or go on too long; signals."""
 
 from __future__ import annotations
 
-import json
 import os
 import shutil
 import signal
@@ -37,35 +35,18 @@ while True:
 
 @NEEDS_PROGRAM
 class Processes(Case):
-    def started(self, *words: str, mark: str = "", on_interrupt: Any = signal.SIG_DFL
-                ) -> "subprocess.Popen[str]":
-        """A driver that goes on; where there is a mark, the solver has written it."""
+    def started(self, *words: str, mark: str = "", on_interrupt: Any = signal.SIG_DFL,
+                command: str = "bridge-cbc") -> "subprocess.Popen[str]":
+        """A command that goes on; where there is a mark, the solver has written it."""
         self.put(MODELS["knap"].text)
-        child = subprocess.Popen([sys.executable, os.path.join(BIN, "bridge-cbc"), self.stub,
-                                  "-AMPL", "-e", *words], stderr=subprocess.PIPE, text=True,
+        child = subprocess.Popen([sys.executable, os.path.join(BIN, command), self.stub, *words],
+                                 stdout=subprocess.DEVNULL, stderr=subprocess.PIPE, text=True,
                                  preexec_fn=lambda: signal.signal(signal.SIGINT, on_interrupt))
         for _ in range(1200):
             if not mark or os.path.exists(mark) and os.path.getsize(mark):
                 break
             time.sleep(0.05)
         return child
-
-    def test_bridge_missing(self) -> None:
-        self.put(MODELS["knap"].text)
-        for bridge, text in (("", "bridge was not found"),
-                             ("/nonexistent/bridge", "could not be run")):
-            ended = driven("cbc", self.stub, "-AMPL", "solver=/bin/true",
-                               BRIDGE=bridge, PATH="/nonexistent")
-            if bridge or self.sol().code == 503:    # beside the drivers it may have been built
-                self.assertEqual((ended.returncode, self.sol().code), (0, 503), ended.stderr)
-                self.assertIn(text, ended.stderr)
-
-    def test_solver_missing(self) -> None:
-        self.put(MODELS["knap"].text)
-        ended = driven("cbc", self.stub, "-AMPL", "solver=/nonexistent/cbc")
-        self.assertEqual(self.sol().code, 503)
-        self.assertIn("/nonexistent/cbc was not found: install it or give solver=PATH",
-                      ended.stderr)
 
     def test_packages_of_solvers(self) -> None:
         """A solver that is not there is told with the Debian package that has it."""
@@ -79,13 +60,18 @@ class Processes(Case):
             self.assertEqual((ended.returncode, ended.stderr),
                              (127, f"bridge-{driver}: {driver} was {wanted}"))
 
-    def test_solver_that_fails(self) -> None:
+    def test_programs_that_fail_or_are_not_there(self) -> None:
         self.put(MODELS["knap"].text)
-        for solver, code in ((self.script("cbc", "echo out of paper >&2; exit 7"), 506),
-                             (self.script("cbc2", "kill -9 $$"), 506)):
-            ended = driven("cbc", self.stub, "-AMPL", "solver=" + solver)
-            self.assertEqual(self.sol().code, code)
-            self.assertIn("CBC gave no usable answer", ended.stderr)
+        for words, code, told in (
+                ([f"solver={self.script('cbc', 'echo out of paper >&2; exit 7')}"], 506,
+                 "CBC gave no usable answer"),
+                ([f"solver={self.script('cbc2', 'kill -9 $$')}"], 506, "CBC gave no usable answer"),
+                (["solver=/nonexistent/cbc"], 503,
+                 "/nonexistent/cbc was not found: install it or give solver=PATH"),
+                (["solver=/bin/true", "bridge=/nonexistent/b"], 503, "could not be run")):
+            ended = driven("cbc", self.stub, "-AMPL", *words)
+            self.assertEqual((ended.returncode, self.sol().code), (0, code), ended.stderr)
+            self.assertIn(told, ended.stderr)
 
     def test_time_limit_kills(self) -> None:
         """Also what the solver started, which holds its output open."""
@@ -98,16 +84,21 @@ class Processes(Case):
         self.assertIn("stopped at the time limit", self.sol().message[0])
 
     def test_signals(self) -> None:
-        """The solver ends too, and no .sol is left."""
+        """The solver ends too, no .sol is left, and an older certificate stays."""
         mark = os.path.join(self.folder, "started")
         slow = self.script("cbc", f"echo $$ >{mark}; exec sleep 60")
-        for number, status in ((signal.SIGTERM, 143), (signal.SIGINT, 130)):
-            child = self.started("solver=" + slow, mark=mark)
+        self.put(b"older", ".certificate")
+        for command, number, status in (("bridge-cbc", signal.SIGTERM, 143),
+                                        ("bridge-cbc", signal.SIGINT, 130),
+                                        ("bridge-certify", signal.SIGINT, 130)):
+            words = ["-AMPL", "-e"] if command == "bridge-cbc" else []
+            child = self.started("solver=" + slow, *words, mark=mark, command=command)
             child.send_signal(number)
-            _, err = child.communicate(timeout=30)
-            self.assertEqual((child.returncode, err.split("\n")[-2]),
-                             (status, "bridge-cbc: interrupted"))
-            self.assertFalse(os.path.exists(self.stub + ".sol"))
+            _, err = child.communicate(timeout=60)
+            self.assertEqual((child.returncode, f"{command}: interrupted\n" in err),
+                             (status, True), err)
+            self.assertEqual((os.path.exists(self.stub + ".sol"), self.bytes_of(".certificate")),
+                             (False, b"older"))
             with open(mark) as f:
                 pid = int(f.read())
             self.assertRaises(ProcessLookupError, os.kill, pid, 0)
@@ -121,7 +112,7 @@ class Processes(Case):
             f.write(INTERRUPTED.format(python=sys.executable, mark=mark))
         os.chmod(solver, 0o755)
         for words in ([], ["prove=1", "timelim=600"]):
-            child = self.started("solver=" + solver, *words, mark=mark)
+            child = self.started("solver=" + solver, "-AMPL", "-e", *words, mark=mark)
             child.send_signal(signal.SIGINT)
             child.communicate(timeout=60)
             sol = self.sol()
@@ -133,37 +124,11 @@ class Processes(Case):
     def test_ignored_signals(self) -> None:
         """An interrupt that is ignored from the start, as of a run in the background, stays so."""
         slow = self.script("cbc", "sleep 1; echo Bad image; exit 1")
-        child = self.started("solver=" + slow, on_interrupt=signal.SIG_IGN)
+        child = self.started("solver=" + slow, "-AMPL", "-e", on_interrupt=signal.SIG_IGN)
         time.sleep(0.7)
         child.send_signal(signal.SIGINT)
         child.communicate(timeout=60)
         self.assertEqual((child.returncode, self.sol().code), (0, 506))
-
-    def test_install(self) -> None:
-        """Into a folder of its own: programs, configurations that name them, the package."""
-        prefix = os.path.join(self.folder, "a prefix")
-        program = self.script("bridge", "echo bad words >&2; exit 3")
-        ran = subprocess.run([sys.executable, os.path.join(HERE, "..", "install"), prefix,
-                              "--bridge", program], capture_output=True, text=True)
-        self.assertEqual(ran.returncode, 0, ran.stderr)
-        solvers = os.path.join(prefix, "share", "minizinc", "solvers")
-        names = sorted(os.listdir(solvers))
-        self.assertEqual(names, [f"bridge-{n}.msc" for n in ("cbc", "clp", "esolver", "glpsol",
-                                                            "highs", "lp_solve")])
-        for name in names:
-            with open(os.path.join(solvers, name)) as f:
-                words = json.load(f)["executable"]
-            self.assertTrue(os.access(words[0], os.X_OK), words)
-            self.assertEqual(words[1:], ["failexit=1", "shortest=1"])
-        self.put(MODELS["knap"].text)
-        ended = driven("cbc", self.stub, "-AMPL", "solver=/bin/true", "outlev=2",
-                           place=os.path.join(prefix, "bin"), BRIDGE="")
-        self.assertIn(os.path.join(prefix, "lib", "bridge-drivers", "bin", "bridge"),
-                      ended.stdout.replace("'", ""))
-        again = subprocess.run([sys.executable, os.path.join(HERE, "..", "install"), prefix],
-                               capture_output=True, text=True)
-        self.assertEqual(again.returncode, 0, again.stderr)
-
 
 @NEEDS_PROGRAM
 @unittest.skipUnless(shutil.which("minizinc") and shutil.which("cbc"), "no minizinc, or no cbc")

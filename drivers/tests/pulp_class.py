@@ -30,6 +30,15 @@ class Texts(unittest.TestCase):
         self.assertEqual(pulp_solver.completed(text, False, "OBJ", 0), text)
 
 
+def problem_of(objective, *constraints, sense: int = 1) -> "pulp.LpProblem":
+    """One of these, with their names; the sense is 1 for the least, -1 for the greatest value."""
+    problem = pulp.LpProblem("p", sense)
+    problem += objective
+    for constraint in constraints:
+        problem += constraint
+    return problem
+
+
 @NEEDS_MPS
 @unittest.skipUnless(pulp and SOLVERS, "no PuLP or no solver")
 class Solves(Case):
@@ -43,11 +52,9 @@ class Solves(Case):
 
     def test_linear(self) -> None:
         for solver in SOLVERS:
-            problem = pulp.LpProblem("p", pulp.LpMaximize)
             x, y = pulp.LpVariable("x", 0), pulp.LpVariable("y", 0, 4)
-            problem += 3 * x + 2 * y + 5
-            problem += 3 * x + y <= 10, "first"
-            problem += x + y <= 7, "second"
+            problem = problem_of(3 * x + 2 * y + 5, (3 * x + y <= 10, "first"),
+                                 (x + y <= 7, "second"), sense=-1)
             command = self.solve(solver, problem)
             self.assertEqual(pulp.LpStatus[problem.status], "Optimal")
             self.assertEqual((x.value(), y.value(), pulp.value(problem.objective)), (2, 4, 19))
@@ -57,46 +64,26 @@ class Solves(Case):
     def test_order_of_variables(self) -> None:
         """Integer, binary and continuous ones, mixed, each with a value of its own."""
         for solver in set(SOLVERS) - {"esolver"}:
-            problem = pulp.LpProblem("p", pulp.LpMinimize)
-            a = pulp.LpVariable("a", 0, 9, pulp.LpInteger)
-            b = pulp.LpVariable("b", cat=pulp.LpBinary)
-            c = pulp.LpVariable("c", 0)
-            d = pulp.LpVariable("d", None, None, pulp.LpInteger)
-            problem += a + b + c - d
-            problem += 2 * a >= 5
-            problem += b >= 1
-            problem += 4 * c >= 10
-            problem += d <= 7
-            self.solve(solver, problem)
+            a, b = pulp.LpVariable("a", 0, 9, pulp.LpInteger), pulp.LpVariable("b", cat="Binary")
+            c, d = pulp.LpVariable("c", 0), pulp.LpVariable("d", None, None, pulp.LpInteger)
+            self.solve(solver, problem_of(a + b + c - d, 2 * a >= 5, b >= 1, 4 * c >= 10, d <= 7))
             self.assertEqual([v.value() for v in (a, b, c, d)], [3, 1, 2.5, 7])
 
     def test_other_statuses(self) -> None:
-        for bound, sense, status in ((2, pulp.LpMinimize, "Infeasible"),
-                                     (None, pulp.LpMaximize, "Unbounded")):
-            problem = pulp.LpProblem("p", sense)
+        for bound, sense, status in ((2, 1, "Infeasible"), (None, -1, "Unbounded")):
             x = pulp.LpVariable("x", 0, bound)
-            problem += 1 * x
-            problem += x >= 3
+            problem = problem_of(1 * x, x >= 3, sense=sense)
             self.solve(SOLVERS[0], problem)
             self.assertEqual(pulp.LpStatus[problem.status], status)
 
-    def test_reduced_costs_and_names(self) -> None:
-        """Of a linear program; the message speaks of PuLP's names."""
-        problem = pulp.LpProblem("p", pulp.LpMinimize)
-        x, y = pulp.LpVariable("left", 0), pulp.LpVariable("right", 0)
-        problem += 2 * x + 3 * y
-        problem += x + y >= 4, "both"
-        self.solve(SOLVERS[0], problem)
-        self.assertEqual([(v.value(), v.dj) for v in (x, y)], [(4, 0), (0, 1)])
-
-    def test_reduced_costs_of_zero_and_slacks(self) -> None:
-        """All 0: they are 0.0. Slacks are set as PuLP counts them, and what another solver left of
-        them goes, as do values where there are none."""
+    def test_reduced_costs_and_slacks(self) -> None:
+        """Where all are 0 they are 0.0. Slacks are set as PuLP counts them, and what another
+        solver left of them goes, as do values where there are none."""
         for solver in SOLVERS:
-            problem = pulp.LpProblem("p", pulp.LpMinimize)
             x, y = pulp.LpVariable("left", 0), pulp.LpVariable("right", 0)
-            problem += 2 * x + 3 * y
-            problem += x + y >= 4, "both"
+            problem = problem_of(2 * x + 3 * y, (x + y >= 4, "both"))
+            self.solve(solver, problem)
+            self.assertEqual([(v.value(), v.dj) for v in (x, y)], [(4, 0), (0, 1)])
             problem += x - y == 1, "apart"
             problem += x + 2 * y <= 9, "room"
             self.solve(solver, problem)
@@ -113,9 +100,8 @@ class Solves(Case):
     def test_names_in_verdicts(self) -> None:
         """PuLP's own, also where the MPS file cannot have them."""
         for name, told in (("both", "both"), ("both sides", "C0000000")):
-            problem = pulp.LpProblem("p", pulp.LpMinimize)
             x = pulp.LpVariable("left", 0, 9, pulp.LpInteger)
-            problem += 2 * x
+            problem = problem_of(2 * x)
             problem.addConstraint(pulp.LpConstraint(2 * x, pulp.LpConstraintGE, name, 3))
             problem.constraints = {name: next(iter(problem.constraints.values()))}
             command = self.solve(SOLVERS[0], problem, options=["outlev=0"])
@@ -132,18 +118,16 @@ class Solves(Case):
 
     @unittest.skipUnless(shutil.which("clp"), "no clp")
     def test_errors_in_words_of_pulp(self) -> None:
-        problem = pulp.LpProblem("p", pulp.LpMinimize)
-        problem += 2 * pulp.LpVariable("x", 1, 5, pulp.LpInteger)
+        problem = problem_of(2 * pulp.LpVariable("x", 1, 5, pulp.LpInteger))
         with self.assertRaisesRegex(pulp.PulpSolverError, "takes no integer variables, and the "
                                                           "model has 1; mip=False drops that"):
             self.solve("clp", problem)
         self.assertRegex(self.solve("clp", problem, mip=False).message, r"\nbound \S+$")
 
     def test_files_that_are_kept(self) -> None:
-        problem = pulp.LpProblem("kept", pulp.LpMinimize)
         x = pulp.LpVariable("left", 1)
-        problem += 1 * x
-        problem += 2 * x >= 3, "both"
+        problem = problem_of(1 * x, (2 * x >= 3, "both"))
+        problem.name = "kept"
         driver = os.path.join(HERE, "..", "bin", "bridge-" + SOLVERS[0])
         command = pulp_solver.BridgeCmd(driver, msg=False, keepFiles=True)
         here = os.getcwd()
@@ -161,32 +145,28 @@ class Solves(Case):
 class Manners(unittest.TestCase):
     """What needs neither solver nor bridge."""
 
-    def problem(self, low: float, high: "float | None") -> "pulp.LpProblem":
-        problem = pulp.LpProblem("p", pulp.LpMinimize)
-        problem += 1 * pulp.LpVariable("x", low, high)
-        return problem
-
     def test_empty_interval(self) -> None:
         """Also one that PuLP's own MPS would lose."""
         for low, high in ((3, 2), (0, -1)):
             command = pulp_solver.BridgeCmd("/nonexistent", msg=False)
-            problem = self.problem(low, high)
+            problem = problem_of(1 * pulp.LpVariable("x", low, high))
             problem.solve(command)
             self.assertEqual(pulp.LpStatus[problem.status], "Infeasible")
             self.assertEqual(command.message, f"infeasible: x has the lower bound {low} and the "
                                               f"upper bound {high}")
 
     def test_what_is_not_there(self) -> None:
+        problem = problem_of(1 * pulp.LpVariable("x", 0, 1))
         with self.assertRaisesRegex(pulp.PulpSolverError, "no driver of nonexistent: cbc, "):
-            self.problem(0, 1).solve(pulp_solver.BridgeCmd("/nonexistent", msg=False))
+            problem.solve(pulp_solver.BridgeCmd("/nonexistent", msg=False))
         self.assertFalse(pulp_solver.BridgeCmd("/nonexistent").available())
         for name in SOLVERS:
             self.assertEqual(pulp_solver.BridgeCmd("/x/bridge-" + name).available(),
                              shutil.which(name))
         with self.assertRaisesRegex(pulp.PulpSolverError, "was not found: install it or give "
                                                           "options=.'solver=PATH'."):
-            self.problem(0, 1).solve(pulp_solver.BridgeCmd(msg=False, options=["solver=/no"],
-                                                           bridge="/bin/true"))
+            problem.solve(pulp_solver.BridgeCmd(msg=False, options=["solver=/no"],
+                                                bridge="/bin/true"))
 
     def test_words(self) -> None:
         command = pulp_solver.BridgeCmd("d", mip=False, timeLimit=2.5, gapRel=0.1, threads=3,

@@ -12,7 +12,6 @@ from bridge_drivers import explaining, kinds, reasons
 from bridge_drivers.bridge import Refused, Reply
 from bridge_drivers.expressions import Expression
 from bridge_drivers.names import Names
-from bridge_drivers.options import BadOption, Options
 
 HEAD = b"g3 1 1 0\n 3 1 1 0 0\n" + b" 0 0\n" * 8
 PRODUCT = HEAD + (b"C0\no54\n3\no2\nn5\nv1\no2\nv0\no0\nv1\nn3\nv2\nO0 0\nn0\nr\n1 4\n"
@@ -229,13 +228,3 @@ class Reasons(unittest.TestCase):
         for row in reasons.MEANING.values():
             self.assertIn(f"  {row.reasons}:", text)
             self.assertTrue(row.text or row.more, row.reasons)
-
-
-class UnknownWords(unittest.TestCase):
-    def test_unknown_words(self) -> None:
-        """They are told as unknown, also where no value follows."""
-        for words in (["foo"], ["foo=1"], ["-foo"], ["timelim=1", "foo", "2"]):
-            with self.assertRaisesRegex(BadOption, "^unknown option foo; -= lists the options$"):
-                Options().take(words)
-        with self.assertRaisesRegex(BadOption, "^no value for timelim$"):
-            Options().take(["timelim"])

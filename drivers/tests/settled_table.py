@@ -38,14 +38,6 @@ class Table(Case):
         self.assertEqual(found.answer.values, None if value is None else {"x0": str(value)})
         self.assertEqual(found.kind, kind)
 
-    def test_no_point(self) -> None:
-        """Whatever the solver said."""
-        for code in ALL:
-            for line, proved in (("infeasible", INFEASIBLE), ("unbounded", UNBOUNDED)):
-                found = self.settled(code, line, 5 if proved is UNBOUNDED else None)
-                self.judge(found, proved, None)
-                self.assertEqual(found.text is None, code == proved)
-
     def test_points(self) -> None:
         for code in ALL:
             self.judge(self.settled(code, "optimal 5", 5), SOLVED, 5,
@@ -96,15 +88,6 @@ class Table(Case):
                             Facts(gap=0.5))
             self.assertEqual((found.code, found.text), (SOLVED, words))
 
-    def test_strict(self) -> None:
-        """Only what ends the question is passed on with another code than 100."""
-        for code in ALL:
-            for line, point, wanted in (("optimal 5", 5, SOLVED), ("infeasible", None, INFEASIBLE),
-                                        ("unbounded", 5, UNBOUNDED), ("feasible 5", 5, UNSURE),
-                                        ("within 9 5", 5, UNSURE), ("bound 9", None, UNSURE),
-                                        ("not proved: time", None, UNSURE)):
-                self.assertEqual(self.settled(code, line, point, strict=True).code, wanted)
-
     def test_small_objectives(self) -> None:
         """What is apart is measured by the objective itself."""
         small = Program(TEXT.replace(b"x0 obj 1", b"x0 obj 1e-9"))
@@ -120,10 +103,3 @@ class Table(Case):
         self.judge(found, SOLVED, 1234567)
         found = self.settled(SOLVED, "feasible 1234567", 1234567, "1234600")
         self.judge(found, UNSURE, 1234567, "another")
-
-    def test_nothing_proved(self) -> None:
-        for code in ALL:
-            found = self.settled(code, "not proved: time")
-            self.judge(found, UNSURE if code is SOLVED else code,
-                       5 if code in WITH_POINT else None)
-            self.assertEqual((found.text, bool(found.lacks)), (None, code is SOLVED))

@@ -25,6 +25,7 @@ from bridge_drivers.near import near
 from bridge_drivers.options import BadOption, Option, Options, Range
 
 SCRIPTS = ("acceptance", "bench", "dev", "drivers", "packaging")
+HAS_CBC = solvers.load("cbc").place() is not None
 
 
 class Help(unittest.TestCase):
@@ -41,6 +42,9 @@ class Help(unittest.TestCase):
                 self.assertEqual(line.split()[0], word)
                 front.read(line.split())
             self.assertLessEqual(max(map(len, out.split("\n"))), 100)
+        for word in ("help", "-h", "-?", "--help", "-="):
+            self.assertEqual(called(lambda: front.command([word])), (0, commands.usage(), ""))
+        self.assertEqual(called(lambda: front.command([])), (3, "", commands.usage()))
 
     def test_of_each_driver(self) -> None:
         """Options with their values."""
@@ -87,11 +91,18 @@ class Options_(unittest.TestCase):
                 known.take([word + "=1"])
         self.assertEqual(near("veryfy", commands.WORDS), " did you mean `verify`?")
         self.assertEqual(near("gap", commands.WORDS), "")
-        for call, end in ((["help", "gap"], "no help on gap; did you mean `mipgap`?"),
-                          (["knap", "--foo"], "unknown option --foo;"),
-                          (["help", "refusal"], "no help on refusal; did you mean `refusals`?")):
-            status, _, err = called(lambda: front.command(call))
-            self.assertEqual((status, err), (3, f"nl-bridge: {end} -h lists the commands\n"))
+        for call, end in (("help gap", "no help on gap; did you mean `mipgap`?"),
+                          ("knap --foo", "unknown option --foo;"),
+                          ("foo x", "unknown command foo;"),
+                          ("stats", "stats takes MODEL [K];"),
+                          ("help refusal", "no help on refusal; did you mean `refusals`?")):
+            self.assertEqual(called(lambda: front.command(call.split())),
+                             (3, "", f"nl-bridge: {end} -h lists the commands\n"))
+        for unknown in (["foo"], ["foo=1"], ["-foo"], ["timelim=1", "foo", "2"]):
+            with self.assertRaisesRegex(BadOption, "^unknown option foo; -= lists the options$"):
+                Options().take(unknown)
+        with self.assertRaisesRegex(BadOption, "^no value for timelim$"):
+            Options().take(["timelim"])
 
     def test_certify_takes_those_of_each_driver(self) -> None:
         for name in solvers.NAMES:
@@ -115,18 +126,16 @@ class Options_(unittest.TestCase):
         self.assertEqual(str(Option("x", 0, int, "").kind), "a whole number from 0 on")
 
     def test_any_order(self) -> None:
-        for call in (["knap", "-AMPL", "prove=1", "timelim", "3"], ["prove=1", "knap", "-AMPL",
-                     "timelim", "3"], ["-AMPL", "prove=1", "timelim=3", "--", "knap"],
-                     ["prove", "=", "1", "timelim=", "3", "-AMPL", "knap"],
-                     ["-prove", "1", "-AMPL", "--timelim", "3", "knap"]):
-            found = words.read(call)
+        for call in ("knap -AMPL prove=1 timelim 3 -e", "prove=1 knap -AMPL timelim 3 -e",
+                     "-AMPL -e prove=1 timelim=3 -- knap", "prove = 1 timelim= 3 -e -AMPL knap",
+                     "-prove 1 -AMPL --timelim =3 -e knap"):
+            found = words.read(call.split())
             options = Options()
             options.take(found.options)
-            self.assertEqual((found.stub, found.ampl, options.prove, options.timelim),
-                             ("knap", True, 1, 3.0), call)
-        self.assertEqual(words.read(["--", "-x=1"]).stub, "-x=1")
-        self.assertEqual(words.read(["-"]).stub, "-")
-        self.assertEqual(words.read(["./a=b"]).stub, "./a=b")
+            self.assertEqual((found.stub, found.ampl, found.echo, found.save, options.prove,
+                              options.timelim), ("knap", True, False, False, 1, 3.0), call)
+        for call, stub in (("-- -x=1", "-x=1"), ("-", "-"), ("./a=b", "./a=b")):
+            self.assertEqual(words.read(call.split()).stub, stub)
 
     def test_any_order_of_the_front(self) -> None:
         wanted = front.Call("explain", ["m", "c"], False, True, {"svg": "s"})
@@ -192,10 +201,9 @@ class Models(Case):
 
     @NEEDS_PROGRAM
     @NEEDS_CLP
+    @unittest.skipUnless(HAS_CBC, "no cbc")
     def test_a_driver(self) -> None:
         """Of standard input, packed; what is written beside it is called stdin."""
-        if not solvers.load("cbc").place():
-            self.skipTest("no cbc")
         for driver, end in (("certify", "certificate"), ("cbc", "sol")):
             ran = subprocess.run([sys.executable, os.path.join(BIN, "bridge-" + driver), "-",
                                   *(["-s"] if driver == "cbc" else [])], cwd=self.folder,
@@ -231,6 +239,8 @@ class Statuses(Case):
                 (["nl-bridge", "verify", nl, "/nonexistent"], 4), (["bridge-cbc", "/no/m"], 4),
                 (["nl-bridge", "stats", "/no/m"], 4), (["bridge-certify", "/no/m.mps"], 4),
                 (["nl-bridge", "explain", nl, of, "--svg", "/no/x"], 5),
+                (["nl-bridge", "explain", nl, of, "--html", of, "overwrite=1"], 5),
+                *([(["bridge-certify", nl, "certificate=/no/x"], 5)] if HAS_CBC else []),
                 (["bridge-cbc", nl, "solver=/no/cbc"], 127),
                 (["bridge-cbc", nl, "solver=/bin/true"], 1),
                 (["bridge-certify", nl, "bridge=/no/bridge"], 127)):

@@ -13,10 +13,9 @@ from fractions import Fraction as F
 from unittest import mock
 
 from support import HERE, Case
-from bridge_drivers import binary_nl, bridge, kinds, nl, progress, sol, solvers, values, words
+from bridge_drivers import binary_nl, bridge, kinds, nl, progress, sol, solvers, values
 from bridge_drivers.bridge import Refused, Reply
 from bridge_drivers.interrupts import SIGNALS, Interrupted, Signals, with_child
-from bridge_drivers.options import BadOption, Options
 from bridge_drivers.program import Program
 from models import MODELS
 
@@ -49,19 +48,6 @@ class Decimals(Case):
 
 
 class Texts(Case):
-    def test_options(self) -> None:
-        o = Options()
-        o.take(["timelim=3", "-outlev", "1", "--keep", "a b", "objno", "=", "2", "check", "=0"])
-        self.assertEqual((o.timelim, o.outlev, o.keep, o.objno, o.check), (3.0, 1, "a b", 2, 0))
-        for bad in (["outlev"], ["outlev=x"], ["timelim=-1"], ["nosuch=1"], ["timelim=nan"]):
-            self.assertRaises(BadOption, Options().take, bad)
-
-    def test_words(self) -> None:
-        w = words.read(["-timelim", "3", "a/model.nl", "-AMPL", "outlev=1", "-e", "check", "0"])
-        self.assertEqual((w.stub, w.ampl, w.echo, w.save, w.ask), ("a/model.nl", True, False,
-                                                                   False, None))
-        self.assertEqual(w.options, ["-timelim", "3", "outlev=1", "check", "0"])
-        self.assertEqual(words.read(["-=", "-v"]).ask, "-=")
 
     def test_program(self) -> None:
         p = Program(b"NAME nl\nOBJSENSE\n MAX\nROWS\n N obj\n L c0\nCOLUMNS\n x0 obj 2\n"

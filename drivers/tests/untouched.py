@@ -113,20 +113,18 @@ class Commands(Case):
                 self.assertIn("bridge.sol", os.listdir(own))
 
     def test_only_mps(self) -> None:
+        """The same text again is no loss; what a solver would relax without a word is not written
+        for it."""
         self.put(MODELS["product"].text)
         for driver in solvers.NAMES:
             path = f"{self.stub}.{driver}.mps"
             self.put(OLDER, f".{driver}.mps")
-            ended = self.replay(driver, "product", self.stub, "only=mps")
-            self.assertEqual(ended.returncode, 5)
-            self.assertIn(f"{path}: it stands there", ended.stderr)
-            self.assertEqual(self.bytes_of(f".{driver}.mps"), OLDER)
-            for words in (["overwrite=1"], []):     # the same text again is no loss
+            for words, status in (([], 5), (["overwrite=1"], 0), ([], 0)):
                 ended = self.replay(driver, "product", self.stub, "only=mps", *words)
-                self.assertEqual(ended.returncode, 0, ended.stderr)
-
-    def test_only_mps_of_whole_variables(self) -> None:
-        """What a solver would relax without a word is not written for it."""
+                self.assertEqual(ended.returncode, status, ended.stderr)
+                self.assertEqual(f"{path}: it stands there" in ended.stderr, status == 5)
+                self.assertEqual(self.bytes_of(f".{driver}.mps") == OLDER, status == 5)
+            os.unlink(path)
         self.put(MODELS["knap"].text)
         for driver in ("clp", "esolver"):
             for words, status in (([], 2), (["relax=1"], 0)):
@@ -149,28 +147,22 @@ class Commands(Case):
         self.assertEqual(self.tree()["stub.nl"], MODELS["knap"].text)
 
     def test_import(self) -> None:
-        """All three files or none."""
-        bridge, text = Bridge(PROGRAM, lambda argv: None), MODELS["product"].text
-        self.put(text)
+        """All three files or none; onto itself never."""
+        self.put(MODELS["product"].text)
+        bridge, mps = Bridge(PROGRAM, lambda argv: None), self.stub + ".mps"
         self.put(bridge.text("export", self.stub + ".nl"), ".mps")
-        mps, target = self.stub + ".mps", os.path.join(self.folder, "new")
         for end in (".nl", ".row", ".col"):
-            for name in os.listdir(self.folder):
-                if name.startswith("new"):
-                    os.unlink(os.path.join(self.folder, name))
+            target = os.path.join(self.folder, "new" + end[1:])
             with open(target + end, "wb") as f:
                 f.write(OLDER)
             before = self.tree()
-            told = quietly("import", mps, target + ".nl")
-            self.assertIn(f"{target}{end}: it stands there", told)
+            self.assertIn(f"{target}{end}: it stands there", quietly("import", mps, target + ".nl"))
             self.assertEqual(self.tree(), before)
-            told = quietly("overwrite=1", "import", mps, target)
-            self.assertIn("is written", told)
-        for words in ([], ["overwrite=1"]):             # onto itself
-            with open(target + ".nl", "wb") as f, open(mps, "rb") as source:
-                f.write(source.read())
-            before = self.tree()
-            told = quietly("import", target + ".nl", target, *words)
+            self.assertIn("is written", quietly("overwrite=1", "import", mps, target))
+        os.rename(mps, self.stub + ".nl")
+        before = self.tree()
+        for words in ([], ["overwrite=1"]):
+            told = quietly("import", self.stub + ".nl", self.stub, *words)
             self.assertIn("it is what this command reads", told)
             self.assertEqual(self.tree(), before)
 
