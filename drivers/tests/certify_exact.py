@@ -172,34 +172,55 @@ class Doubles(TestCase):
 
 
 class Planes(TestCase):
-    """Columns and rows of whole numbers between whose ends there is none."""
+    """Whole columns, and rows with the same terms up to a factor, between whose ends there is no
+    whole number: against all values."""
 
-    def model(self, lo: str, hi: str, row: "tuple[str, str] | None" = None) -> Model:
-        side = [" RHS c0 " + row[0], "RANGES", " RNG c0 " + row[1]] if row else [" RHS c0 0"]
+    @staticmethod
+    def model(box: list[F], form: dict[int, int], rows: list[tuple[int, F, bool]]) -> Model:
+        """One column in a box, the others free; rows are so many times a form, above or below."""
+        names = [f"x{j}" for j in range(max(form) + 1)]
         return Model("\n".join([
-            "NAME nl", "ROWS", " N obj", " G c0", "COLUMNS", " M0 'MARKER' 'INTORG'",
-            " x0 obj 1", " x0 c0 3", " x1 c0 -6", " M1 'MARKER' 'INTEND'", "RHS", *side, "BOUNDS",
-            f" LO BND x0 {lo}", f" UP BND x0 {hi}", " FR BND x1", "ENDATA", ""]).encode(), {}, 1)
+            "NAME nl", "ROWS", " N obj", *(f" {'LG'[up]} c{i}" for i, (_, _, up) in enumerate(rows)),
+            "COLUMNS", " M0 'MARKER' 'INTORG'", *(
+                line for j, name in enumerate(names) for line in (f" {name} obj 1", *(
+                    f" {name} c{i} {by * form[j]}" for i, (by, _, _) in enumerate(rows)
+                    if j in form))), " M1 'MARKER' 'INTEND'", "RHS",
+            *(f" RHS c{i} {float(side)}" for i, (_, side, _) in enumerate(rows)), "BOUNDS",
+            *(f" {'LU'[k]}{'OP'[k]} BND x0 {float(end)}" for k, end in enumerate(box)),
+            *(f" FR BND {name}" for name in names[1 if box else 0:]), "ENDATA", ""]).encode(),
+            {}, len(rows))
 
-    def test_columns_and_rows(self) -> None:
-        for lo, hi, row, form, at in (
-                ("1.0000001", "1.9999999", None, {0: 1}, 1), ("1", "1.5", None, None, 0),
-                ("-0.5", "-0.25", None, {0: 1}, -1), ("0", "9", ("0.1", "2.8"), {0: 1, 1: -2}, 0),
-                ("0", "9", ("0.1", "2.9"), None, 0),
-                ("0", "9", ("-2.9", "2.8"), {0: 1, 1: -2}, -1)):
-            found = equations.hollow(self.model(lo, hi, row))
-            self.assertEqual(found is None, form is None, (lo, hi, row))
-            if found is not None:
-                self.assertEqual((found.form, found.at), (form, at))
+    def judge(self, p: Model, is_empty: bool) -> None:
+        """A plane, where there is none, between what its multipliers leave."""
+        found = equations.hollow(p)
+        self.assertEqual(found is not None, is_empty)
+        for sign, multipliers in () if found is None else ((1, found.low), (-1, found.high)):
+            at, terms = F(0), dict[int, F]()
+            for i, u in multipliers.items():
+                side = p.side_lo[i] if sign * u > 0 else p.side_hi[i]
+                at += u * F(side, p.unit)
+                terms = {j: u * F(a, p.scale) for j, a in p.rows[i]}
+            if multipliers:
+                self.assertEqual(terms, found.form)
+            else:
+                at = F((p.lo if sign > 0 else p.hi)[min(found.form)], p.unit)
+            self.assertTrue(at > found.at if sign > 0 else at < found.at + 1)
 
     def test_against_all_values(self) -> None:
-        """Where a column has no value, and there alone."""
         rng = random.Random(1)
-        for _ in range(200):
-            lo, by = F(rng.randint(-20, 20), 4), F(rng.randint(0, 7), 4)
-            p = self.model(str(float(lo)), str(float(lo + by)))
-            values = [v for v in range(-30, 30) if lo <= v <= lo + by]
-            self.assertEqual(equations.hollow(p) is not None, not values)
+        for _ in range(600):
+            form = rng.choice([{0: 1}, {0: 1}, {0: 7, 1: -5}, {1: -2, 2: 3}, {0: 1, 1: 4, 2: -2}])
+            rows = [(rng.choice([-3, -2, -1, 1, 2, 4]), F(rng.randint(-20, 20), 4),
+                     rng.random() < 0.5) for _ in range(rng.randint(0, 3))]
+            lo = F(rng.randint(-20, 20), 4)
+            box = [lo, lo + F(rng.randint(0, 7), 4)] if rng.random() < 0.4 else []
+            ends = [(side / by, up == (by > 0)) for by, side, up in rows]
+            if box and form == {0: 1}:
+                ends += [(box[0], True), (box[1], False)]
+            values = [v for v in range(-30, 30) if all(v >= e if up else v <= e for e, up in ends)]
+            is_empty = not values or bool(box) and not any(
+                box[0] <= v <= box[1] for v in range(-30, 30))
+            self.judge(self.model(box, form, rows), is_empty)
 
 
 if __name__ == "__main__":
