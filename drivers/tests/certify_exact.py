@@ -19,7 +19,7 @@ from bridge_drivers.certify.model import Box, Model
 from bridge_drivers.certify.simplex import Ended, Simplex
 from bridge_drivers.certify.watch import Watch
 from bridge_drivers.program import Program
-from misleading_more import more
+from misleading_kinds import models
 from models import MODELS, nl, whole
 
 MOST_STEPS = 3000
@@ -117,9 +117,10 @@ class Programs(Case):
     def test_qsopt_and_pivots(self) -> None:
         """Nearly singular ones, by QSopt_ex where its program is there, and in whole numbers."""
         solver = solvers.load("esolver")
-        for model in more(4):
+        for model in models(4):
             if model.is_linear() and any(model.costs.values()):
-                wanted = "unbounded" if model.is_endless else f"optimal {model.best}"
+                wanted = "unbounded" if model.is_endless else \
+                    "infeasible" if model.best is None else f"optimal {model.best}"
                 for is_there in [False, True] if solver.place() else [False]:
                     with self.subTest(model=model.name, by_qsopt=is_there):
                         self.assertEqual(self.claim(model.text(), is_there, wanted), wanted)

@@ -1,6 +1,6 @@
 #!/usr/bin/env python3
-"""Models that mislead solvers in doubles (misleading.py, misleading_more.py) through drivers: what
-ends with code 0 and is wrong, and what a solver answered rightly and exactly and the driver lost.
+"""Models that mislead solvers in doubles (misleading_kinds.py) through drivers: what ends with code 0
+and is wrong, and what a solver answered rightly and exactly and the driver lost.
 
     misled.py [DRIVER ..] [KIND ..] [option=value ..]   all six drivers, where they are; all kinds
 
@@ -15,7 +15,6 @@ one for each driver: how many end with which code. The status is 1 where one is 
 from __future__ import annotations
 
 import collections
-import itertools
 import json
 import os
 import sys
@@ -23,21 +22,21 @@ import tempfile
 import time
 from concurrent.futures import ProcessPoolExecutor, as_completed
 from fractions import Fraction as F
-from typing import Any, Iterator, NamedTuple
+from typing import Any, NamedTuple
 
 sys.dont_write_bytecode = True
 HERE = os.path.dirname(os.path.abspath(__file__))
 sys.path[:0] = [HERE]
 
-from misleading import EACH, Misleading, models         # noqa: E402
-from misleading_more import EACH as EACH_MORE, more     # noqa: E402
+from misleading import Misleading               # noqa: E402
+from misleading_kinds import EACH, models       # noqa: E402
 from support import Sol                         # noqa: E402
 from bridge_drivers import certificates, solvers    # noqa: E402
 from bridge_drivers.codes import Code           # noqa: E402
 from bridge_drivers.driver import Driver        # noqa: E402
 from bridge_drivers.solving import Solving      # noqa: E402
 
-OWN = {"second": "1", "each": "", "time": "10", "workers": "4", "log": ""}
+OWN = {"second": "1", "each": str(EACH), "time": "10", "workers": "4", "log": ""}
 
 
 class Judged(NamedTuple):
@@ -64,11 +63,6 @@ class NotingDriver(Driver):
     make_solving = Noting
 
 
-def family(each: int = EACH, each_more: int = EACH_MORE) -> Iterator[Misleading]:
-    """The first models of each kind."""
-    return itertools.chain(models(each), more(each_more))
-
-
 def judged(folder: str, driver: str, model: Misleading, options: list[str]) -> Judged:
     """One run. What a solver takes no whole variables for is refused, and that is right."""
     stub = os.path.join(folder, f"{driver}-{model.name}-{'-'.join(options)}")
@@ -84,7 +78,9 @@ def judged(folder: str, driver: str, model: Misleading, options: list[str]) -> J
 def told(model: Misleading, sol: Sol) -> Judged:
     """Of a .sol: infeasible and unbounded are claims too, where they are proved."""
     wrong, last = "", sol.message[-1]
-    if sol.code == 0:
+    if not sol.is_allowed():
+        wrong = "no code above this line"
+    elif sol.code == 0:
         wrong = model.fault(sol.values) if sol.values or not model.columns else "no values"
     elif last == "infeasible" and model.best is not None:
         wrong = "there is a point"
@@ -138,9 +134,9 @@ def main() -> int:
     ways = [given.pop("prove")] if "prove" in given else ["0", "1"]
     options = [f"timelim={own['time']}", *(f"{name}={value}" for name, value in given.items())]
     certificates.ONE_LEAF = float(own["second"])
-    counts = (int(own["each"]),) * 2 if own["each"] else (EACH, EACH_MORE)
     kinds = [w for w in words if w not in solvers.NAMES]
-    chosen = [m for m in family(*counts) if not kinds or m.name.rstrip("0123456789") in kinds]
+    chosen = [m for m in models(int(own["each"]))
+              if not kinds or m.name.rstrip("0123456789") in kinds]
     print(f"{len(chosen)} models, {sum(m.best is None for m in chosen)} without a point, "
           f"{sum(m.is_endless for m in chosen)} without an end", flush=True)
     wrong, log = 0, Log(own["log"])

@@ -7,7 +7,7 @@ import unittest
 from dataclasses import replace
 from typing import Iterator
 
-import support  # noqa: F401  (the path of the package)
+from support import ALLOWED
 from bridge_drivers.codes import Code
 from bridge_drivers.ruling import FINAL, At, Found, Misses, Ruling, ruled
 
@@ -31,8 +31,13 @@ def all_of_them() -> Iterator[Found]:
 
 class Rules(unittest.TestCase):
     def test_what_holds_of_all(self) -> None:
+        """With all codes of the table of last lines, and no others: of a claim, the answer was
+        checked."""
+        found: "dict[str, set[int]]" = {}
         for f in all_of_them():
             got = ruled(f)
+            if f.checked or not f.claim:
+                found.setdefault(f.claim or "not", set()).add(int(got.code))
             earned = got.code == SOLVED
             # what is proved is never lost, and nothing else has its code
             if f.claim in FINAL:
@@ -59,6 +64,7 @@ class Rules(unittest.TestCase):
             # code 100 of a solver's `optimal` says why
             if got.code == UNSURE and f.said == SOLVED and not f.kind:
                 self.assertTrue(got.lacks)
+        self.assertEqual(found, ALLOWED)
 
     def test_each(self) -> None:
         linear = Found(SOLVED, linear=True)

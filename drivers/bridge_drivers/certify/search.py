@@ -210,7 +210,7 @@ class Search(Parts):
             if not is_whole:
                 continue
             is_wide = lo is None or hi is None
-            if not is_wide and -(-lo // p.unit) >= hi // p.unit:        # type: ignore
+            if lo == hi and lo is not None:     # others are rounded by it
                 continue
             width = math.inf if is_wide else float(hi - lo)             # type: ignore
             rank = (apart[j], bool(p.cost[j]), -width)

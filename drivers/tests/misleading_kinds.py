@@ -1,17 +1,135 @@
-"""Further kinds of models that mislead solvers in doubles, by size and seed, each with its exact
-answer by a method of its own: by how it is made (a point and weights, or a ray), by all points of a
-small box, or by all vertices in two dimensions."""
+"""Kinds of models that mislead solvers in doubles, by size and seed."""
 
 from __future__ import annotations
 
-import itertools
 import random
 from fractions import Fraction as F
-from typing import Callable, Iterator, Sequence
+from typing import Callable, Iterator, List, Mapping, Sequence, Tuple, Union
 
-from misleading import Column, Misleading, Number, Parts, Row, best_of, decimal
+from misleading import Column, Misleading, Number, Row, best_of
 
 EACH = 28                       # models of each kind
+Parts = Tuple[List[Column], List[Row], str, Mapping[int, Number]]
+
+
+def decimal(value: F) -> str:
+    """A decimal text of a fraction that has one."""
+    places = 0
+    while (value * 10 ** places).denominator != 1:
+        places += 1
+    return f"{int(value * 10 ** places)}e-{places}" if places else str(int(value))
+
+
+def off(rng: random.Random) -> F:
+    """What a side is off by."""
+    return F(rng.choice([-1, 1]) * rng.randint(1, 9), 10 ** rng.randint(6, 9))
+
+
+def whole(rng: random.Random, count: int, most: int = 9) -> list[Column]:
+    return [("I", 0, rng.randint(3, most)) for _ in range(count)]
+
+
+def costs_of(rng: random.Random, count: int) -> dict[int, Number]:
+    return {j: rng.randint(1, 9) for j in range(count)}
+
+
+def equal_decimals(rng: random.Random) -> Parts:
+    """An equation of decimals over whole variables, and its side off by little."""
+    n = rng.randint(2, 4)
+    columns = whole(rng, n)
+    terms = {j: decimal(F(rng.randint(1, 29), 10)) for j in range(n)}
+    at = sum(F(a) * rng.randint(0, int(columns[j][2])) for j, a in terms.items())
+    side = decimal(at + rng.choice([off(rng), F(0)]))
+    return columns, [(side, side, terms)], rng.choice(["min", "max"]), costs_of(rng, n)
+
+
+def near_sides(rng: random.Random) -> Parts:
+    """Sides beyond whole sums by little."""
+    n = rng.randint(1, 4)
+    columns = whole(rng, n)
+    rows: list[Row] = []
+    for _ in range(rng.randint(1, 3)):
+        terms = {j: rng.randint(1, 5) for j in range(n)}
+        top = sum(a * int(columns[j][2]) for j, a in terms.items())
+        side = decimal(rng.randint(1, top) + abs(off(rng)))
+        rows.append((side, None, terms))
+    return columns, rows, "min", costs_of(rng, n)
+
+
+def tiny_rows(rng: random.Random) -> Parts:
+    """All numbers of a row are small."""
+    n, scale = rng.randint(2, 3), F(1, 10 ** rng.randint(8, 12))
+    columns = whole(rng, n, 20)
+    terms = {j: rng.randint(1, 5) for j in range(n)}
+    side = rng.randint(1, sum(a * int(columns[j][2]) for j, a in terms.items()) // 2)
+    row = {j: decimal(a * scale) for j, a in terms.items()}
+    if rng.random() < 0.7:
+        return columns, [(None, decimal(side * scale), row)], "max", costs_of(rng, n)
+    return columns, [(decimal(side * scale), None, row)], "min", costs_of(rng, n)
+
+
+def large_numbers(rng: random.Random) -> Parts:
+    """Beside large coefficients that cancel a unit is little."""
+    n, size = rng.randint(2, 3), 10 ** rng.randint(7, 10)
+    columns = whole(rng, n)
+    large = {j: rng.choice([-1, 1]) * (size + rng.randint(0, 3)) for j in range(n)}
+    at = sum(a * rng.randint(0, int(columns[j][2])) for j, a in large.items())
+    sense = rng.choice(["min", "max"])
+    rows: list[Row] = [rng.choice([(at + 1, None, large), (None, at - 1, large),
+                                   (at, at + rng.randint(0, 1), large)])]
+    return columns, rows, sense, costs_of(rng, n)
+
+
+def switches(rng: random.Random) -> Parts:
+    """A continuous column that a binary one switches, by a large factor."""
+    factor = 10 ** rng.randint(5, 8)
+    need = F(rng.randint(1, 50), 10 ** rng.randint(0, 2))
+    columns: list[Column] = [("C", 0, 1000), ("C", 0, 1000), ("I", 0, 1), ("I", 0, 1)]
+    rows: list[Row] = [(None, 0, {0: 1, 2: -factor}), (None, 0, {1: 1, 3: -factor}),
+                       (decimal(need), None, {0: 1, 1: rng.choice([1, "0.5"])})]
+    costs = {0: decimal(F(rng.randint(1, 9), 1000)), 1: decimal(F(rng.randint(1, 9), 1000)),
+             2: rng.randint(5, 20), 3: rng.randint(5, 20)}
+    return columns, rows, "min", costs
+
+
+def contradictions(rng: random.Random) -> Parts:
+    """Two rows with the same terms, the sides of which miss each other by little."""
+    kind = rng.choice("CI")
+    n = 2
+    columns: list[Column] = [(kind, 0, rng.randint(3, 9)) for _ in range(n)]
+    terms = {j: decimal(F(rng.randint(1, 40), 10)) for j in range(n)}
+    at = sum(F(a) * rng.randint(1, 3) for a in terms.values())
+    by = off(rng)
+    rows: list[Row] = [(decimal(at + by), None, terms), (None, decimal(at), terms)]
+    if rng.random() < 0.5:
+        rows = [(decimal(at + by),) * 2 + (terms,), (decimal(at),) * 2 + (terms,)]
+    return columns, rows, rng.choice(["min", "max"]), costs_of(rng, n)
+
+
+def small_costs(rng: random.Random) -> Parts:
+    """What is gained is less than what solvers tell apart, or beside a large cost."""
+    n = rng.randint(2, 4)
+    columns = whole(rng, n)
+    scale = F(1, 10 ** rng.randint(6, 10))
+    terms = {j: rng.randint(1, 6) for j in range(n)}
+    side = rng.randint(2, sum(a * int(columns[j][2]) for j, a in terms.items()))
+    costs: dict[int, Number] = {j: decimal(rng.randint(1, 9) * scale) for j in range(n)}
+    if rng.random() < 0.5:
+        costs[0] = rng.randint(1, 9)
+    return columns, [(None, side, terms)], "max", costs
+
+
+def mixed_scales(rng: random.Random) -> Parts:
+    """Continuous columns in small units, beside whole ones."""
+    small = F(1, 10 ** rng.randint(6, 9))
+    columns: list[Column] = [("C", 0, decimal(rng.randint(2, 9) * small)),
+                             ("C", 0, rng.randint(2, 9)), ("I", 0, rng.randint(2, 9))]
+    rows: list[Row] = [
+        (None, 0, {0: 1, 2: decimal(-small)}),
+        (None, rng.randint(2, 12), {1: rng.randint(1, 3), 2: rng.randint(1, 3)}),
+        (decimal(abs(off(rng))), None, {1: 1})]
+    costs = {0: decimal(rng.randint(1, 9) / small), 1: rng.randint(1, 9), 2: -rng.randint(1, 9)}
+    return columns, rows, "max", costs
 
 
 def sized(rng: random.Random, least: int, most: int) -> F:
@@ -159,31 +277,27 @@ def beyond_doubles(rng: random.Random) -> Misleading:
     return Misleading("", columns, rows, "max", {0: 1}, F(best))
 
 
-MADE: Sequence[Callable[[random.Random], Misleading]] = (
-    nearly_singular, nearly_parallel, tiny_rays, beyond_doubles)
-COUNTED: Sequence[Callable[[random.Random], Parts]] = (
-    far_ends, crossing_bounds, cut_offs, drops)
+KINDS: Sequence[Callable[[random.Random], Union[Misleading, Parts]]] = (
+    equal_decimals, near_sides, tiny_rows, large_numbers, switches, contradictions, small_costs,
+    mixed_scales, nearly_singular, nearly_parallel, tiny_rays, beyond_doubles, far_ends,
+    crossing_bounds, cut_offs, drops)
 
 
-def counted(parts: Parts) -> Misleading:
+def counted(columns: Sequence[Column], rows: Sequence[Row], sense: str,
+            costs: Mapping[int, Number]) -> Misleading:
     """By all points and vertices."""
-    columns, rows, sense, costs = parts
-    boxed = [(kind, rounded_up(lo), int(F(hi))) if kind == "I" else (kind, lo, hi)
-             for kind, lo, hi in columns]
+    boxed: list[Column] = [(kind, int(-(-F(lo) // 1)), int(F(hi))) if kind == "I" else
+                           (kind, lo, hi) for kind, lo, hi in columns]
     empty = any(kind == "I" and lo > hi for kind, lo, hi in boxed)
-    best = None if empty else best_of(boxed, rows, sense, costs)
-    return Misleading("", columns, rows, sense, costs, best)
+    return Misleading("", columns, rows, sense, costs,
+                      None if empty else best_of(boxed, rows, sense, costs))
 
 
-def rounded_up(value: Number) -> int:
-    return int(-(-F(value) // 1))
-
-
-def more(each: int = EACH) -> Iterator[Misleading]:
+def models(each: int = EACH) -> Iterator[Misleading]:
     """The first models of each kind."""
-    for kind in itertools.chain(MADE, COUNTED):
+    for kind in KINDS:
         rng = random.Random(kind.__name__)
         for k in range(each):
             made = kind(rng)
-            model = made if isinstance(made, Misleading) else counted(made)
+            model = made if isinstance(made, Misleading) else counted(*made)
             yield model._replace(name=f"{kind.__name__}{k}")
