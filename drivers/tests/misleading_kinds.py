@@ -163,9 +163,9 @@ def terms_of(row: Sequence[F]) -> dict[int, Number]:
     return {j: decimal(a) for j, a in enumerate(row) if a}
 
 
-def nearly_singular(rng: random.Random) -> Misleading:
+def nearly_singular(rng: random.Random, kind: str = "C", most_columns: int = 7) -> Misleading:
     """Equations of one point: it is the optimum, whatever the costs."""
-    n = rng.randint(2, 7)
+    n = rng.randint(2, most_columns)
     rows = matrix(rng, n)
     while not is_regular(rows):
         rows = matrix(rng, n)
@@ -174,8 +174,12 @@ def nearly_singular(rng: random.Random) -> Misleading:
     most = rng.choice([None, 10 ** 4])
     sides = [decimal(sum(a * v for a, v in zip(row, x))) for row in rows]
     made: list[Row] = [(s, s, terms_of(row)) for s, row in zip(sides, rows)]
-    return Misleading("", [("C", 0, most)] * n, made, rng.choice(["min", "max"]),
+    return Misleading("", [(kind, 0, most)] * n, made, rng.choice(["min", "max"]),
                       terms_of(costs), sum(c * v for c, v in zip(costs, x)))
+
+
+def whole_singular(rng: random.Random) -> Misleading:
+    return nearly_singular(rng, "I", 4)
 
 
 def nearly_parallel(rng: random.Random) -> Misleading:
@@ -205,6 +209,37 @@ def tiny_rays(rng: random.Random) -> Misleading:
     best = sum(c * F(columns[j][2] or 0) for j, c in costs.items())
     return Misleading("", columns, rows, "max", {j: decimal(c) for j, c in costs.items()},
                       best, end is None)
+
+
+def whole_rays(rng: random.Random) -> Misleading:
+    """Two whole columns that go on together, with a gain that is little beside their costs; or to an
+    end that is far."""
+    a, b, gain = rng.randint(1, 5), rng.randint(1, 5), sized(rng, 5, 14)
+    cost, end = F(rng.randint(0, 9)), rng.choice([None, None, 10 ** rng.randint(3, 7)])
+    columns: list[Column] = [("I", 0, None if end is None else end * b), ("I", 0, None)]
+    rows: list[Row] = [(rng.choice([None, 0]), 0, {0: a, 1: -b})]       # at b and a times t
+    costs = {0: cost + gain, 1: -cost * b / a} if a in (1, 2, 4, 5) else {0: gain}
+    best = gain * end * b if end is not None else F(0)
+    return Misleading("", columns, rows, "max", terms_of([costs.get(j, F(0)) for j in (0, 1)]), best,
+                      end is None)
+
+
+def two_rows(rng: random.Random) -> Misleading:
+    """Rows with the same terms up to a factor over free whole columns, whose sides leave room for
+    few whole values of them, or for none."""
+    form = rng.choice([{0: 7, 1: -5}, {0: 3, 1: 4}, {0: 1, 1: -6, 2: 9}, {0: -2, 1: 5, 2: 10}])
+    lo = F(rng.randint(-40, 40)) / 8 + rng.choice([-1, 0, 1]) * sized(rng, 3, 9)
+    hi = lo + F(rng.randint(0, 12), 8)
+    rows: list[Row] = []
+    for side, is_upper in ((lo, False), (hi, True)):
+        by = rng.choice([-4, -2, -1, 1, 2, 5])
+        end = decimal(side * by)
+        rows.append((None, end, {j: a * by for j, a in form.items()}) if is_upper == (by > 0) else
+                    (end, None, {j: a * by for j, a in form.items()}))
+    first, last = -(-lo // 1), hi // 1
+    sense, more = rng.choice([("min", first), ("max", last)])
+    columns: list[Column] = [("I", None, None)] * len(form)
+    return Misleading("", columns, rows, sense, form, F(more) if first <= last else None)
 
 
 def far_ends(rng: random.Random) -> Parts:
@@ -280,7 +315,7 @@ def beyond_doubles(rng: random.Random) -> Misleading:
 KINDS: Sequence[Callable[[random.Random], Union[Misleading, Parts]]] = (
     equal_decimals, near_sides, tiny_rows, large_numbers, switches, contradictions, small_costs,
     mixed_scales, nearly_singular, nearly_parallel, tiny_rays, beyond_doubles, far_ends,
-    crossing_bounds, cut_offs, drops)
+    crossing_bounds, cut_offs, drops, whole_singular, whole_rays, two_rows)
 
 
 def counted(columns: Sequence[Column], rows: Sequence[Row], sense: str,
