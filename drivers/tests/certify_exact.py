@@ -12,7 +12,7 @@ from unittest import TestCase, main, mock
 from support import NEEDS_CLP, NEEDS_PROGRAM, PROGRAM, Case
 from bridge_drivers import solvers
 from bridge_drivers.bridge import Bridge
-from bridge_drivers.certify import doubles, equations, points
+from bridge_drivers.certify import doubles, points
 from bridge_drivers.certify.claims import Certifying, Given, certified
 from bridge_drivers.certify.leaves import Closer
 from bridge_drivers.certify.model import Box, Model
@@ -125,6 +125,16 @@ class Programs(Case):
                     with self.subTest(model=model.name, by_qsopt=is_there):
                         self.assertEqual(self.claim(model.text(), is_there, wanted), wanted)
 
+    def test_planes(self) -> None:
+        """Columns, and rows with the same terms up to a factor, between whose ends there is no whole
+        number."""
+        for model in models():
+            if model.name.startswith(("two_rows", "crossing_bounds")):
+                work = self.work(model.text())
+                work.load()
+                found = work.best(work.planes())
+                self.assertEqual(found.is_proved(), model.best is None, model.name)
+
     @NEEDS_CLP
     def test_linear_ones_without_an_answer(self) -> None:
         """What is true of them, as where a solver stopped without a point."""
@@ -170,58 +180,6 @@ class Doubles(TestCase):
             broken = [v + 1e-6 * max(1.0, abs(v)) for v in x]
             self.assertFalse(doubles.closes(p, broken, y) and doubles.misses(p, broken))
         self.assertGreater(closed, 40)
-
-
-class Planes(TestCase):
-    """Whole columns, and rows with the same terms up to a factor, between whose ends there is no
-    whole number: against all values."""
-
-    @staticmethod
-    def model(box: list[F], form: dict[int, int], rows: list[tuple[int, F, bool]]) -> Model:
-        """One column in a box, the others free; rows are so many times a form, above or below."""
-        names = [f"x{j}" for j in range(max(form) + 1)]
-        return Model("\n".join([
-            "NAME nl", "ROWS", " N obj", *(f" {'LG'[up]} c{i}" for i, (_, _, up) in enumerate(rows)),
-            "COLUMNS", " M0 'MARKER' 'INTORG'", *(
-                line for j, name in enumerate(names) for line in (f" {name} obj 1", *(
-                    f" {name} c{i} {by * form[j]}" for i, (by, _, _) in enumerate(rows)
-                    if j in form))), " M1 'MARKER' 'INTEND'", "RHS",
-            *(f" RHS c{i} {float(side)}" for i, (_, side, _) in enumerate(rows)), "BOUNDS",
-            *(f" {'LU'[k]}{'OP'[k]} BND x0 {float(end)}" for k, end in enumerate(box)),
-            *(f" FR BND {name}" for name in names[1 if box else 0:]), "ENDATA", ""]).encode(),
-            {}, len(rows))
-
-    def judge(self, p: Model, is_empty: bool) -> None:
-        """A plane, where there is none, between what its multipliers leave."""
-        found = equations.hollow(p)
-        self.assertEqual(found is not None, is_empty)
-        for sign, multipliers in () if found is None else ((1, found.low), (-1, found.high)):
-            at, terms = F(0), dict[int, F]()
-            for i, u in multipliers.items():
-                side = p.side_lo[i] if sign * u > 0 else p.side_hi[i]
-                at += u * F(side, p.unit)
-                terms = {j: u * F(a, p.scale) for j, a in p.rows[i]}
-            if multipliers:
-                self.assertEqual(terms, found.form)
-            else:
-                at = F((p.lo if sign > 0 else p.hi)[min(found.form)], p.unit)
-            self.assertTrue(at > found.at if sign > 0 else at < found.at + 1)
-
-    def test_against_all_values(self) -> None:
-        rng = random.Random(1)
-        for _ in range(600):
-            form = rng.choice([{0: 1}, {0: 1}, {0: 7, 1: -5}, {1: -2, 2: 3}, {0: 1, 1: 4, 2: -2}])
-            rows = [(rng.choice([-3, -2, -1, 1, 2, 4]), F(rng.randint(-20, 20), 4),
-                     rng.random() < 0.5) for _ in range(rng.randint(0, 3))]
-            lo = F(rng.randint(-20, 20), 4)
-            box = [lo, lo + F(rng.randint(0, 7), 4)] if rng.random() < 0.4 else []
-            ends = [(side / by, up == (by > 0)) for by, side, up in rows]
-            if box and form == {0: 1}:
-                ends += [(box[0], True), (box[1], False)]
-            values = [v for v in range(-30, 30) if all(v >= e if up else v <= e for e, up in ends)]
-            is_empty = not values or bool(box) and not any(
-                box[0] <= v <= box[1] for v in range(-30, 30))
-            self.judge(self.model(box, form, rows), is_empty)
 
 
 if __name__ == "__main__":
