@@ -90,6 +90,7 @@ class WholeClaims(LinearClaims):
             yield self.by_tree(plans.best, point)
         if self.proves or self.bounded:
             self.know_root()
+        yield from self.endless()
         yield from self.told()
         yield Verdict(WITHOUT + (plans.told[-1] if plans.told else "no plan was tried"), point)
 
