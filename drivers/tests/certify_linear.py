@@ -177,7 +177,6 @@ class Shorts(TestCase):
         self.assertLess(p.value(found.point) - p.value(OPTIMUM), F(1, 10 ** 7))
         self.assertLessEqual(over_one(found.point)[1], 10 ** 9)
 
-
     @NEEDS_CLP
     def test_step_by_step(self) -> None:
         """Rows without room between them are met exactly, others get room."""
@@ -219,6 +218,7 @@ ENDATA
         self.assertEqual(found.way, "rounding is taken up by a basis of 1 equation and 1 row")
         self.assertTrue(p.fits(found.point))
         self.assertLess(abs(p.value(found.point) - F(clp.objective())), F(1, 10 ** 6))
+
 
 @NEEDS_CLP
 class Starts(TestCase):

@@ -10,7 +10,6 @@ from unittest import TestCase, mock
 from support import Case
 from bridge_drivers import miss
 from bridge_drivers.certify import directions, equations, exact, points, text
-from bridge_drivers.certify.factor import Factor
 from bridge_drivers.certify.leaves import Closer, Multipliers
 from bridge_drivers.certify.model import Box, Model, Unfit
 from bridge_drivers.certify.numbers import is_narrow, written
@@ -104,18 +103,6 @@ class Systems(TestCase):
         self.assertEqual(exact.solved([({}, 0)]), {})
         wide = [({j: i + j + (i == j) for j in range(9)}, i) for i in range(9)]
         self.assertIsNone(exact.solved(wide, 10))
-
-    def test_factor(self) -> None:
-        """Rows of the inverse."""
-        rng = random.Random(2)
-        n = 6
-        columns = [[(i + 10, float(rng.randint(1, 9) * (rng.random() < 0.5) + 9 * (i == j)))
-                    for i in range(n)] for j in range(n)]
-        factor = Factor(columns, [10 + i for i in range(n)])
-        for k in range(n):
-            u = factor.row(k)
-            for j, column in enumerate(columns):
-                self.assertAlmostEqual(sum(a * u.get(i, 0.0) for i, a in column), float(j == k))
 
 
 class Models(TestCase):

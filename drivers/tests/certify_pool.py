@@ -100,7 +100,7 @@ class Portions(Pooled):
                 continue
             found, work, plans = made
             with self.few():
-                self.assertTrue(plans.run("plain", [], SECONDS), plans.told)
+                self.assertTrue(plans.goes(plans.begun("plain"), SECONDS), plans.told())
             lines = text.head("optimal", 0, None, found.point)
             verdict = work.judged(lines, plans.best.path)
             self.assertEqual(verdict.line, found.line, k)
@@ -108,20 +108,17 @@ class Portions(Pooled):
         self.assertGreater(searched, 10)
 
     def test_bounds(self) -> None:
-        """Of what is closed when the time is over, and the search goes on after it."""
+        """Of what is closed when the time is over."""
         rng, told = random.Random(6), 0
         for k in range(40):
             made = self.pooled(random_model(rng, k % 2 == 1), Here(2))
             if made is None:
                 continue
             found, work, plans = made
-            plan, most = plans.begun("plain"), 8
+            most = 8
             with self.few():
-                while not plans.goes(plan, SECONDS, most):
+                while not plans.goes(plans.begun("plain"), SECONDS, most):
                     most += 8
-                    plans.partial = None
-                    plans.keep(plan)
-                    self.assertIsNotNone(plans.partial)
                     bound, path = plans.bounded()
                     head = text.head("bound", 0, work.model.sign * bound)
                     self.assertEqual(work.judged(head, path).claim(), "bound")
@@ -142,7 +139,7 @@ class Portions(Pooled):
             work, plans = self.plans(made, found.value - 3)
             plans.pool = Here(2)
             with self.few(0), self.assertRaises(Better) as better:
-                plans.run("plain", [], SECONDS)
+                plans.goes(plans.begun("plain"), SECONDS)
             self.assertTrue(work.model.fits(better.exception.point))
             caught += 1
         self.assertGreater(caught, 5)
@@ -184,7 +181,7 @@ class OfThisMachine(Pooled):
                 return executor
             with mock.patch.object(pool, "executor", submitted), \
                     mock.patch("bridge_drivers.certify.shared.AT_HOME", 3):
-                self.assertTrue(plans.run("plain", [], SECONDS), plans.told)
+                self.assertTrue(plans.goes(plans.begun("plain"), SECONDS), plans.told())
             self.assertEqual(bool(pool.fault), kills == 99, pool.fault)
             head = text.head("optimal", 0, None, found.point)
             self.assertEqual(work.judged(head, plans.best.path).line, found.line)
@@ -197,7 +194,7 @@ class OfThisMachine(Pooled):
         found, work, plans = self.pooled(random_model(random.Random(11), False), pool)
         with mock.patch("os.fork", side_effect=BlockingIOError("no more processes")), \
                 mock.patch("bridge_drivers.certify.shared.AT_HOME", 3):
-            self.assertTrue(plans.run("plain", [], SECONDS), plans.told)
+            self.assertTrue(plans.goes(plans.begun("plain"), SECONDS), plans.told())
         self.assertIn("no more processes", pool.fault)
         pool.close()
 
@@ -208,7 +205,7 @@ class OfThisMachine(Pooled):
             self.addCleanup(pool.close)
             found, work, plans = self.pooled(random_model(random.Random(11), False), pool)
             with mock.patch("bridge_drivers.certify.shared.AT_HOME", 3):
-                self.assertTrue(plans.run("plain", [], SECONDS), plans.told)
+                self.assertTrue(plans.goes(plans.begun("plain"), SECONDS), plans.told())
         self.assertEqual(pool.fault, "")
 
     def started(self) -> tuple[subprocess.Popen, list[int]]:
@@ -286,7 +283,7 @@ class OfACluster(Pooled):
         self.addCleanup(pool.close)
         found, work, plans = self.pooled(random_model(random.Random(11), False), pool)
         with mock.patch("bridge_drivers.certify.shared.AT_HOME", 3):
-            self.assertTrue(plans.run("plain", [], SECONDS), plans.told)
+            self.assertTrue(plans.goes(plans.begun("plain"), SECONDS), plans.told())
         head = text.head("optimal", 0, None, found.point)
         self.assertEqual(work.judged(head, plans.best.path).line, found.line)
 
@@ -320,7 +317,7 @@ class WithoutACluster(Pooled):
             pool = pool_of(0, "tcp://127.0.0.1:9")
         self.assertRegex(pool.fault, "^no scheduler of Dask at tcp:|^cluster= needs Dask")
         found, work, plans = self.pooled(random_model(random.Random(11), False), pool)
-        self.assertTrue(plans.run("plain", [], SECONDS), plans.told)
+        self.assertTrue(plans.goes(plans.begun("plain"), SECONDS), plans.told())
 
 
 def below(pid: int) -> list[int]:

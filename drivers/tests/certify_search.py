@@ -3,6 +3,7 @@
 from __future__ import annotations
 
 import itertools
+import math
 import os
 import random
 import signal
@@ -14,7 +15,7 @@ from unittest import mock
 
 from support import HERE, NEEDS_CLP, NEEDS_PROGRAM, PROGRAM, Case
 from bridge_drivers.bridge import Bridge, Late
-from bridge_drivers.certify import pending, text
+from bridge_drivers.certify import text
 from bridge_drivers.certify.claims import Certifying, Given, Verdict, certified
 from bridge_drivers.certify.parts import Better
 from bridge_drivers.certify.plans import Plans
@@ -170,7 +171,7 @@ class Spines(Certified):
 
     def accepted(self, work: Certifying, plans: Plans, value: F) -> None:
         """As a bound, which needs no point."""
-        self.assertIsNotNone(plans.best, plans.told)
+        self.assertIsNotNone(plans.best, plans.told())
         verdict = work.judged(text.head("bound", 0, value), plans.best.path)
         self.assertEqual(verdict.line, f"bound {value}")
 
@@ -186,7 +187,7 @@ class Spines(Certified):
             work, plans = self.plans(model, value)
             for kinds in (("row",), ("clique", "row")):
                 rows = plans.maker.cuts(kinds, [], plans.until(SECONDS))
-                self.assertTrue(plans.run("+".join(kinds), rows, SECONDS), plans.told)
+                self.assertTrue(plans.goes(plans.begun("cuts", rows), SECONDS), plans.told())
                 self.accepted(work, plans, value)
                 plans.best = None
 
@@ -194,7 +195,7 @@ class Spines(Certified):
         work, plans = self.plans(CLAIMED["lots"].text, F("14.3"))
         rows = plans.maker.cuts(("row",), [], plans.until(SECONDS))
         self.assertTrue(rows)
-        self.assertTrue(plans.run("lemma", rows, SECONDS), plans.told)
+        self.assertTrue(plans.goes(plans.begun("lemma", rows), SECONDS), plans.told())
         with open(plans.best.path) as f:
             self.assertIn("lemma ", f.read())
         self.accepted(work, plans, F("14.3"))
@@ -214,12 +215,11 @@ class Spines(Certified):
         for size in (6, 9):
             work = self.work(families.made("pigeons", size))
             work.load()
-            found = work.below_cuts(2 * SECONDS)
-            with open(os.path.join(self.folder, "cliques"), "w") as f:
-                f.writelines(line + "\n" for line in found.lines)
-            self.assertLessEqual(found.nodes, 2 * (size - 1) * (size - 2) + 1)
-            reply = work.bridge.call("verify", work.nl, os.path.join(self.folder, "cliques"))
-            self.assertEqual((reply.status, reply.out.strip()), (0, b"infeasible"))
+            plans = work.plans_for(work.model.without_cost(), None)
+            rows = plans.maker.cuts(("clique", "row"), [], plans.until(SECONDS / 2))
+            self.assertTrue(plans.goes(plans.begun("clique", rows), SECONDS), plans.told())
+            self.assertLessEqual(plans.best.figures.nodes, 2 * (size - 1) * (size - 2) + 1)
+            self.assertEqual(work.by_tree(plans.best).line, "infeasible")
 
     def test_no_point(self) -> None:
         """Numbers that no sum of coins makes: forms of a lattice, also where a solver has
@@ -227,7 +227,7 @@ class Spines(Certified):
         for size in (4, 5):
             for claim in ("infeasible", "nothing"):
                 work = self.work(families.made("frobenius", size))
-                with mock.patch("bridge_drivers.certify.contradictions.PLAIN", 0.2):
+                with mock.patch("bridge_drivers.certify.turns.LATE", 0.2):
                     verdict = certified(work, claim)
                 self.assertEqual(verdict.line, "infeasible")
                 self.assertLess(os.path.getsize(verdict.path), 20_000)
@@ -237,7 +237,7 @@ class Spines(Certified):
         for name, value, most in (("odd_cycle", F(3), 0), ("mixed", F("43.25"), 1),
                                   ("eqknap", F(14), 4), ("lots", F("14.3"), 2)):
             work, plans = self.plans(CLAIMED[name].text, value)
-            self.assertFalse(plans.run("plain", [], SECONDS, most=most), name)
+            self.assertFalse(plans.goes(plans.begun("plain"), SECONDS, most), name)
             bound, path = plans.bounded()
             verdict = work.judged(text.head("bound", 0, work.model.sign * bound), path)
             self.assertEqual(verdict.line, f"bound {work.model.sign * bound}", name)
@@ -252,19 +252,17 @@ class Spines(Certified):
         for shortens in (False, True):
             _, plans = self.plans(made, F(44))
             plans.shortens = shortens
-            with mock.patch("bridge_drivers.certify.plans.SHORT", 1):
+            with mock.patch("bridge_drivers.certify.turns.SHORT", 1):
                 plans.try_all()
-            self.assertEqual(len(plans.told) > 1, shortens, plans.told)
+            self.assertEqual(len(plans.told()) > 1, shortens, plans.told())
 
     def test_bound_of_a_part_that_does_not_close(self) -> None:
         """It has that of both parts; and nothing is told below what bounds of columns say."""
         for name, value in (("mixed", F("43.25")), ("lots", F("14.3"))):
             work, plans = self.plans(CLAIMED[name].text, value)
-            unworked = pending.unworked
-            with mock.patch.object(pending, "unworked", lambda search: None if search.open else
-                                   unworked(search)):
-                self.assertFalse(plans.run("plain", [], SECONDS, most=2), name)
-            bound, path = plans.bounded()
+            self.assertFalse(plans.goes(plans.begun("plain"), SECONDS, 2), name)
+            with mock.patch.object(Search, "own_bound", lambda search, above: above.base):
+                bound, path = plans.bounded()
             verdict = work.judged(text.head("bound", 0, work.model.sign * bound), path)
             self.assertEqual(verdict.claim(), "bound", verdict.line)
             least = trivial(work.model)
@@ -272,19 +270,17 @@ class Spines(Certified):
         self.assertEqual((least, plans.rounded(-0.001)), (0, 0))
 
     def test_looser_bound(self) -> None:
-        """A bound that does not close is lowered, and the search is as it was."""
+        """A bound that does not close is lowered."""
         work, plans = self.plans(CLAIMED["lots"].text, F("14.3"))
-        self.assertFalse(plans.run("plain", [], SECONDS, most=4))
-        closed, tries = Shared.closed_at, []
+        self.assertFalse(plans.goes(plans.begun("plain"), SECONDS, 4))
+        ended, tries = Shared.ended_at, []
 
-        def closing(search, pending, target, strict):
-            tries.append(target)
-            return None if len(tries) < 2 else closed(search, pending, target, strict)
-        with mock.patch.object(Shared, "closed_at", closing):
-            low, _ = plans.bounded()
+        def ending(search, goal):
+            tries.append(goal.target)
+            return None if len(tries) < 2 else ended(search, goal)
+        with mock.patch.object(Shared, "ended_at", ending):
+            bound, path = plans.bounded()
         self.assertEqual(sorted(set(tries), reverse=True), tries)
-        bound, path = plans.bounded()
-        self.assertLess(low, bound)
         verdict = work.judged(text.head("bound", 0, work.model.sign * bound), path)
         self.assertEqual(verdict.claim(), "bound", verdict.line)
 
@@ -345,7 +341,7 @@ class Limits(Certified):
         """The point stays, with the bound of the relaxation."""
         work = self.work(CLAIMED["eqknap"].text)
         with mock.patch("bridge_drivers.certify.search.MOST_DEPTH", -1), \
-                mock.patch.object(pending, "best_bound", lambda *_: None):
+                mock.patch.object(Search, "best_bound", lambda *_: -math.inf):
             verdict = certified(work, "point", Given([F(2), F(7), F(5)]))
         self.assertRegex(verdict.line, r"^within \S+ 14$")
 

@@ -29,7 +29,7 @@ class Forecasts(Case):
         """A share of what the first plan needs in all, less what went to others; not more than half
         of what is left of it."""
         watch = SimpleNamespace(spent=lambda: 10.0)
-        turns = Turns(SimpleNamespace(watch=watch))
+        turns = Turns(SimpleNamespace(watch=watch, value=SimpleNamespace(value=1)))
         turns.began = 0.0
         for closed, spent, room in ((0.5, 10.0, 2.4), (0.5, 8.0, 0.16), (0.9999, 10.0, 0.0005),
                                     (0.0, 10.0, 6.0), (0.0, 5.0, 1.0)):
@@ -39,7 +39,8 @@ class Forecasts(Case):
     def test_misses(self) -> None:
         """A plan that goes on longer than it said counts as twice that."""
         turns = Turns(SimpleNamespace(watch=SimpleNamespace(spent=lambda: 10.0),
+                                      value=SimpleNamespace(value=1),
                                       goes=lambda plan, seconds: False))
         plan = self.plan(0.9999, 10.0)
-        self.assertFalse(turns.turn(plan, plan, 0.0))
+        turns.turn(plan, plan, 0.0)
         self.assertAlmostEqual(plan.expected(), 2 * LEAST_TURN)

@@ -26,6 +26,7 @@ CALLS: dict[str, tuple[Any, list[Any]]] = {
     "setSmallElementValue": (None, [P, D]),
     "chgColumnLower": (None, [P, P]), "chgColumnUpper": (None, [P, P]),
     "chgRowLower": (None, [P, P]), "chgRowUpper": (None, [P, P]),
+    "chgObjCoefficients": (None, [P, P]),
     "setNumberIterations": (None, [P, I]), "setMaximumIterations": (None, [P, I]),
     "setMaximumSeconds": (None, [P, D]), "setPrimalTolerance": (None, [P, D]),
     "dual": (I, [P, I]), "primal": (I, [P, I]), "status": (I, [P]),
@@ -37,7 +38,8 @@ LOADED: list[ctypes.CDLL | None] = []           # once loaded, or once missed
 
 
 class NoClp(Exception):
-    """CLP's library is not there."""
+    def __init__(self) -> None:
+        super().__init__("CLP's library (coinor-libclp1) is not installed")
 
 
 class State(enum.Enum):
@@ -143,7 +145,7 @@ class Clp:
     def __init__(self, linear: Linear) -> None:
         lib = library()
         if lib is None:
-            raise NoClp("CLP's library (coinor-libclp1) is not installed")
+            raise NoClp()
         self.lib, self.model = lib, lib.Clp_newModel()
         self.n, self.m = len(linear.columns), len(linear.sides)
         self.scaled = scaled = Scaled.of(linear)
@@ -207,6 +209,16 @@ class Clp:
     def duals(self) -> list[float]:
         found = read(self.lib.Clp_dualRowSolution(self.model), self.m)
         return [y * by / self.scaled.cost for y, by in zip(found, self.scaled.rows)]
+
+    def row_of_inverse(self, column: int, kept: bytes) -> list[float]:
+        """Of a basis: multipliers of rows that leave 1 in this basic column and 0 in the others,
+        which are its duals where nothing else has a cost. The costs are lost."""
+        costs = [0.0] * self.n
+        costs[column] = self.scaled.cost / self.scaled.columns[column]
+        self.lib.Clp_chgObjCoefficients(self.model, doubles(costs))
+        self.restore(kept)
+        self.solve(0, again=True)
+        return self.duals()
 
     def ray(self) -> list[float]:
         """Weights of rows that contradict each other, in either sign; none where CLP has none."""

@@ -2,42 +2,20 @@
 
 from __future__ import annotations
 
-import itertools
 from fractions import Fraction
-from typing import Callable, Iterator, NamedTuple
+from typing import Iterator
 
 from . import points, qsopt, simplex, text
 from .clp import NoClp, State
-from .directions import directions
 from .equations import hollow, parity
 from .judging import WITHOUT, Given, Judging, Verdict
-from .leaves import Closed, Closer
+from .leaves import Closer
 from .linear import WIDTH, wide_note
 from .model import Box, Model, Point
 from .parts import Better
-from .plans import MOST_THIN, PLAIN, SHORT
-from .shared import Shared
-from .spine import Maker, Spined, Value
-from .tree import Spool, Tree, count
 from .watch import Paused, Stopped
 
-SEARCHED = 0.9                  # of the seconds that are left, for a last search
-SOON = 1.0                      # seconds of a plain search, before others
 PIVOTS = 0.25                   # seconds of pivoting in whole numbers, before QSopt_ex
-
-
-class Contradiction(NamedTuple):
-    """A tree of weights: the program with the forms that it splits, its leaves' file, and its
-    lines."""
-
-    searched: Model
-    tree: Tree
-    spool: Spool
-    nodes: int
-    lines: Iterator[str]
-
-
-Try = Callable[[], "Contradiction | None"]
 
 
 class Contradicting(Judging):
@@ -54,9 +32,7 @@ class Contradicting(Judging):
         try:
             if self.linear and simplex.is_small(self.model):
                 yield from self.where_it_fits(self.by_simplex)
-            for found in self.contradictions():
-                self.figures = f"{found.nodes} nodes"
-                yield self.judged(found.lines)
+            yield self.contradiction()
         except (NoClp, Stopped) as fault:
             yield Verdict(f"{WITHOUT}{fault}")
         except Better as better:
@@ -72,55 +48,16 @@ class Contradicting(Judging):
                 self.figures = what
                 yield self.judged(text.parity_lines(odd, self.model.m))
 
-    def contradictions(self) -> Iterator[Contradiction]:
-        """A tree whose leaves are all weights: a plain one, which goes on after others were tried:
-        one below cliques and other cuts, one that splits thin forms too. The shortest, where that
-        is wanted."""
-        p, spool, found = self.model, Spool(), list[Contradiction]()
-        plain = self.shared(p, spool=spool)
-        for one in self.tries(plain, spool) if self.proves and not self.linear else ():
-            try:
-                made = one()
-            except Stopped:
-                if self.watch.is_stopped:
-                    raise
-                continue
-            found += [made] if made is not None else []
-            if found and not (self.shortens and found[0].nodes > SHORT):
-                break
-        yield min(found, key=lambda c: c.nodes) if found else \
-            self.contradiction(plain, spool, self.watch.left() * SEARCHED)
-
-    def tries(self, plain: Shared, spool: Spool) -> Iterator[Try]:
-        p = self.model
-        yield lambda: self.contradiction(plain, spool, SOON)
-        yield lambda: self.below_cuts(PLAIN)
-        yield lambda: self.contradiction(plain, spool, PLAIN)
-        if all(p.whole) and sum(p.whole) <= MOST_THIN:
-            forms, other = directions(p), Spool()
-            if forms:
-                yield lambda: self.contradiction(self.shared(p, [], forms, other), other,
-                                                 self.watch.left() / 3)
-        yield lambda: self.below_cuts(self.watch.left() / 2)
-
-    def contradiction(self, shared: Shared, spool: Spool, seconds: float) -> Contradiction:
-        tree, searched = shared.resume(self.watch.spent() + seconds), shared.search.model
-        return Contradiction(searched, tree, spool, count(tree),
-                             text.infeasible_lines(self.model, searched, tree, spool))
-
-    def below_cuts(self, seconds: float) -> Contradiction | None:
-        """None where there are no cuts."""
-        p, spool, until = self.model.without_cost(), Spool(), self.watch.spent() + seconds
-        value = Value(p, p.constant, None)
-        rows = Maker(p, value, spool, self.watch).cuts(
-            ("cover", "clique", "row"), [], self.watch.spent() + seconds / 2)
-        if not rows:
-            return None
-        shared = self.shared(p, rows, [], spool)
-        tree, searched = shared.resume(until), shared.search.model
-        spined = Spined(p, searched, value, rows, tree, spool)
-        return Contradiction(searched, tree, spool, spined.figures().nodes,
-                             itertools.chain(text.head("infeasible", None), spined.lines()))
+    def contradiction(self) -> Verdict:
+        """By a tree whose leaves are all weights."""
+        plans = self.plans_for(self.model.without_cost(), None)
+        if self.proves and not self.linear:
+            plans.try_all()
+        else:
+            plans.run_plain()
+        if plans.best is None:
+            raise Stopped(plans.going[0].told.partition(": ")[2])
+        return self.by_tree(plans.best)
 
     # in whole numbers --------------------------------------------------------------
 
@@ -131,16 +68,16 @@ class Contradicting(Judging):
         ended = self.settled(given)
         if ended.claim == "unbounded" and ended.point is not None:
             yield self.without_end(ended.point, ended.ray)
-        closer, box, is_infeasible = Closer(p, None), Box(p.lo, p.hi), ended.claim == "infeasible"
-        leaf = closer.of_fractions(ended.rows, is_infeasible)
+        is_infeasible = ended.claim == "infeasible"
+        leaf = Closer(p, None).of_fractions(ended.rows, is_infeasible)
         if is_infeasible:
-            yield self.one_leaf(Closed(leaf, [], 0), "infeasible", None, None)
+            yield self.one_leaf(leaf, "infeasible", None)
         if ended.claim == "optimal" and ended.point is not None:
             bits = max(map(width, (*ended.point, *ended.rows.values())), default=0)
             self.know_point(ended.point)
-            self.know_leaf(leaf, closer.judge(leaf, box))
+            self.know_leaf(leaf)
             if bits <= WIDTH:
-                yield self.one_leaf(Closed(leaf, [], 0), "optimal", None, ended.point)
+                yield self.one_leaf(leaf, "optimal", ended.point)
             else:
                 self.note = wide_note(f"{bits} bits")
 

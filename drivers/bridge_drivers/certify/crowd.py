@@ -14,15 +14,13 @@ import math
 import time
 from concurrent.futures import FIRST_COMPLETED, Future, wait
 from dataclasses import dataclass, field
-from fractions import Fraction
-from typing import Iterator, List, NamedTuple, Optional, Sequence, Union
+from typing import List, Optional, Sequence, Union
 
 from . import portion, tree as trees
 from .parts import Better, Opened, Step
-from .pending import Pending, best_bound, closed_at
 from .pool import Failed, Pool
 from .portion import Learnt, Outcome, Portion, Problem
-from .search import Search
+from .search import Goal, Search
 from .tree import Held, Tree
 from .watch import Paused, Stopped
 
@@ -277,33 +275,24 @@ class Crowd:
 
     # a bound -----------------------------------------------------------------------
 
-    def best_bound(self, until: float = math.inf) -> Pendings | None:
+    def best_bound(self) -> float:
         """As that of a search."""
-        found: list[tuple[Strand, Pending]] = []
-        for part in self.inside():
-            if isinstance(part, Strand):
-                self.search.begin(part.path, part.opened)
-                pending = best_bound(self.search, until)
-                if pending is None:
-                    return None
-                found.append((part, pending))
-        return Pendings(min(pending.bound for _, pending in found), found) if found else None
-
-    def closed_at(self, pendings: Pendings, target: Fraction, strict: bool) -> Tree | None:
-        made: dict[Part, Tree] = {}
-        for strand, pending in pendings.strands:
+        least = math.inf
+        for strand in self.waiting:
             self.search.begin(strand.path, strand.opened)
-            tree = closed_at(self.search, pending, target, strict)
-            if tree is None:
-                return None
-            made[strand] = tree
-        for part in reversed(list(self.inside())):
-            if isinstance(part, Closed):
-                made[part] = part.tree
-            elif isinstance(part, Knot):
-                low, high = part.parts
-                made[part] = self.search.node(part.step, (made[low], made[high]))
-        return made[self.root]
+            least = min(least, self.search.best_bound())
+        return least
+
+    def ended_at(self, goal: Goal) -> Tree:
+        while self.waiting:
+            strand = self.waiting[-1]
+            self.search.begin(strand.path, strand.opened)
+            done, depths = self.search.ended_at(goal), self.search.depths()
+            self.waiting.pop()
+            self.close(strand.above, strand.side,
+                       Closed(done.tree, frozenset(depths[o] for o in done.needs)))
+        assert isinstance(self.root, Closed)
+        return self.root.tree
 
     def closed(self) -> float:
         """The share of the tree that is closed, where both parts of a split count alike."""
@@ -319,22 +308,6 @@ class Crowd:
                     size /= 2
                     closed += size if one.other is not None else 0.0
         return closed
-
-    def inside(self) -> Iterator[Part]:
-        """All parts, each before its own."""
-        stack = [self.root]
-        while stack:
-            part = stack.pop()
-            yield part
-            if isinstance(part, Knot):
-                stack += part.parts
-
-
-class Pendings(NamedTuple):
-    """The best bound, and what is pending of each strand."""
-
-    bound: float
-    strands: list[tuple[Strand, Pending]]
 
 
 def rank(strand: Strand) -> tuple[float, int]:

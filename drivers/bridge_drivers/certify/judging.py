@@ -12,16 +12,15 @@ from typing import Callable, Iterator, Mapping, NamedTuple, Sequence
 
 from . import points, text
 from .clp import Clp, State, library
-from .leaves import Closed, Closer, Judged, Multipliers
+from .leaves import Closer, Multipliers
 from .model import Box, Model, Point, model_of
 from .numbers import is_narrow
-from .plans import Plans, written
+from .plans import Plans, Shaped, written
 from .points import Basis
 from .pool import Pool
 from .portion import Problem
 from .shared import Shared
 from .short import shortened
-from .spine import Row
 from .text import Naming
 from .tree import Spool
 from .watch import Watch
@@ -36,6 +35,7 @@ MOST_CLP_SECONDS = 30.0
 TREE = 0.75                     # of the seconds that are left, to judge a tree
 MOST_POINTS = 4                 # that are known at a time
 MOST_DIGITS = 15                # of a bound that is told as it is
+NOTHING = Multipliers({}, 1, False)     # the leaf of bounds alone
 
 
 class Given(NamedTuple):
@@ -111,12 +111,12 @@ class Judging:
         self.linear = False
         self.path = os.path.join(folder, "certificate")
 
-    def shared(self, p: Model, rows: Sequence[Row] = (), forms: Sequence[Mapping[int, int]] = (),
-               spool: Spool | None = None) -> Shared:
-        """The search for a point or a contradiction below rows."""
-        problem = Problem(p, [row.added() for row in rows], [dict(form) for form in forms], None,
-                          False)
-        return Shared(problem, self.exact, spool or Spool(), self.watch, self.pool)
+    def plans_for(self, p: Model, value: Fraction | None) -> Plans:
+        return Plans(p, value, self.exact, self.folder, self.watch, self.shortens, self.pool)
+
+    def shared(self, p: Model) -> Shared:
+        """The search for a point."""
+        return Shared(Problem(p, [], [], None, False), self.exact, Spool(), self.watch, self.pool)
 
     def load(self) -> None:
         if not hasattr(self, "model"):
@@ -181,25 +181,16 @@ class Judging:
         if self.shown is None or bound.value > self.shown.value:
             self.shown = bound
 
-    def know_leaf(self, leaf: Multipliers, judged: Judged) -> None:
-        """The bound of one leaf: in few digits, but where they are few anyway."""
+    def know_leaf(self, leaf: Multipliers, is_exact: bool = False) -> None:
+        """The bound of one leaf: in few digits, but where they are few anyway, or `is_exact`."""
+        judged = Closer(self.model, None).judge(leaf, Box(self.model.lo, self.model.hi))
         if judged.sideless or not leaf.is_narrow():
             return
         value = Fraction(judged.bound, judged.scale)
-        if not is_narrow(value) or max(len(str(value.numerator)),
-                                       len(str(value.denominator))) > MOST_DIGITS:
+        most = max(len(str(value.numerator)), len(str(value.denominator)))
+        if not is_narrow(value) or most > MOST_DIGITS and not is_exact:
             value = shortened(self.model, value)
-        self.know_bound(Bound(value, lambda: self.leaf_lines(leaf), None,
-                              f"one leaf, {len(leaf.numbers)} duals", self.duals_of(leaf)))
-
-    def know_exact_leaf(self, leaf: Multipliers) -> None:
-        """The bound of exact duals, as it is."""
-        p = self.model
-        judged = Closer(p, None).judge(leaf, Box(p.lo, p.hi))
-        value = Fraction(judged.bound, judged.scale)
-        if not judged.sideless and leaf.is_narrow() and is_narrow(value):
-            self.know_bound(Bound(value, lambda: self.leaf_lines(leaf), None,
-                                  f"one leaf, {len(leaf.numbers)} duals", self.duals_of(leaf)))
+        self.know_bound(self.bound_of(leaf, value))
 
     def told(self) -> Iterator[Verdict]:
         """What is known, the strongest claim first: a better point may be too wide where another
@@ -222,11 +213,20 @@ class Judging:
             yield self.judged(text.head("feasible", self.objective, None, point), None,
                               point)._replace(note=self.note)
             return
-        value = None if claim == "optimal" else self.model.sign * bound.value
+        value = self.model.sign * bound.value if claim in ("within", "bound") else None
+        objective = None if claim == "infeasible" else self.objective
         self.figures = bound.figures
-        lines = itertools.chain(text.head(claim, self.objective, value, point), bound.lines())
+        lines = itertools.chain(text.head(claim, objective, value, point), bound.lines())
         yield self.judged(lines, bound.path, point)._replace(
             duals=bound.duals, note="" if claim == "optimal" else self.note)
+
+    def by_tree(self, shaped: Shaped, point: Point | None = None) -> Verdict:
+        """`optimal`, and without a point `infeasible`."""
+        self.figures = f"{shaped.name} plan, {shaped.figures.nodes} nodes, " \
+                       f"{shaped.figures.rows} rows, {shaped.size} bytes"
+        head = text.head("infeasible", None) if point is None else \
+            text.head("optimal", self.objective, None, point)
+        return self.judged(head, shaped.path, point)
 
     # one leaf ----------------------------------------------------------------------
 
@@ -240,18 +240,13 @@ class Judging:
             y[i] = Fraction(self.model.sign * v, leaf.den * self.factors.get(i, 1))
         return y
 
-    def one_leaf(self, closed: Closed, claim: str, value: Fraction | None,
-                 point: Point | None) -> Verdict:
-        def lines() -> Iterator[str]:
-            yield from text.head(claim, None if claim == "infeasible" else self.objective, value,
-                                 point)
-            yield from self.leaf_lines(closed.leaf)
-        self.figures = f"one leaf, {len(closed.leaf.numbers)} duals"
-        return self.judged(lines(), None, point)._replace(duals=self.duals_of(closed.leaf))
+    def bound_of(self, leaf: Multipliers, value: Fraction = Fraction(0)) -> Bound:
+        return Bound(value, lambda: self.leaf_lines(leaf), None,
+                     f"one leaf, {len(leaf.numbers)} duals", self.duals_of(leaf))
 
-    def feasible(self, point: Point) -> Verdict:
-        self.figures = "a point"
-        return self.judged(text.head("feasible", self.objective, None, point), None, point)
+    def one_leaf(self, leaf: Multipliers, claim: str, point: Point | None) -> Verdict:
+        """`optimal`, or `infeasible`."""
+        return next(self.claimed(claim, self.bound_of(leaf), point))
 
     # what CLP says -----------------------------------------------------------------
 

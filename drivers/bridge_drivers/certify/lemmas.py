@@ -9,7 +9,6 @@ from fractions import Fraction
 from typing import Callable, Dict, Iterator, List, NamedTuple, Sequence
 
 from .clp import Clp
-from .factor import Factor, Singular
 from .leaves import Closer
 from .mixed import LEAST, TINY, Counts, Rounded, Shares, rounded, screened, summed
 from .model import Added, Box, Model
@@ -17,7 +16,6 @@ from .tree import Leaf, Spool
 
 MOST_SUMMED = 5                 # rows of one sum
 MOST_TABLEAU_ROWS = 30
-MOST_BASIC = 900
 INTEGRAL = 0.01                 # of a whole number: no row of the tableau is rounded for it
 MULTIPLES = ((1, 1), (1, 2), (1, 3), (2, 1), (4, 1))  # of a divisor
 IN_TABLEAU = ((1, 1), (1, 2), (1, 3), (2, 1))
@@ -125,18 +123,13 @@ class Source:
 
     def tableau(self) -> Iterator[Shares]:
         """Those of basic columns that are to be whole."""
-        m, x, (basic, tight) = self.m, self.x, self.clp.basis()
-        apart = {k: abs(x[j] - math.floor(x[j]) - 0.5) for k, j in enumerate(basic) if m.whole[j]}
-        fractional = sorted((k for k, v in apart.items() if v < 0.5 - INTEGRAL),
+        m, x, kept, (basic, _) = self.m, self.x, self.clp.keep(), self.clp.basis()
+        apart = {j: abs(x[j] - math.floor(x[j]) - 0.5) for j in basic if m.whole[j]}
+        fractional = sorted((j for j, v in apart.items() if v < 0.5 - INTEGRAL),
                             key=apart.__getitem__)
-        if len(basic) != len(tight) or len(basic) > MOST_BASIC or not fractional:
-            return
-        try:
-            factor = Factor([[(i, a / m.scale) for i, a in m.by_column[j]] for j in basic], tight)
-        except Singular:
-            return
-        for k in fractional[:MOST_TABLEAU_ROWS]:
-            yield {i: v for i, v in factor.row(k).items() if abs(v) > TINY}
+        for j in fractional[:MOST_TABLEAU_ROWS]:
+            row = self.clp.row_of_inverse(j, kept)
+            yield {i: v for i, v in enumerate(row) if abs(v) > TINY}
 
 
 class Proof(NamedTuple):

@@ -3,23 +3,19 @@ simplex method in fractions; else a point and a bound in short numbers."""
 
 from __future__ import annotations
 
-import math
 from fractions import Fraction
 from typing import Iterator
 
 from . import linear, points, short, simplex
 from .clp import Clp, State
 from .contradictions import Contradicting
-from .judging import NO_POINT, ONE_LEAF, WITHOUT, Given, Verdict
+from .judging import NO_POINT, NOTHING, WITHOUT, Given, Verdict
 from .leaves import Closed, Closer, Multipliers
 from .model import Box, Point
 from .numbers import is_narrow
 from .points import Basis
 from .refined import Near
 from .watch import Stopped
-
-LOOSER = (1e-9, 1e-7, 1e-5, 1e-3)       # of a value: what a bound may lie away
-SAFER = (1e-9, 1e-7, 1e-5)              # of the greatest cost: room for rounding
 
 
 class LinearClaims(Contradicting):
@@ -46,14 +42,12 @@ class LinearClaims(Contradicting):
             yield from self.in_fractions(given, clp)
         self.note = self.note or optima.note()
         if clp is not None:
-            for duals in short.short_duals(self.model, clp, self.clp_seconds()):
-                self.know_leaf(duals.leaf, duals.judged)
+            self.know_short(clp)
             yield from self.short_points(clp)
         if self.point is None:
             yield Verdict(NO_POINT)
             yield from self.where_it_fits(self.infeasible)
-        if clp is not None and self.shown is None:
-            self.know_loose(clp)
+        self.know_trivial()
         yield from self.endless()
         yield from self.told()
 
@@ -67,7 +61,7 @@ class LinearClaims(Contradicting):
             self.know_point(point)
             leaf = self.linear_leaf(clp, given, self.model.value(point))
             if leaf is not None:
-                yield self.one_leaf(leaf, "optimal", None, point)
+                yield self.one_leaf(leaf.leaf, "optimal", point)
 
     def in_fractions(self, given: Given, clp: Clp | None) -> Iterator[Verdict]:
         """From CLP's basis, else the answer's."""
@@ -82,8 +76,8 @@ class LinearClaims(Contradicting):
         """`optimal` by the first basis that is exactly optimal, where its numbers are narrow."""
         found = optima.first(bases)
         if found is not None:
-            leaf = Closed(Multipliers(found.duals, found.den, False), [], 0)
-            verdict = self.one_leaf(leaf, "optimal", None, found.point)
+            leaf = Multipliers(found.duals, found.den, False)
+            verdict = self.one_leaf(leaf, "optimal", found.point)
             optima.refused = "" if verdict.is_proved() else verdict.line
             yield verdict
 
@@ -163,46 +157,18 @@ class LinearClaims(Contradicting):
         for i, v in given.duals.items():
             y[i] = float(p.sign * self.factors.get(i, 1) * v)
         for duals in short.roundings(Closer(p, None), y):
-            self.know_leaf(duals.leaf, duals.judged)
+            self.know_leaf(duals.leaf)
 
-    def know_loose(self, clp: Clp) -> None:
-        """Where no leaf meets the optimum, one that is met: the closest bound of the first duals
-        that have one."""
-        p, box = self.model, Box(self.model.lo, self.model.hi)
-        if not any(p.costs):
-            return
-        top, least = clp.objective() + float(p.constant), short.trivial(p)
-        for duals in self.safe_duals(clp):
-            for room in LOOSER:
-                target = floored(top, room * max(1.0, abs(top)))
-                if least is not None and target < least:
-                    target, duals = least, []
-                closed = Closer(p, target).close(dict(enumerate(duals)), False, box)
-                if closed is not None:
-                    self.know_leaf(closed.leaf, Closer(p, None).judge(closed.leaf, box))
-                    return
+    def know_short(self, clp: Clp) -> None:
+        for duals in short.short_duals(self.model, clp, self.clp_seconds()):
+            self.know_leaf(duals.leaf)
 
-    def safe_duals(self, clp: Clp) -> Iterator[list[float]]:
-        """The duals, then those under costs that leave room for rounding in each column that has
-        one bound."""
-        yield clp.duals()
-        p = self.model
-        size = max(abs(float(c)) for c in p.cost)
-        for share in SAFER:
-            room = Fraction(share * size)
-            cost = [c - room * ((hi is None) - (lo is None))
-                    for c, lo, hi in zip(p.cost, p.lo, p.hi)]
-            other = p.with_costs(cost, p.constant).relaxation()
-            other.limit(ONE_LEAF)
-            if other.solve() is State.OPTIMAL:
-                yield other.duals()
+    def know_trivial(self) -> None:
+        """The bound that bounds of columns have."""
+        value = short.trivial(self.model)
+        if value is not None:
+            self.know_bound(self.bound_of(NOTHING, value))
 
 
 def both(note: str, more: str) -> str:
     return f"{note}; {more}" if more else note
-
-
-def floored(value: float, room: float) -> Fraction:
-    """A short decimal below a double by about `room`."""
-    ten = Fraction(10) ** (math.floor(math.log10(room)))
-    return (math.floor((value - room) / float(ten))) * ten

@@ -29,6 +29,7 @@ MOST_NODES = 2 ** 22            # of `bridge verify`
 MOST_DEPTH = 3000
 STRONG = 16
 LEAST_SECONDS = 0.1             # of a relaxation
+MORE = 30                       # nodes that a search may have to end for a bound
 
 
 class Goal(NamedTuple):
@@ -49,15 +50,18 @@ class Search(Parts):
                  forms: Sequence[int] = ()) -> None:
         has_cost = goal.target is not None
         super().__init__(model, model.relaxation(has_cost), forms)
-        self.aim, self.spool = goal, spool
-        self.watch, self.until, self.most = watch, until, most
-        self.closer = Closer(model, goal.target, goal.strict)
+        self.spool, self.watch, self.until, self.most = spool, watch, until, most
         self.missing: Clp | None = None
         self.constant = float(model.constant) if has_cost else 0.0
-        self.goal = math.inf if goal.target is None else float(goal.target)
         self.choice = Choice(strong)
         self.base = -math.inf
         self.tells = most == MOST_NODES         # small searches tell no progress
+        self.aim_at(goal)
+
+    def aim_at(self, goal: Goal) -> None:
+        """What is closed already closes for a target that is not better, too."""
+        self.aim, self.closer = goal, Closer(self.model, goal.target, goal.strict)
+        self.goal = math.inf if goal.target is None else float(goal.target)
 
     # the tree ----------------------------------------------------------------------
 
@@ -154,14 +158,57 @@ class Search(Parts):
         if self.tells and self.watch.is_due():
             known = {"nodes": float(self.nodes), "open": float(len(self.open) + 1)}
             if self.aim.target is not None:
-                best = min([b.base for b in self.open if None in b.parts] + [self.base])
-                known["bound"] = self.model.sign * best
+                known["bound"] = self.model.sign * self.bound()
             self.watch.tell(**known)
+
+    def bound(self) -> float:
+        """That of what is not closed, as it was last seen."""
+        return min([b.base for b in self.open if None in b.parts] + [self.base])
 
     def nearest_zero(self, column: int) -> float:
         lo, hi = self.ends(column)
         v = max(lo, 0) if lo is not None else 0
         return (min(v, hi) if hi is not None else v) / self.model.unit
+
+    # where it is stopped -----------------------------------------------------------
+
+    def best_bound(self) -> float:
+        """The least of what is not worked yet, by its relaxations, or the one above where it has
+        none; the root may have none. The search can go on."""
+        kept, nodes, left = self.clp.keep(), self.nodes, list[Branch]()
+        try:
+            least = self.own_bound(self.last())
+            for b in reversed(self.open):
+                self.leave(b)
+                left.append(b)
+                if b.parts[1 - b.part] is None:
+                    self.clp.restore(b.basis)
+                    with self.within(b.column, b.at, 1 - b.part):
+                        least = min(least, self.own_bound(b))
+        finally:
+            self.nodes = nodes
+            for b in reversed(left):
+                self.enter(b)
+            self.clp.restore(kept)
+        return least
+
+    def own_bound(self, above: Branch | None) -> float:
+        if self.hollow(range(self.model.n)) is not None:
+            return math.inf
+        state = self.clp.solve()
+        if state is State.OPTIMAL:
+            return self.clp.objective() + self.constant
+        if state is State.INFEASIBLE and self.by_contradiction() is not None:
+            return math.inf
+        return -math.inf if above is None else above.base
+
+    def ended_at(self, goal: Goal) -> Done:
+        """What is left, each part by a leaf or few, whatever time it is. Stopped where that is not
+        enough."""
+        self.aim_at(goal)
+        self.watch, self.until, self.tells = Watch(0.0), math.inf, False
+        self.most = self.nodes + 2 * len(self.open) + MORE
+        return self.worked()
 
     # splits ------------------------------------------------------------------------
 

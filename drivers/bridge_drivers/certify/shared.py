@@ -4,16 +4,14 @@ Small trees start no process."""
 from __future__ import annotations
 
 import math
-from fractions import Fraction
 
-from . import pending
-from .crowd import Crowd, Pendings
-from .pending import Pending
+from .crowd import Crowd
+from .parts import Better
 from .pool import Alone, Failed, Pool
 from .portion import Exact, Problem
-from .search import MOST_NODES
+from .search import MOST_NODES, Goal
 from .tree import Spool, Tree
-from .watch import Paused, Watch
+from .watch import Paused, Stopped, Watch
 
 AT_HOME = 100                   # nodes
 
@@ -51,14 +49,18 @@ class Shared:
         """The share of the tree that is closed, where both parts of a split count alike."""
         return (self.crowd or self.search).closed()
 
-    def best_bound(self, until: float = math.inf) -> Pending | Pendings | None:
-        if self.crowd is not None:
-            return self.crowd.best_bound(until)
-        return pending.best_bound(self.search, until)
+    def bound(self) -> float:
+        """That of what is not closed, as it was last seen."""
+        return (self.crowd or self.search).bound()
 
-    def closed_at(self, found: Pending | Pendings, target: Fraction, strict: bool) -> Tree | None:
-        """As those of `pending`."""
-        if isinstance(found, Pending):
-            return pending.closed_at(self.search, found, target, strict)
-        assert self.crowd is not None
-        return self.crowd.closed_at(found, target, strict)
+    def best_bound(self) -> float:
+        """As that of a search, which can go on."""
+        return (self.crowd or self.search).best_bound()
+
+    def ended_at(self, goal: Goal) -> Tree | None:
+        """For a value that is not better, the tree where what is left closes so; all that goes on
+        is for that value."""
+        try:
+            return self.crowd.ended_at(goal) if self.crowd else self.search.ended_at(goal).tree
+        except (Stopped, Better):
+            return None

@@ -220,7 +220,6 @@ class Rounding:
         found = solved(system)
         return None if found is None else {j: v for j, v in found.items() if v}
 
-
     def free(self, over: Sequence[int], ten: int) -> list[bool]:
         """Columns that stand far enough from their bounds."""
         p, far = self.p, [FREE * self.p.unit * 10 ** (self.most - by) for by in self.more]

@@ -47,13 +47,14 @@ class Row(NamedTuple):
 
 
 class Value:
-    """A value of the objective, minimised, that no point is to be better than. Where there is a
-    step, `at` is the greatest value of its form that would be better."""
+    """A value of the objective, minimised, that no point is to be better than; None: there is to
+    be no point. Where there is a step, `at` is the greatest value of its form that would be
+    better."""
 
-    def __init__(self, model: Model, value: Fraction, step: Step | None) -> None:
+    def __init__(self, model: Model, value: Fraction | None, step: Step | None) -> None:
         self.value, self.step = value, step
         self.at = 0
-        if step is not None:
+        if step is not None and value is not None:
             units = (value - model.constant) / step.size
             self.at = math.ceil(units) - 1
 
@@ -61,7 +62,7 @@ class Value:
         return [] if self.step is None else [Added(self.step.form, None, self.at)]
 
     def goal(self, exact: Callable[[Sequence[float]], list[Fraction] | None]) -> Goal:
-        if self.step is None:
+        if self.step is None or self.value is None:
             return Goal(self.value, False, exact)
         return Goal(self.value - self.step.size, True, exact)
 
@@ -80,7 +81,8 @@ class Maker:
 
     def __init__(self, model: Model, value: Value, spool: Spool, watch: Watch) -> None:
         self.model, self.value, self.spool, self.watch = model, value, spool, watch
-        self.goal = float(value.value) - (float(value.step.size) if value.step else 0.0)
+        self.goal = math.inf if value.value is None else \
+            float(value.value - (value.step.size if value.step else 0))
         self.base = -math.inf           # of the last relaxation
         self.stalled = STALLED if any(model.costs) else ROUNDS
 

@@ -139,8 +139,3 @@ def parity_lines(odd: Parity, row: int) -> Iterator[str]:
     for sign, multipliers in ((1, odd.low), (-1, odd.high)):
         weights = {i: sign * u for i, u in multipliers.items()}
         yield from duals_lines({**weights, row: Fraction(-sign)}, True)
-
-
-def infeasible_lines(model: Model, searched: Model, tree: Tree, spool: Spool) -> Iterator[str]:
-    yield from head("infeasible", None)
-    yield from tree_lines(searched, tree, spool, Naming({}, model.m, model.sign))

@@ -50,7 +50,8 @@ class Held(NamedTuple):
 
 
 Tree = Union[Leaf, Empty, Split, Cut, Held]
-Flat = List[Tuple[int, ...]]            # nodes in the order of the text, without their parts
+THERE = Held(0, 0)
+Flat = List[Tree]               # nodes in the order of the text, without their parts
 
 
 class Spool:
@@ -62,16 +63,10 @@ class Spool:
 
     def put(self, leaf: Multipliers) -> int:
         pairs = "".join(f" {i} {v}" for i, v in leaf.numbers.items())
-        line = f"{int(leaf.weights)} {leaf.den}{pairs}\n".encode()
-        place = self.end
-        with naming(os.path.join(tempfile.gettempdir(), "certify")):
-            self.file.seek(place)
-            self.file.write(line)
-        self.end += len(line)
-        return place
+        return self.append(f"{int(leaf.weights)} {leaf.den}{pairs}\n".encode())
 
     def append(self, lines: bytes) -> int:
-        """Those of another spool; by how much their places move."""
+        """Those of another spool; where they begin."""
         place = self.end
         with naming(os.path.join(tempfile.gettempdir(), "certify")):
             self.file.seek(place)
@@ -117,38 +112,22 @@ def rows_used(tree: Tree) -> set[int]:
 
 # for other processes: pickles of deep trees are refused -----------------------------
 
-LEAF, EMPTY, SPLIT, CUT, HELD = range(5)
-
 
 def flat(tree: Tree) -> Flat:
-    found: Flat = []
-    for node in parts(tree):
-        if isinstance(node, Leaf):
-            found.append((LEAF, node.place, *node.added))
-        elif isinstance(node, Empty):
-            found.append((EMPTY, node.column, node.at))
-        elif isinstance(node, Split):
-            found.append((SPLIT, node.column, node.at))
-        elif isinstance(node, Cut):
-            found.append((CUT, node.row, node.at))
-        else:
-            found.append((HELD, node.key, node.nodes))
-    return found
+    return [node._replace(low=THERE, high=THERE) if isinstance(node, (Split, Cut)) else node
+            for node in parts(tree)]
 
 
 def rebuilt(nodes: Flat, moved: int, held: Mapping[int, Tree]) -> Tree:
     """The tree, its leaves' places moved, what is held put in."""
     stack: list[Tree] = []
-    for kind, first, *rest in reversed(nodes):
-        if kind == LEAF:
-            stack.append(Leaf(first + moved, tuple(rest)))
-        elif kind == EMPTY:
-            stack.append(Empty(first, rest[0]))
-        elif kind == HELD:
-            stack.append(held[first])
-        else:
-            low, high = stack.pop(), stack.pop()
-            stack.append(Split(first, rest[0], low, high) if kind == SPLIT
-                         else Cut(first, rest[0], low, high))
+    for node in reversed(nodes):
+        if isinstance(node, Leaf):
+            node = node._replace(place=node.place + moved)
+        elif isinstance(node, Held):
+            node = held[node.key]
+        elif isinstance(node, (Split, Cut)):
+            node = node._replace(low=stack.pop(), high=stack.pop())
+        stack.append(node)
     tree, = stack
     return tree

@@ -1,7 +1,8 @@
 """Plans that go on in turns, each where it was paused, until one has a tree.
 
 The one that seems to end first goes on. What else is tried, rows that are made and plans below
-them, has a share of the time that this one seems to need in all.
+them, has a share of the time that this one seems to need in all. Where a short text is wanted, all
+of it goes on for some times as long.
 """
 
 from __future__ import annotations
@@ -25,6 +26,8 @@ LATE = 2.0                      # seconds, before which no lattice is reduced
 LEAST_GAIN = 0.01               # of the gap, that rows close
 TINY = 1e-9                     # seconds
 MOST_VAIN = 10                  # times that rows are made in vain
+AGAIN, LEAST_AGAIN = 4.0, 2.0   # of the time of the first tree, and seconds, for a shorter one
+SHORT = 40                      # nodes of a tree that needs no shorter one
 WORTH = 2.0                     # of the share of a gap that is left: that of the time
 KINDS = {"lemma": ("row",), "clique": ("row", "clique")}
 
@@ -43,39 +46,47 @@ class Turns:
     """Of the plans for one value."""
 
     def __init__(self, plans: Plans) -> None:
-        self.plans, self.began = plans, plans.watch.spent()
-        self.live: list[Plan] = []
-        self.makings = [Making(name) for name in ("lemma", "clique", "thin")]
+        self.plans, self.began, self.end = plans, plans.watch.spent(), math.inf
+        self.is_blind = plans.value.value is None
+        self.makings = [Making(name) for name in (*KINDS, "thin")[self.is_blind:]]
 
-    def run(self) -> bool:
-        """Whether there is a tree."""
-        plans, plain = self.plans, self.plans.begun("plain")
-        self.live.append(plain)
-        if plans.goes(plain, plans.left(), FIRST_NODES):
-            return True
-        while plans.left() > 0 and not plans.watch.is_stopped:
-            live = [plan for plan in self.live if not plan.is_dead]
+    def run(self) -> None:
+        plans = self.plans
+        plans.goes(plans.begun("plain"), plans.left(), FIRST_NODES)
+        while self.goes_on():
+            live = [plan for plan in plans.going if not plan.is_dead and (
+                self.end == math.inf or not plan.spent
+                or plan.expected() < self.end - self.total())]
             first = min(live, key=lambda plan: plan.expected(), default=None)
             room = self.room(first)
             making = self.due(room)
             if making is not None:
                 self.make(making, room)
             elif first is None:
+                return
+            else:
+                self.turn(self.second(first, room) or first, first, room)
+
+    def goes_on(self) -> bool:
+        plans = self.plans
+        if plans.best is not None:
+            if not plans.shortens or plans.best.figures.nodes <= SHORT:
                 return False
-            elif self.turn(self.second(first, room) or first, first, room):
-                return True
-        return False
+            self.end = min(self.end, (1 + AGAIN) * self.total() + LEAST_AGAIN)
+        return min(plans.left(), self.end - self.total()) > 0 and not plans.watch.is_stopped
 
     def total(self) -> float:
         return self.plans.watch.spent() - self.began
 
     def room(self, first: Plan | None) -> float:
-        """Seconds for what is not the first plan: not more than might be saved."""
+        """Seconds for what is not the first plan: not more than might be saved; without an
+        objective some at once."""
         total = self.total()
         if first is None:
             return math.inf
         rest, others = min(first.expected(), FARTHEST * total), total - first.spent
-        return min(OTHERS * (total + rest) - others, rest / 2)
+        room = min(OTHERS * (total + rest) - others, rest / 2)
+        return max(room, LEAST_MAKING - others) if self.is_blind else room
 
     # rows --------------------------------------------------------------------------
 
@@ -87,13 +98,14 @@ class Turns:
         return self.makings[0]
 
     def make(self, making: Making, room: float) -> None:
-        """Some seconds of it; where it is done, or closes much of the gap, there is a plan."""
+        """Some seconds of it; where it is done, or closes much of the gap, there is a plan. Without
+        an objective there is no gap to be seen."""
         plans, maker = self.plans, self.plans.maker
         if making.name == "thin" or maker.relaxed([]) is None:
             self.makings.remove(making)
             forms = plans.forms() if making.name == "thin" else []
             if forms:
-                self.live.append(plans.begun("thin", [], forms))
+                plans.begun("thin", [], forms)
             return
         root = maker.base
         until = plans.until(min(room, max(self.total(), LEAST_MAKING)))
@@ -103,36 +115,31 @@ class Turns:
         making.vain = making.vain + 1 if gain < before + LEAST_GAIN else 0
         if not maker.is_over(until) or making.vain > MOST_VAIN or WORTH * (1 - gain) <= 1:
             self.makings.remove(making)
-            if making.rows and gain >= LEAST_GAIN:
+            if making.rows and (gain >= LEAST_GAIN or self.is_blind):
                 self.begin(making, gain)
 
     def rows(self, name: str) -> list[Row]:
-        return next((list(plan.rows) for plan in self.live if plan.name == name), [])
+        return next((list(plan.rows) for plan in self.plans.going if plan.name == name), [])
 
     def begin(self, making: Making, gain: float) -> None:
         """A plan, whose time is first guessed by that of the plain one."""
-        plan = self.plans.begun(making.name, making.rows)
-        plain = self.live[0]
+        plan, plain = self.plans.begun(making.name, making.rows), self.plans.going[0]
         plan.guessed = min(plain.expected(), FARTHEST * self.total()) * WORTH * max(1 - gain, 0.0)
-        self.live.append(plan)
 
     # plans -------------------------------------------------------------------------
 
     def second(self, first: Plan, room: float) -> Plan | None:
         """Another plan, of which little is known, where there is time for it."""
-        others = [plan for plan in self.live if not plan.is_dead and plan is not first]
+        others = [plan for plan in self.plans.going if not plan.is_dead and plan is not first]
         if room < LEAST_TURN or not others:
             return None
         return min(others, key=lambda plan: plan.spent)
 
-    def turn(self, plan: Plan, first: Plan, room: float) -> bool:
-        """One plan goes on; whether it has a tree."""
+    def turn(self, plan: Plan, first: Plan, room: float) -> None:
+        """One plan goes on."""
         expected = plan.expected()
-        seconds = max(min(plan.spent, 2 * expected), LEAST_TURN)
+        seconds = min(max(min(plan.spent, 2 * expected), LEAST_TURN), self.end - self.total())
         if plan is not first:
             seconds = min(seconds, room)
-        if self.plans.goes(plan, seconds):
-            return True
-        if seconds > expected:
+        if not self.plans.goes(plan, seconds) and seconds > expected:
             plan.factor *= 2 * seconds / max(expected, TINY)
-        return False

@@ -3,24 +3,22 @@
 from __future__ import annotations
 
 import itertools
-import math
 from fractions import Fraction
 from typing import Iterator, Sequence
 
-from . import points, short, text
+from . import points, short
 from .clp import NoClp, State
-from .judging import WITHOUT, Bound, Given, Verdict
-from .leaves import Closed, Closer, Multipliers
+from .judging import NOTHING, WITHOUT, Bound, Given, Verdict
+from .leaves import Closer
 from .linear_claims import LinearClaims
 from .model import Box, Point
 from .parts import Better
-from .plans import Partial, Plan, Plans, Shaped
+from .plans import Plans
 from .watch import Stopped
 
 NO_EXACT = "no exact point has the answer's whole variables"
 ZERO, ROUNDING = Fraction(0), Fraction(1, 10 ** 12)     # of the largest term of a row
 MOST_BETTER = 100               # points that a search may find
-SLICE, SPARE = 0.1, 1.0         # seconds of a search at a time; those that are left for its bound
 MOST_MENDED = 200               # nodes of a search beside an answer
 
 
@@ -79,8 +77,7 @@ class WholeClaims(LinearClaims):
         p = self.model
         self.know_point(point)
         if short.trivial(p) == p.value(point):      # bounds of columns alone say it
-            nothing = Closed(Multipliers({}, 1, False), [], 0)
-            yield self.one_leaf(nothing, "optimal", None, point)._replace(duals={})
+            yield self.one_leaf(NOTHING, "optimal", point)._replace(duals={})
         plans = self.planned(point)
         point = self.point or point
         if plans is None:
@@ -88,18 +85,18 @@ class WholeClaims(LinearClaims):
             return
         if plans.best is not None:
             yield self.by_tree(plans.best, point)
+        told = plans.told() or [str(NoClp())]
         if self.proves or self.bounded:
             self.know_root()
         yield from self.endless()
         yield from self.told()
-        yield Verdict(WITHOUT + (plans.told[-1] if plans.told else "no plan was tried"), point)
+        yield Verdict(WITHOUT + told[-1], point)
 
     def planned(self, point: Point) -> Plans | None:
         """The plans that were tried at the best point; None where better ones do not end."""
         p = self.model
         for _ in range(MOST_BETTER):
-            plans = Plans(p, p.value(point), self.exact, self.folder, self.watch, self.shortens,
-                          self.pool)
+            plans = self.plans_for(p, p.value(point))
             self.know_point(point)
             self.point, self.plans = point, plans
             if self.points:
@@ -108,43 +105,22 @@ class WholeClaims(LinearClaims):
                 if self.proves:
                     plans.try_all()
                 else:
-                    self.run_plain(plans)
+                    plans.run_plain()
                 return plans
             except Better as better:
                 point = better.point
-                self.older = max(filter(None, (self.older, plans)), key=closest)
-            except NoClp as fault:
-                plans.told.append(str(fault))
+                self.older = max(filter(None, (self.older, plans)), key=Plans.stands_at)
+            except NoClp:
                 return plans
         self.know_point(point)
         return None
 
-    def run_plain(self, plans: Plans) -> None:
-        """The one search of a run without `proves`: of no bound that might be lost with its time is
-        told, and on a busy machine some is left for it."""
-        plan = plans.begun("plain")
-        plan.search.search.tells, plans.going = False, [plan]
-        while plans.left() > 0 and self.watch.until_over() > SPARE and not plan.is_dead:
-            plans.goes(plan, SLICE)
-        plans.told += [plan.told] if plan.told and plans.best is None else []
-
-    def by_tree(self, shaped: Shaped, point: Point) -> Verdict:
-        self.figures = f"{shaped.name} plan, {shaped.figures.nodes} nodes, " \
-                       f"{shaped.figures.rows} rows, {shaped.size} bytes"
-        return self.judged(text.head("optimal", self.objective, None, point), shaped.path, point)
-
     def know_searched(self) -> None:
         """The closest bound that a stopped search has, whatever value it was for."""
-        all_plans = [plans for plans in (self.plans, self.older) if plans is not None]
-        for plans, plan in sorted(((plans, plan) for plans in all_plans for plan in plans.going),
-                                  key=lambda pair: -stands_at(pair[1])):
-            if plans.partial is None or plans.partial.plan is not plan:
-                pending = plan.search.best_bound()
-                plans.partial = None if pending is None else Partial(plan, pending)
-            bounded = plans.bounded()
+        for plans in sorted(filter(None, (self.plans, self.older)), key=lambda p: -p.stands_at()):
+            told, bounded = "; ".join(plans.told()), plans.bounded()
             if bounded is not None:
-                value, path = bounded
-                self.know_bound(Bound(value, lambda: iter(()), path, "; ".join(plans.told)))
+                self.know_bound(Bound(bounded[0], lambda: iter(()), bounded[1], told))
                 return
 
     def know_root(self) -> None:
@@ -156,12 +132,12 @@ class WholeClaims(LinearClaims):
         clp, state = self.relaxation()
         if clp is None or state is not State.OPTIMAL or not any(self.model.costs):
             return
-        self.know_loose(clp)
+        self.know_short(clp)
         p = self.model
         closer = Closer(p, None)
-        leaf = closer.exactly(closer.basis_duals(*clp.basis()), False, Box(p.lo, p.hi))
-        if leaf is not None:
-            self.know_exact_leaf(leaf.leaf)
+        closed = closer.exactly(closer.basis_duals(*clp.basis()), False, Box(p.lo, p.hi))
+        if closed is not None:
+            self.know_leaf(closed.leaf, True)
 
     def bounds(self) -> Iterator[Verdict]:
         """Of a linear program what is true of it, of another one a bound."""
@@ -171,10 +147,7 @@ class WholeClaims(LinearClaims):
             if self.relaxation()[1] is State.INFEASIBLE:
                 yield from self.infeasible()
             self.know_root()
-        trivial = short.trivial(self.model)
-        if trivial is not None:
-            nothing = Multipliers({}, 1, False)
-            self.know_bound(Bound(trivial, lambda: self.leaf_lines(nothing), None, "bounds alone"))
+        self.know_trivial()
         yield from self.told()
         yield Verdict(WITHOUT + "there is no point")
 
@@ -183,15 +156,3 @@ class WholeClaims(LinearClaims):
         search finds it, else a bound."""
         yield from self.planes()
         yield from itertools.chain(self.infeasible() if self.proves else (), self.bounds())
-
-
-def stands_at(plan: Plan) -> float:
-    """What a search that is stopped has told: no point is better."""
-    crowd, search = plan.search.crowd, plan.search.search
-    if crowd is not None:
-        return crowd.bound()
-    return min([b.base for b in search.open if None in b.parts] + [search.base])
-
-
-def closest(plans: Plans) -> float:
-    return max(map(stands_at, plans.going), default=-math.inf)
