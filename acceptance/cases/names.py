@@ -3,7 +3,7 @@ from __future__ import annotations
 
 from collections.abc import Iterator
 from .returned import HEAD, MAXIMISED, TIED
-from .texts import Case, KNAPSACK, bad_words, lines, text
+from .texts import Case, KNAPSACK, bad_words, lines, table, text
 
 NAMED = (
     "NAME nl\nOBJSENSE\n MAX\nROWS\n N @obj\n L Cap\nCOLUMNS\n M0 'MARKER' 'INTORG'\n a @obj 10\n a Cap 5\n"
@@ -24,8 +24,13 @@ def exported(name: str, rows: bytes, columns: bytes, out: str, program: bytes = 
     return Case(name, ("export", "A", "0", "B", "C"), files, 0, out)
 
 
-def refused(name: str, told: str, rows: bytes = ROWS, columns: bytes = COLUMNS, program: bytes = text(KNAPSACK), k: str = "0") -> Case:
-    files = {"A": program, "B": rows, "C": columns}
+def listed(names: str | bytes) -> bytes:
+    """A list of the names that `/` parts, or as it is given."""
+    return names if isinstance(names, bytes) else "".join(f"{name}\n" for name in names.split("/") if name).encode()
+
+
+def refused(name: str, told: str, rows: str | bytes = ROWS, columns: str | bytes = COLUMNS, k: str = "0", program: bytes = text(KNAPSACK)) -> Case:
+    files = {"A": program, "B": listed(rows), "C": listed(columns)}
     return Case(name, ("export", "A", k, "B", "C"), files, 2, "", f"refused {told}\n")
 
 
@@ -34,8 +39,8 @@ def returned(name: str, answer: str, out: str, rows: bytes = b"r\n", columns: by
     return Case(name, ("return", "A", "B", "C", "D"), files, 0, lines(out).decode())
 
 
-def turned_back(name: str, told: str, answer: str = "answer 1", rows: bytes = b"r\n", columns: bytes = b"v\n", program: bytes = MAXIMISED) -> Case:
-    files = {"A": program, "B": lines(answer), "C": rows, "D": columns}
+def turned_back(name: str, told: str, answer: str, rows: str, columns: str, program: bytes = MAXIMISED) -> Case:
+    files = {"A": program, "B": lines(answer), "C": listed(rows), "D": listed(columns)}
     return Case(name, ("return", "A", "B", "C", "D"), files, 2, "", f"refused {told}\n")
 
 
@@ -50,24 +55,11 @@ def export_cases() -> Iterator[Case]:
 
 
 def fault_cases() -> Iterator[Case]:
-    yield refused("a repeated name", "file 3 line 3: repeated name", columns=b"a\nb\na\n")
-    yield refused("a repeated row", "file 3 line 2: repeated name", columns=b"a\na\nb\n")
-    yield refused("too few names", "file 3 line 3: other count", columns=b"a\nb\n")
-    yield refused("too many names", "file 3 line 4: other count", columns=b"a\nb\nz\nx\n")
-    yield refused("too many further names", "file 2 line 3: other count", rows=b"Cap\nProfit\nx\n")
-    yield refused("no names", "file 2 line 1: other count", rows=b"")
-    yield refused("a reserved name", "file 2 line 1: reserved name", rows=b"@Cap\n")
-    yield refused("the marker", "file 2 line 1: reserved name", rows=b"'MARKER'\n")
     yield exported("a further name that is reserved", b"Cap\n@Profit\n", COLUMNS, NAMED)
     yield exported("a further name that is repeated", b"Cap\nCap\n", COLUMNS, NAMED)
-    yield refused("two words", "file 3 line 2: bad name", columns=b"a\nb c\n")
     yield refused("a name of 256 bytes", "file 2 line 1: bad name", rows=b"n" * 256 + b"\n")
-    yield refused("a further name of two words", "file 2 line 2: bad name", rows=b"Cap\nb c\n")
     yield refused("a line too long", "file 2 line 1: line too long", rows=b"n" * 65537 + b"\n")
-    yield refused("rows come first", "file 2 line 1: bad name", rows=b"a b\n", columns=b"a b\n")
     yield refused("the file comes first", "line 1: binary file", program=b"b3 1 1 0\n", rows=b"a b\n")
-    yield refused("lists come before the fold", "file 3 line 1: bad name", columns=b"a b\n", k="1")
-    yield refused("the fold comes after them", "objective 1: no such objective", k="1")
     yield Case("no list of rows", ("export", "A", "0", "missing", "C"), {"A": text(KNAPSACK), "C": COLUMNS}, 4, "", "input fault\n")
     yield Case("no list of columns", ("export", "A", "0", "B", "missing"), {"A": text(KNAPSACK), "B": ROWS}, 4, "", "input fault\n")
     yield bad_words("export with rows alone", "export", "A", "0", "A")
@@ -80,16 +72,12 @@ def return_cases() -> Iterator[Case]:
                    "done / " + HEAD + " / 1 / 1 / 1 / 1 / 1.5 / 3.5 / objno 0 0")
     yield returned("a tied objective, answered", "status 0 / col v 0 / col @z 0 / row @zdef 0.5",
                    HEAD + " / 0 / 0 / 1 / 1 / 0 / objno 0 0", rows=b"", program=TIED)
-    yield turned_back("a number for a name", "file 2 line 2: unknown name", "answer 1 / col x0 1")
-    yield turned_back("z without its mark", "file 2 line 2: unknown name", "answer 1 / col z 1", rows=b"", program=TIED)
-    yield turned_back("the list of rows", "file 3 line 1: bad name", "none", rows=b"a b\n")
-    yield turned_back("the list of columns", "file 4 line 2: other count", "none", columns=b"v\nw\n")
-    yield turned_back("the answer comes last", "file 2 line 1: bad first line", "none")
     yield Case("no answer", ("return", "A", "missing", "C", "D"), {"A": MAXIMISED, "C": b"r\n", "D": b"v\n"}, 4, "", "input fault\n")
     yield bad_words("return with rows alone", "return", "A", "A", "A")
 
 
 def cases() -> Iterator[Case]:
+    yield from table("names", globals())
     yield from export_cases()
     yield from fault_cases()
     yield from return_cases()

@@ -4,7 +4,7 @@ from __future__ import annotations
 from collections.abc import Iterator
 from . import texts
 from .check import EXACT
-from .texts import Case, BIG, KNAPSACK, bad_words, file, lines, text
+from .texts import Case, KNAPSACK, bad_words, file, lines, text
 
 ROW = "O0 0 / n0 / r / {} / b / {} / J0 1 / 0 {} / G0 1 / 0 {}"
 
@@ -32,7 +32,6 @@ TWO_BODY = "O0 0 / n0 / O1 1 / n0 / r / 2 2 / b / {} / J0 1 / 0 2 / G0 1 / 0 1 /
 TWO = text(file((1, 1, 2, 0, 1, 1, 2, 0), TWO_BODY.format("0 0 5")))
 TWO_ENDLESS = text(file((1, 1, 2, 0, 1, 1, 2, 0), TWO_BODY.format("2 0")))
 PRODUCT = text(file((2, 1, 1, 0, 0, 0, 0, 0), "O0 0 / o2 / v0 / v1 / r / 1 1 / b / 3 / 3"))
-TINY = f"1/{BIG}"
 COLLECTIONS = {
     "samp1": "73/3",
     "exmip1": "123/38",
@@ -48,8 +47,11 @@ SHORTER: list[tuple[str, str, list[tuple[bytes, bytes]]]] = [
 ]
 
 
-def verdict(name: str, program: bytes, certificate: str | list[str], line: str, seconds: int = 600) -> Case:
-    """What is written on a certificate, given by its lines after the first, or by a text in which ` / ` parts them."""
+def verdict(name: str, program: bytes | str, certificate: str | list[str], line: str, seconds: int = 600) -> Case:
+    """What is written on a certificate, given by its lines after the first, or by a text in which ` / ` parts them; of a program, or
+    of the row that these words say."""
+    if isinstance(program, str):
+        program = row(**dict(word.split("=") for word in program.split(", ")))
     given = certificate.split(" / ") if isinstance(certificate, str) else certificate
     holds = line.split()[0] == given[0].split()[0] and not line.endswith("broken")
     return texts.done(name, "verify", program, text(["certificate 1", *given]), out=line + "\n", status=0 if holds else 1, seconds=seconds)
@@ -68,35 +70,6 @@ def plane_cases() -> Iterator[Case]:
     yield verdict("the same as a bound", program, f"bound 0 17 / {plane.format(17)} / {beyond}", "bound 17")
     yield verdict("a plane that cuts the point off", program, f"{found} / {plane.format(16)} / {beyond}", "leaf 1 gap 0")
     yield verdict("a part beyond that has points of the relaxation", program, f"{found} / {plane.format(17)} / weights 1 / 1 1", "leaf 1 gap -11")
-
-
-def lemma_cases() -> Iterator[Case]:
-    """A lemma over a continuous variable, y - 7 x at most 0."""
-    rest = " / duals 1 / 1 1"
-    within = "bound 0 7 / lemma 1 7 / 0 1 / " + LEMMA.format(0) + rest + rest
-    yield verdict("a lemma in the proof of a lemma", CHARGE, within, "bound 7")
-    yield verdict("duals in the proof of a lemma under infeasible", NO_OBJECTIVE,
-                  "infeasible / lemma 1 2/3 / 0 1 / duals 1 / 0 1/3 / split 0 0 / weights 1 / 0 1 / weights 1 / 1 -1", "infeasible")
-
-
-def wide_cases() -> Iterator[Case]:
-    """Numbers whose sums or products pass 128 bits, where they are used."""
-    point = f"point 1 / 0 {TINY}"
-    small = row(bound="2 0", side="1 9", factor="0.1", cost="0.1")
-    yield verdict("a wide row", small, f"feasible 0 / {point}", "too wide at row 0")
-    yield verdict("a wide objective", row(bound="2 0", side="1 9", cost="0.1"), f"feasible 0 / {point}", "too wide at objective")
-    yield verdict("a wide side", row(side="2 1e-40"), "feasible 0 / point 1 / 0 1", "too wide at row 0")
-    yield verdict("a wide bound", row(bound="2 1e-40"), "feasible 0 / point 1 / 0 1", "too wide at bound 0")
-    yield verdict("a bound that is infinite to some", row(bound="0 0 1e40"), "feasible 0 / point 1 / 0 1", "feasible 1")
-    yield verdict("a lower bound beyond every number", row(bound="2 1e40"), "feasible 0 / point 1 / 0 1", "bound 0 broken")
-    yield verdict("a leaf that uses it", row(bound="0 0 1e40", cost="-1"), "bound 0 0 / duals 0", "leaf 0 too wide")
-    far = row(side="2 1e30", factor="1")
-    yield verdict("a row that many solvers drop", far, "optimal 0 / point 1 / 0 1e30 / duals 1 / 0 1", f"optimal {10**30}")
-    yield verdict("a bound that many solvers drop", row(bound="2 1e30"), "optimal 0 / point 1 / 0 1e30 / duals 0", f"optimal {10**30}")
-    yield verdict("no ray where a solver says unbounded", row(bound="0 0 1e30", cost="-1"), "unbounded 0 / point 1 / 0 1 / ray 1 / 0 1", "ray bound 0 broken")
-    yield verdict("a wide row of a ray", small, f"unbounded 0 / point 0 / ray 1 / 0 {TINY}", "too wide at ray row 0")
-    yield verdict("a wide objective of a ray", row(bound="2 0", side="2 -9", cost="0.1"), f"unbounded 0 / point 0 / ray 1 / 0 {TINY}", "too wide at ray objective")
-    yield verdict("a wide leaf", small, f"bound 0 0 / duals 1 / 0 -{TINY}", "leaf 0 too wide")
 
 
 def exact_cases() -> Iterator[Case]:
@@ -156,11 +129,7 @@ def large_cases() -> Iterator[Case]:
 
 def cases() -> Iterator[Case]:
     yield from texts.table("verify", globals())
-    yield verdict("a bound broken", row(bound="0 0 5"), "feasible 0 / point 1 / 0 6", "bound 0 broken")
-    yield verdict("a ray in the wrong sense", row(bound="2 0"), "unbounded 0 / point 1 / 0 1 / ray 1 / 0 1", "ray does not improve")
     yield from plane_cases()
-    yield from lemma_cases()
-    yield from wide_cases()
     yield from exact_cases()
     yield from collection_cases()
     yield from large_cases()

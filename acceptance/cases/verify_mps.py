@@ -28,6 +28,7 @@ def refused(name: str, body: bytes | str, certificate: str, told: str, command: 
 
 
 def claim_cases() -> Iterator[Case]:
+    yield judged("an equation that no bound allows", text(BOUNDS), "infeasible / weights 1 / 2 -1", "infeasible")
     yield from texts.table("verify_mps", globals())
     yield judged("no point", BODY.format("13", "UP BND X 5"), "infeasible / weights 1 / 1 1", "infeasible")
     yield judged("no end", "OBJSENSE/ MAX/" + BODY.format("3", "PL BND X"), "unbounded 0 / point 1 / 0 2 / ray 1 / 0 1", "unbounded")
@@ -50,29 +51,12 @@ def range_cases() -> Iterator[Case]:
         yield judged(f"{name}, above it", program, f"feasible 0 / point 1 / 0 {high}.5", "row 0 broken", 1)
 
 
-def bound_cases() -> Iterator[Case]:
-    """A program with every kind of bound, each of which is broken in turn while the rows hold; D, E and G are whole."""
+def moved(name: str, values: str, line: str, status: str = "0") -> Case:
+    """A point of a program with every kind of bound, at which these columns have other values."""
     program = text([" T 2.5" if line == " T 1" else line for line in BOUNDS])
-    held = {"A": "3", "B": "-1", "D": "2", "H": "1/4"}
-
-    def at(**moved: str) -> str:
-        values = {**held, **moved}
-        pairs = [f"{j} {values[name]}" for j, name in enumerate("ABDEGHIJK") if name in values]
-        return f"feasible 0 / point {len(pairs)} / " + " / ".join(pairs)
-
-    yield judged("every kind of bound", program, at(), "feasible 11/4")
-    yield judged("columns without bounds", program, at(A="-1000000", J="1000003", K="-1"), "feasible 11/4")
-    yield judged("UP below 0", program, at(B="0"), "bound 1 broken", 1)
-    yield judged("LI", program, at(D="1", H="3/4"), "bound 2 broken", 1)
-    yield judged("UI", program, at(E="8"), "bound 3 broken", 1)
-    yield judged("the usual lower bound", program, at(E="-1"), "bound 3 broken", 1)
-    yield judged("BV", program, at(G="2", K="-6"), "bound 4 broken", 1)
-    yield judged("FX", program, at(D="9/4", H="1/8"), "bound 5 broken", 1)
-    yield judged("PL", program, at(I="-1"), "bound 6 broken", 1)
-    yield judged("LO", program, at(A="1004", J="-1001"), "bound 7 broken", 1)
-    yield judged("UI makes whole", program, at(E="1/2"), "variable 3 not whole", 1)
-    yield judged("BV makes whole", program, at(G="1/2", K="-1"), "variable 4 not whole", 1)
-    yield judged("an equation that no bound allows", text(BOUNDS), "infeasible / weights 1 / 2 -1", "infeasible")
+    held = {"A": "3", "B": "-1", "D": "2", "H": "1/4", **dict(word.split("=") for word in values.split(", ") if word)}
+    pairs = [f"{j} {held[column]}" for j, column in enumerate("ABDEGHIJK") if column in held]
+    return judged(name, program, f"feasible 0 / point {len(pairs)} / " + " / ".join(pairs), line, status)
 
 
 def fault_cases() -> Iterator[Case]:
@@ -97,5 +81,5 @@ def fixed_cases() -> Iterator[Case]:
 
 
 def cases() -> Iterator[Case]:
-    for group in (claim_cases, objective_cases, range_cases, bound_cases, fault_cases, fixed_cases):
+    for group in (claim_cases, objective_cases, range_cases, fault_cases, fixed_cases):
         yield from group()

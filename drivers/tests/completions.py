@@ -5,7 +5,6 @@ from __future__ import annotations
 import os
 import pty
 import select
-import shlex
 import shutil
 import signal
 import subprocess
@@ -66,9 +65,8 @@ class Bash(Case):
                 ("bridge-cbc a certificate = a.c", "a.certificate"),
                 ("nl-bridge verify a.nl a", "a.certificate a.nl"),
                 ("nl-bridge ex", "explain export"), ("nl-bridge explain --h", "--html"),
-                ("nl-bridge stats m.nl js", "json=1"),
-                ("nl-bridge completion ''", "bash completion fish zsh")):
-            self.assertEqual(self.answers(*shlex.split(call)), answers.split(), call)
+                ("nl-bridge stats m.nl js", "json=1"), ("nl-bridge completion z", "zsh")):
+            self.assertEqual(self.answers(*call.split()), answers.split(), call)
 
 
 class Texts(Case):

@@ -3,13 +3,13 @@
 from __future__ import annotations
 
 import json
-import os
 import re
 import shutil
 import subprocess
 import unittest
 import xml.etree.ElementTree as xml
 from fractions import Fraction as F
+from pathlib import Path
 
 import reports
 from support import EXAMPLES, NEEDS_PROGRAM, PROGRAM, Case
@@ -35,8 +35,12 @@ WIDE = nl([("B", 0, 1)] * 9, [], [("max", 0, {j: j + 1 for j in range(9)})])
 
 
 def text_of(lines: str) -> bytes:
-    """The lines of a certificate, which stand here between `/`."""
-    return "\n".join(["certificate 1", *lines.split("/")]).encode() + b"\n"
+    """The lines of a certificate, which stand here between `/`; a fraction has `:`."""
+    return "\n".join(["certificate 1", *lines.split("/")]).replace(":", "/").encode() + b"\n"
+
+
+def example(name: str) -> bytes:
+    return Path(EXAMPLES, name).read_bytes()
 
 
 def full_tree(depth: int, claim: str) -> bytes:
@@ -85,6 +89,63 @@ class Texts(Case):
             self.assertRaises(front.BadWords, front.explained, front.read(words))
 
 
+KNAP, HOLDS = example("knap.nl"), example("knap.certificate")
+PLANE = "infeasible/plane 3 166/0 4/1 7/2 11/weights 2/0 1:3/1 -1/weights 2/0 -1:3/1 1"
+LEMMA = "bound 0 7/lemma 2 0/0 1/1 -7/split 1 0/duals 1/0 1/duals 0/duals 1/1 1"
+HELD = (
+    (KNAP, "a b z", HOLDS, 0, [
+        "m.certificate holds of m.nl: optimal 17",
+        "claim     a point has the objective 17, and none is better",
+        "point     a 1, b 1; the others 0",
+        "tree      7 nodes: 3 splits, 0 planes, 0 lemmas, 4 leaves (2 by weights); depth 3",
+        "uses      constraint 0 in 2 of 4 leaves"]),
+    (PARITY, "a b c", text_of(PLANE), 0, [
+        "m.certificate holds of m.nl: infeasible",
+        "tree      3 nodes: 0 splits, 1 plane, 0 lemmas, 2 leaves (2 by weights); depth 1",
+        "uses      planes and lemmas 2 times"]),
+    (FLOW, "y x", text_of(LEMMA), 0, ["m.certificate holds of m.nl: bound 7"]),
+    (ENDLESS, "", text_of("unbounded 0/point 0/ray 2/0 1/1 1"), 0, [
+        "claim     the objective goes above every number",
+        "point     all 0", "ray       x0 1, x1 1; the others 0"]))
+FAILING = (
+    (KNAP, "a b z", HOLDS.replace(b"optimal 0\npoint 2\n0 1\n1 1\n", b"bound 0 16\n"), 1, [
+        "m.certificate does not hold of m.nl: leaf 0 gap 17",
+        "claim     it claims: no point has more than 16",
+        "fails     leaf 0 (line 4): its duals show that no point of this part is better than 17, "
+        "and the claim needs 16: 1 (6.25 %) too high", "path      1. z at most 0 (line 3)"]),
+    (PARITY, "a b c", text_of(PLANE.replace("1 -1", "1 -2")), 1, [
+        "fails     leaf 0 (line 7): the numbers leave variable 0 (a) the cost 4, which asks for "
+        "its lower bound, and there is none",
+        "path      1. 4 a + 7 b + 11 c at most 166 (plane) (line 3)"]),
+    (PARITY, "a b c", text_of(PLANE.replace("166", "167")), 1, [
+        "fails     leaf 0 (line 7): its weights show -1/3, and contradict each other only above "
+        "0: about 0.3333333333 too little"]),
+    (FLOW, "y x", text_of(LEMMA.replace("lemma 2 0", "lemma 2 -1")), 1, [
+        "fails     leaf 0 (line 7): its duals show that no point of this part is better than 0, "
+        "and the lemma of line 3 needs -1: 1 (100.00 %) too high",
+        "path      1. in the proof of the lemma: y - 7 x at most -1 (line 3)",
+        "path      2. x at most 0 (line 6)"]),
+    (nl([("C", 0, None)] * 2, [(None, 2, {0: 3, 1: 5})], [("max", 0, {0: 1})]), "",
+     text_of(f"feasible 0/point 2/0 1e-36/1 1{'0' * 36}"), 1, [
+        "fails     a sum of constraint 0 at the point, or a side of it, passes 128 bits: numbers "
+        "with fewer digits are wanted"]),
+    *((ENDLESS, "", text_of(text), 1, ["fails     " + line]) for text, line in (
+        ("unbounded 0/point 0/ray 1/0 1",
+         "constraint 0 changes by 1 along the ray, past a side that it has"),
+        ("feasible 0/point 1/0 3", "constraint 0 is 3 at the point, and at most 2: 1 too much"),
+        ("feasible 0/point 1/0 -.5",
+         "variable 0 is -1/2 at the point, and at least 0: 0.5 too little"),
+        ("feasible 0/point 1/1 .25",
+         "variable 1 is 1/4 at the point, 0.25 from a whole number"),
+        ("unbounded 0/point 0/ray 0",
+         "along the ray the objective changes by 0, which is no better"))))
+REFUSED = (
+    (ENDLESS, "", b"certificate 1\nfeasible 0\npoint 1\n7 1\n", 2, [
+        "m.certificate line 4: index out of range", ">      4 7 1"]),
+    (ENDLESS, "", b"letters\n", 2, [
+        "m.certificate line 1: bad first line (it does not begin with `certificate 1`)"]))
+
+
 @NEEDS_PROGRAM
 class Explained(Case):
     """By the verdicts of the program."""
@@ -92,8 +153,7 @@ class Explained(Case):
     def explain(self, model: bytes, certificate: bytes, names: str = "") -> list[str]:
         self.put(model)
         self.put(certificate, ".certificate")
-        if names:
-            self.put(names.replace(" ", "\n").encode() + b"\n", ".col")
+        self.put(names.replace(" ", "\n").encode(), ".col")
         try:
             told = interface.explain(self.stub, self.stub + ".certificate")
         except BridgeError as fault:
@@ -114,99 +174,19 @@ class Explained(Case):
         return Explaining(Subject(bridge, given, given.path), files,
                           reply.out.decode().strip(), reply.status == 0)
 
-    def example(self, name: str) -> bytes:
-        with open(os.path.join(EXAMPLES, name), "rb") as f:
-            return f.read()
-
-    def test_one_that_holds(self) -> None:
-        lines = self.explain(self.example("knap.nl"), self.example("knap.certificate"), "a b z")
-        self.assertEqual((self.status, lines), (0, [
-            "m.certificate holds of m.nl: optimal 17",
-            "claim     a point has the objective 17, and none is better",
-            "point     a 1, b 1; the others 0",
-            "tree      7 nodes: 3 splits, 0 planes, 0 lemmas, 4 leaves (2 by weights); depth 3",
-            "uses      constraint 0 in 2 of 4 leaves"]))
-
-    def test_a_leaf_that_fails(self) -> None:
-        """The path to it by names, and by how much."""
-        text = self.example("knap.certificate").replace(b"optimal 0\npoint 2\n0 1\n1 1\n",
-                                                        b"bound 0 16\n")
-        lines = self.explain(self.example("knap.nl"), text, "a b z")
-        self.assertEqual((self.status, lines[:4]), (1, [
-            "m.certificate does not hold of m.nl: leaf 0 gap 17",
-            "claim     it claims: no point has more than 16",
-            "fails     leaf 0 (line 4): its duals show that no point of this part is better than "
-            "17, and the claim needs 16: 1 (6.25 %) too high",
-            "path      1. z at most 0 (line 3)"]))
-
-    def test_planes_and_weights(self) -> None:
-        good = "infeasible/plane 3 166/0 4/1 7/2 11/weights 2/0 1/3/1 -1/weights 2/0 -1/3/1 1"
-        text = good.replace("0 1/3", "0 1:3").replace("0 -1/3", "0 -1:3")
-        lines = self.explain(PARITY, text_of(text).replace(b":", b"/"), "a b c")
-        self.assertEqual(lines[0], "m.certificate holds of m.nl: infeasible")
-        self.assertIn("tree      3 nodes: 0 splits, 1 plane, 0 lemmas, 2 leaves (2 by weights); "
-                      "depth 1", lines)
-        self.assertIn("uses      planes and lemmas 2 times", lines)
-        lines = self.explain(PARITY, text_of(text.replace("1 -1", "1 -2")).replace(b":", b"/"),
-                             "a b c")
-        self.assertEqual(lines[2], "fails     leaf 0 (line 7): the numbers leave variable 0 (a) "
-                                   "the cost 4, which asks for its lower bound, and there is none")
-        self.assertEqual(lines[3], "path      1. 4 a + 7 b + 11 c at most 166 (plane) (line 3)")
-        lines = self.explain(PARITY, text_of("infeasible/plane 3 167/0 4/1 7/2 11/weights 2/0 1:3/"
-                                             "1 -1/weights 2/0 -1:3/1 1").replace(b":", b"/"))
-        self.assertEqual(lines[2], "fails     leaf 0 (line 7): its weights show -1/3, and "
-                                   "contradict each other only above 0: about 0.3333333333 too "
-                                   "little")
-
-    def test_lemmas(self) -> None:
-        good = "bound 0 7/lemma 2 0/0 1/1 -7/split 1 0/duals 1/0 1/duals 0/duals 1/1 1"
-        lines = self.explain(FLOW, text_of(good), "y x")
-        self.assertEqual((self.status, lines[0]), (0, "m.certificate holds of m.nl: bound 7"))
-        lines = self.explain(FLOW, text_of(good.replace("lemma 2 0", "lemma 2 -1")), "y x")
-        self.assertEqual(lines[2:5], [
-            "fails     leaf 0 (line 7): its duals show that no point of this part is better than "
-            "0, and the lemma of line 3 needs -1: 1 (100.00 %) too high",
-            "path      1. in the proof of the lemma: y - 7 x at most -1 (line 3)",
-            "path      2. x at most 0 (line 6)"])
-
-    def test_points_and_rays(self) -> None:
-        for text, line in (
-                ("unbounded 0/point 0/ray 1/0 1", "constraint 0 changes by 1 along the ray, past a "
-                                                  "side that it has"),
-                ("feasible 0/point 1/0 3", "constraint 0 is 3 at the point, and at most 2: 1 too "
-                                           "much"),
-                ("feasible 0/point 1/0 -.5", "variable 0 is -1/2 at the point, and at least 0: 0.5 "
-                                             "too little"),
-                ("feasible 0/point 1/1 .25", "variable 1 is 1/4 at the point, 0.25 from a whole "
-                                             "number"),
-                ("unbounded 0/point 0/ray 0", "along the ray the objective changes by 0, which is "
-                                              "no better")):
-            lines = self.explain(ENDLESS, text_of(text))
-            self.assertEqual((self.status, lines[2]), (1, "fails     " + line))
-        wide = "1" + "0" * 36
-        lines = self.explain(nl([("C", 0, None)] * 2, [(None, 2, {0: 3, 1: 5})],
-                                [("max", 0, {0: 1})]),
-                             text_of(f"feasible 0/point 2/0 1e-36/1 {wide}"))
-        self.assertEqual(lines[2], "fails     a sum of constraint 0 at the point, or a side of it, "
-                                   "passes 128 bits: numbers with fewer digits are wanted")
-        lines = self.explain(ENDLESS, text_of("unbounded 0/point 0/ray 2/0 1/1 1"))
-        self.assertEqual(lines[1:], ["claim     the objective goes above every number",
-                                     "point     all 0", "ray       x0 1, x1 1; the others 0"])
-
-    def test_what_is_refused(self) -> None:
-        lines = self.explain(ENDLESS, b"certificate 1\nfeasible 0\npoint 1\n7 1\n")
-        self.assertEqual((self.status, lines[0]),
-                         (2, "m.certificate line 4: index out of range"))
-        self.assertIn(">      4 7 1", lines)
-        lines = self.explain(ENDLESS, b"letters\n")
-        self.assertEqual(lines[0], "m.certificate line 1: bad first line (it does not begin with "
-                                   "`certificate 1`)")
+    def test_lines(self) -> None:
+        """Of each the model, names of variables, the certificate, the status, and lines in their
+        order."""
+        for model, names, text, status, wanted in (*HELD, *FAILING, *REFUSED):
+            lines = self.explain(model, text, names)
+            self.assertEqual((self.status, [line for line in lines if line in wanted]),
+                             (status, wanted), lines)
 
     def test_sums(self) -> None:
         """Their lines add up to what the program tells of a leaf, in one width, nothing cut."""
-        knap = self.example("knap.nl")
+        knap = example("knap.nl")
         for model, text in (
-                (knap, self.example("knap.certificate")), (knap, full_tree(3, "bound 0 -1")),
+                (knap, example("knap.certificate")), (knap, full_tree(3, "bound 0 -1")),
                 (knap, text_of("bound 0 16/duals 1/0 1.5")),
                 (knap, text_of("bound 0 17/lemma 3 17/0 10/1 7/2 12/split 2 0/duals 0/split 0 0/"
                                "split 1 0/duals 0/weights 1/0 -1/weights 1/0 -1/duals 1/1 1")),
@@ -235,7 +215,7 @@ class Explained(Case):
         for factor, low, high in ((1, "objective \u2264 16", "objective \u2265 17"),
                                   (-1, "objective \u2265 -16", "objective \u2264 -17")):
             pairs = "/".join(f"{j} {factor * a}" for j, a in enumerate((10, 7, 12)))
-            told = self.object(self.example("knap.nl"),
+            told = self.object(example("knap.nl"),
                                text_of(f"bound 0 17/plane 3 16/{pairs}/duals 0/duals 0"))
             parts = [part.part for part in told.tree().parts()]
             self.assertEqual(parts, ["all points", low, high])
@@ -243,7 +223,7 @@ class Explained(Case):
     # pictures ------------------------------------------------------------------------
 
     def test_picture(self) -> None:
-        told = self.object(self.example("knap.nl"), self.example("knap.certificate"))
+        told = self.object(example("knap.nl"), example("knap.certificate"))
         root = xml.fromstring(told.picture())
         groups = root.findall(SVG + "g")
         self.assertEqual([g.get("class") for g in groups],
@@ -279,14 +259,14 @@ class Explained(Case):
             self.assertIn("+ 30 nodes, 16 leaves", [t.text for t in root.iter(SVG + "text")])
 
     def test_all_that_do_not_close_are_marked(self) -> None:
-        told = self.object(self.example("knap.nl"), full_tree(3, "bound 0 10"))
+        told = self.object(example("knap.nl"), full_tree(3, "bound 0 10"))
         picture = Picture(told.wording, told.fails, told.holds)
         self.assertEqual([picture.closes(at) for at, node in enumerate(told.certificate.nodes)
                           if node.is_leaf()], [True, False, True, False, True, False, False, False])
 
     def test_names_are_escaped(self) -> None:
         self.put(b"<b>&\n\x1b[31mb\nz\n", ".col")
-        told = self.object(self.example("knap.nl"), self.example("knap.certificate"))
+        told = self.object(example("knap.nl"), example("knap.certificate"))
         for text in (told.page(), told.picture()):
             self.assertNotIn("<b>", text)
             self.assertEqual(printable(text), text)

@@ -33,7 +33,8 @@ class Words(Case):
                              ([], ["x0 2", "x1 4"]), (["wantsol=2"], ["x0 2", "x1 4"]),
                              (["wantsol=0"], []), (["-s"], []), (["-AMPL"], [])):
             lines = self.replay("cbc", "product", self.stub, "-e", *words).stdout.splitlines()
-            self.assertEqual(lines[lines.index("optimal 19") + 1:], shown, words)
+            at = lines.index("optimal 19") + 1 if "optimal 19" in lines else len(lines)
+            self.assertEqual(lines[at:], shown, words)
         self.assertEqual(self.replay("cbc", "product", self.stub, "wantsol=8", "-e").stdout, "")
         self.put(MODELS["thirds"].text)
         ended = self.replay("esolver", "thirds", self.stub, "wantsol=14", "-e")

@@ -14,6 +14,7 @@ from support import NEEDS_CLP, NEEDS_MPS, PROGRAM, Case, Ended, driven, ran
 from bridge_drivers import kinds, mps_file, solvers
 from bridge_drivers.bridge import Bridge, Refused
 from bridge_drivers.importing import lists_of
+from bridge_drivers.mps_mended import BOM, mended
 from bridge_drivers.mps_text import program_of
 from plain import Plain, random_text
 from reports import faults, schema
@@ -73,6 +74,43 @@ class Texts(unittest.TestCase):
                        " 'MARKER' a\u00a0b 3\nRHS\nENDATA\n".encode())
         assert p.names is not None
         self.assertEqual((p.costs, p.names.row(0)), ({"x0": "2"}, "a\u00a0b"))
+
+
+class Mended(unittest.TestCase):
+    """Texts as others write them."""
+
+    def text(self, *bounds: str, head: str = "NAME p\n") -> bytes:
+        return (head + "ROWS\n N cost\n L c1\nCOLUMNS\n x cost 1 c1 1\n inf cost 2 c1 1\nRHS\n"
+                " RHS c1 4\nBOUNDS\n" + "".join(f" {b}\n" for b in bounds) + "ENDATA\n").encode()
+
+    def test_what_stays(self) -> None:
+        """Also where columns and rows have such names; bounds that no number can have stay for the
+        refusal."""
+        for given in (self.text("UP BND x 3", "LO BND inf 1"), self.text("UP inf 3"),
+                      self.text("UP BND x -inf"), self.text("LO BND x inf"),
+                      self.text("FX BND x inf"), self.text("UP BND x infant"),
+                      self.text(head="NAME p\nOBJSENSE\n MAXIMIZE\n"),
+                      self.text(head="NAME p\nOBJNAME\n other\n")):
+            self.assertEqual(mended(given), (given, []))
+
+    def test_what_is_mended(self) -> None:
+        """Each spelling of a bound, with a set's name and without, and in any order with others."""
+        for word in ("inf", "Inf", "INF", "+inf", "infinity", "Infinity", "+Infinity"):
+            for label in (" BND", ""):
+                got, notes = mended(self.text(f"UP{label} x {word}", f"UP{label} inf 3",
+                                              f"LO{label} x -{word.lstrip('+')}"))
+                self.assertEqual(got, self.text(f"PL{label} x", f"UP{label} inf 3",
+                                                f"MI{label} x"))
+                self.assertEqual(notes[0], "2 bounds of infinity are read as none")
+        plain = self.text()
+        for given, wanted in (
+                (BOM + plain, plain), (self.text(head="NAME p\nOBJNAME\n cost\n"), plain),
+                *((self.text(head=f"NAME p\nOBJSENSE\n {word}\n"),
+                   self.text(head=f"NAME p\nOBJSENSE\n {short}\n"))
+                  for word, short in (("MAXIMISE", "MAX"), ("Minimise", "Min")))):
+            got, notes = mended(given)
+            self.assertEqual((got, notes[-1]),
+                             (wanted, "what is judged is the text with these changes"))
 
 
 class Kinds(Case):

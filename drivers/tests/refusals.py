@@ -24,58 +24,70 @@ def in_words(text: str, names: Names | None = None, mark: int = -1) -> str:
 
 
 class Expressions(unittest.TestCase):
-    def test_operators(self) -> None:
-        for text, words in (("o2 v0 v1", "(x0 * x1)"), ("o41 v2", "sin(x2)"),
-                            ("o16 o0 v0 n2.5", "-((x0 + 2.5))"), ("o54 3 v0 v1 n-1",
-                                                                  "(x0 + x1 + -1)"),
-                            ("o35 o22 v0 n3 n1 n2", "if((x0 < 3), 1, 2)"),
-                            ("o11 2 v0 o5 v1 n2", "min(x0, (x1 ^ 2))"), ("o93 v0",
-                                                                         "opcode 93(x0)"),
-                            ("o48 v0 v1", "atan2(x0, x1)"), ("n7", "7")):
-            self.assertEqual(in_words(text), words)
-
-    def test_what_is_no_expression(self) -> None:
-        self.assertEqual([in_words(text) for text in ("", "C0", "3")], ["", "", ""])
-        self.assertEqual(in_words("o2 v0"), "(x0 * ..)")
-
-    def test_comments_and_functions(self) -> None:
+    def test_in_words(self) -> None:
+        """Of operators, what is no expression, a defined variable, the mark, long sums of which
+        the first parts stand, and the marked one."""
+        terms = [f"v{j}" for j in range(1000)]
+        marked = [*terms[:500], "o2 v7 v8", *terms[501:]]
+        for text, words, columns, mark in (
+                ("o2 v0 v1", "(x0 * x1)", 0, -1), ("o41 v2", "sin(x2)", 0, -1),
+                ("o16 o0 v0 n2.5", "-((x0 + 2.5))", 0, -1), ("n7", "7", 0, -1),
+                ("o54 3 v0 v1 n-1", "(x0 + x1 + -1)", 0, -1), ("o93 v0", "opcode 93(x0)", 0, -1),
+                ("o35 o22 v0 n3 n1 n2", "if((x0 < 3), 1, 2)", 0, -1),
+                ("o11 2 v0 o5 v1 n2", "min(x0, (x1 ^ 2))", 0, -1), ("o2 v0", "(x0 * ..)", 0, -1),
+                ("o48 v0 v1", "atan2(x0, x1)", 0, -1), ("", "", 0, -1), ("C0", "", 0, -1),
+                ("3", "", 0, -1), ("o2 v0 v3", "(x0 * v3)", 3, -1),
+                ("o54 2 v0 o2 v1 v1", "(x0 + >>(x1 * x1)<<)", 0, 3),
+                ("o54 1000 " + " ".join(terms), "(x0 + x1 + x2 + x3 + x4 + x5 + ..)", 0, -1)):
+            self.assertEqual(in_words(text, Names("", columns) if columns else None, mark), words)
+        self.assertIn(" + >>(x7 * x8)<< + ..", in_words("o54 1000 " + " ".join(marked), mark=502))
         lines = [b"f0 2\t#gamma\n", b"v0 # speed of sound\n", b"h3:abc\n"]
         self.assertEqual(Expression(Names("")).text(lines), "gamma(speed of sound, 'abc')")
 
-    def test_defined_variables(self) -> None:
-        self.assertEqual(in_words("o2 v0 v3", Names("", 3)), "(x0 * v3)")
-
-    def test_the_mark(self) -> None:
-        self.assertEqual(in_words("o54 2 v0 o2 v1 v1", mark=3), "(x0 + >>(x1 * x1)<<)")
-
-    def test_long_sums(self) -> None:
-        """The first parts stand, and the marked one."""
-        terms = [f"v{j}" for j in range(1000)]
-        self.assertEqual(in_words("o54 1000 " + " ".join(terms)),
-                         "(x0 + x1 + x2 + x3 + x4 + x5 + ..)")
-        terms[500] = "o2 v7 v8"
-        self.assertIn(" + >>(x7 * x8)<< + ..", in_words("o54 1000 " + " ".join(terms), mark=502))
-
     def test_deep_ones(self) -> None:
         """No recursion, and no line of a million characters."""
-        text = in_words("o16 " * 100000 + "o2 v0 v1")
-        self.assertLess(len(text), 100)
-        text = in_words("o16 " * 100000 + "o2 v0 v1", mark=100000)
-        self.assertIn(">>(x0 * x1)<<", text)
-        self.assertLess(len(text), 200)
+        deep = "o16 " * 100000 + "o2 v0 v1"
+        self.assertLess(len(in_words(deep)), 100)
+        text = in_words(deep, mark=100000)
+        self.assertEqual((">>(x0 * x1)<<" in text, len(text) < 200), (True, True))
 
 
 class Refusals(Case):
     def line(self, told: str, *words: str) -> str:
         return explaining.in_words(words, told, {self.stub + ".nl": "m.nl"})
 
-    def export(self, told: str) -> str:
-        return self.line(told, "export", self.stub + ".nl")
-
-    def test_expression_and_place(self) -> None:
+    def test_lines(self) -> None:
+        """Expressions, places, and the files of the words, among which a fault is counted."""
         self.put(PRODUCT)
-        self.assertEqual(self.export("refused line 17: nonlinear"),
-                         "m.nl line 17: constraint 0: (x0 * (x1 + 3)) is nonlinear")
+        nl = self.stub + ".nl"
+        export = ("export", nl)
+        for words, told, line in (
+                (export, "line 17: nonlinear",
+                 "m.nl line 17: constraint 0: (x0 * (x1 + 3)) is nonlinear"),
+                (export, "row 4: row too wide", "m.nl: constraint 4: row too wide (the row's exact "
+                 "values do not fit 128 bits)"),
+                (export, "objective 1: no such objective", "m.nl: objective 1: no such objective "
+                 "(the file has fewer objectives; they count from 0 here)"),
+                (("export", nl, "0", "r", "c"), "file 3 line 3: repeated name",
+                 "c line 3: repeated name (an earlier line has it)"),
+                (("return", nl, "a"), "file 2 line 4: unknown name",
+                 "a line 4: unknown name (no column, or no row that was exported, has it)"),
+                (("check", nl, "s"), "file 2: other counts",
+                 "s: other counts (it is of another model)"),
+                (("import", "p.mps"), "column 2: empty interval",
+                 "p.mps: column 2: empty interval (a lower bound is above its upper bound, so "
+                 "nothing satisfies the model)"),
+                (("mps", "p.mps"), "line 7: unknown row",
+                 "p.mps line 7: unknown row (no line of ROWS has it)")):
+            self.assertEqual(self.line("refused " + told, *words), line)
+        for number, place in ((2, "header"), (23, "objective 0"), (26, "constraint 0"),
+                              (25, "sides of constraints"), (29, "variable 1"), (27, "bounds")):
+            self.assertIn(f"m.nl line {number}: {place}: ",
+                          self.line(f"refused line {number}: x", *export))
+        self.put(PRODUCT.replace(b"o2\nv0", b"o6\nv0"))
+        self.assertEqual(self.line("refused line 17: refused opcode 6", *export),
+                         "m.nl line 17: constraint 0: less(x0, (x1 + 3)) is not linear (refused "
+                         "opcode 6)")
 
     def test_names_beside_the_model(self) -> None:
         self.put(PRODUCT)
@@ -87,44 +99,6 @@ class Refusals(Case):
         told = "refused objective 0: objective too wide"
         self.assertIn(".nl: objective 0 (Profit): objective too wide (",
                       explaining.in_words(["export", self.stub + ".nl"], told, {}))
-
-    def test_operators_by_name(self) -> None:
-        self.put(PRODUCT.replace(b"o2\nv0", b"o6\nv0"))
-        self.assertEqual(self.export("refused line 17: refused opcode 6"),
-                         "m.nl line 17: constraint 0: less(x0, (x1 + 3)) is not linear "
-                         "(refused opcode 6)")
-
-    def test_places(self) -> None:
-        self.put(PRODUCT)
-        for line, place in ((2, "header"), (23, "objective 0"), (26, "constraint 0"),
-                            (25, "sides of constraints"), (29, "variable 1"), (27, "bounds")):
-            self.assertIn(f"m.nl line {line}: {place}: ", self.export(f"refused line {line}: x"))
-
-    def test_rows_and_objectives(self) -> None:
-        self.put(PRODUCT)
-        self.assertEqual(self.export("refused row 4: row too wide"),
-                         "m.nl: constraint 4: row too wide (the row's exact values do not fit 128 "
-                         "bits)")
-        self.assertEqual(self.export("refused objective 1: no such objective"),
-                         "m.nl: objective 1: no such objective (the file has fewer objectives; "
-                         "they count from 0 here)")
-
-    def test_other_files(self) -> None:
-        """They count among the files of the words."""
-        nl = self.stub + ".nl"
-        for words, told, line in (
-                (("export", nl, "0", "r", "c"), "refused file 3 line 3: repeated name",
-                 "c line 3: repeated name (an earlier line has it)"),
-                (("return", nl, "a"), "refused file 2 line 4: unknown name",
-                 "a line 4: unknown name (no column, or no row that was exported, has it)"),
-                (("check", nl, "s"), "refused file 2: other counts",
-                 "s: other counts (it is of another model)"),
-                (("import", "p.mps"), "refused column 2: empty interval",
-                 "p.mps: column 2: empty interval (a lower bound is above its upper bound, so "
-                 "nothing satisfies the model)"),
-                (("mps", "p.mps"), "refused line 7: unknown row",
-                 "p.mps line 7: unknown row (no line of ROWS has it)")):
-            self.assertEqual(self.line(told, *words), line)
 
     def test_input_faults(self) -> None:
         self.put(PRODUCT)

@@ -22,7 +22,7 @@ os.environ["PYTHONDONTWRITEBYTECODE"] = "1"         # also where drivers are pro
 HERE = os.path.dirname(os.path.abspath(__file__))
 sys.path[:0] = [HERE]
 MODULES = ("units", "readers", "stored_runs", "statuses", "manners", "last_lines", "kept",
-           "untouched", "processes", "end_to_end", "mps_files", "mps_mended", "pulp_class",
+           "untouched", "processes", "end_to_end", "mps_files", "pulp_class",
            "certify_parts", "certify_rows", "certify_exact", "certify_search", "certify_pool",
            "certify_turns", "certify_linear", "told", "rulings", "settled_table", "front",
            "refusals", "figures", "installs", "explains", "surface", "python_calls", "documents",
