@@ -84,7 +84,7 @@ pair_found limit whole words e =
     let none = none_each (pair_form_tests limit whole words) e in
     by (below_limit limit (whole_of (word_at words 0)) none.1.0) (dec_of (word_at words 1)) refl none.1.1.0
   where
-    by : IsIndex limit (whole_of (word_at words 0)) → (o : Option Dec) → dec_of (word_at words 1) ≡ o → (is_none o || (whole && not (option_map_or is_whole o true))) ≡ false → IsPair limit words
+    by : IsIndex limit (whole_of (word_at words 0)) → (o : Option Dec) → dec_of (word_at words 1) ≡ o → is_none o ≡ false → IsPair limit words
     by i None q f = absurd cc
     by i (Some d) q f = record { term = (i.index, d); says = rw (i.is, q) refl; below = i.below }
 

@@ -164,9 +164,9 @@ whole_value : (limit : ℕ) (words : List (List ℕ)) → first_reason (pair_for
 unfolding pair_form_tests pair_in
 whole_value limit words fine =
     let none = none_each (pair_form_tests limit true words) fine in
-    by (whole_of (word_at words 0)) (dec_of (word_at words 1)) none.1.1.0
+    by (whole_of (word_at words 0)) (dec_of (word_at words 1)) none.1.1.1.0
   where
-    by : (i : Option ℕ) (d : Option Dec) → (is_none d || (true && not (option_map_or is_whole d true))) ≡ false → IfSome {T = Term} (option_and_then (λ i. option_map (λ d. (i, d)) d) i) (λ t. is_whole t.1 ≡ true)
+    by : (i : Option ℕ) (d : Option Dec) → (true && not (option_map_or is_whole d true)) ≡ false → IfSome {T = Term} (option_and_then (λ i. option_map (λ d. (i, d)) d) i) (λ t. is_whole t.1 ≡ true)
     by None d f = tt
     by (Some i) None f = tt
     by (Some i) (Some d) f = not-false (is_whole d) f
