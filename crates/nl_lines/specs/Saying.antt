@@ -8,6 +8,9 @@ use Rattle.nl_model.specs.declared.at.At.TheVariants.{Node, Term, Head as HeadOf
 use Rattle.nl_model.specs.declared.at.Owner.{Owner}
 use Rattle.nl_model.specs.declared.at.Owner.TheVariants.{Def, Con, Obj}
 use Rattle.nl_model.specs.declared.header_counts.Counts.{Counts}
+use Rattle.nl_model.specs.declared.definition.Def.{Def as FileDefinition}
+use Rattle.nl_model.specs.declared.objective.Objective.{Objective as FileObjective}
+use Rattle.nl_model.specs.declared.suffix.Suffix.{Suffix as FileSuffix}
 use Rattle.nl_model.specs.Draft.{Draft, empty_draft}
 use Rattle.nl_model.specs.Nodes.{tree_of}
 use Rattle.nl_meaning.specs.Trees.{Tree}
@@ -34,11 +37,12 @@ abbrev pub said_by : Draft → Piece → Head → Draft
 said_by d p (Body i) =
     if_complete d p (record d { bodies = slice_set d.bodies i (Some (piece_tree d.counts p)) })
 said_by d p (Objective k maximise) =
-    let objective = record { maximise = maximise; tree = piece_tree d.counts p } in
+    let objective : FileObjective = record { maximise = maximise; tree = piece_tree d.counts p } in
     if_complete d p (record d { objectives = slice_set d.objectives k (Some objective) })
 said_by d p (Definition i j usage) =
     let tree = piece_tree d.counts p in
-    let definition = record { index = i; terms = piece_pairs p; usage = usage; tree = tree } in
+    let definition : FileDefinition =
+    record { index = i; terms = piece_pairs p; usage = usage; tree = tree } in
     if_complete d p (record d { definitions = d.definitions ++ definition ∷ [] })
 said_by d p (DualGuesses n) = record d { dual_guesses = d.dual_guesses ++ piece_pairs p }
 said_by d p (PrimalGuesses n) = record d { primal_guesses = d.primal_guesses ++ piece_pairs p }
@@ -48,7 +52,7 @@ said_by d p (ColumnCounts n) = d
 said_by d p (Terms i n) = record d { terms = with_terms d.terms i p }
 said_by d p (Slopes k n) = record d { slopes = with_terms d.slopes k p }
 said_by d p (Suffix kind n) =
-    let suffix = record { kind = kind; name = p.name; values = piece_pairs p } in
+    let suffix : FileSuffix = record { kind = kind; name = p.name; values = piece_pairs p } in
     if_complete d p (record d { suffixes = d.suffixes ++ suffix ∷ [] })
 
 abbrev pub with_piece : Draft → Piece → Draft
@@ -107,7 +111,7 @@ more_lines c l p (Body i) = record l { constraints = changed (with_tree_lines c 
 more_lines c l p (Objective k maximise) =
     record l { objectives = changed (with_tree_lines c p) l.objectives k }
 more_lines c l p (Definition i j usage) =
-    let own = record { head = Some p.line; nodes = node_lines c p; terms = term_lines p } in
+    let own = with_term_lines p (with_tree_lines c p no_lines) in
     record l { definitions = l.definitions ++ own ∷ [] }
 more_lines c l p (Terms i n) =
     record l { constraints = changed (with_term_lines p) l.constraints i }
