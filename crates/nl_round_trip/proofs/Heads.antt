@@ -12,7 +12,7 @@ use Rattle.texts.specs.Names.{is_name}
 use Rattle.nl_model.specs.declared.header_counts.Counts.{Counts}
 use Rattle.nl_lines.specs.declared.head.Head.{Head}
 use Rattle.nl_lines.specs.declared.head.Head.TheVariants.{Body, Definition, DualGuesses, PrimalGuesses, Sides, Bounds, Terms, Slopes, Suffix}
-use Rattle.nl_lines.specs.Heads.{letter_of, bare_head, numbered_head, of_two_numbers, counted_head, with_sense, definition_head, of_columns, of_kind, suffix_head, head_of, name_in}
+use Rattle.nl_lines.specs.Heads.{letter_of, bare_head, numbered_head, of_two_numbers, counted_head, with_sense, definition_head, of_columns, of_kind, suffix_head, head_of, name_in, number_at}
 use Rattle.nl_lines.specs.Tests.{is_suffix}
 
 -- ---- comments
@@ -155,7 +155,7 @@ module _ (c : Counts) (words : List (List ℕ)) (no_comment : HasNoMark (name_in
   sensed = counted with_sense (λ k sense small. branch (nat_le sense 1) _ None (λ le no. tt) tt)
 
   defined : Good (definition_head words)
-  defined = branch (length words == 3) _ None (λ e. two _ (λ i j at. one (word_at words 2) (Definition i j) (λ u small no. small))) tt
+  defined = branch (length words == 3) _ None (λ e. two (λ i j. option_map (Definition i j) (number_at words 2)) (λ i j at. one (word_at words 2) (Definition i j) (λ u small no. small))) tt
 
   columns : Good (numbered_head (of_columns c) words)
   columns = numbered (of_columns c) (λ n lt. branch (n + 1 == c.n_var) _ None (λ same no. tt) tt)
