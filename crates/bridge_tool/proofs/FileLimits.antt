@@ -18,12 +18,13 @@ use Rattle.program_meaning.proofs.Elements.{all_elements, elements_at, elements_
 use Rattle.nl_model.specs.File.{File}
 use Rattle.nl_model.specs.Rules.{IsFile}
 use Rattle.nl_model.proofs.Headers.{counts_of_header}
-use Rattle.file_meaning.specs.Expressions.{definitions_of}
-use Rattle.file_meaning.specs.FoldFaults.{Owner, FoldFault, Owned, coefficient_count, fold_fault, has_objective, head_fault, most_coefficients, owned_body, owned_definition, owned_line, owned_objective, owners_fault}
+use Rattle.file_meaning.specs.Expressions.{definitions_of, body_of, objective_of}
+use Rattle.file_meaning.specs.FoldFaults.{FoldFault, Owned, coefficient_count, fold_fault, has_objective, head_fault, most_coefficients, owned_by, owned_definition, owned_line, owners_fault}
 use Rattle.file_meaning.specs.LinearFile.{linear_of, linear_row, linear_variable, objective_form}
 use Rattle.file_meaning.proofs.Files.{linear_lem}
 use Rattle.file_meaning.proofs.Formed.{file_formed}
 use Rattle.export_round_trip.specs.Exportable.{HasDecimalBounds, IsExportable, IsNamedByNumber, coefficient_total, form_count}
+use Rattle.nl_model.specs.declared.at.Owner.TheVariants.{Con, Obj}
 
 -- ---- counts and names
 
@@ -93,11 +94,11 @@ same_count l zero = refl
 same_count l (suc n) = omega (arith, same_count l n)
 
 -- the bodies' lines are those of the linear program
-bodies_count : (f : File) (n i m : ℕ) → sum_by (size n) (elements_from (owned_body f) i m) ≡ sum_by (λ r. form_count n r.body) (elements_from (linear_row f) i m)
+bodies_count : (f : File) (n i m : ℕ) → sum_by (size n) (elements_from (λ i. owned_by f (Con i) (body_of f i)) i m) ≡ sum_by (λ r. form_count n r.body) (elements_from (linear_row f) i m)
 unfolding elements_from
 bodies_count f n i zero = refl
 bodies_count f n i (suc m) =
-    sum_by-cons (size n) (owned_body f i) (elements_from (owned_body f) (suc i) m) ∙ ap₂ (λ (a b : ℕ). a + b) (same_count (owned_line (owned_body f i)) n) (bodies_count f n (suc i) m)
+    sum_by-cons (size n) (owned_by f (Con i) (body_of f i)) (elements_from (λ i. owned_by f (Con i) (body_of f i)) (suc i) m) ∙ ap₂ (λ (a b : ℕ). a + b) (same_count (owned_line (owned_by f (Con i) (body_of f i))) n) (bodies_count f n (suc i) m)
     ∙ sym (sum_by-cons (λ r. form_count n r.body) (linear_row f i) (elements_from (linear_row f) (suc i) m))
 
 few_coefficients : (f : File) (k : ℕ) → fold_fault f k ≡ None
@@ -109,19 +110,19 @@ few_coefficients f k e = by (has_objective f k) e
     n = f.counts.n_var
 
     bodies : List Owned
-    bodies = elements_from (owned_body f) 0 f.counts.n_con
+    bodies = elements_from (λ i. owned_by f (Con i) (body_of f i)) 0 f.counts.n_con
 
     definitions : List Owned
     definitions = elements_from (owned_definition (definitions_of f)) 0 (length (definitions_of f))
 
-    by : (b : Bool) → (if b then owners_fault n 0 (definitions ++ (bodies ++ owned_objective f k ∷ [])) else Some (FoldFault.no_such_objective k)) ≡ None
+    by : (b : Bool) → (if b then owners_fault n 0 (definitions ++ (bodies ++ owned_by f (Obj k) (objective_of f k) ∷ [])) else Some (FoldFault.no_such_objective k)) ≡ None
         → sum_by (λ r. form_count n r.body) (elements_from (linear_row f) 0 f.counts.n_con) + form_count n (objective_form f k) ≤ most_coefficients
     by true h = omega (
       arith,
-      few_owned n 0 (definitions ++ (bodies ++ owned_objective f k ∷ [])) (omega arith) h,
-      sum_by-append (size n) definitions (bodies ++ owned_objective f k ∷ []),
-      sum_by_push (size n) bodies (owned_objective f k),
-      same_count (owned_line (owned_objective f k)) n,
+      few_owned n 0 (definitions ++ (bodies ++ owned_by f (Obj k) (objective_of f k) ∷ [])) (omega arith) h,
+      sum_by-append (size n) definitions (bodies ++ owned_by f (Obj k) (objective_of f k) ∷ []),
+      sum_by_push (size n) bodies (owned_by f (Obj k) (objective_of f k)),
+      same_count (owned_line (owned_by f (Obj k) (objective_of f k))) n,
       bodies_count f n 0 f.counts.n_con,
     )
     by false h = absurd cc

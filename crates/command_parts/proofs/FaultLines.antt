@@ -15,16 +15,16 @@ use Rattle.nl_model.specs.declared.at.Owner.{Owner}
 use Rattle.nl_model.specs.declared.at.Owner.TheVariants.{Con, Def, Obj}
 use Rattle.nl_model.specs.File.{File, Term}
 use Rattle.nl_model.specs.FilePlaces.{terms_at, tree_at}
-use Rattle.file_meaning.specs.Expressions.{linear_terms, tree_or_zero, zero_tree}
-use Rattle.file_meaning.specs.FoldFaults.{FoldFault as FileFault, Owner as FoldOwner, Owned, at_owner, at_place, coefficient_count, fold_fault, fold_too_large, has_objective, head_fault, most_coefficients, no_such_objective, owned_line, owner_fault, owners_fault, owners_of}
+use Rattle.file_meaning.specs.Expressions.{linear_terms, tree_or_zero}
+use Rattle.file_meaning.specs.FoldFaults.{FoldFault as FileFault, Owned, at_place, coefficient_count, fold_fault, fold_too_large, has_objective, head_fault, most_coefficients, no_such_objective, owned_line, owner_fault, owners_fault, owners_of}
 use Rattle.program_meaning.specs.Elements.{elements_from}
 use Rattle.linear_fold.specs.declared.fold_fault.FoldFault.{FoldFault}
-use Rattle.linear_fold.specs.FoldedFaults.{HasFaultPlace, fault_for, first_fold_fault, named_fault, place_at}
-use Rattle.linear_fold.specs.InsideOwnerFolds.{definitions_before, expression_at, fold_owner_of, known_by, owned_at}
+use Rattle.linear_fold.specs.FoldedFaults.{HasFaultPlace, first_fold_fault, named_fault}
+use Rattle.linear_fold.specs.InsideOwnerFolds.{definitions_before, expression_at, known_by, owned_at}
 use Rattle.linear_fold.proofs.BodyLemmas.{owners_are}
 use Rattle.linear_fold.proofs.CountLemmas.{count_zero}
 use Rattle.linear_fold.proofs.Folding.{constant_lined}
-use Rattle.linear_fold.proofs.OwnerLemmas.{expression_among, owner_is, owner_place}
+use Rattle.linear_fold.proofs.OwnerLemmas.{expression_among, owner_place}
 use Rattle.std.specs.Prelude.{IsSomeAnd}
 use Rattle.texts.specs.Judged.{Rules}
 use Rattle.texts.specs.Reading.{HasFault, last_of, lines_of}
@@ -87,7 +87,7 @@ module _ (f : File) (o : Owner) where
   nothing_counted : tree_at f o ≡ None → terms_at f o ≡ [] → coefficients ≡ 0
   nothing_counted e g =
       let known = known_by (definitions_before f o) in
-      let empty : Expression = record { tree = zero_tree; terms = [] } in
+      let empty : Expression = record { tree = tree_or_zero None; terms = [] } in
       let zero_line = constant_line (decimal_value (pos 0) (pos 0)) in
       let constant = terms_added width known empty zero_line tt (constant_lined width (decimal_value (pos 0) (pos 0))) in
       subst₂ (λ t ts. coefficient_count width (line_by (λ at. expression_given (known at) (record { tree = tree_or_zero t; terms = linear_terms ts }) at)) ≡ 0) (sym e) (sym g)
@@ -98,27 +98,25 @@ module _ (f : File) (o : Owner) where
   has_head None (t ∷ ts) h = grind arith
   has_head (Some t) ts h = refl
 
-  placed_head : (before : ℕ) (x : FileFault) → before ≤ most_coefficients → head_fault (fold_owner_of o) (before + coefficients) ≡ Some x → IsPlaced f x
+  placed_head : (before : ℕ) (x : FileFault) → before ≤ most_coefficients → head_fault o (before + coefficients) ≡ Some x → IsPlaced f x
   placed_head before x few e = by (nat_lt most_coefficients (before + coefficients)) refl e
     where
-      by : (b : Bool) → nat_lt most_coefficients (before + coefficients) ≡ b → (if b then Some (fold_too_large (fold_owner_of o)) else None) ≡ Some x → IsPlaced f x
+      by : (b : Bool) → nat_lt most_coefficients (before + coefficients) ≡ b → (if b then Some (fold_too_large o) else None) ≡ Some x → IsPlaced f x
       by false q e = absurd cc
       by true q e =
           let many = ltb-true most_coefficients (before + coefficients) q in
           let some = has_head (tree_at f o) (terms_at f o) (λ t ts. let none = nothing_counted t ts in omega arith) in
-          subst (IsPlaced f) (same_Some (fold_too_large (fold_owner_of o)) x e)
-          (subst (λ w. IsTrue (is_some (tree_at f w) || not (length (terms_at f w) == 0))) (sym (owner_is o)) some)
+          subst (IsPlaced f) (same_Some (fold_too_large o) x e) some
 
   placed : (before : ℕ) (x : FileFault) → before ≤ most_coefficients → owner_fault width (before + coefficients) (owned_at f o) ≡ Some x → IsPlaced f x
   placed before x few e = by (expression_fault (known_by (definitions_before f o)) width (expression_at f o)) refl e
     where
       by : (r : Option Fault) → expression_fault (known_by (definitions_before f o)) width (expression_at f o) ≡ r
-          → option_or (at_owner (fold_owner_of o) r) (head_fault (fold_owner_of o) (before + coefficients)) ≡ Some x → IsPlaced f x
+          → option_or (option_map (at_place o) r) (head_fault o (before + coefficients)) ≡ Some x → IsPlaced f x
       by None q e = placed_head before x few e
       by (Some y) q e =
-          subst (IsPlaced f) (same_Some (at_place (fold_owner_of o) y) x e)
-          (subst (λ w. HasFaultPlace f (fault_for y.reason (place_at f w y.place))) (sym (owner_is o))
-          (owner_place f o y.reason y.place (expression_among (known_by (definitions_before f o)) width (tree_at f o) (terms_at f o) y q)))
+          subst (IsPlaced f) (same_Some (at_place o y) x e)
+          (owner_place f o y.reason y.place (expression_among (known_by (definitions_before f o)) width (tree_at f o) (terms_at f o) y q))
 
 -- ---- all owners
 
@@ -135,7 +133,7 @@ owned_append : (f : File) (xs ys : List Owned) → AreOwned f xs → AreOwned f 
 owned_append f [] ys h k = k
 owned_append f (x ∷ xs) ys h k = (h.0, owned_append f xs ys h.1 k)
 
-few_after : (o : FoldOwner) (r : Option FileFault) (total : ℕ) → option_or r (head_fault o total) ≡ None → total ≤ most_coefficients
+few_after : (o : Owner) (r : Option FileFault) (total : ℕ) → option_or r (head_fault o total) ≡ None → total ≤ most_coefficients
 few_after o (Some y) total e = absurd cc
 few_after o None total e = by (nat_lt most_coefficients total) refl e
   where
@@ -154,7 +152,7 @@ owners_placed f (w ∷ os) before x h few e = by (owner_fault n total w) refl e 
     total = before + coefficient_count n (owned_line w)
 
     by : (r : Option FileFault) → owner_fault n total w ≡ r → option_or r (owners_fault n total os) ≡ Some x → (total ≤ most_coefficients → owners_fault n total os ≡ Some x → IsPlaced f x) → IsPlaced f x
-    by None q e rest = rest (few_after w.owner (at_owner w.owner (expression_fault w.known n w.expression)) total q) e
+    by None q e rest = rest (few_after w.owner (option_map (at_place w.owner) (expression_fault w.known n w.expression)) total q) e
     by (Some y) q e rest =
         subst (IsPlaced f) (same_Some y x e)
         (placed f h.0.0 before y few (subst (λ v. owner_fault n (before + coefficient_count n (owned_line v)) v ≡ Some y) h.0.1 q))

@@ -1,6 +1,6 @@
 -- The lines that tell faults of .nl texts, of the fold and of scaling; an .nl file is the first of
 -- its command.
-use Rattle.std.specs.Prelude.{ℕ, ◌<◌, ◌≤◌, List, ◌++◌, codes, Option, Some, None, IsSome, IsSomeAnd}
+use Rattle.std.specs.Prelude.{ℕ, ◌<◌, ◌≤◌, List, ◌++◌, codes, IsSome, IsSomeAnd, unwrap_or}
 use Rattle.nl_model.specs.declared.at.At.{At}
 use Rattle.nl_lines.specs.declared.fault.NlFault.{NlFault}
 use Rattle.nl_lines.specs.Saying.{PlaceLines, place_line}
@@ -19,13 +19,9 @@ nl_line f =
     refused_at 1 (codes "line") f.line ++ nl_reason_text f.reason ++ opcode_text f.reason
     ++ codes "\n"
 
-abbrev pub line_or_zero : Option ℕ → ℕ
-line_or_zero None = 0
-line_or_zero (Some line) = line
-
 -- a fault at a place of the file, by the place's line; each place that is asked for has one
 abbrev pub placed_line : PlaceLines → At → List ℕ → List ℕ
-placed_line places at text = refusal 1 (codes "line") (line_or_zero (place_line places at)) text
+placed_line places at text = refusal 1 (codes "line") (unwrap_or (place_line places at) 0) text
 
 -- the line of a fault of the fold
 abbrev pub fold_line : PlaceLines → FoldFault → List ℕ

@@ -33,14 +33,11 @@ pub record HasScaled (f : Linear) (s : ScaledValue) : Type 0 where
   pub fine : HasNoScaleFault f
   pub scaled : IsScaledOf f s
 
--- this line tells the first row, or else the objective, no multiple of which is decimal and fits
-abbrev pub HasScaleRefusal : Linear → ℕ → List ℕ → Type 0
-HasScaleRefusal f k = TellsFault (HasScaleFault f) (scale_line k)
-
--- the file folds with objective k but does not scale, and this line tells why
+-- the file folds with objective k but does not scale: this line tells the first row, or else the
+-- objective, no multiple of which is decimal and fits
 pub record IsUnscaled (value : NlValue) (k : ℕ) (line : List ℕ) : Type 0 where
   pub folded : fold_fault value.file k ≡ None
-  pub first : HasScaleRefusal (linear_of value.file k) k line
+  pub first : TellsFault (HasScaleFault (linear_of value.file k)) (scale_line k) line
 
 -- the file folds and scales with objective k
 pub record CanBeExported (value : NlValue) (k : ℕ) : Type 0 where
@@ -57,4 +54,4 @@ fold_steps value k = if has_objective value.file k then step_bound value.file el
 
 -- what scaling answers
 abbrev pub Scales : Linear → ℕ → Result ScaledValue (Stop Refusal) → Type 0
-Scales f k = Gives (HasScaled f) (HasScaleRefusal f k)
+Scales f k = Gives (HasScaled f) (TellsFault (HasScaleFault f) (scale_line k))

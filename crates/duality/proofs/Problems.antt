@@ -127,9 +127,9 @@ module _ (f : Linear) (p : Problem) (means : Means f p) where
   -- ---- the verdict on a certificate
   shown_of_problem : (c : Certificate) (o : Option ℚ) → IsShownProgram (f) c o → IsValued c (holds o) → IsShown p c o
   shown_of_problem (optimal xs tree) None h w = absurd h
-  shown_of_problem (optimal xs tree) (Some v) h w = record { told = told_optimal v; is_told = refl; true_of = record { solution = solution_of xs v h.solution; best = bound_of v h.best } }
+  shown_of_problem (optimal xs tree) (Some v) h w = record { told = told_optimal v; is_told = refl; true_of = (solution_of xs v h.solution, bound_of v h.best) }
   shown_of_problem (near xs b tree) None h w = absurd h
-  shown_of_problem (near xs b tree) (Some v) h w = record { told = told_within b v; is_told = refl; true_of = record { solution = solution_of xs v h.solution; best = bound_of b h.best } }
+  shown_of_problem (near xs b tree) (Some v) h w = record { told = told_within b v; is_told = refl; true_of = (solution_of xs v h.solution, bound_of b h.best) }
   shown_of_problem (bounded v tree) o h w = record { told = told_bound v; is_told = ap (option_map told_bound) h.0; true_of = bound_of v h.1 }
   shown_of_problem (feasible xs) None h w = absurd h
   shown_of_problem (feasible xs) (Some v) h w = record { told = told_feasible v; is_told = refl; true_of = solution_of xs v h }

@@ -74,16 +74,6 @@ pub record IsSolution (p : Problem) (xs : List ℚ) (v : ℚ) : Type 0 where
   pub feasible : IsFeasible p xs
   pub value : p.objective xs ≡ Some v
 
--- the point is feasible with the value v, and b is at least as good as the objective at each
--- feasible point: what is best lies between both
-pub record IsNear (p : Problem) (xs : List ℚ) (v b : ℚ) : Type 0 where
-  pub solution : IsSolution p xs v
-  pub best : IsBound p b
-
--- the value is the bound: no feasible point is better
-abbrev pub IsOptimal : Problem → List ℚ → ℚ → Type 0
-IsOptimal p xs v = IsNear p xs v v
-
 -- each point breaks some constraint or some bound, or some whole variable is not whole there
 abbrev pub IsInfeasible : Problem → Type 0
 IsInfeasible p = (xs : List ℚ) → IsBroken p xs ⊎ ((j : ℕ) × IsNotWhole p xs j)

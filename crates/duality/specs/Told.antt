@@ -2,7 +2,7 @@
 use Rattle.std.specs.Prelude.{◌≡◌, List, Option, Some, None, option_map}
 use Rattle.fractions.specs.Rational.{ℚ}
 use Rattle.duality.specs.Certificate.{Certificate, optimal as optimal_by, near as near_by, bounded as bounded_by, feasible as feasible_by, infeasible as infeasible_by, unbounded as unbounded_by}
-use Rattle.duality.specs.Problem.{Problem, IsBound, IsInfeasible, IsNear, IsOptimal, IsSolution, IsUnbounded}
+use Rattle.duality.specs.Problem.{Problem, IsBound, IsInfeasible, IsSolution, IsUnbounded}
 
 -- a claim with the numbers that are told
 pub data Told : Type 0 where
@@ -15,8 +15,8 @@ pub data Told : Type 0 where
 
 -- what it says of a problem, where xs is the point that the certificate gives
 abbrev pub IsTrueOf : Problem → List ℚ → Told → Type 0
-IsTrueOf p xs (optimal v) = IsOptimal p xs v
-IsTrueOf p xs (within b v) = IsNear p xs v b
+IsTrueOf p xs (optimal v) = IsSolution p xs v × IsBound p v
+IsTrueOf p xs (within b v) = IsSolution p xs v × IsBound p b
 IsTrueOf p xs (bound v) = IsBound p v
 IsTrueOf p xs (feasible v) = IsSolution p xs v
 IsTrueOf p xs infeasible = IsInfeasible p

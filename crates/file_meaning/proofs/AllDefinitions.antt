@@ -8,7 +8,7 @@ use Rattle.fractions.specs.Rational.{ℚ, ◌+ℚ◌, ◌*ℚ◌}
 use Rattle.fractions.specs.Sums.{sum_below}
 use Rattle.program_meaning.specs.Lines.{line_by, Point}
 use Rattle.nl_meaning.specs.Parts.{IsLinearTree, IsPart, IsPartOfOne}
-use Rattle.nl_meaning.specs.Trees.{Tree, number, variable, defined, operator, Trees, none, more, Known, Definition as Meant, with_value, applied, rule_of, tree_given, trees_given, expression_given, with_definition, nothing_known, tree_value}
+use Rattle.nl_meaning.specs.Trees.{Tree, number, variable, defined, operator, Trees, none, more, Known, Definition as Meant, applied, rule_of, tree_given, trees_given, expression_given, with_definition, tree_value}
 use Rattle.nl_model.specs.File.{File}
 use Rattle.nl_model.specs.declared.definition.Def.{Def as Definition}
 use Rattle.nl_model.specs.HeaderRules.{defined_count}
@@ -44,7 +44,7 @@ mutual
       ⊎_elim (λ (q : IsPart u t). part_within n ds u t w.0 q) (λ (q : IsPartOfOne u ts). part_of_within n ds u ts w.1 q) p
 
 -- ---- later definitions keep the values of those before
-kept_value : (known : Known) (i j : ℕ) (ds : List Definition) (d : Definition) (at : Point) → is_defined ds d.index ≡ false → is_defined ds j ≡ true → with_value known d.index (expression_given known (definition_of d).expression at) j ≡ known j
+kept_value : (known : Known) (i j : ℕ) (ds : List Definition) (d : Definition) (at : Point) → is_defined ds d.index ≡ false → is_defined ds j ≡ true → (if j == d.index then expression_given known (definition_of d).expression at else known j) ≡ known j
 kept_value known i j ds d at fresh e = by (j == d.index) refl
   where
     by : (b : Bool) → j == d.index ≡ b → (if b then expression_given known (definition_of d).expression at else known j) ≡ known j
@@ -70,7 +70,7 @@ values_kept n k before (x ∷ ds) h known at (suc i) d e u p =
 module _ (f : File) (file : IsFile f) (i : ℕ) (d : Meant) (there : slice_get (definitions_of f) i ≡ Some d) (u : Tree) (part : IsPart u d.expression.tree) where
   -- the definitions before it are enough
   pub before_are_enough : (at : Point) → tree_value (take i (definitions_of f)) u at ≡ tree_value (definitions_of f) u at
-  before_are_enough at = values_kept f.counts.n_var (defined_count f.counts) [] f.definitions file.definitions (λ x. nothing_known) at i d there u part
+  before_are_enough at = values_kept f.counts.n_var (defined_count f.counts) [] f.definitions file.definitions (λ x i. None) at i d there u part
 
   pub all_are_linear : (k : ℕ) → fold_fault f k ≡ None → IsLinearTree f.counts.n_var (definitions_of f) u
   all_are_linear k clean =

@@ -1,25 +1,27 @@
 -- A file without a fold fault is linear.
-use Rattle.std.proofs.Common.{◌≡◌, ℕ, zero, suc, ◌+◌, ◌<◌, ◌∙◌, ap, refl, subst, arith, Bool, true, false, if◌then◌else◌, Option, Some, None, List, [], ◌∷◌, ◌++◌, length, get_or, slice_get, take}
+use Rattle.std.proofs.Common.{◌≡◌, ℕ, zero, suc, ◌+◌, ◌<◌, ◌∙◌, ap, refl, subst, arith, Bool, true, false, if◌then◌else◌, Option, Some, None, List, [], ◌∷◌, ◌++◌, length, get_or, slice_get, take, option_map}
 use Rattle.std.specs.List.{fold}
 use Rattle.std.specs.Option.{option_or}
 use Rattle.program_meaning.specs.Linear.{value_at}
 use Rattle.nl_meaning.specs.declared.Fault.{Fault}
 use Rattle.nl_meaning.specs.Faults.{expression_fault, definitions_fault, tree_line, line_with_terms, expression_line}
 use Rattle.nl_meaning.specs.Parts.{IsPart, IsLinearTree}
-use Rattle.nl_meaning.specs.Trees.{Tree, Known, nothing_known, with_definition, Expression, Definition, known_values, expression_value, IsExpressionFormed, AreDefined, IsOneOf, indices_of}
+use Rattle.nl_meaning.specs.Trees.{Tree, Known, with_definition, Expression, Definition, known_values, expression_value, IsExpressionFormed, AreDefined, IsOneOf, indices_of}
 use Rattle.program_meaning.specs.Lines.{Point, line_value}
 use Rattle.program_meaning.proofs.LineLemmas.{line_by_lem}
 use Rattle.fractions.proofs.Tests.{option_or-none}
 use Rattle.nl_meaning.proofs.Linear.{AreLinear, HasValues, known_linear, none_linear, expression_linear}
 use Rattle.nl_meaning.proofs.PartLemmas.{definition_parts, part_linear}
 use Rattle.nl_model.specs.File.{File}
-use Rattle.file_meaning.specs.Expressions.{no_definition, definitions_of, body_of, objective_of}
-use Rattle.file_meaning.specs.FoldFaults.{Owner, FoldFault, no_such_objective, Owned, owned_line, coefficient_count, at_owner, owners_fault, owned_definition, owned_body, owned_objective, defined_line, owners_of, has_objective, fold_fault}
+use Rattle.file_meaning.specs.Expressions.{definitions_of, body_of, objective_of}
+use Rattle.nl_model.specs.declared.at.Owner.{Owner}
+use Rattle.nl_model.specs.declared.at.Owner.TheVariants.{Con, Obj}
+use Rattle.file_meaning.specs.FoldFaults.{FoldFault, no_such_objective, at_place, Owned, owned_by, owned_line, coefficient_count, no_definition, owners_fault, owned_definition, defined_line, owners_of, has_objective, fold_fault}
 use Rattle.program_meaning.specs.Elements.{elements_from}
 use Rattle.file_meaning.specs.LinearFile.{HasLines, IsFormedFile}
 use Rattle.file_meaning.proofs.Plain.{form_value_lem}
 
-at_owner-none : (o : Owner) (r : Option Fault) → at_owner o r ≡ None → r ≡ None
+at_owner-none : (o : Owner) (r : Option Fault) → option_map (at_place o) r ≡ None → r ≡ None
 at_owner-none o None e = refl
 at_owner-none o (Some x) e = cc
 
@@ -57,14 +59,14 @@ with_objective true r k e = e
 with_objective false r k e = cc
 
 -- an expression without a fault, over defined variables without one, has the values of its line
-clean_line : (n : ℕ) (ds : List Definition) → AreDefined n [] ds → definitions_fault (λ at. nothing_known) n ds ≡ None → (x : Expression) → IsExpressionFormed n (indices_of ds) x → expression_fault (known_values ds) n x ≡ None → HasValues n (expression_value ds x) (expression_line ds x)
+clean_line : (n : ℕ) (ds : List Definition) → AreDefined n [] ds → definitions_fault (λ at i. None) n ds ≡ None → (x : Expression) → IsExpressionFormed n (indices_of ds) x → expression_fault (known_values ds) n x ≡ None → HasValues n (expression_value ds x) (expression_line ds x)
 clean_line n ds above clean x formed fault =
     line_by_lem n (expression_value ds x) (line_with_terms (tree_line (known_values ds) x.tree) x.terms)
     (expression_linear n (known_values ds) (indices_of ds) (known_linear n ds above clean) x formed fault)
 
 -- nothing that is folded has a fault
 record IsClean (f : File) (k : ℕ) : Type 0 where
-  definitions : definitions_fault (λ at. nothing_known) f.counts.n_var (definitions_of f) ≡ None
+  definitions : definitions_fault (λ at i. None) f.counts.n_var (definitions_of f) ≡ None
   bodies : (i : ℕ) → i < f.counts.n_con → expression_fault (known_values (definitions_of f)) f.counts.n_var (body_of f i) ≡ None
   objective : expression_fault (known_values (definitions_of f)) f.counts.n_var (objective_of f k) ≡ None
 
@@ -74,12 +76,12 @@ is_clean f k clean =
     let n = f.counts.n_var in
     let ds = definitions_of f in
     let free = with_objective (has_objective f k) (owners_fault n 0 (owners_of f k)) k clean in
-    let defs = owned_clean n (owned_definition ds) 0 (length ds) (elements_from (owned_body f) 0 f.counts.n_con ++ owned_objective f k ∷ []) 0 free in
-    let bodies = owned_clean n (owned_body f) 0 f.counts.n_con (owned_objective f k ∷ []) defs.1 defs.2 in
+    let defs = owned_clean n (owned_definition ds) 0 (length ds) (elements_from (λ i. owned_by f (Con i) (body_of f i)) 0 f.counts.n_con ++ owned_by f (Obj k) (objective_of f k) ∷ []) 0 free in
+    let bodies = owned_clean n (λ i. owned_by f (Con i) (body_of f i)) 0 f.counts.n_con (owned_by f (Obj k) (objective_of f k) ∷ []) defs.1 defs.2 in
     record {
-      definitions = definitions_clean n (λ at. nothing_known) ds (λ i h. subst (λ j. expression_fault (owned_definition ds j).known n (owned_definition ds j).expression ≡ None) (omega arith) (defs.0 i h));
+      definitions = definitions_clean n (λ at i. None) ds (λ i h. subst (λ j. expression_fault (owned_definition ds j).known n (owned_definition ds j).expression ≡ None) (omega arith) (defs.0 i h));
       bodies = λ i h. subst (λ j. expression_fault (known_values ds) n (body_of f j) ≡ None) (omega arith) (bodies.0 i h);
-      objective = expression_clean n bodies.1 (owned_objective f k) [] bodies.2;
+      objective = expression_clean n bodies.1 (owned_by f (Obj k) (objective_of f k)) [] bodies.2;
     }
 
 module _ (f : File) (k : ℕ) (formed : IsFormedFile f k) (clean : fold_fault f k ≡ None) where
@@ -102,7 +104,7 @@ module _ (f : File) (k : ℕ) (formed : IsFormedFile f k) (clean : fold_fault f 
 
   -- each part of a tree is linear
   pub definition_parts_are_linear : (i : ℕ) (d : Definition) → slice_get (definitions_of f) i ≡ Some d → (u : Tree) → IsPart u d.expression.tree → IsLinearTree f.counts.n_var (take i (definitions_of f)) u
-  definition_parts_are_linear = definition_parts f.counts.n_var (λ at. nothing_known) [] (none_linear f.counts.n_var) (definitions_of f) formed.definitions (is_clean f k clean).definitions
+  definition_parts_are_linear = definition_parts f.counts.n_var (λ at i. None) [] (none_linear f.counts.n_var) (definitions_of f) formed.definitions (is_clean f k clean).definitions
 
   expression_parts : (x : Expression) → IsExpressionFormed f.counts.n_var (indices_of (definitions_of f)) x → expression_fault (known_values (definitions_of f)) f.counts.n_var x ≡ None → (u : Tree) → IsPart u x.tree → IsLinearTree f.counts.n_var (definitions_of f) u
   expression_parts x within free = part_linear f.counts.n_var (known_values (definitions_of f)) (indices_of (definitions_of f)) known_lines 0 x.tree within.tree (option_or-none _ _ free).0

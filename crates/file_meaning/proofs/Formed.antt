@@ -14,7 +14,7 @@ use Rattle.nl_model.specs.HeaderRules.{defined_count}
 use Rattle.nl_model.specs.Nodes.{IsTreeFormed, AreTreesFormed}
 use Rattle.nl_model.specs.Rules.{is_defined, IsTreeWithin, AreTreesWithin, IsTreeKnown, AreTermsBelow as AreBelow, AreDefinitions, IsFile}
 use Rattle.linear_program.specs.Intervals.{AreOrdered as AreSidesOrdered, interval_of, no_sides}
-use Rattle.file_meaning.specs.Expressions.{linear_terms, definition_of, definitions_of, tree_or_zero, no_objective}
+use Rattle.file_meaning.specs.Expressions.{linear_terms, definition_of, definitions_of, tree_or_zero}
 use Rattle.file_meaning.specs.LinearFile.{IsFormedFile}
 
 -- each of the definitions has one of the indices
@@ -74,6 +74,9 @@ terms_at : (n : ℕ) (rows : List (List Term)) → All (AreBelow n) rows → (i 
 terms_at n rows h i =
     ⊎_elim (λ (l : i < length rows). terms_formed n (get_or rows i []) (h i [] l))
     (λ (g : length rows ≤ i). subst (λ ts. AreTermsBelow n (linear_terms ts)) (sym (get_or_past rows i [] g)) tt) (cases_lt i (length rows))
+
+abbrev no_objective : Objective
+no_objective = record { maximise = false; tree = tree_or_zero None }
 
 objective_formed : (n : ℕ) (ds : List Definition) (is : List ℕ) → AreAmong ds is → (os : List Objective) → All (λ o. IsTreeKnown n ds o.tree) os → (k : ℕ) → IsFormed n is (get_or os k no_objective).tree
 objective_formed n ds is among os h k =

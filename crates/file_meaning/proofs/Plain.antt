@@ -10,11 +10,11 @@ use Rattle.fractions.proofs.Ring.{ring, v, ◌⊕◌, ◌⊖◌}
 use Rattle.program_meaning.specs.Linear.{value_at, linear_part, form_value}
 use Rattle.nl_meaning.specs.Faults.{expression_line, line_with_terms}
 use Rattle.program_meaning.specs.Lines.{constant_line, Line, line_value, origin, unit_point, one_if, Point, form_of_line}
-use Rattle.nl_meaning.specs.Trees.{Tree, number, variable, defined, operator, Expression, Definition, known_values, tree_value, expression_value, AreTermsBelow}
+use Rattle.nl_meaning.specs.Trees.{Tree, number, variable, defined, operator, Expression, Definition, known_values, tree_value, expression_value, AreTermsBelow, LinearTerm}
 use Rattle.program_meaning.proofs.LineLemmas.{line_by_lem}
 use Rattle.nl_meaning.proofs.Linear.{HasValues, constant_value, terms_added}
 use Rattle.nl_model.specs.File.{Term, File}
-use Rattle.file_meaning.specs.Expressions.{linear_term, linear_terms, definitions_of, body_of, objective_of}
+use Rattle.file_meaning.specs.Expressions.{linear_terms, definitions_of, body_of, objective_of}
 use Rattle.file_meaning.specs.LinearFile.{HasLines, IsFormedFile, IsNumber, number_value, IsPlain}
 use Rattle.linear_program.specs.Decimals.{coefficient_of}
 
@@ -36,7 +36,7 @@ plain_line n ds x h below =
 
 -- its value: the number and its terms
 plain_value : (ds : List Definition) (t : Tree) (ts : List Term) → IsNumber t → (at : Point) → expression_value ds (record { tree = t; terms = linear_terms ts }) at ≡ Some (number_value t +ℚ sum_over (λ s. dec_value s.1 *ℚ at s.0) ts)
-plain_value ds (number m e) ts h at = ap (λ s. Some (decimal_value m e +ℚ s)) (sum_over-map (λ u. u.factor *ℚ at u.variable) linear_term ts)
+plain_value ds (number m e) ts h at = ap (λ s. Some (decimal_value m e +ℚ s)) (sum_over-map (λ (u : LinearTerm). u.factor *ℚ at u.variable) (λ (t : Term). record { variable = t.0; factor = dec_value t.1 }) ts)
 plain_value ds (variable j) ts h at = absurd h
 plain_value ds (defined i) ts h at = absurd h
 plain_value ds (operator c us) ts h at = absurd h

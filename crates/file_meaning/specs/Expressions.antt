@@ -1,17 +1,14 @@
 -- The expressions of an .nl file (Gay 2005, "Writing .nl Files"): trees with their linear terms.
-use Rattle.std.specs.Prelude.{ℕ, pos, Bool, false, List, [], map, get_or, Option, Some, None}
+use Rattle.std.specs.Prelude.{ℕ, pos, Bool, false, List, [], map, get_or, Option, None, unwrap_or}
 use Rattle.exact_numbers.specs.Values.{dec_value}
 use Rattle.nl_meaning.specs.Trees.{Tree, number, LinearTerm, Expression, Definition}
 use Rattle.nl_model.specs.File.{Term, File}
 use Rattle.nl_model.specs.declared.objective.Objective.{Objective}
 use Rattle.nl_model.specs.declared.definition.Def.{Def as FileDefinition}
 
--- a variable and its factor
-abbrev pub linear_term : Term → LinearTerm
-linear_term t = record { variable = t.0; factor = dec_value t.1 }
-
+-- variables and their factors
 abbrev pub linear_terms : List Term → List LinearTerm
-linear_terms ts = map linear_term ts
+linear_terms ts = map (λ t. record { variable = t.0; factor = dec_value t.1 }) ts
 
 -- a tree with its linear terms
 abbrev pub expression_of : Tree → List Term → Expression
@@ -24,16 +21,8 @@ definition_of d = record { index = d.index; expression = expression_of d.tree d.
 abbrev pub definitions_of : File → List Definition
 definitions_of f = map definition_of f.definitions
 
-abbrev pub zero_tree : Tree
-zero_tree = number (pos 0) (pos 0)
-
--- nothing asks for a definition past the last
-abbrev pub no_definition : Definition
-no_definition = record { index = 0; expression = expression_of zero_tree [] }
-
 abbrev pub tree_or_zero : Option Tree → Tree
-tree_or_zero None = zero_tree
-tree_or_zero (Some t) = t
+tree_or_zero t = unwrap_or t (number (pos 0) (pos 0))
 
 -- body i: its expression (segment C of the text), 0 where none was given, and its linear terms
 -- (segment J)
@@ -41,11 +30,8 @@ abbrev pub body_of : File → ℕ → Expression
 body_of f i = expression_of (tree_or_zero (get_or f.bodies i None)) (get_or f.terms i [])
 
 -- a file without objectives minimises 0
-abbrev pub no_objective : Objective
-no_objective = record { maximise = false; tree = zero_tree }
-
 abbrev pub objective_at : File → ℕ → Objective
-objective_at f k = get_or f.objectives k no_objective
+objective_at f k = get_or f.objectives k (record { maximise = false; tree = tree_or_zero None })
 
 -- objective k: the O expression and the G terms
 abbrev pub objective_of : File → ℕ → Expression

@@ -6,14 +6,10 @@ use Rattle.nl_meaning.specs.Faults.{expression_fault}
 use Rattle.program_meaning.specs.Lines.{Line, line_by, is_zero, Point}
 use Rattle.nl_meaning.specs.Trees.{Known, Expression, Definition, expression_given, known_values}
 use Rattle.nl_model.specs.File.{File}
-use Rattle.file_meaning.specs.Expressions.{no_definition, definitions_of, body_of, objective_of}
+use Rattle.nl_model.specs.declared.at.Owner.{Owner}
+use Rattle.nl_model.specs.declared.at.Owner.TheVariants.{Def, Con, Obj}
+use Rattle.file_meaning.specs.Expressions.{expression_of, tree_or_zero, definitions_of, body_of, objective_of}
 use Rattle.program_meaning.specs.Elements.{elements_from}
-
--- a defined variable by its position in the file, a constraint, or an objective
-pub data Owner : Type 0 where
-  definition : ℕ → Owner
-  constraint : ℕ → Owner
-  objective : ℕ → Owner
 
 -- there is no such objective; a fault at a node or a term of an owner; or too many coefficients, at
 -- the head of an owner
@@ -40,9 +36,6 @@ coefficient_count (suc n) l = coefficient_count n l + (if is_zero (l.coef n) the
 abbrev pub most_coefficients : ℕ
 most_coefficients = 2 ^ 23
 
-abbrev pub at_owner : Owner → Option Fault → Option FoldFault
-at_owner o fault = option_map (at_place o) fault
-
 abbrev pub head_fault : Owner → ℕ → Option FoldFault
 head_fault o count = (if nat_lt most_coefficients count then Some (fold_too_large o) else None)
 
@@ -50,7 +43,7 @@ head_fault o count = (if nat_lt most_coefficients count then Some (fold_too_larg
 -- the head
 abbrev pub owner_fault : ℕ → ℕ → Owned → Option FoldFault
 owner_fault n count o =
-    option_or (at_owner o.owner (expression_fault o.known n o.expression))
+    option_or (option_map (at_place o.owner) (expression_fault o.known n o.expression))
     (head_fault o.owner count)
 
 -- the first fault of owners, where those before have `count` coefficients
@@ -60,11 +53,15 @@ owners_fault n count (o ∷ os) =
     let total = count + coefficient_count n (owned_line o) in
     option_or (owner_fault n total o) (owners_fault n total os)
 
+-- nothing asks for a definition past the last
+abbrev pub no_definition : Definition
+no_definition = record { index = 0; expression = expression_of (tree_or_zero None) [] }
+
 -- definition i in file order, which may use those before it
 abbrev pub owned_definition : List Definition → ℕ → Owned
 owned_definition ds i =
     record {
-      owner = definition i;
+      owner = Def i;
       known = known_values (take i ds);
       expression = (get_or ds i no_definition).expression;
     }
@@ -77,17 +74,12 @@ defined_line f i = line_by (λ at. known_values (definitions_of f) at i)
 abbrev pub owned_by : File → Owner → Expression → Owned
 owned_by f o x = record { owner = o; known = known_values (definitions_of f); expression = x }
 
-abbrev pub owned_body : File → ℕ → Owned
-owned_body f i = owned_by f (constraint i) (body_of f i)
-
-abbrev pub owned_objective : File → ℕ → Owned
-owned_objective f k = owned_by f (objective k) (objective_of f k)
-
 -- the defined variables in file order, the constraints by number, and objective k
 abbrev pub owners_of : File → ℕ → List Owned
 owners_of f k =
     elements_from (owned_definition (definitions_of f)) 0 (length (definitions_of f))
-    ++ (elements_from (owned_body f) 0 f.counts.n_con ++ owned_objective f k ∷ [])
+    ++ (elements_from (λ i. owned_by f (Con i) (body_of f i)) 0 f.counts.n_con
+    ++ owned_by f (Obj k) (objective_of f k) ∷ [])
 
 -- objective k is there, or it is the 0 of a file without objectives
 abbrev pub has_objective : File → ℕ → Bool

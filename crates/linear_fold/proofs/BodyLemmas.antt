@@ -12,14 +12,14 @@ use Rattle.std.proofs.lemmas.List.Folds.{list_any-append}
 use Rattle.texts.specs.declared.stop.Stop.{Stop}
 use Rattle.texts.specs.declared.stop.Stop.TheVariants.{Fault, Memory}
 use Rattle.program_meaning.specs.Lines.{line_value, Point, constant_line, form_of_line}
-use Rattle.nl_meaning.specs.Trees.{nothing_known, with_value, expression_given, tree_size, with_definition, known_values, Tree}
+use Rattle.nl_meaning.specs.Trees.{expression_given, tree_size, with_definition, known_values, Tree}
 use Rattle.nl_model.specs.File.{File, Term}
 use Rattle.nl_model.specs.declared.definition.Def.{Def as Definition}
 use Rattle.nl_model.specs.HeaderRules.{defined_count, AreCounts}
 use Rattle.nl_model.specs.Rules.{IsDefinition, is_defined, IsFile}
 use Rattle.nl_model.specs.declared.at.Owner.TheVariants.{Def, Con, Obj}
-use Rattle.file_meaning.specs.Expressions.{definition_of, definitions_of, no_definition, linear_terms, tree_or_zero, no_objective, zero_tree, maximises}
-use Rattle.file_meaning.specs.FoldFaults.{Owned, owners_fault, definition, constraint, objective, owned_body, owned_definition, owned_objective, most_coefficients, owners_of, fold_fault, has_objective, no_such_objective, owned_line}
+use Rattle.file_meaning.specs.Expressions.{definition_of, definitions_of, linear_terms, tree_or_zero, maximises, body_of, objective_of}
+use Rattle.file_meaning.specs.FoldFaults.{Owned, owned_by, no_definition, owners_fault, owned_definition, most_coefficients, owners_of, fold_fault, has_objective, no_such_objective, owned_line}
 use Rattle.program_meaning.specs.Elements.{elements_from}
 use Rattle.linear_fold.specs.declared.fold_fault.FoldFault.{FoldFault}
 use Rattle.linear_program.specs.declared.form.Form.{Form}
@@ -50,8 +50,8 @@ use Rattle.file_meaning.proofs.Folding.{clean_has_lines}
 use Rattle.file_meaning.proofs.Formed.{file_formed}
 
 -- ---- values of definitions
-pub known_push : (ds : List Definition) (d : Definition) (at : Point) → known_by (ds ++ d ∷ []) at ≡ with_value (known_by ds at) d.index (expression_given (known_by ds at) (definition_of d).expression at)
-known_push ds d at = ap (λ es. known_values es at) (map_push definition_of ds d) ∙ ap (λ known. known at) (fold-append with_definition (λ x. nothing_known) (map definition_of ds) (definition_of d ∷ []))
+pub known_push : (ds : List Definition) (d : Definition) (at : Point) → known_by (ds ++ d ∷ []) at ≡ (λ i. if i == d.index then expression_given (known_by ds at) (definition_of d).expression at else known_by ds at i)
+known_push ds d at = ap (λ es. known_values es at) (map_push definition_of ds d) ∙ ap (λ known. known at) (fold-append with_definition (λ x i. None) (map definition_of ds) (definition_of d ∷ []))
 
 -- ---- one more form
 some-inj : (x y : Form) → Some x ≡ Some y → x ≡ y
@@ -258,16 +258,16 @@ body_tree (x ∷ xs) zero = joined x
     joined (Some t) = refl
 body_tree (x ∷ xs) (suc i) = body_tree xs i
 
-objective_tree : (os : List Objective) (k : ℕ) → (get_or os k no_objective).tree ≡ tree_or_zero (option_map (λ o. o.tree) (slice_get os k))
+objective_tree : (os : List Objective) (k : ℕ) → (get_or os k (record { maximise = false; tree = tree_or_zero None })).tree ≡ tree_or_zero (option_map (λ o. o.tree) (slice_get os k))
 objective_tree [] k = refl
 objective_tree (o ∷ os) zero = refl
 objective_tree (o ∷ os) (suc k) = objective_tree os k
 
-pub body_owned : (f : File) (i : ℕ) → owned_body f i ≡ owned_at f (Con i)
-body_owned f i = λ q. record { owner = constraint i; known = known_by f.definitions; expression = record { tree = tree_or_zero (body_tree f.bodies i q); terms = linear_terms (get_or f.terms i []) } }
+pub body_owned : (f : File) (i : ℕ) → owned_by f (Con i) (body_of f i) ≡ owned_at f (Con i)
+body_owned f i = λ q. record { owner = Con i; known = known_by f.definitions; expression = record { tree = tree_or_zero (body_tree f.bodies i q); terms = linear_terms (get_or f.terms i []) } }
 
-pub objective_owned : (f : File) (k : ℕ) → owned_objective f k ≡ owned_at f (Obj k)
-objective_owned f k = λ q. record { owner = objective k; known = known_by f.definitions; expression = record { tree = objective_tree f.objectives k q; terms = linear_terms (get_or f.slopes k []) } }
+pub objective_owned : (f : File) (k : ℕ) → owned_by f (Obj k) (objective_of f k) ≡ owned_at f (Obj k)
+objective_owned f k = λ q. record { owner = Obj k; known = known_by f.definitions; expression = record { tree = objective_tree f.objectives k q; terms = linear_terms (get_or f.slopes k []) } }
 
 definition_expression : (ds : List Definition) (i : ℕ) → (get_or (map definition_of ds) i no_definition).expression ≡ record { tree = tree_or_zero (option_map (λ x. x.tree) (slice_get ds i)); terms = linear_terms (option_map_or (λ x. x.terms) (slice_get ds i) []) }
 definition_expression [] i = refl
@@ -275,13 +275,13 @@ definition_expression (d ∷ ds) zero = refl
 definition_expression (d ∷ ds) (suc i) = definition_expression ds i
 
 pub definition_owned : (f : File) (i : ℕ) → owned_definition (definitions_of f) i ≡ owned_at f (Def i)
-definition_owned f i = λ q. record { owner = definition i; known = known_values (take-map definition_of i f.definitions q); expression = definition_expression f.definitions i q }
+definition_owned f i = λ q. record { owner = Def i; known = known_values (take-map definition_of i f.definitions q); expression = definition_expression f.definitions i q }
 
 pub owners_are : (f : File) (k : ℕ) → owners_of f k ≡ elements_from (λ j. owned_at f (Def j)) 0 (length f.definitions) ++ (elements_from (λ j. owned_at f (Con j)) 0 f.counts.n_con ++ owned_at f (Obj k) ∷ [])
 owners_are f k =
     ap₂ (λ a b. a ++ b)
     (elements_same (owned_definition (definitions_of f)) (λ j. owned_at f (Def j)) (definition_owned f) 0 (length (definitions_of f)) ∙ ap (elements_from (λ j. owned_at f (Def j)) 0) (length-map f.definitions definition_of))
-    (ap₂ (λ a b. a ++ b ∷ []) (elements_same (owned_body f) (λ j. owned_at f (Con j)) (body_owned f) 0 f.counts.n_con) (objective_owned f k))
+    (ap₂ (λ a b. a ++ b ∷ []) (elements_same (λ j. owned_by f (Con j) (body_of f j)) (λ j. owned_at f (Con j)) (body_owned f) 0 f.counts.n_con) (objective_owned f k))
 
 -- ---- the three parts
 module _ (f : File) (k c d e : ℕ) (before : c ≡ 0) where
@@ -379,7 +379,7 @@ module _ (f : File) (file : IsFile f) (k : ℕ) (form : Form) (past : f.counts.n
   folded_here : IsExpressionFolded (known_by f.definitions) f.counts.n_var (expression_at f (Obj k)) (Linear form)
   folded_here =
       subst₂ (λ t ts. IsExpressionFolded (known_by f.definitions) f.counts.n_var (record { tree = tree_or_zero t; terms = linear_terms ts }) (Linear form)) (sym no_tree) (sym no_list)
-      (no_terms (known_by f.definitions) f.counts.n_var zero_tree form (zero_folded (known_by f.definitions) f.counts.n_var form line) [] refl)
+      (no_terms (known_by f.definitions) f.counts.n_var (tree_or_zero None) form (zero_folded (known_by f.definitions) f.counts.n_var form line) [] refl)
 
   within_here : IsWithin f.counts.n_var form
   within_here = constant_within f.counts.n_var form zero_ℚ line
@@ -394,7 +394,7 @@ module _ (f : File) (file : IsFile f) (k : ℕ) (form : Form) (past : f.counts.n
 
 -- ---- rows and variables
 module _ (f : File) where
-  body_line : (i : ℕ) (b : Form) → IsFormOf f (Con i) b → form_line b ≡ owned_line (owned_body f i)
+  body_line : (i : ℕ) (b : Form) → IsFormOf f (Con i) b → form_line b ≡ owned_line (owned_by f (Con i) (body_of f i))
   body_line i b h = owner_line f (Con i) b h ∙ ap owned_line (sym (body_owned f i))
 
   rows_are : (i : ℕ) (bodies : List Form) → AreBodiesOf f i bodies → i + length bodies ≡ length f.sides → rows_from i bodies (drop i f.sides) ≡ elements_from (linear_row f) i (length bodies)

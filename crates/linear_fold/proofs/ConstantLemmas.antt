@@ -18,7 +18,7 @@ use Rattle.fractions.proofs.Extremes.{absolute_above, absolute_below, power_of-z
 use Rattle.fractions.proofs.Arithmetic.{over_lowest, over_parts, zero_value}
 use Rattle.fractions.proofs.Values.{own_value, value_le, value_lt}
 use Rattle.program_meaning.specs.Lines.{constant_line, Line, is_constant, are_constant, constants_of}
-use Rattle.nl_meaning.specs.Faults.{constants_line, nonlinear_unless, operator_fault, operator_line, power_fault, too_wide_unless}
+use Rattle.nl_meaning.specs.Faults.{constants_line, operator_fault, operator_line, power_fault, too_wide_unless}
 use Rattle.nl_meaning.specs.declared.Reason.TheVariants.{Nonlinear, RefusedPower, TooWide}
 use Rattle.nl_meaning.specs.Trees.{applied, rule_of}
 use Rattle.code_tables.specs.declared.class.OpClass.{OpClass}
@@ -181,18 +181,18 @@ floor_under x y h e =
     e ∙ ap whole (under_case (λ t. negsuc ((unsigned_abs t - 1) / x.bottom) ≡ int_div_euclid t (pos x.bottom)) (λ n. ap (λ k. negsuc (k / x.bottom)) (omega arith)) x.top h)
 
 -- ---- what constants come to
-pub made_of : (n : ℕ) (c : OpClass) (ls : List Line) (v : ℚ) → are_constant n ls ≡ true → applied (rule_of c) (constants_of ls) ≡ Some v → (nonlinear_unless (are_constant n ls) ≡ None) × (constant_line v ≡ constants_line c ls) × Unit {0}
-made_of n c ls v e f = (ap nonlinear_unless e, ap (λ o. constant_line (or_zero o)) (sym f), tt)
+pub made_of : (n : ℕ) (c : OpClass) (ls : List Line) (v : ℚ) → are_constant n ls ≡ true → applied (rule_of c) (constants_of ls) ≡ Some v → ((if are_constant n ls then None else Some Nonlinear) ≡ None) × (constant_line v ≡ constants_line c ls) × Unit {0}
+made_of n c ls v e f = (ap (λ b. if b then None else Some Nonlinear) e, ap (λ o. constant_line (or_zero o)) (sym f), tt)
 
 pub best_made : (b : Bool) (n : ℕ) (ls : List Line) (v : ℚ) → are_constant n ls ≡ true → applied (rule_of (best_class b)) (constants_of ls) ≡ Some v → (operator_fault n (best_class b) ls ≡ None) × (constant_line v ≡ operator_line n (best_class b) ls) × Unit {0}
 best_made true n ls v e f = made_of n Least ls v e f
 best_made false n ls v e f = made_of n Greatest ls v e f
 
 pub best_varies : (b : Bool) (n : ℕ) (ls : List Line) → are_constant n ls ≡ false → operator_fault n (best_class b) ls ≡ Some Nonlinear
-best_varies true n ls e = ap nonlinear_unless e
-best_varies false n ls e = ap nonlinear_unless e
+best_varies true n ls e = ap (λ b. if b then None else Some Nonlinear) e
+best_varies false n ls e = ap (λ b. if b then None else Some Nonlinear) e
 
-pub one_made : (n : ℕ) (c : OpClass) (l : Line) (v : ℚ) → true ≡ is_constant n l → Some v ≡ applied (rule_of c) (l.constant ∷ []) → (nonlinear_unless (are_constant n (l ∷ [])) ≡ None) × (constant_line v ≡ constants_line c (l ∷ [])) × Unit {0}
+pub one_made : (n : ℕ) (c : OpClass) (l : Line) (v : ℚ) → true ≡ is_constant n l → Some v ≡ applied (rule_of c) (l.constant ∷ []) → ((if are_constant n (l ∷ []) then None else Some Nonlinear) ≡ None) × (constant_line v ≡ constants_line c (l ∷ [])) × Unit {0}
 one_made n c l v e f = made_of n c (l ∷ []) v (and_from _ _ (sym e) refl) (sym f)
 
 -- ---- the least of many, or the greatest

@@ -10,9 +10,9 @@ use Rattle.fractions.proofs.Arithmetic.{zero-+ℚ, *ℚ_zero, +ℚ_zero}
 use Rattle.nl_meaning.specs.declared.Fault.{Fault}
 use Rattle.nl_meaning.specs.Faults.{fault_at, too_wide_unless, line_with_terms, terms_fault, tree_fault}
 use Rattle.program_meaning.specs.Lines.{line_with, Line, line_value, constant_line, products_fit, Point}
-use Rattle.nl_meaning.specs.Trees.{LinearTerm, Known, Tree, Trees, AreTermsBelow, tree_size, trees_size, tree_given}
+use Rattle.nl_meaning.specs.Trees.{LinearTerm, Known, Tree, Trees, AreTermsBelow, tree_size, trees_size, tree_given, number}
 use Rattle.nl_model.specs.File.{Term as FileTerm}
-use Rattle.file_meaning.specs.Expressions.{linear_terms, zero_tree}
+use Rattle.file_meaning.specs.Expressions.{linear_terms}
 use Rattle.linear_program.specs.Coefs.{Term, found, value_or_zero, coef_in, AreAscending, AreBelow}
 use Rattle.linear_fold.specs.InsideLinearTerms.{AreStrictlyAscending, AreZeroTerms}
 use Rattle.linear_program.proofs.Closing.{found_last, found_other}
@@ -186,7 +186,7 @@ entry_within n a i ts (Linear g) z b h = λ j k. ap (λ l. l.coef j) h.1 ∙ ter
 entry_within n a i ts (Broken f) z b h = tt
 
 -- the missing tree is the number 0
-pub zero_folded : (known : Point → Known) (n : ℕ) (f : Form) → form_line f ≡ constant_line zero_ℚ → IsFolded known n 0 zero_tree (Linear f)
+pub zero_folded : (known : Point → Known) (n : ℕ) (f : Form) → form_line f ≡ constant_line zero_ℚ → IsFolded known n 0 (number (pos 0) (pos 0)) (Linear f)
 zero_folded known n f e =
     let zero_is = zero_decimal (pos 0) in (
       ap (λ b. fault_at 0 (too_wide_unless b)) (ap fits zero_is ∙ fits_zero),

@@ -18,7 +18,7 @@ use Rattle.nl_model.specs.File.{File}
 use Rattle.nl_model.specs.FilePlaces.{terms_at, tree_at}
 use Rattle.nl_model.specs.Nodes.{AreNodesOf, first_of_trees, trees_of}
 use Rattle.nl_model.specs.Rules.{AreTermsBelow, IsFile}
-use Rattle.file_meaning.specs.Expressions.{linear_terms, tree_or_zero, zero_tree}
+use Rattle.file_meaning.specs.Expressions.{linear_terms, tree_or_zero}
 use Rattle.file_meaning.specs.FoldFaults.{Owned, most_coefficients, owners_fault}
 use Rattle.linear_program.specs.declared.form.Form.{Form}
 use Rattle.linear_program.specs.declared.form.Kept.TheVariants.{Closed}
@@ -71,7 +71,7 @@ number_node ns x d k one at is fit value t nodes =
     let same : number d.m d.e ≡ t = sym (ap (λ xs. first_of_trees (trees_of xs)) alone) ∙ ap first_of_trees nodes.trees in
     subst (λ u. IsNumber u k) same (is_number d k fit value)
 
-pub zero_number : (k : Frac) → frac_value k ≡ zero_ℚ → IsNumber zero_tree k
+pub zero_number : (k : Frac) → frac_value k ≡ zero_ℚ → IsNumber (number (pos 0) (pos 0)) k
 zero_number k z known n form e = zero_folded known n form (e ∙ ap constant_line z)
 
 pub held_is : (t : Tree) (k : Frac) (ts : List DecimalTerm) (first : ℕ) (h : Held) → IsNumber t k → tree_size t ≡ first → ComesToHeld (constant_line (frac_value k)) first ts h → IsHeld t ts h

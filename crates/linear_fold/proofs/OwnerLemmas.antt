@@ -24,20 +24,21 @@ use Rattle.nl_model.specs.declared.definition.Def.{Def as Definition}
 use Rattle.nl_model.specs.FilePlaces.{HasPlace, terms_at, tree_at}
 use Rattle.nl_model.specs.HeaderRules.{defined_count}
 use Rattle.nl_model.specs.Rules.{AreDefinitions, AreTermsBelow, AreTreesWithin, IsDefinition, IsFile, IsTreeKnown, IsTreeWithin, is_defined, most_terms}
-use Rattle.file_meaning.specs.Expressions.{linear_term, linear_terms, tree_or_zero, zero_tree}
-use Rattle.file_meaning.specs.FoldFaults.{Owned, at_owner, coefficient_count, fold_too_large, head_fault, most_coefficients, owned_line, owners_fault}
+use Rattle.file_meaning.specs.Expressions.{linear_terms, tree_or_zero}
+use Rattle.file_meaning.specs.FoldFaults.{Owned, at_place, coefficient_count, fold_too_large, head_fault, most_coefficients, owned_line, owners_fault}
 use Rattle.linear_fold.specs.declared.fold_fault.FoldFault.TheVariants.{FoldTooLarge}
 use Rattle.linear_program.specs.declared.form.Form.{Form}
-use Rattle.linear_fold.specs.FoldedFaults.{HasFaultPlace, fault_for, named_fault, owner_of, place_at}
+use Rattle.linear_fold.specs.FoldedFaults.{HasFaultPlace, fault_for, named_fault, place_at}
 use Rattle.linear_fold.specs.declared.entries.Entry.{Entry}
 use Rattle.linear_program.specs.Coefs.{AreAscending}
 use Rattle.linear_program.specs.Forms.{IsWithin, form_line, form_terms}
 use Rattle.linear_fold.specs.InsideFolds.{AreKnown, AreSlotsWithin, AreTreesGiven, HasLineOf, IsExpressionFolded, IsGiven, IsTreeGiven}
-use Rattle.linear_fold.specs.InsideOwnerFolds.{AreSlotsOf, HasOwner, IsFormOf, definitions_before, expression_at, fold_owner_of, known_by, owned_at}
+use Rattle.linear_fold.specs.InsideOwnerFolds.{AreSlotsOf, HasOwner, IsFormOf, definitions_before, expression_at, known_by, owned_at}
 use Rattle.linear_program.proofs.CoefLemmas.{apart_test}
 use Rattle.linear_fold.proofs.CountLemmas.{count_zero, form_count_is}
 use Rattle.linear_fold.proofs.Folding.{constant_lined, is_line_of}
 use Rattle.exact_numbers.proofs.Zeros.{fits_zero}
+use Rattle.exact_numbers.specs.Values.{dec_value}
 
 -- ---- the definition at a position
 pub definition_at : (n k : ℕ) (known ds : List Definition) → AreDefinitions n k known ds → (i : ℕ) (d : Definition) → slice_get ds i ≡ Some d → IsDefinition n k (known ++ take i ds) d
@@ -134,8 +135,8 @@ module _ (known : Point → Known) (n : ℕ) where
 terms_place : (i : ℕ) (ts : List Term) (a : Line) (x : Fault) → terms_fault a i (linear_terms ts) ≡ Some x → (i ≤ x.place) × (x.place < i + length ts)
 terms_place i [] a x h = cc
 terms_place i (t ∷ ts) a x h =
-    let wide = too_wide_unless (fits (linear_term t).factor && sum_fits (a.coef t.0) (linear_term t).factor) in
-    let next = line_with a t.0 (linear_term t).factor in
+    let wide = too_wide_unless (fits (dec_value t.1) && sum_fits (a.coef t.0) (dec_value t.1)) in
+    let next = line_with a t.0 (dec_value t.1) in
     either_fault (fault_at i wide) (terms_fault next (i + 1) (linear_terms ts)) x
     (λ e. let p = fault_at_place i wide x e in (omega arith, omega arith))
     (λ e. let r = terms_place (i + 1) ts next x e in (omega (arith, r.0), omega (arith, r.1))) h
@@ -175,10 +176,6 @@ owner_place f o r p among =
     (λ (a : (p < size) × (p < option_map_or tree_size (tree_at f o) 0)). chosen (HasPlace f) (nat_lt p size) true (Node o p) (TermOf o (p - size)) (lt-ltb p size a.0) a.1)
     (λ (a : (size ≤ p) × (p - size < length (terms_at f o)) × (p < size + length (terms_at f o))). chosen (HasPlace f) (nat_lt p size) false (Node o p) (TermOf o (p - size)) (le-ltb p size a.0) a.1) among)
 
-pub owner_is : (o : Owner) → owner_of (fold_owner_of o) ≡ o
-owner_is (Def i) = refl
-owner_is o = refl
-
 -- ---- what the fold of an expression says of an owner
 module _ (f : File) (o : Owner) (v : ℕ) (t : Option Tree) (ts : List Term) (slots seen : List (Option Form)) (count : v ≡ f.counts.n_var) (tree : t ≡ tree_at f o) (terms : ts ≡ terms_at f o) (view : seen ≡ slots) (s : AreSlotsOf f (definitions_before f o) slots) where
   pub entry_seen : (e : Entry) → ((known : Point → Known) → AreKnown v known seen → IsExpressionFolded known v (record { tree = tree_or_zero t; terms = linear_terms ts }) e) → IsExpressionFolded (known_by (definitions_before f o)) f.counts.n_var (expression_at f o) e
@@ -206,24 +203,22 @@ module _ (f : File) (o : Owner) (before : ℕ) where
 
   pub broken_folded : (x : Fault) → expression_fault (known_by (definitions_before f o)) width (expression_at f o) ≡ Some x → (rest : List Owned) → option_map (named_fault f) (owners_fault width before (owned_at f o ∷ rest)) ≡ Some (fault_for x.reason (place_at f o x.place))
   broken_folded x h rest =
-      ap (λ e. option_map (named_fault f) (option_or (option_or (at_owner (fold_owner_of o) e) (head_fault (fold_owner_of o) total)) (owners_fault width total rest))) h
-      ∙ ap (λ w. Some (fault_for x.reason (place_at f w x.place))) (owner_is o)
+      ap (λ e. option_map (named_fault f) (option_or (option_or (option_map (at_place o) e) (head_fault o total)) (owners_fault width total rest))) h
 
-  clean : expression_fault (known_by (definitions_before f o)) width (expression_at f o) ≡ None → (rest : List Owned) → owners_fault width before (owned_at f o ∷ rest) ≡ option_or (head_fault (fold_owner_of o) total) (owners_fault width total rest)
-  clean h rest = ap (λ e. option_or (option_or (at_owner (fold_owner_of o) e) (head_fault (fold_owner_of o) total)) (owners_fault width total rest)) h
+  clean : expression_fault (known_by (definitions_before f o)) width (expression_at f o) ≡ None → (rest : List Owned) → owners_fault width before (owned_at f o ∷ rest) ≡ option_or (head_fault o total) (owners_fault width total rest)
+  clean h rest = ap (λ e. option_or (option_or (option_map (at_place o) e) (head_fault o total)) (owners_fault width total rest)) h
 
   pub linear_folded : (extra after : ℕ) → expression_fault (known_by (definitions_before f o)) width (expression_at f o) ≡ None → coefficient_count width (owned_line (owned_at f o)) ≡ extra → after ≡ before + extra → after ≤ most_coefficients → (rest : List Owned) → owners_fault width before (owned_at f o ∷ rest) ≡ owners_fault width after rest
   linear_folded extra after h c e few rest =
       let same : total ≡ after = ap (λ m. before + m) c ∙ sym e in
-      clean h rest ∙ ap (λ m. option_or (head_fault (fold_owner_of o) m) (owners_fault width m rest)) same
-      ∙ ap (λ b. option_or (if b then Some (fold_too_large (fold_owner_of o)) else None) (owners_fault width after rest)) (le-ltb most_coefficients after few)
+      clean h rest ∙ ap (λ m. option_or (head_fault o m) (owners_fault width m rest)) same
+      ∙ ap (λ b. option_or (if b then Some (fold_too_large o) else None) (owners_fault width after rest)) (le-ltb most_coefficients after few)
 
   pub large_folded : (extra : ℕ) → expression_fault (known_by (definitions_before f o)) width (expression_at f o) ≡ None → coefficient_count width (owned_line (owned_at f o)) ≡ extra → most_coefficients < before + extra → (rest : List Owned) → option_map (named_fault f) (owners_fault width before (owned_at f o ∷ rest)) ≡ Some (FoldTooLarge (Head o))
   large_folded extra h c many rest =
       let same : total ≡ before + extra = ap (λ m. before + m) c in
-      ap (option_map (named_fault f)) (clean h rest ∙ ap (λ m. option_or (head_fault (fold_owner_of o) m) (owners_fault width m rest)) same)
-      ∙ ap (λ b. option_map (named_fault f) (option_or (if b then Some (fold_too_large (fold_owner_of o)) else None) (owners_fault width (before + extra) rest))) (lt-ltb most_coefficients (before + extra) many)
-      ∙ ap (λ w. Some (FoldTooLarge (Head w))) (owner_is o)
+      ap (option_map (named_fault f)) (clean h rest ∙ ap (λ m. option_or (head_fault o m) (owners_fault width m rest)) same)
+      ∙ ap (λ b. option_map (named_fault f) (option_or (if b then Some (fold_too_large o) else None) (owners_fault width (before + extra) rest))) (lt-ltb most_coefficients (before + extra) many)
 
 -- ---- the head of an owner with a coefficient
 head_of : (t : Option Tree) (ts : List Term) → (t ≡ None → ts ≡ [] → ⊥) → IsTrue (is_some t || not (length ts == 0))
@@ -234,7 +229,7 @@ head_of (Some t) ts h = refl
 -- a missing tree without terms has no coefficients
 nothing_counted : (known : Point → Known) (n : ℕ) (t : Option Tree) (ts : List Term) (form : Form) → t ≡ None → ts ≡ [] → IsWithin n form → HasLineOf n (λ at. expression_given (known at) (record { tree = tree_or_zero t; terms = linear_terms ts }) at) form → coefficient_count n (form_line form) ≡ 0
 nothing_counted known n t ts form e g within values =
-    let empty : Expression = record { tree = zero_tree; terms = [] } in
+    let empty : Expression = record { tree = tree_or_zero None; terms = [] } in
     let here : HasLineOf n (λ at. expression_given (known at) empty at) form = subst₂ (λ u us. HasLineOf n (λ at. expression_given (known at) (record { tree = tree_or_zero u; terms = linear_terms us }) at) form) e g values in
     let constant = terms_added n known empty (constant_line (decimal_value (pos 0) (pos 0))) tt (constant_lined n (decimal_value (pos 0) (pos 0))) in
     count_zero n (form_line form)

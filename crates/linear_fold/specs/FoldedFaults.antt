@@ -8,18 +8,12 @@ use Rattle.nl_meaning.specs.Trees.{tree_size}
 use Rattle.nl_model.specs.declared.at.At.{At}
 use Rattle.nl_model.specs.declared.at.At.TheVariants.{Node, Term, Head}
 use Rattle.nl_model.specs.declared.at.Owner.{Owner}
-use Rattle.nl_model.specs.declared.at.Owner.TheVariants.{Def, Con, Obj}
 use Rattle.nl_model.specs.File.{File}
 use Rattle.nl_model.specs.FilePlaces.{HasPlace, tree_at}
 use Rattle.file_meaning.specs.Expressions.{tree_or_zero}
-use Rattle.file_meaning.specs.FoldFaults.{Owner as FoldOwner, definition, constraint, objective, FoldFault as FileFault, no_such_objective, at_place, fold_too_large, fold_fault}
+use Rattle.file_meaning.specs.FoldFaults.{FoldFault as FileFault, no_such_objective, at_place, fold_too_large, fold_fault}
 use Rattle.linear_fold.specs.declared.fold_fault.FoldFault.{FoldFault}
 use Rattle.linear_fold.specs.declared.fold_fault.FoldFault.TheVariants.{Nonlinear, DivideByZero, TooWide, RefusedPower, FoldTooLarge, NoSuchObjective}
-
-abbrev pub owner_of : FoldOwner → Owner
-owner_of (definition i) = Def i
-owner_of (constraint i) = Con i
-owner_of (objective k) = Obj k
 
 -- of an owner with so many nodes: nodes are numbered from 0, and the terms after them
 abbrev pub place_after : ℕ → Owner → ℕ → At
@@ -37,8 +31,8 @@ fault_for HasRefusedPower at = RefusedPower at
 
 abbrev pub named_fault : File → FileFault → FoldFault
 named_fault f (no_such_objective k) = NoSuchObjective k
-named_fault f (at_place o fault) = fault_for fault.reason (place_at f (owner_of o) fault.place)
-named_fault f (fold_too_large o) = FoldTooLarge (Head (owner_of o))
+named_fault f (at_place o fault) = fault_for fault.reason (place_at f o fault.place)
+named_fault f (fold_too_large o) = FoldTooLarge (Head o)
 
 -- the first fault of folding a file with objective k
 abbrev pub first_fold_fault : File → ℕ → Option FoldFault

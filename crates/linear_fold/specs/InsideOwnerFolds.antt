@@ -13,7 +13,7 @@ use Rattle.nl_model.specs.FilePlaces.{tree_at, terms_at, node_count}
 use Rattle.nl_model.specs.HeaderRules.{defined_count}
 use Rattle.nl_model.specs.Rules.{is_defined}
 use Rattle.file_meaning.specs.Expressions.{definition_of, linear_terms, tree_or_zero}
-use Rattle.file_meaning.specs.FoldFaults.{Owner as FoldOwner, definition, constraint, objective, Owned, most_coefficients, owners_fault}
+use Rattle.file_meaning.specs.FoldFaults.{Owned, most_coefficients, owners_fault}
 use Rattle.linear_fold.specs.declared.fold_fault.FoldFault.{FoldFault}
 use Rattle.linear_program.specs.declared.form.Form.{Form}
 use Rattle.linear_fold.specs.declared.owners.Folder.{Folder}
@@ -44,15 +44,10 @@ abbrev pub expression_at : File → Owner → Expression
 expression_at f o =
     record { tree = tree_or_zero (tree_at f o); terms = linear_terms (terms_at f o) }
 
-abbrev pub fold_owner_of : Owner → FoldOwner
-fold_owner_of (Def i) = definition i
-fold_owner_of (Con i) = constraint i
-fold_owner_of (Obj k) = objective k
-
 abbrev pub owned_at : File → Owner → Owned
 owned_at f o =
     record {
-      owner = fold_owner_of o;
+      owner = o;
       known = known_by (definitions_before f o);
       expression = expression_at f o;
     }

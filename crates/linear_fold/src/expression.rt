@@ -6,7 +6,7 @@ ghost use Rattle.program_meaning.specs.Lines.{Line, Point};
 ghost use Rattle.nl_meaning.specs.Trees.{Known, LinearTerm, Tree, tree_size};
 ghost use Rattle.nl_model.specs.Nodes.{IsTreeFormed};
 ghost use Rattle.nl_model.specs.Rules.{AreTermsBelow};
-ghost use Rattle.file_meaning.specs.Expressions.{linear_term, linear_terms, tree_or_zero};
+ghost use Rattle.file_meaning.specs.Expressions.{linear_terms, tree_or_zero};
 ghost use Rattle.linear_fold.specs.InsideFolds.{AddsTerms, AreKnown, AreSlotsWithin, ComesToTerms, IsEntryWithin, IsExpressionFolded, IsFolded, IsTreeGiven};
 ghost use Rattle.linear_program.specs.Forms.{IsWithin, form_line, place_count, sum_line};
 ghost use Rattle.linear_fold.specs.InsideOperates.{IsBlank, IsPad};
@@ -70,7 +70,7 @@ fn tree_entry<L: Ledger>(
 // Adds a term, which has a number.
 fn add_one(total: &mut Sum, variable: u32, factor: Dec, place: usize) -> Result<(), Stop<Fault>>
     requires { variable < place_count total.old }
-    ensures adds { AddsTerms (sum_line total.old) place (linear_term (variable, factor) ∷ [])
+    ensures adds { AddsTerms (sum_line total.old) place (linear_terms ((variable, factor) ∷ []))
         (sum_line total.new) result }
     ensures places { place_count total.new ≡ place_count total.old }
 {

@@ -1,7 +1,6 @@
 -- A pair is judged by what is held as it is by the pieces.
 use Rattle.std.proofs.Common.{◌≡◌, ◌∙◌, ℕ, ◌<◌, Bool, true, false, not, ◌&&◌, List, [], ◌∷◌, ◌++◌, refl, sym, ap, ap₂, Option, Some, None, get_or, nat_lt}
-use Rattle.std.specs.Prelude.{unwrap_or, is_none, ◌||◌}
-use Rattle.std.specs.Option.{option_map_or}
+use Rattle.std.specs.Prelude.{unwrap_or, is_none}
 use Rattle.std.proofs.lemmas.Bool.{ltb-true}
 use Rattle.texts.specs.Judged.{first_reason}
 use Rattle.texts.proofs.FirstReasons.{none_each, reason_before, reason_after, same_reasons}
@@ -11,7 +10,7 @@ use Rattle.nl_model.specs.File.{Term}
 use Rattle.nl_lines.specs.declared.fault.NlReason.TheVariants.{TooLarge, RepeatedIndex}
 use Rattle.nl_lines.specs.declared.fault.NlReason.{NlReason}
 use Rattle.nl_lines.specs.declared.head.Head.{Head}
-use Rattle.exact_numbers.specs.Numbers.{dec_of, whole_of, is_whole}
+use Rattle.exact_numbers.specs.Numbers.{dec_of, whole_of}
 use Rattle.texts.specs.Words.{word_at}
 use Rattle.nl_lines.specs.Pieces.{Piece, pair_in, piece_pairs}
 use Rattle.nl_lines.specs.Tests.{Tests, has_index, holds_once, index_limit, is_some_below, is_full, pair_form_tests, pair_tests, wants_whole_values}
@@ -84,7 +83,7 @@ pair_found limit whole words e =
     let none = none_each (pair_form_tests limit whole words) e in
     by (below_limit limit (whole_of (word_at words 0)) none.1.0) (dec_of (word_at words 1)) refl none.1.1.0
   where
-    by : IsIndex limit (whole_of (word_at words 0)) → (o : Option Dec) → dec_of (word_at words 1) ≡ o → (is_none o || (whole && not (option_map_or is_whole o true))) ≡ false → IsPair limit words
+    by : IsIndex limit (whole_of (word_at words 0)) → (o : Option Dec) → dec_of (word_at words 1) ≡ o → is_none o ≡ false → IsPair limit words
     by i None q f = absurd cc
     by i (Some d) q f = record { term = (i.index, d); says = rw (i.is, q) refl; below = i.below }
 

@@ -48,43 +48,33 @@ bare_head head words =
     if length words == 1 && (length (word_at words 0) == 1) then Some head else None
 
 -- a letter and a number: `C0`
-abbrev pub numbered_head : (ℕ → Head) → List (List ℕ) → Option Head
-numbered_head head words = if length words == 1 then option_map head (own_number words) else None
+abbrev pub numbered_head : (ℕ → Option Head) → List (List ℕ) → Option Head
+numbered_head head words =
+    if length words == 1 then option_and_then head (own_number words) else None
+
+-- the number after the letter, and the next word's
+abbrev pub of_two_numbers : (ℕ → ℕ → Option Head) → List (List ℕ) → Option Head
+of_two_numbers head words =
+    option_and_then (λ i. option_and_then (head i) (number_at words 1)) (own_number words)
 
 -- a letter and two numbers: `J0 2`
-abbrev pub counted_head : (ℕ → ℕ → Head) → List (List ℕ) → Option Head
-counted_head head words =
-    if length words == 2
-    then option_and_then (λ i. option_map (head i) (number_at words 1)) (own_number words)
-    else None
+abbrev pub counted_head : (ℕ → ℕ → Option Head) → List (List ℕ) → Option Head
+counted_head head words = if length words == 2 then of_two_numbers head words else None
 
 -- `O0 1`: the sense is 0 or 1
 abbrev pub with_sense : ℕ → ℕ → Option Head
 with_sense k sense = if nat_le sense 1 then Some (Objective k (sense == 1)) else None
 
-abbrev pub objective_head : List (List ℕ) → Option Head
-objective_head words =
-    if length words == 2
-    then option_and_then (λ k. option_and_then (with_sense k) (number_at words 1))
-    (own_number words)
-    else None
-
 -- `V4 1 0`
 abbrev pub definition_head : List (List ℕ) → Option Head
 definition_head words =
     if length words == 3
-    then option_and_then
-    (λ i. option_and_then (λ j. option_map (Definition i j) (number_at words 2))
-    (number_at words 1)) (own_number words)
+    then of_two_numbers (λ i j. option_map (Definition i j) (number_at words 2)) words
     else None
 
 -- `k3`: one number less than there are variables
-abbrev pub column_head : Counts → List (List ℕ) → Option Head
-column_head c words =
-    if length words == 1
-    then option_and_then (λ n. if n + 1 == c.n_var then Some (ColumnCounts n) else None)
-    (own_number words)
-    else None
+abbrev pub of_columns : Counts → ℕ → Option Head
+of_columns c n = if n + 1 == c.n_var then Some (ColumnCounts n) else None
 
 -- `S0 2 name`: the kind is below 256
 abbrev pub of_kind : ℕ → ℕ → Option Head
@@ -92,25 +82,22 @@ of_kind kind n = if nat_lt kind 256 then Some (Suffix kind n) else None
 
 abbrev pub suffix_head : List (List ℕ) → Option Head
 suffix_head words =
-    if length words == 3 && is_name (word_at words 2)
-    then option_and_then (λ kind. option_and_then (of_kind kind) (number_at words 1))
-    (own_number words)
-    else None
+    if length words == 3 && is_name (word_at words 2) then of_two_numbers of_kind words else None
 
 -- what a head says, where its form is right
 unfoldable pub head_of : Counts → List (List ℕ) → Option Head
 head_of c words =
     let letter = letter_of words in
-    if letter == 67 then numbered_head Body words else
-    if letter == 79 then objective_head words else
+    if letter == 67 then numbered_head (λ i. Some (Body i)) words else
+    if letter == 79 then counted_head with_sense words else
     if letter == 86 then definition_head words else
-    if letter == 100 then numbered_head DualGuesses words else
-    if letter == 120 then numbered_head PrimalGuesses words else
+    if letter == 100 then numbered_head (λ n. Some (DualGuesses n)) words else
+    if letter == 120 then numbered_head (λ n. Some (PrimalGuesses n)) words else
     if letter == 114 then bare_head Sides words else
     if letter == 98 then bare_head Bounds words else
-    if letter == 107 then column_head c words else
-    if letter == 74 then counted_head Terms words else
-    if letter == 71 then counted_head Slopes words else
+    if letter == 107 then numbered_head (of_columns c) words else
+    if letter == 74 then counted_head (λ i n. Some (Terms i n)) words else
+    if letter == 71 then counted_head (λ k n. Some (Slopes k n)) words else
     if letter == 83 then suffix_head words else None
 
 -- the name of a suffix is the third word

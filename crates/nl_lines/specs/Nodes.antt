@@ -9,10 +9,10 @@ use Rattle.nl_model.specs.declared.node.Node.TheVariants.{Num, Var, Defined, Op}
 pub use Rattle.nl_lines.specs.declared.pending.Pending.{Pending}
 use Rattle.fractions.specs.Rational.{whole}
 use Rattle.exact_numbers.specs.declared.dec.Dec.{Dec}
-use Rattle.exact_numbers.specs.Numbers.{whole_of, signed_of, dec_from, dec_of}
+use Rattle.exact_numbers.specs.Numbers.{signed_of, dec_from, dec_of}
 use Rattle.nl_lines.specs.Rows.{NumberedRow, row_words}
 use Rattle.texts.specs.Words.{word_at}
-use Rattle.nl_lines.specs.Heads.{letter_of, own_number}
+use Rattle.nl_lines.specs.Heads.{letter_of, own_number, number_at}
 
 -- a node, and the line where it stands
 pub record Placed : Type 0 where
@@ -72,11 +72,7 @@ placed_in n row =
 -- a pending opcode with the number of operands that a row says stands at the opcode's line
 abbrev pub with_operands : Pending → NumberedRow → Placed
 with_operands p row =
-    record {
-      node = Op p.opcode
-          (unwrap_or (whole_of (word_at (row_words row) 0)) 0);
-      line = p.line;
-    }
+    record { node = Op p.opcode (unwrap_or (number_at (row_words row) 0) 0); line = p.line }
 
 -- the nodes of rows, before which an opcode may be pending
 unfoldable pub nodes_from : ℕ → Option Pending → List NumberedRow → List Placed
@@ -90,16 +86,9 @@ pending_from pending [] = pending
 pending_from None (row ∷ rows) = pending_from (pending_in row) rows
 pending_from (Some p) (row ∷ rows) = pending_from None rows
 
--- the rows of one expression: their nodes, and whether an opcode awaits its number of operands
--- after them
+-- the nodes of the rows of one expression
 abbrev pub nodes_of : ℕ → List NumberedRow → List Placed
 nodes_of n rows = nodes_from n None rows
 
-abbrev pub pending_of : List NumberedRow → Option Pending
-pending_of rows = pending_from None rows
-
 abbrev pub only_nodes : List Placed → List Node
 only_nodes placed = map (λ p. p.node) placed
-
-abbrev pub only_lines : List Placed → List ℕ
-only_lines placed = map (λ p. p.line) placed

@@ -12,12 +12,12 @@ use Rattle.nl_model.specs.Nodes.{awaited}
 use Rattle.nl_lines.specs.declared.awaited.Awaited.{Awaited}
 use Rattle.nl_lines.specs.declared.awaited.Awaited.TheVariants.{Nothing, Node as NodeLine, OperandCount}
 use Rattle.nl_lines.specs.declared.head.Head.{Head}
-use Rattle.exact_numbers.specs.Numbers.{whole_of, dec_of}
+use Rattle.exact_numbers.specs.Numbers.{dec_of}
 use Rattle.nl_lines.specs.Rows.{NumberedRow, row_words}
 use Rattle.texts.specs.Words.{word_at}
 use Rattle.nl_lines.specs.Segment.{kind_in, lines_in, pairs_in, segment_of}
-use Rattle.nl_lines.specs.Heads.{is_head, head_of, name_in}
-use Rattle.nl_lines.specs.Nodes.{Placed, Pending, nodes_of, pending_of, only_nodes}
+use Rattle.nl_lines.specs.Heads.{is_head, head_of, name_in, number_at}
+use Rattle.nl_lines.specs.Nodes.{Placed, Pending, nodes_of, pending_from, only_nodes}
 
 -- what the head says, its third word, which names a suffix, its line, and the rows after it
 pub record Piece : Type 0 where
@@ -30,12 +30,8 @@ pub record Piece : Type 0 where
 abbrev pub with_head : List Piece → NumberedRow → Option Head → List Piece
 with_head pieces row None = pieces
 with_head pieces row (Some head) =
-    pieces ++ record {
-      head = head;
-      name = name_in (row_words row);
-      line = row.line;
-      rows = [];
-    } ∷ []
+    let name = name_in (row_words row) in
+    pieces ++ record { head = head; name = name; line = row.line; rows = [] } ∷ []
 
 -- with a row more in the last piece
 unfoldable pub extended : List Piece → NumberedRow → List Piece
@@ -88,7 +84,7 @@ abbrev pub piece_nodes : Counts → Piece → List Placed
 piece_nodes c p = nodes_of c.n_var (tree_rows p)
 
 abbrev pub piece_pending : Piece → Option Pending
-piece_pending p = pending_of (tree_rows p)
+piece_pending p = pending_from None (tree_rows p)
 
 -- what an expression awaits
 abbrev pub tree_awaits : List Placed → Option Pending → Awaited
@@ -117,8 +113,7 @@ awaited_of c pieces = option_map_or (awaited_in c) (last_piece pieces) Nothing
 -- `index value`
 unfoldable pub pair_in : List (List ℕ) → Option Term
 pair_in words =
-    option_and_then (λ i. option_map (λ d. (i, d)) (dec_of (word_at words 1)))
-    (whole_of (word_at words 0))
+    option_and_then (λ i. option_map (λ d. (i, d)) (dec_of (word_at words 1))) (number_at words 0)
 
 abbrev pub piece_pairs : Piece → List Term
 piece_pairs p = filter_map (λ r. pair_in (row_words r)) (take (pair_count p.head) p.rows)
@@ -132,19 +127,12 @@ between (Some lo) (Some hi) = Some (record { lo = Some lo; hi = Some hi })
 unfoldable pub interval_in : List (List ℕ) → Option Interval
 interval_in words =
     let kind = word_at words 0 in
-    if bytes_eq kind (codes "0") then
-    between (dec_of (word_at words 1)) (dec_of (word_at words 2)) else
-    if bytes_eq kind (codes "1") then
-    option_map (λ hi. record { lo = None; hi = Some hi }) (dec_of (word_at words 1)) else
-    if bytes_eq kind (codes "2") then
-    option_map (λ lo. record { lo = Some lo; hi = None }) (dec_of (word_at words 1)) else
+    let side = dec_of (word_at words 1) in
+    if bytes_eq kind (codes "0") then between side (dec_of (word_at words 2)) else
+    if bytes_eq kind (codes "1") then option_map (λ d. record { lo = None; hi = Some d }) side else
+    if bytes_eq kind (codes "2") then option_map (λ d. record { lo = Some d; hi = None }) side else
     if bytes_eq kind (codes "3") then Some (record { lo = None; hi = None }) else
-    if bytes_eq kind (codes "4") then
-    between (dec_of (word_at words 1)) (dec_of (word_at words 1)) else None
+    if bytes_eq kind (codes "4") then between side side else None
 
 abbrev pub piece_intervals : Piece → List Interval
 piece_intervals p = filter_map (λ r. interval_in (row_words r)) p.rows
-
--- the numbers of columns
-abbrev pub piece_counts : Piece → List ℕ
-piece_counts p = filter_map (λ r. whole_of (word_at (row_words r) 0)) p.rows

@@ -1,6 +1,6 @@
 -- The rows of an .nl text: its lines that hold words, without their comments. The first ten are the
 -- header, and the others are the body.
-use Rattle.std.specs.Prelude.{ℕ, ◌+◌, ◌==◌, not, Bool, List, [], ◌∷◌, length, take, drop, map, if◌then◌else◌}
+use Rattle.std.specs.Prelude.{ℕ, ◌+◌, ◌==◌, not, Bool, List, [], ◌∷◌, length, take, map, if◌then◌else◌}
 use Rattle.texts.specs.Words.{words_of, row_of, without_comment}
 
 -- the number of the line in the text, counted from 1, and its text without the comment
@@ -26,9 +26,6 @@ rows_of lines = rows_from 1 lines
 -- the words of the header's rows
 abbrev pub header_words : List NumberedRow → List (List (List ℕ))
 header_words rows = map (λ r. words_of r.text) (take 10 rows)
-
-abbrev pub body_rows : List NumberedRow → List NumberedRow
-body_rows rows = drop 10 rows
 
 -- the words of a row of the body; those past the twelfth never matter
 abbrev pub row_words : NumberedRow → List (List ℕ)

@@ -8,12 +8,15 @@ use Rattle.nl_model.specs.declared.at.At.TheVariants.{Node, Term, Head as HeadOf
 use Rattle.nl_model.specs.declared.at.Owner.{Owner}
 use Rattle.nl_model.specs.declared.at.Owner.TheVariants.{Def, Con, Obj}
 use Rattle.nl_model.specs.declared.header_counts.Counts.{Counts}
+use Rattle.nl_model.specs.declared.definition.Def.{Def as FileDefinition}
+use Rattle.nl_model.specs.declared.objective.Objective.{Objective as FileObjective}
+use Rattle.nl_model.specs.declared.suffix.Suffix.{Suffix as FileSuffix}
 use Rattle.nl_model.specs.Draft.{Draft, empty_draft}
 use Rattle.nl_model.specs.Nodes.{tree_of}
 use Rattle.nl_meaning.specs.Trees.{Tree}
 use Rattle.nl_lines.specs.declared.head.Head.{Head}
 use Rattle.nl_lines.specs.declared.head.Head.TheVariants.{Body, Objective, Definition, DualGuesses, PrimalGuesses, Sides, Bounds, ColumnCounts, Terms, Slopes, Suffix}
-use Rattle.nl_lines.specs.Nodes.{only_nodes, only_lines}
+use Rattle.nl_lines.specs.Nodes.{only_nodes}
 use Rattle.nl_lines.specs.Pieces.{Piece, is_complete, pair_count, piece_nodes, piece_pairs, piece_intervals}
 
 -- ---- The file. Expressions, defined variables and suffixes are said by complete pieces alone,
@@ -34,21 +37,13 @@ abbrev pub said_by : Draft → Piece → Head → Draft
 said_by d p (Body i) =
     if_complete d p (record d { bodies = slice_set d.bodies i (Some (piece_tree d.counts p)) })
 said_by d p (Objective k maximise) =
-    if_complete d p
-    (record d {
-      objectives = slice_set d.objectives k
-          (Some (record { maximise = maximise; tree = piece_tree d.counts p }));
-    })
+    let objective : FileObjective = record { maximise = maximise; tree = piece_tree d.counts p } in
+    if_complete d p (record d { objectives = slice_set d.objectives k (Some objective) })
 said_by d p (Definition i j usage) =
-    if_complete d p (record d {
-      definitions = d.definitions
-          ++ record {
-            index = i;
-            terms = piece_pairs p;
-            usage = usage;
-            tree = piece_tree d.counts p;
-          } ∷ [];
-    })
+    let tree = piece_tree d.counts p in
+    let definition : FileDefinition =
+    record { index = i; terms = piece_pairs p; usage = usage; tree = tree } in
+    if_complete d p (record d { definitions = d.definitions ++ definition ∷ [] })
 said_by d p (DualGuesses n) = record d { dual_guesses = d.dual_guesses ++ piece_pairs p }
 said_by d p (PrimalGuesses n) = record d { primal_guesses = d.primal_guesses ++ piece_pairs p }
 said_by d p Sides = record d { sides = d.sides ++ piece_intervals p }
@@ -57,11 +52,8 @@ said_by d p (ColumnCounts n) = d
 said_by d p (Terms i n) = record d { terms = with_terms d.terms i p }
 said_by d p (Slopes k n) = record d { slopes = with_terms d.slopes k p }
 said_by d p (Suffix kind n) =
-    if_complete d p
-    (record d {
-      suffixes = d.suffixes
-          ++ record { kind = kind; name = p.name; values = piece_pairs p } ∷ [];
-    })
+    let suffix : FileSuffix = record { kind = kind; name = p.name; values = piece_pairs p } in
+    if_complete d p (record d { suffixes = d.suffixes ++ suffix ∷ [] })
 
 abbrev pub with_piece : Draft → Piece → Draft
 with_piece d p = said_by d p p.head
@@ -97,7 +89,7 @@ empty_lines c =
     }
 
 abbrev pub node_lines : Counts → Piece → List ℕ
-node_lines c p = only_lines (piece_nodes c p)
+node_lines c p = map (λ n. n.line) (piece_nodes c p)
 
 abbrev pub term_lines : Piece → List ℕ
 term_lines p = map (λ r. r.line) (take (pair_count p.head) p.rows)
@@ -108,29 +100,23 @@ abbrev pub with_tree_lines : Counts → Piece → OwnerLines → OwnerLines
 with_tree_lines c p o = record { head = Some p.line; nodes = node_lines c p; terms = o.terms }
 
 abbrev pub with_term_lines : Piece → OwnerLines → OwnerLines
-with_term_lines p o =
-    record { head = option_or o.head (Some p.line); nodes = o.nodes; terms = term_lines p }
-
--- the same for an objective, whose head is that of its expression alone
-abbrev pub with_slope_lines : Piece → OwnerLines → OwnerLines
-with_slope_lines p o = record o { terms = term_lines p }
+with_term_lines p o = record o { head = option_or o.head (Some p.line); terms = term_lines p }
 
 abbrev pub changed : (OwnerLines → OwnerLines) → List OwnerLines → ℕ → List OwnerLines
 changed change owners i = slice_set owners i (change (get_or owners i no_lines))
 
+-- the same with those of one piece; of an objective the head is that of its expression alone
 abbrev pub more_lines : Counts → PlaceLines → Piece → Head → PlaceLines
 more_lines c l p (Body i) = record l { constraints = changed (with_tree_lines c p) l.constraints i }
 more_lines c l p (Objective k maximise) =
     record l { objectives = changed (with_tree_lines c p) l.objectives k }
 more_lines c l p (Definition i j usage) =
-    record l {
-      definitions = l.definitions
-          ++ record { head = Some p.line; nodes = node_lines c p; terms = term_lines p } ∷ [];
-    }
+    let own = with_term_lines p (with_tree_lines c p no_lines) in
+    record l { definitions = l.definitions ++ own ∷ [] }
 more_lines c l p (Terms i n) =
     record l { constraints = changed (with_term_lines p) l.constraints i }
 more_lines c l p (Slopes k n) =
-    record l { objectives = changed (with_slope_lines p) l.objectives k }
+    record l { objectives = changed (λ o. record o { terms = term_lines p }) l.objectives k }
 more_lines c l p head = l
 
 -- the lines that pieces have in a text

@@ -1,7 +1,7 @@
 -- What is wrong with a row of the body, or with the end: the first test that holds gives the
 -- reason. The order is this project's own.
 use Rattle.std.specs.Prelude.{◌≡◌, false, ◌<◌, ◌≤◌, ℕ, ◌+◌, ◌^◌, ◌==◌, pos, Bool, not, ◌&&◌, ◌||◌, nat_le, nat_lt, List, [], ◌∷◌, ◌++◌, length, sum_by, filter, Option, Some, None, is_some, is_none, unwrap_or, if◌then◌else◌, codes}
-use Rattle.std.specs.List.{list_all, list_any, flat_map}
+use Rattle.std.specs.List.{list_all, list_any, filter_map, flat_map}
 use Rattle.std.specs.Option.{option_map_or}
 use Rattle.std.specs.Str.{bytes_eq}
 use Rattle.std.specs.Ordering.{is_lt}
@@ -29,8 +29,9 @@ use Rattle.exact_numbers.specs.Numbers.{are_digits, whole_of, dec_of, is_whole}
 use Rattle.nl_lines.specs.Nodes.{dec_of_signed, leaf_text}
 use Rattle.texts.specs.Words.{word_at}
 use Rattle.nl_lines.specs.Segment.{are_linear, are_sides, are_suffix_values, are_whole, is_same_segment, limit_in, segment_of}
-use Rattle.nl_lines.specs.Heads.{letter_of, is_among, is_head, is_segment_letter, is_refused_letter, own_number, head_of, name_in, is_in_range}
-use Rattle.nl_lines.specs.Pieces.{Piece, awaited_of, is_nothing, last_piece, piece_nodes, piece_pairs, piece_counts, interval_in}
+use Rattle.nl_lines.specs.Heads.{letter_of, is_among, is_head, is_segment_letter, is_refused_letter, own_number, number_at, head_of, name_in, is_in_range}
+use Rattle.nl_lines.specs.Pieces.{Piece, awaited_of, is_nothing, last_piece, piece_nodes, piece_pairs, interval_in}
+use Rattle.nl_lines.specs.Rows.{row_words}
 
 abbrev pub Tests : Type 0
 Tests = List (Bool × NlReason)
@@ -82,11 +83,9 @@ formed_head_tests c pieces name (Some head) =
 
 -- of the words alone
 unfoldable pub head_form_tests : Counts → List (List ℕ) → Tests
-head_form_tests c words = (
-  not (is_segment_letter (letter_of words) || is_refused_letter (letter_of words)),
-  UnknownSegment,
-)
-    ∷ (is_refused_letter (letter_of words), RefusedSegment)
+head_form_tests c words =
+    (is_refused_letter (letter_of words), RefusedSegment)
+    ∷ (not (is_segment_letter (letter_of words)), UnknownSegment)
     ∷ (is_none (head_of c words), BadHead) ∷ []
 
 unfoldable pub head_tests : Counts → List Piece → List (List ℕ) → Tests
@@ -123,18 +122,14 @@ pair_form_tests limit whole_only words =
     let value = dec_of (word_at words 1) in
     (not (length words == 2 && are_digits (word_at words 0)), BadLine)
     ∷ (not (is_some_below limit (whole_of (word_at words 0))), IndexOut)
-    ∷ (
-      is_none value
-          || (whole_only && not (option_map_or is_whole value Bool.true)),
-      BadNumber,
-    ) ∷ []
+    ∷ (is_none value, BadNumber)
+    ∷ (whole_only && not (option_map_or is_whole value Bool.true), BadNumber) ∷ []
 
 unfoldable pub pair_tests : Counts → List Piece → Piece → List (List ℕ) → Tests
 pair_tests c pieces p words =
     pair_form_tests (index_limit c p.head) (wants_whole_values p.head) words
     ++ (
-      holds_once p.head
-          && has_index (piece_pairs p) (unwrap_or (whole_of (word_at words 0)) 0),
+      holds_once p.head && has_index (piece_pairs p) (unwrap_or (number_at words 0) 0),
       RepeatedIndex,
     )
     ∷ (is_full pieces p.head, TooLarge) ∷ []
@@ -298,7 +293,7 @@ lacks_part d = not (list_all is_some d.objectives) || nat_lt (length d.sides) d.
 
 -- the numbers of the piece of columns, if it is there
 abbrev pub column_counts : Piece → Head → List ℕ
-column_counts p (ColumnCounts n) = piece_counts p
+column_counts p (ColumnCounts n) = filter_map (λ r. number_at (row_words r) 0) p.rows
 column_counts p head = []
 
 abbrev pub all_column_counts : List Piece → List ℕ

@@ -4,7 +4,7 @@ ghost use Rattle.texts.specs.Judged.{Decides};
 ghost use Rattle.nl_lines.specs.Tests.{head_form_tests};
 ghost use Rattle.nl_model.specs.HeaderRules.{defined_count};
 ghost use Rattle.texts.specs.Words.{texts};
-ghost use Rattle.nl_lines.specs.Heads.{bare_head, numbered_head, counted_head, objective_head, definition_head, column_head, suffix_head, head_of, is_in_range};
+ghost use Rattle.nl_lines.specs.Heads.{bare_head, numbered_head, counted_head, definition_head, of_columns, suffix_head, with_sense, head_of, is_in_range};
 ghost use Rattle.nl_lines.specs.declared.head.Head.TheVariants.{Body, DualGuesses, PrimalGuesses, Sides, Bounds, Terms, Slopes};
 
 use crate::fault::NlReason;
@@ -26,7 +26,7 @@ fn bare_head(head: Head, words: &[&[u8]]) -> Option<Head>
 
 // An objective.
 fn objective_head(words: &[&[u8]]) -> Option<Head>
-    ensures { result ≡ objective_head (texts words.now) }
+    ensures { result ≡ counted_head with_sense (texts words.now) }
 {
     if words.len() != 2 {
         return None;
@@ -64,7 +64,7 @@ fn definition_head(words: &[&[u8]]) -> Option<Head>
 
 // The counts of columns.
 fn column_head(counts: &Counts, words: &[&[u8]]) -> Option<Head>
-    ensures { result ≡ column_head counts.now (texts words.now) }
+    ensures { result ≡ numbered_head (of_columns counts.now) (texts words.now) }
 {
     if words.len() != 1 {
         return None;
@@ -120,7 +120,7 @@ pub fn head_of(counts: &Counts, words: &[&[u8]]) -> Option<Head>
 
 // The expression of a constraint.
 fn body_head(words: &[&[u8]]) -> Option<Head>
-    ensures { result ≡ numbered_head Body (texts words.now) }
+    ensures { result ≡ numbered_head (λ i. Some (Body i)) (texts words.now) }
 {
     if words.len() != 1 {
         return None;
@@ -133,7 +133,7 @@ fn body_head(words: &[&[u8]]) -> Option<Head>
 
 // Guesses of dual values.
 fn dual_head(words: &[&[u8]]) -> Option<Head>
-    ensures { result ≡ numbered_head DualGuesses (texts words.now) }
+    ensures { result ≡ numbered_head (λ n. Some (DualGuesses n)) (texts words.now) }
 {
     if words.len() != 1 {
         return None;
@@ -146,7 +146,7 @@ fn dual_head(words: &[&[u8]]) -> Option<Head>
 
 // Guesses of values of variables.
 fn primal_head(words: &[&[u8]]) -> Option<Head>
-    ensures { result ≡ numbered_head PrimalGuesses (texts words.now) }
+    ensures { result ≡ numbered_head (λ n. Some (PrimalGuesses n)) (texts words.now) }
 {
     if words.len() != 1 {
         return None;
@@ -159,7 +159,7 @@ fn primal_head(words: &[&[u8]]) -> Option<Head>
 
 // The terms of a constraint.
 fn terms_head(words: &[&[u8]]) -> Option<Head>
-    ensures { result ≡ counted_head Terms (texts words.now) }
+    ensures { result ≡ counted_head (λ i n. Some (Terms i n)) (texts words.now) }
 {
     if words.len() != 2 {
         return None;
@@ -175,7 +175,7 @@ fn terms_head(words: &[&[u8]]) -> Option<Head>
 
 // The terms of an objective.
 fn slopes_head(words: &[&[u8]]) -> Option<Head>
-    ensures { result ≡ counted_head Slopes (texts words.now) }
+    ensures { result ≡ counted_head (λ k n. Some (Slopes k n)) (texts words.now) }
 {
     if words.len() != 2 {
         return None;

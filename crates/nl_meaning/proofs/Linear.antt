@@ -13,8 +13,8 @@ use Rattle.fractions.proofs.Adding.{sum_over_nil, sum_over_cons, sum_below_all_z
 use Rattle.nl_meaning.specs.declared.Reason.{Reason}
 use Rattle.nl_meaning.specs.declared.Reason.TheVariants.{Nonlinear, DivideByZero}
 use Rattle.program_meaning.specs.Lines.{Line, line_value, line_values, is_zero, is_constant, are_constant, constants_of, constant_line, running_line, line_sum, line_scaled, line_neg, line_with, Point}
-use Rattle.nl_meaning.specs.Faults.{nonlinear_unless, power_fault, constants_line, operator_line, line_with_terms, operator_fault, fault_at, tree_line, trees_lines, tree_fault, trees_fault, expression_fault, definitions_fault, first_fault, first_expression_fault, coef, constant_of, expression_line}
-use Rattle.nl_meaning.specs.Trees.{Known, nothing_known, with_value, Tree, number, variable, defined, operator, Trees, none, more, applied, rule_of, tree_given, trees_given, LinearTerm, Expression, Definition, terms_value, expression_given, with_definition, known_values, tree_value, expression_value, tree_size, count_of, Takes, IsOneOf, IsFormed, AreFormed, AreTermsBelow, IsExpressionFormed, indices_after, indices_of, AreDefined}
+use Rattle.nl_meaning.specs.Faults.{power_fault, constants_line, operator_line, line_with_terms, operator_fault, fault_at, tree_line, trees_lines, tree_fault, trees_fault, expression_fault, definitions_fault, first_fault, first_expression_fault, coef, constant_of, expression_line}
+use Rattle.nl_meaning.specs.Trees.{Known, Tree, number, variable, defined, operator, Trees, none, more, applied, rule_of, tree_given, trees_given, LinearTerm, Expression, Definition, terms_value, expression_given, with_definition, known_values, tree_value, expression_value, tree_size, count_of, Takes, IsOneOf, IsFormed, AreFormed, AreTermsBelow, IsExpressionFormed, indices_after, indices_of, AreDefined}
 use Rattle.program_meaning.proofs.LineLemmas.{is_zero-false, line_value-sum, line_value-scaled, line_value-neg, line_value-constant, line_values-constant, line_value-with, line_by_lem}
 
 pub constant_value : (n : ℕ) (k : ℚ) (at : Point) → line_value n (constant_line k) at ≡ k
@@ -43,7 +43,7 @@ quotient_sides false z r e = cc
 abbrev HasLine : ℕ → OpClass → List Line → Type 0
 HasLine n c ls = (at : Point) → applied (rule_of c) (line_values n at ls) ≡ Some (line_value n (operator_line n c ls) at)
 
-linear_where : (p : Bool) → nonlinear_unless p ≡ None → p ≡ true
+linear_where : (p : Bool) → (if p then None else Some Nonlinear) ≡ None → p ≡ true
 linear_where true e = refl
 linear_where false e = cc
 
@@ -179,7 +179,7 @@ expression_linear n known is linear x formed clean =
     terms_added n known x (tree_line known x.tree) formed.terms (tree_linear n known is linear 0 x.tree formed.tree free.0)
 
 -- one more definition with a line
-pub more_linear : (n : ℕ) (known : Point → Known) (is : List ℕ) → AreLinear n known is → (i : ℕ) (f : Point → Option ℚ) (l : Line) → HasValues n f l → AreLinear n (λ at. with_value (known at) i (f at)) (i ∷ is)
+pub more_linear : (n : ℕ) (known : Point → Known) (is : List ℕ) → AreLinear n known is → (i : ℕ) (f : Point → Option ℚ) (l : Line) → HasValues n f l → AreLinear n (λ at x. if x == i then f at else known at x) (i ∷ is)
 more_linear n known is linear i f l values k among = by (k == i) refl
   where
     by : (b : Bool) → k == i ≡ b → (m : Line) × HasValues n (λ at. if b then f at else known at k) m
@@ -196,11 +196,11 @@ definitions_linear n known is linear (d ∷ ds) formed clean =
     ds formed.1 free.1
 
 -- where no definition is known
-pub none_linear : (n : ℕ) → AreLinear n (λ at. nothing_known) []
+pub none_linear : (n : ℕ) → AreLinear n (λ at i. None) []
 none_linear n i among = absurd among
 
-pub known_linear : (n : ℕ) (ds : List Definition) → AreDefined n [] ds → definitions_fault (λ at. nothing_known) n ds ≡ None → AreLinear n (known_values ds) (indices_of ds)
-known_linear n ds above clean = definitions_linear n (λ at. nothing_known) [] (none_linear n) ds above clean
+pub known_linear : (n : ℕ) (ds : List Definition) → AreDefined n [] ds → definitions_fault (λ at i. None) n ds ≡ None → AreLinear n (known_values ds) (indices_of ds)
+known_linear n ds above clean = definitions_linear n (λ at i. None) [] (none_linear n) ds above clean
 
 -- where there is no first fault, the value at each point is the constant and the sum of the coefficients times the point
 pub linear_where_clean : (n : ℕ) (ds : List Definition) (t : Tree) → AreDefined n [] ds → IsFormed n (indices_of ds) t → first_fault n ds t ≡ None → (at : Point) → tree_value ds t at ≡ Some (constant_of ds t +ℚ sum_below (λ j. coef ds t j *ℚ at j) n)

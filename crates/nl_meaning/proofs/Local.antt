@@ -1,5 +1,5 @@
 -- The value of an expression depends only on the variables and the defined variables that it may use.
-use Rattle.std.proofs.Common.{◌≡◌, ℕ, ◌<◌, ◌≤◌, ⊎_elim, ◌∙◌, sym, ap, ap₂, refl, arith, Bool, true, false, ◌==◌, if◌then◌else◌, Option, Some, List, [], ◌∷◌, option_and_then, option_map}
+use Rattle.std.proofs.Common.{◌≡◌, ℕ, ◌<◌, ◌≤◌, ⊎_elim, ◌∙◌, sym, ap, ap₂, refl, arith, Bool, true, false, ◌==◌, if◌then◌else◌, Option, Some, List, [], ◌∷◌, option_and_then, option_map, None}
 use Rattle.std.specs.List.{fold}
 use Rattle.std.proofs.lemmas.Bool.{eq-eqb}
 use Rattle.fractions.specs.Functions.{or_zero}
@@ -8,7 +8,7 @@ use Rattle.fractions.proofs.Arithmetic.{+ℚ-neg, -ℚ_lem}
 use Rattle.fractions.proofs.Adding.{sum_over_nil, sum_over_cons}
 use Rattle.nl_meaning.specs.Faults.{expression_line}
 use Rattle.program_meaning.specs.Lines.{origin, unit_point, Point}
-use Rattle.nl_meaning.specs.Trees.{Known, nothing_known, with_value, Tree, number, variable, defined, operator, Trees, none, more, applied, rule_of, tree_given, trees_given, LinearTerm, Expression, Definition, terms_value, expression_given, with_definition, known_values, expression_value, IsOneOf, IsFormed, AreFormed, AreTermsBelow, IsExpressionFormed, indices_after, indices_of, AreDefined}
+use Rattle.nl_meaning.specs.Trees.{Known, Tree, number, variable, defined, operator, Trees, none, more, applied, rule_of, tree_given, trees_given, LinearTerm, Expression, Definition, terms_value, expression_given, with_definition, known_values, expression_value, IsOneOf, IsFormed, AreFormed, AreTermsBelow, IsExpressionFormed, indices_after, indices_of, AreDefined}
 use Rattle.program_meaning.proofs.LineLemmas.{apart-eqb}
 
 module _ (n : ℕ) (p q : Point) (same : (j : ℕ) → j < n → p j ≡ q j) where
@@ -38,7 +38,7 @@ module _ (n : ℕ) (p q : Point) (same : (j : ℕ) → j < n → p j ≡ q j) wh
   expression_local k l is agree x formed =
       ap₂ (λ v s. option_map (λ w. w +ℚ s) v) (tree_local k l is agree x.tree formed.tree) (terms_local x.terms formed.terms)
 
-  with_local : (k l : Known) (is : List ℕ) → Agree k l is → (i : ℕ) (v w : Option ℚ) → v ≡ w → Agree (with_value k i v) (with_value l i w) (i ∷ is)
+  with_local : (k l : Known) (is : List ℕ) → Agree k l is → (i : ℕ) (v w : Option ℚ) → v ≡ w → Agree (λ x. if x == i then v else k x) (λ x. if x == i then w else l x) (i ∷ is)
   with_local k l is agree i v w e m among = by (m == i) refl
     where
       by : (b : Bool) → m == i ≡ b → (if b then v else k m) ≡ (if b then w else l m)
@@ -54,7 +54,7 @@ module _ (n : ℕ) (p q : Point) (same : (j : ℕ) → j < n → p j ≡ q j) wh
 
   -- points that agree on the variables give an expression one value
   pub val_local : (ds : List Definition) → AreDefined n [] ds → (x : Expression) → IsExpressionFormed n (indices_of ds) x → expression_value ds x p ≡ expression_value ds x q
-  val_local ds above x formed = expression_local (known_values ds p) (known_values ds q) (indices_of ds) (values_local (λ at. nothing_known) (λ at. nothing_known) [] (λ i among. refl) ds above) x formed
+  val_local ds above x formed = expression_local (known_values ds p) (known_values ds q) (indices_of ds) (values_local (λ at i. None) (λ at i. None) [] (λ i among. refl) ds above) x formed
 
 -- no coefficient at or beyond the number of variables
 pub no_coefficient_beyond : (n : ℕ) (ds : List Definition) → AreDefined n [] ds → (x : Expression) → IsExpressionFormed n (indices_of ds) x → (j : ℕ) → n ≤ j → (expression_line ds x).coef j ≡ zero_ℚ

@@ -10,15 +10,11 @@ use Rattle.nl_meaning.specs.declared.Fault.{Fault}
 use Rattle.nl_meaning.specs.declared.Reason.{Reason}
 use Rattle.nl_meaning.specs.declared.Reason.TheVariants.{Nonlinear, DivideByZero, TooWide, RefusedPower}
 use Rattle.program_meaning.specs.Lines.{Line, line_by, is_zero, is_constant, are_constant, constants_of, Point, line_sum, line_scaled, line_neg, constant_line, running_line, line_with, sums_fit, products_fit, running_sums_fit}
-use Rattle.nl_meaning.specs.Trees.{Tree, number, variable, defined, operator, Trees, none, more, Known, nothing_known, with_definition, LinearTerm, Expression, Definition, applied, rule_of, tree_given, known_values, tree_value, expression_value, tree_size}
+use Rattle.nl_meaning.specs.Trees.{Tree, number, variable, defined, operator, Trees, none, more, Known, with_definition, LinearTerm, Expression, Definition, applied, rule_of, tree_given, known_values, tree_value, expression_value, tree_size}
 
 abbrev pub too_wide_unless : Bool → Option Reason
 too_wide_unless true = None
 too_wide_unless false = Some TooWide
-
-abbrev pub nonlinear_unless : Bool → Option Reason
-nonlinear_unless true = None
-nonlinear_unless false = Some Nonlinear
 
 -- ---- lines of operators
 -- what a class makes of constants alone
@@ -63,7 +59,7 @@ operator_fault n Power (a ∷ b ∷ []) =
     if are_constant n (a ∷ b ∷ [])
     then power_fault a.constant (exponent_of b.constant)
     else Some Nonlinear
-operator_fault n c ls = nonlinear_unless (are_constant n ls)
+operator_fault n c ls = if are_constant n ls then None else Some Nonlinear
 
 abbrev pub fault_at : ℕ → Option Reason → Option Fault
 fault_at i r = option_map (λ why. record { place = i; reason = why }) r
@@ -125,11 +121,11 @@ definitions_fault known n (d ∷ ds) =
 -- definitions come first
 abbrev pub first_fault : ℕ → List Definition → Tree → Option Fault
 first_fault n ds t =
-    option_or (definitions_fault (λ at. nothing_known) n ds) (tree_fault (known_values ds) n 0 t)
+    option_or (definitions_fault (λ at i. None) n ds) (tree_fault (known_values ds) n 0 t)
 
 abbrev pub first_expression_fault : ℕ → List Definition → Expression → Option Fault
 first_expression_fault n ds x =
-    option_or (definitions_fault (λ at. nothing_known) n ds)
+    option_or (definitions_fault (λ at i. None) n ds)
     (expression_fault (known_values ds) n x)
 
 -- ---- coefficients

@@ -42,10 +42,6 @@ abbrev mutual
   trees_size none = 0
   trees_size (more t ts) = tree_size t + trees_size ts
 
--- x to the y, where y is whole from 0 to 127
-abbrev pub power_by : ℚ → ℚ → Option ℚ
-power_by x y = option_map (power_of x) (exponent_of y)
-
 -- what an operator makes a number of: of one operand, of two, where they have a value, or of one or
 -- more; a refused one has no value
 pub data Rule : Type 0 where
@@ -61,7 +57,7 @@ rule_of Product = two (λ x y. Some (x *ℚ y))
 rule_of Quotient = two quotient_of
 rule_of Negation = one neg_ℚ
 rule_of SumOfAll = some (λ x xs. sum_of_all (x ∷ xs))
-rule_of Power = two power_by
+rule_of Power = two (λ x y. option_map (power_of x) (exponent_of y))
 rule_of Least = some least_of
 rule_of Greatest = some greatest_of
 rule_of Floor = one floor_of
@@ -87,12 +83,6 @@ applied rule xs = None
 -- variables
 abbrev pub Known : Type 0
 Known = ℕ → Option ℚ
-
-abbrev pub nothing_known : Known
-nothing_known i = None
-
-abbrev pub with_value : Known → ℕ → Option ℚ → Known
-with_value known i v k = (if k == i then v else known k)
 
 -- the value of a tree at a point, given those of the defined variables; of several trees, where
 -- each has one
@@ -134,12 +124,12 @@ pub record Definition : Type 0 where
 
 -- what is known with one more definition, which may use what was known
 abbrev pub with_definition : (Point → Known) → Definition → Point → Known
-with_definition known d at =
-    with_value (known at) d.index (expression_given (known at) d.expression at)
+with_definition known d at i =
+    if i == d.index then expression_given (known at) d.expression at else known at i
 
 -- the values of a file's defined variables, of which each may use the earlier ones
 abbrev pub known_values : List Definition → Point → Known
-known_values ds = fold with_definition (λ at. nothing_known) ds
+known_values ds = fold with_definition (λ at i. None) ds
 
 -- the value of a tree, and of an expression, of a file with these defined variables
 abbrev pub tree_value : List Definition → Tree → Point → Option ℚ

@@ -11,8 +11,8 @@ use Rattle.std.specs.Str.{bytes_eq}
 use Rattle.texts.specs.Names.{is_name}
 use Rattle.nl_model.specs.declared.header_counts.Counts.{Counts}
 use Rattle.nl_lines.specs.declared.head.Head.{Head}
-use Rattle.nl_lines.specs.declared.head.Head.TheVariants.{Body, Definition, DualGuesses, PrimalGuesses, Sides, Bounds, ColumnCounts, Terms, Slopes, Suffix}
-use Rattle.nl_lines.specs.Heads.{letter_of, bare_head, numbered_head, counted_head, with_sense, objective_head, definition_head, column_head, of_kind, suffix_head, head_of, name_in}
+use Rattle.nl_lines.specs.declared.head.Head.TheVariants.{Body, Definition, DualGuesses, PrimalGuesses, Sides, Bounds, Terms, Slopes, Suffix}
+use Rattle.nl_lines.specs.Heads.{letter_of, bare_head, numbered_head, of_two_numbers, counted_head, with_sense, definition_head, of_columns, of_kind, suffix_head, head_of, name_in, number_at}
 use Rattle.nl_lines.specs.Tests.{is_suffix}
 
 -- ---- comments
@@ -142,39 +142,42 @@ module _ (c : Counts) (words : List (List ℕ)) (no_comment : HasNoMark (name_in
   bare : (h : Head) → G h → Good (bare_head h words)
   bare h g = branch (length words == 1 && (length (word_at words 0) == 1)) (Some h) None (λ e. g) tt
 
-  numbered : (f : ℕ → Head) → ((n : ℕ) → n < 2 ^ 31 → G (f n)) → Good (numbered_head f words)
-  numbered f g = branch (length words == 1) _ None (λ e. one own f g) tt
+  numbered : (f : ℕ → Option Head) → ((n : ℕ) → n < 2 ^ 31 → Good (f n)) → Good (numbered_head f words)
+  numbered f g = branch (length words == 1) _ None (λ e. many own f g) tt
 
-  counted : (f : ℕ → ℕ → Head) → ((i n : ℕ) → G (f i n)) → Good (counted_head f words)
-  counted f g = branch (length words == 2) _ None (λ e. many own _ (λ i lt. one (word_at words 1) (f i) (λ n small. g i n))) tt
+  two : (f : ℕ → ℕ → Option Head) → ((i n : ℕ) → n < 2 ^ 31 → Good (f i n)) → Good (of_two_numbers f words)
+  two f g = many own _ (λ i lt. many (word_at words 1) (f i) (g i))
 
-  sensed : Good (objective_head words)
-  sensed = branch (length words == 2) _ None (λ e. many own _ (λ k lt. many (word_at words 1) (with_sense k) (λ sense small. branch (nat_le sense 1) _ None (λ le no. tt) tt))) tt
+  counted : (f : ℕ → ℕ → Option Head) → ((i n : ℕ) → n < 2 ^ 31 → Good (f i n)) → Good (counted_head f words)
+  counted f g = branch (length words == 2) _ None (λ e. two f g) tt
+
+  sensed : Good (counted_head with_sense words)
+  sensed = counted with_sense (λ k sense small. branch (nat_le sense 1) _ None (λ le no. tt) tt)
 
   defined : Good (definition_head words)
-  defined = branch (length words == 3) _ None (λ e. many own _ (λ i lt. many (word_at words 1) _ (λ j at. one (word_at words 2) (Definition i j) (λ u small no. small)))) tt
+  defined = branch (length words == 3) _ None (λ e. two (λ i j. option_map (Definition i j) (number_at words 2)) (λ i j at. one (word_at words 2) (Definition i j) (λ u small no. small))) tt
 
-  columns : Good (column_head c words)
-  columns = branch (length words == 1) _ None (λ e. many own (λ n. cond (n + 1 == c.n_var) (Some (ColumnCounts n)) None) (λ n lt. branch (n + 1 == c.n_var) _ None (λ same no. tt) tt)) tt
+  columns : Good (numbered_head (of_columns c) words)
+  columns = numbered (of_columns c) (λ n lt. branch (n + 1 == c.n_var) _ None (λ same no. tt) tt)
 
   suffix : Good (suffix_head words)
   suffix =
       branch (length words == 3 && is_name (word_at words 2)) _ None
-      (λ e. many own _ (λ kind lt. many (word_at words 1) (of_kind kind) (λ n small. branch (nat_lt kind 256) _ None
-      (λ few no. record { kind_small = ltb-true kind 256 few; count = small; is = (and_true (length words == 3) _ e).1; no_comment = no_comment; no_sets = no }) tt))) tt
+      (λ e. two of_kind (λ kind n small. branch (nat_lt kind 256) _ None
+      (λ few no. record { kind_small = ltb-true kind 256 few; count = small; is = (and_true (length words == 3) _ e).1; no_comment = no_comment; no_sets = no }) tt)) tt
 
   pub good_head : Good (head_of c words)
   unfolding head_of
   good_head =
       let l = letter_of words in
-      branch (l == 67) _ _ (λ e. numbered Body (λ n lt no. tt))
+      branch (l == 67) _ _ (λ e. numbered (λ i. Some (Body i)) (λ n lt no. tt))
       (branch (l == 79) _ _ (λ e. sensed)
       (branch (l == 86) _ _ (λ e. defined)
-      (branch (l == 100) _ _ (λ e. numbered DualGuesses (λ n lt no. lt))
-      (branch (l == 120) _ _ (λ e. numbered PrimalGuesses (λ n lt no. lt))
+      (branch (l == 100) _ _ (λ e. numbered (λ n. Some (DualGuesses n)) (λ n lt no. lt))
+      (branch (l == 120) _ _ (λ e. numbered (λ n. Some (PrimalGuesses n)) (λ n lt no. lt))
       (branch (l == 114) _ _ (λ e. bare Sides (λ no. tt))
       (branch (l == 98) _ _ (λ e. bare Bounds (λ no. tt))
       (branch (l == 107) _ _ (λ e. columns)
-      (branch (l == 74) _ _ (λ e. counted Terms (λ i n no. tt))
-      (branch (l == 71) _ _ (λ e. counted Slopes (λ i n no. tt))
+      (branch (l == 74) _ _ (λ e. counted (λ i n. Some (Terms i n)) (λ i n small no. tt))
+      (branch (l == 71) _ _ (λ e. counted (λ k n. Some (Slopes k n)) (λ k n small no. tt))
       (branch (l == 83) _ None (λ e. suffix) tt))))))))))

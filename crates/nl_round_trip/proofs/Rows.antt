@@ -1,5 +1,5 @@
 -- Rows without a fault keep what a written file needs: good heads, nodes that use what is there, whole values where they are wanted, intervals in order, and the limits of numbers.
-use Rattle.std.proofs.Common.{zero, suc, ◌≡◌, ◌∙◌, ℕ, ◌+◌, ◌<◌, ◌≤◌, ◌^◌, Bool, true, false, not, ◌&&◌, ◌||◌, cond, ℤ, List, [], ◌∷◌, ◌++◌, length, get_or, refl, sym, ap, subst, arith, nat_le, Option, Some, None, All, append_assoc, append-nil, length-append}
+use Rattle.std.proofs.Common.{zero, suc, ◌≡◌, ◌∙◌, ℕ, ◌+◌, ◌<◌, ◌≤◌, ◌^◌, Bool, true, false, not, ◌&&◌, cond, ℤ, List, [], ◌∷◌, ◌++◌, length, get_or, refl, sym, ap, subst, arith, nat_le, Option, Some, None, All, append_assoc, append-nil, length-append}
 use Rattle.std.specs.Prelude.{IfSome, is_none, option_and_then, option_map, unwrap_or}
 use Rattle.std.specs.List.{cons_option}
 use Rattle.std.specs.Option.{option_map_or}
@@ -164,9 +164,9 @@ whole_value : (limit : ℕ) (words : List (List ℕ)) → first_reason (pair_for
 unfolding pair_form_tests pair_in
 whole_value limit words fine =
     let none = none_each (pair_form_tests limit true words) fine in
-    by (whole_of (word_at words 0)) (dec_of (word_at words 1)) none.1.1.0
+    by (whole_of (word_at words 0)) (dec_of (word_at words 1)) none.1.1.1.0
   where
-    by : (i : Option ℕ) (d : Option Dec) → (is_none d || (true && not (option_map_or is_whole d true))) ≡ false → IfSome {T = Term} (option_and_then (λ i. option_map (λ d. (i, d)) d) i) (λ t. is_whole t.1 ≡ true)
+    by : (i : Option ℕ) (d : Option Dec) → (true && not (option_map_or is_whole d true)) ≡ false → IfSome {T = Term} (option_and_then (λ i. option_map (λ d. (i, d)) d) i) (λ t. is_whole t.1 ≡ true)
     by None d f = tt
     by (Some i) None f = tt
     by (Some i) (Some d) f = not-false (is_whole d) f

@@ -10,7 +10,7 @@ use Rattle.nl_lines.specs.declared.awaited.Awaited.{Awaited}
 use Rattle.nl_lines.specs.declared.awaited.Awaited.TheVariants.{Nothing}
 use Rattle.nl_lines.specs.declared.fault.NlReason.TheVariants.{ExtraLine, ShortSegment}
 use Rattle.nl_lines.specs.declared.head.Head.{Head}
-use Rattle.nl_lines.specs.Heads.{is_head, head_of, name_in, numbered_head, counted_head, bare_head, objective_head, definition_head, column_head, suffix_head, with_sense, letter_of, own_number, number_at, is_in_range, of_kind}
+use Rattle.nl_lines.specs.Heads.{is_head, head_of, name_in, numbered_head, of_two_numbers, counted_head, bare_head, definition_head, of_columns, suffix_head, with_sense, letter_of, own_number, number_at, is_in_range, of_kind}
 use Rattle.nl_lines.specs.Pieces.{Piece, last_piece, is_nothing, awaited_of, is_complete, has_tree, line_count, pair_count, with_row}
 use Rattle.nl_lines.specs.Saying.{empty_lines, draft_of, place_lines}
 use Rattle.nl_lines.specs.SeenSegments.{letters, mark_of, most_indices, no_segments, Segments, with_segment, IsSeenIn}
@@ -166,7 +166,7 @@ plain_then make (Some n) f = f n
 
 suffix_name : (words : List (List ℕ)) (head : Head) → suffix_head words ≡ Some head → is_name (name_in words) ≡ true
 suffix_name words head e =
-    cond_both (length words == 3 && is_name (name_in words)) (option_and_then (λ kind. option_and_then (of_kind kind) (number_at words 1)) (own_number words)) None
+    cond_both (length words == 3 && is_name (name_in words)) (of_two_numbers of_kind words) None
     (λ o. o ≡ Some head → is_name (name_in words) ≡ true) (λ f is. (and_parts (length words == 3) (is_name (name_in words)) f).1) (λ f is. absurd cc) e
 
 named_by : (c : Counts) (words : List (List ℕ)) (head : Head) (b : Bool) → (letter_of words == 83) ≡ b → (if b then suffix_head words else None) ≡ Some head → is_name (name_in words) ≡ true
@@ -185,27 +185,25 @@ other_letter : (b : Bool) (o p : Option Head) (head : Head) → is_plain o ≡ t
 other_letter true o p head f s e = absurd (let wrong : false ≡ true = sym (ap is_plain e ∙ ap not s) ∙ f in cc)
 other_letter false o p head f s e = e
 
-plain_sense : (words : List (List ℕ)) → is_plain (objective_head words) ≡ true
-plain_sense words =
-    plain_if (length words == 2) _ None
-    (plain_then (λ k. option_and_then (with_sense k) (number_at words 1)) (own_number words) (λ k. plain_then (with_sense k) (number_at words 1) (λ n. plain_if (nat_le n 1) (Some (Objective k (n == 1))) None refl refl))) refl
+plain_numbered : (make : ℕ → Option Head) (words : List (List ℕ)) → ((n : ℕ) → is_plain (make n) ≡ true) → is_plain (numbered_head make words) ≡ true
+plain_numbered make words f = plain_if (length words == 1) (option_and_then make (own_number words)) None (plain_then make (own_number words) f) refl
+
+plain_two : (make : ℕ → ℕ → Option Head) (words : List (List ℕ)) → ((i n : ℕ) → is_plain (make i n) ≡ true) → is_plain (of_two_numbers make words) ≡ true
+plain_two make words f = plain_then (λ i. option_and_then (make i) (number_at words 1)) (own_number words) (λ i. plain_then (make i) (number_at words 1) (f i))
+
+plain_counted : (make : ℕ → ℕ → Option Head) (words : List (List ℕ)) → ((i n : ℕ) → is_plain (make i n) ≡ true) → is_plain (counted_head make words) ≡ true
+plain_counted make words f = plain_if (length words == 2) (of_two_numbers make words) None (plain_two make words f) refl
+
+plain_sense : (words : List (List ℕ)) → is_plain (counted_head with_sense words) ≡ true
+plain_sense words = plain_counted with_sense words (λ k n. plain_if (nat_le n 1) (Some (Objective k (n == 1))) None refl refl)
 
 plain_definition : (words : List (List ℕ)) → is_plain (definition_head words) ≡ true
 plain_definition words =
     plain_if (length words == 3) _ None
-    (plain_then (λ i. option_and_then (λ j. option_map (Definition i j) (number_at words 2)) (number_at words 1)) (own_number words)
-    (λ i. plain_then (λ j. option_map (Definition i j) (number_at words 2)) (number_at words 1) (λ j. plain_map (Definition i j) (number_at words 2) (λ n. refl)))) refl
+    (plain_two (λ i j. option_map (Definition i j) (number_at words 2)) words (λ i j. plain_map (Definition i j) (number_at words 2) (λ n. refl))) refl
 
-plain_column : (c : Counts) (words : List (List ℕ)) → is_plain (column_head c words) ≡ true
-plain_column c words =
-    plain_if (length words == 1) _ None
-    (plain_then (λ n. if n + 1 == c.n_var then Some (ColumnCounts n) else None) (own_number words) (λ n. plain_if (n + 1 == c.n_var) (Some (ColumnCounts n)) None refl refl)) refl
-
-plain_numbered : (make : ℕ → Head) (words : List (List ℕ)) → ((n : ℕ) → is_plain (Some (make n)) ≡ true) → is_plain (numbered_head make words) ≡ true
-plain_numbered make words f = plain_if (length words == 1) (option_map make (own_number words)) None (plain_map make (own_number words) f) refl
-
-plain_counted : (make : ℕ → ℕ → Head) (words : List (List ℕ)) → ((i n : ℕ) → is_plain (Some (make i n)) ≡ true) → is_plain (counted_head make words) ≡ true
-plain_counted make words f = plain_if (length words == 2) _ None (plain_then (λ i. option_map (make i) (number_at words 1)) (own_number words) (λ i. plain_map (make i) (number_at words 1) (f i))) refl
+plain_column : (c : Counts) (words : List (List ℕ)) → is_plain (numbered_head (of_columns c) words) ≡ true
+plain_column c words = plain_numbered (of_columns c) words (λ n. plain_if (n + 1 == c.n_var) (Some (ColumnCounts n)) None refl refl)
 
 plain_bare : (head : Head) (words : List (List ℕ)) → is_plain (Some head) ≡ true → is_plain (bare_head head words) ≡ true
 plain_bare head words f = plain_if (length words == 1 && (length (word_at words 0) == 1)) (Some head) None f refl
@@ -214,16 +212,16 @@ pub suffix_named : (c : Counts) (words : List (List ℕ)) (head : Head) → head
 unfolding head_of
 suffix_named c words head e s =
     let l = letter_of words in
-    let e1 = other_letter (l == 67) _ _ head (plain_numbered BodyHead words (λ n. refl)) s e in
+    let e1 = other_letter (l == 67) _ _ head (plain_numbered (λ i. Some (BodyHead i)) words (λ n. refl)) s e in
     let e2 = other_letter (l == 79) _ _ head (plain_sense words) s e1 in
     let e3 = other_letter (l == 86) _ _ head (plain_definition words) s e2 in
-    let e4 = other_letter (l == 100) _ _ head (plain_numbered DualGuesses words (λ n. refl)) s e3 in
-    let e5 = other_letter (l == 120) _ _ head (plain_numbered PrimalGuesses words (λ n. refl)) s e4 in
+    let e4 = other_letter (l == 100) _ _ head (plain_numbered (λ n. Some (DualGuesses n)) words (λ n. refl)) s e3 in
+    let e5 = other_letter (l == 120) _ _ head (plain_numbered (λ n. Some (PrimalGuesses n)) words (λ n. refl)) s e4 in
     let e6 = other_letter (l == 114) _ _ head (plain_bare Sides words refl) s e5 in
     let e7 = other_letter (l == 98) _ _ head (plain_bare Bounds words refl) s e6 in
     let e8 = other_letter (l == 107) _ _ head (plain_column c words) s e7 in
-    let e9 = other_letter (l == 74) _ _ head (plain_counted Terms words (λ i n. refl)) s e8 in
-    let e10 = other_letter (l == 71) _ _ head (plain_counted Slopes words (λ i n. refl)) s e9 in
+    let e9 = other_letter (l == 74) _ _ head (plain_counted (λ i n. Some (Terms i n)) words (λ i n. refl)) s e8 in
+    let e10 = other_letter (l == 71) _ _ head (plain_counted (λ k n. Some (Slopes k n)) words (λ i n. refl)) s e9 in
     is_named (name_in words) (named_by c words head (l == 83) refl e10)
 
 -- ---- the head of words

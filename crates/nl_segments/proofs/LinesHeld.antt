@@ -1,5 +1,5 @@
 -- Each node, term and head has its line in what pieces say.
-use Rattle.std.proofs.Common.{◌≡◌, ◌∙◌, ℕ, zero, suc, ◌<◌, ◌≤◌, Bool, true, false, not, ◌&&◌, ◌||◌, ◌==◌, List, [], ◌∷◌, ◌++◌, length, take, replicate, get_or, refl, sym, ap, subst, arith, nat_lt, Option, Some, None, is_some, append_assoc, drop}
+use Rattle.std.proofs.Common.{◌≡◌, ◌∙◌, ℕ, zero, suc, ◌<◌, ◌≤◌, Bool, true, false, not, ◌&&◌, ◌||◌, ◌==◌, List, [], ◌∷◌, ◌++◌, length, take, replicate, get_or, refl, sym, ap, subst, arith, nat_lt, Option, Some, None, is_some, append_assoc, drop, map}
 use Rattle.std.specs.Prelude.{if◌then◌else◌, ℤ, IfSome, IsSome, IsSomeAnd, slice_get, option_map, option_and_then, All, AllPairs}
 use Rattle.std.specs.Option.{option_map_or, option_or}
 use Rattle.std.specs.List.{list_any, cons_option}
@@ -20,9 +20,9 @@ use Rattle.nl_lines.specs.declared.pending.Pending.{Pending}
 use Rattle.nl_model.specs.declared.node.Node.{Node}
 use Rattle.nl_lines.specs.Rows.{NumberedRow, row_words}
 use Rattle.nl_lines.specs.Heads.{is_in_range}
-use Rattle.nl_lines.specs.Nodes.{Placed, node_in, opcode_in, pending_in, nodes_from, only_nodes, only_lines}
+use Rattle.nl_lines.specs.Nodes.{Placed, node_in, opcode_in, pending_in, nodes_from, only_nodes}
 use Rattle.nl_lines.specs.Pieces.{Piece, awaited_in, has_tree, is_complete, is_nothing, line_count, line_kind, pair_count, piece_nodes, piece_pairs, piece_pending, tree_awaits, tree_rows}
-use Rattle.nl_lines.specs.Saying.{OwnerLines, PlaceLines, no_lines, said_by, draft_of, place_lines, more_lines, place_line, piece_tree, node_lines, term_lines, with_tree_lines, with_term_lines, with_slope_lines}
+use Rattle.nl_lines.specs.Saying.{OwnerLines, PlaceLines, no_lines, said_by, draft_of, place_lines, more_lines, place_line, piece_tree, node_lines, term_lines, with_tree_lines, with_term_lines}
 use Rattle.nl_model.specs.declared.at.At.{At}
 use Rattle.nl_model.specs.FilePlaces.{HasPlace}
 use Rattle.nl_model.specs.declared.at.At.TheVariants.{Node as NodeAt, Term as TermAt, Head as HeadAt}
@@ -42,7 +42,7 @@ use Rattle.nl_lines.proofs.LineLaw.{AreLines, IsLined, AllLined, AreDefs, tree_n
 
 -- ---- one piece
 
-placed_nodes : (ns : List Placed) (q : Option Pending) → is_nothing (tree_awaits ns q) ≡ true → tree_size (tree_of (only_nodes ns)) ≤ length (only_lines ns)
+placed_nodes : (ns : List Placed) (q : Option Pending) → is_nothing (tree_awaits ns q) ≡ true → tree_size (tree_of (only_nodes ns)) ≤ length (map (λ n. n.line) ns)
 placed_nodes [] None e = absurd cc
 placed_nodes [] (Some p) e = absurd cc
 placed_nodes (x ∷ xs) q e =
@@ -83,11 +83,11 @@ pub record AreRowLines (P : ℕ → Type 0) (p : Piece) : Type 0 where
   pub line : P p.line
   pub rows : All (λ r. P r.line) p.rows
 
-lines_from : (P : ℕ → Type 0) (n : ℕ) (pending : Option Pending) (rows : List NumberedRow) → IfSome pending (λ q. P q.line) → All (λ r. P r.line) rows → All P (only_lines (nodes_from n pending rows))
+lines_from : (P : ℕ → Type 0) (n : ℕ) (pending : Option Pending) (rows : List NumberedRow) → IfSome pending (λ q. P q.line) → All (λ r. P r.line) rows → All P (map (λ n. n.line) (nodes_from n pending rows))
 unfolding nodes_from
 lines_from P n None [] h rows = λ k d lt. absurd (omega (arith, lt))
 lines_from P n (Some q) [] h rows = λ k d lt. absurd (omega (arith, lt))
-lines_from P n (Some q) (row ∷ more) h rows = All-cons P q.line (only_lines (nodes_from n None more)) h (lines_from P n None more tt (λ k d lt. rows (suc k) d (omega (arith, lt))))
+lines_from P n (Some q) (row ∷ more) h rows = All-cons P q.line (map (λ n. n.line) (nodes_from n None more)) h (lines_from P n None more tt (λ k d lt. rows (suc k) d (omega (arith, lt))))
 lines_from P n None (row ∷ more) h rows =
     by (node_in n (row_words row)) (lines_from P n (pending_in row) more (next (opcode_in (row_words row))) (λ k d lt. rows (suc k) d (omega (arith, lt))))
   where
@@ -98,9 +98,9 @@ lines_from P n None (row ∷ more) h rows =
     next None = tt
     next (Some o) = here
 
-    by : (o : Option Node) → All P (only_lines (nodes_from n (pending_in row) more)) → All P (only_lines (cons_option (option_map (λ (m : Node). record { node = m; line = row.line }) o) (nodes_from n (pending_in row) more)))
+    by : (o : Option Node) → All P (map (λ n. n.line) (nodes_from n (pending_in row) more)) → All P (map (λ n. n.line) (cons_option (option_map (λ (m : Node). record { node = m; line = row.line }) o) (nodes_from n (pending_in row) more)))
     by None rest = rest
-    by (Some m) rest = All-cons P row.line (only_lines (nodes_from n (pending_in row) more)) here rest
+    by (Some m) rest = All-cons P row.line (map (λ n. n.line) (nodes_from n (pending_in row) more)) here rest
 
 tree_lines : (P : ℕ → Type 0) (p : Piece) → All (λ r. P r.line) p.rows → All (λ r. P r.line) (tree_rows p)
 tree_lines P p h =
@@ -174,7 +174,7 @@ step P c d l p (Slopes k m) n e w free place old =
     record {
       definitions = old.definitions;
       constraints = old.constraints;
-      objectives = with_row_at P false (option_map (λ (o : Objective). o.tree)) d.objectives d.slopes l.objectives k (get_or d.slopes k [] ++ piece_pairs p) (with_slope_lines p) place
+      objectives = with_row_at P false (option_map (λ (o : Objective). o.tree)) d.objectives d.slopes l.objectives k (get_or d.slopes k [] ++ piece_pairs p) (λ o. record o { terms = term_lines p }) place
           (λ t o before. record { nodes = before.nodes; terms = rw free (pairs_lines P c p w); head = before.head; lines = record { head = before.lines.head; nodes = before.lines.nodes; terms = w.lines.terms } }) old.objectives;
     }
 step P c d l p (Suffix a m) n e w free place old = rw (n, w.whole) (record { definitions = old.definitions; constraints = old.constraints; objectives = old.objectives })

@@ -15,7 +15,7 @@ use Rattle.nl_lines.specs.declared.awaited.Awaited.TheVariants.{Nothing, ColumnC
 use Rattle.nl_lines.specs.declared.head.Head.{Head}
 use Rattle.nl_lines.specs.declared.head.Head.TheVariants.{Body as BodyHead, Objective, Definition, ColumnCounts, Suffix, DualGuesses}
 use Rattle.nl_lines.specs.Rows.{NumberedRow}
-use Rattle.nl_lines.specs.Nodes.{Placed, nodes_from, only_lines, node_in, opcode_in}
+use Rattle.nl_lines.specs.Nodes.{Placed, nodes_from, node_in, opcode_in}
 use Rattle.nl_lines.specs.Pieces.{Piece, line_kind, line_count, pair_count, has_tree, is_nothing, is_complete, piece_nodes, piece_pending, piece_pairs, keeps_pairs}
 use Rattle.nl_lines.specs.Tests.{has_index, is_linear, is_suffix, index_limit, is_same_piece, SaysOperandCount, node_form_tests, node_tests, operand_tests}
 use Rattle.nl_lines.specs.Saying.{PlaceLines, more_lines, place_lines, piece_tree, draft_of, term_lines}
@@ -286,10 +286,10 @@ row_lines header before p row b cur (Whole n) line h head t nodes =
     ap (λ l. with_node_line l line cur.head) (h.places ∙ lines-append c before p)
     ∙ ap (with_node_line (more_lines c l p p.head) line) head
     ∙ sym (place_node c l p row line p.head (owner_there c before p.head (last_sound c before p h.sound).range) t.tree
-    (ap only_lines nodes ∙ map-append (λ (n : Placed). n.line) (piece_nodes c p) (x ∷ [])) (same_terms c p row t))
+    (ap (map (λ (n : Placed). n.line)) nodes ∙ map-append (λ (n : Placed). n.line) (piece_nodes c p) (x ∷ [])) (same_terms c p row t))
 row_lines header before p row b cur (Counted o) line h head t nodes =
     let c = counts_in header in
-    h.places ∙ lines-append c before p ∙ sym (place_same c (place_lines c before) p row p.head (ap only_lines (nodes ∙ append-nil (piece_nodes c p))) (same_terms c p row t))
+    h.places ∙ lines-append c before p ∙ sym (place_same c (place_lines c before) p row p.head (ap (map (λ (n : Placed). n.line)) (nodes ∙ append-nil (piece_nodes c p))) (same_terms c p row t))
 
 -- ---- what is wrong with a row
 

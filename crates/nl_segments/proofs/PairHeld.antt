@@ -1,5 +1,5 @@
 -- What is held after a line that comes before any expression, after the number of a column, and after an interval.
-use Rattle.std.proofs.Common.{◌≡◌, ◌∙◌, ℕ, ◌+◌, ◌<◌, ◌≤◌, ◌==◌, Bool, true, false, List, [], ◌∷◌, ◌++◌, length, refl, sym, ap, subst, arith, nat_lt, Option, Some, None, get_or, All, ℤ, ◌-◌}
+use Rattle.std.proofs.Common.{◌≡◌, ◌∙◌, ℕ, ◌+◌, ◌<◌, ◌≤◌, ◌==◌, Bool, true, false, List, [], ◌∷◌, ◌++◌, length, refl, sym, ap, subst, arith, nat_lt, Option, Some, None, get_or, All, ℤ, ◌-◌, map}
 use Rattle.std.specs.Prelude.{IfSome, if◌then◌else◌, ◌^◌, Ok}
 use Rattle.std.proofs.lemmas.Bool.{ltb-true, cond_both}
 use Rattle.nl_model.specs.declared.header_counts.Counts.{Counts}
@@ -11,8 +11,8 @@ use Rattle.nl_lines.specs.declared.awaited.Awaited.TheVariants.{Nothing, Pair, C
 use Rattle.nl_lines.specs.declared.head.Head.{Head}
 use Rattle.nl_lines.specs.Rows.{NumberedRow, row_words}
 use Rattle.nl_lines.specs.declared.pending.Pending.{Pending}
-use Rattle.nl_lines.specs.Nodes.{Placed, nodes_of, only_lines, only_nodes}
-use Rattle.nl_lines.specs.Pieces.{Piece, awaited_in, is_complete, is_nothing, line_count, line_kind, has_tree, pair_count, piece_nodes, piece_pairs, piece_pending, tree_awaits, interval_in, piece_counts, piece_intervals}
+use Rattle.nl_lines.specs.Nodes.{Placed, nodes_of, only_nodes}
+use Rattle.nl_lines.specs.Pieces.{Piece, awaited_in, is_complete, is_nothing, line_count, line_kind, has_tree, pair_count, piece_nodes, piece_pairs, piece_pending, tree_awaits, interval_in, piece_intervals}
 use Rattle.nl_lines.specs.declared.head.Head.TheVariants.{ColumnCounts, Sides, Bounds}
 use Rattle.std.proofs.lemmas.List.{append_assoc, append-nil, take-append-le}
 use Rattle.nl_lines.specs.Tests.{all_column_counts, column_counts, index_limit, is_linear, is_suffix, pair_total, node_total, column_tests, holds_once, interval_form_tests, interval_tests, is_binary, is_sides}
@@ -37,7 +37,7 @@ use Rattle.nl_model.specs.Kinds.{variable_kind}
 use Rattle.nl_lines.specs.declared.fault.NlReason.{NlReason}
 use Rattle.exact_numbers.specs.Numbers.{whole_of}
 use Rattle.texts.specs.Words.{word_at}
-use Rattle.nl_lines.specs.Heads.{is_head}
+use Rattle.nl_lines.specs.Heads.{is_head, number_at}
 use Rattle.texts.specs.Judged.{first_reason}
 use Rattle.nl_lines.proofs.FreshLaw.{none_before, gave_none}
 
@@ -188,7 +188,7 @@ columns_kept before p row other = columns-append before (longer p row) ∙ ap (�
 pub places_no_pair : (c : Counts) (before : List Piece) (p : Piece) (row : NumberedRow) → pair_count p.head ≡ 0 → length p.rows < line_count c p.head → place_lines c (before ++ longer p row ∷ []) ≡ place_lines c (before ++ p ∷ [])
 places_no_pair c before p row e within =
     lines-append c before (longer p row)
-    ∙ place_same c (place_lines c before) p row p.head (ap (λ rs. only_lines (nodes_of c.n_var rs)) (early_tree c p row within)) (rw e refl)
+    ∙ place_same c (place_lines c before) p row p.head (ap (λ rs. map (λ n. n.line) (nodes_of c.n_var rs)) (early_tree c p row within)) (rw e refl)
     ∙ sym (lines-append c before p)
 
 -- what is held of the piece, with the line
@@ -210,8 +210,8 @@ column_more : (before : List Piece) (p : Piece) (row : NumberedRow) (n k : ℕ) 
 column_more before p row n k e is =
     columns-append before (longer p row)
     ∙ ap (λ h. all_column_counts before ++ column_counts (longer p row) h) e
-    ∙ ap (λ ns. all_column_counts before ++ ns) (filter_map-append (λ r. whole_of (word_at (row_words r) 0)) p.rows (row ∷ []) ∙ ap (λ o. piece_counts p ++ cons_option o []) is)
-    ∙ sym (append_assoc (all_column_counts before) (piece_counts p) (k ∷ []))
+    ∙ ap (λ ns. all_column_counts before ++ ns) (filter_map-append (λ r. whole_of (word_at (row_words r) 0)) p.rows (row ∷ []) ∙ ap (λ o. filter_map (λ r. number_at (row_words r) 0) p.rows ++ cons_option o []) is)
+    ∙ sym (append_assoc (all_column_counts before) (filter_map (λ r. number_at (row_words r) 0) p.rows) (k ∷ []))
     ∙ sym (ap (λ ns. ns ++ k ∷ []) (columns-append before p ∙ ap (λ h. all_column_counts before ++ column_counts p h) e))
 
 -- the head of such lines

@@ -12,7 +12,7 @@ use Rattle.nl_lines.specs.Rows.{NumberedRow, row_words}
 use Rattle.nl_lines.specs.Nodes.{nodes_from}
 use Rattle.nl_lines.specs.Pieces.{Piece, has_tree, last_piece, is_complete, piece_nodes, piece_pairs, awaited_of, awaited_in}
 use Rattle.nl_lines.specs.Tests.{is_linear, awaited_tests, is_same_piece, is_suffix, node_total, pair_total, row_tests, suffix_count}
-use Rattle.nl_lines.specs.Saying.{OwnerLines, PlaceLines, no_lines, empty_lines, node_lines, term_lines, with_tree_lines, with_term_lines, with_slope_lines, changed, more_lines, place_lines}
+use Rattle.nl_lines.specs.Saying.{OwnerLines, PlaceLines, no_lines, empty_lines, node_lines, term_lines, with_tree_lines, with_term_lines, changed, more_lines, place_lines}
 use Rattle.nl_segments.specs.InsidePlaceSteps.{HasOwner, with_begun, with_node_line, with_term_line, more_nodes, more_terms, HasBegun}
 use Rattle.nl_lines.proofs.PieceLemmas.{drop_none, longer, take_none, lines-append, split, extended-append}
 use Rattle.nl_lines.proofs.DraftLemmas.{set_again, get_set}
@@ -87,7 +87,7 @@ place_term c l p row line (Terms i n) owner linear e t =
     (λ k. record { head = option_or (get_or l.constraints i no_lines).head (Some p.line); nodes = (get_or l.constraints i no_lines).nodes; terms = t k }) in
     λ k. record l { constraints = q k }
 place_term c l p row line (Slopes i n) owner linear e t =
-    let q = changed_more (more_terms line) (with_slope_lines p) (with_slope_lines (longer p row)) l.objectives i owner
+    let q = changed_more (more_terms line) (λ o. record o { terms = term_lines p }) (λ o. record o { terms = term_lines (longer p row) }) l.objectives i owner
     (λ k. record (get_or l.objectives i no_lines) { terms = t k }) in
     λ k. record l { objectives = q k }
 place_term c l p row line (Definition i j u) owner linear e t =

@@ -26,7 +26,7 @@ use Rattle.nl_segments.proofs.CurrentLemmas.{with_line, awaits}
 use Rattle.nl_lines.proofs.PieceLemmas.{longer, lines-append, draft-append}
 use Rattle.std.specs.List.{list_any}
 use Rattle.nl_model.specs.Draft.{Draft, empty_draft}
-use Rattle.nl_lines.specs.Nodes.{only_lines, nodes_from, nodes_of, pending_from, pending_of}
+use Rattle.nl_lines.specs.Nodes.{nodes_from, nodes_of, pending_from}
 use Rattle.nl_lines.specs.Saying.{node_lines, draft_of, said_by, with_piece, place_lines, more_lines, term_lines}
 use Rattle.nl_segments.specs.InsidePlaceSteps.{with_term_line, HasBegun, HasOwner}
 use Rattle.nl_lines.specs.Heads.{is_in_range, is_head}
@@ -139,10 +139,10 @@ still_open : (c : Counts) (p : Piece) (row : NumberedRow) (i j u : ℕ) → p.he
 unfolding awaited_in nodes_from pending_from
 still_open c p row i j u e few =
     let none : tree_rows (longer p row) ≡ [] = ap (λ h. tree_rows (record { head = h; name = p.name; line = p.line; rows = p.rows ++ row ∷ [] })) e ∙ drop_all j (p.rows ++ row ∷ []) (omega (arith, length-append p.rows (row ∷ []))) in
-    ap (λ h. is_nothing (if nat_lt (length (p.rows ++ row ∷ [])) (line_count c h) then line_kind h else if has_tree h then tree_awaits (nodes_of c.n_var (tree_rows (longer p row))) (pending_of (tree_rows (longer p row))) else Nothing)) e
+    ap (λ h. is_nothing (if nat_lt (length (p.rows ++ row ∷ [])) (line_count c h) then line_kind h else if has_tree h then tree_awaits (nodes_of c.n_var (tree_rows (longer p row))) (pending_from None (tree_rows (longer p row))) else Nothing)) e
     ∙ by (nat_lt (length (p.rows ++ row ∷ [])) j) (tree_rows (longer p row)) none
   where
-    by : (b : Bool) (rows : List NumberedRow) → rows ≡ [] → is_nothing (if b then Pair else tree_awaits (nodes_of c.n_var rows) (pending_of rows)) ≡ false
+    by : (b : Bool) (rows : List NumberedRow) → rows ≡ [] → is_nothing (if b then Pair else tree_awaits (nodes_of c.n_var rows) (pending_from None rows)) ≡ false
     by true rows none = refl
     by false rows none = rw none refl
 
@@ -267,7 +267,7 @@ places_pair c before p row t n range =
     ∙ sym (lines-append c before (longer p row))
   where
     nodes_same : node_lines c (longer p row) ≡ node_lines c p
-    nodes_same = ap (λ rs. only_lines (nodes_of c.n_var rs)) (early_tree c p row n.within)
+    nodes_same = ap (λ rs. map (λ n. n.line) (nodes_of c.n_var rs)) (early_tree c p row n.within)
 
     terms_more : term_lines (longer p row) ≡ term_lines p ++ row.line ∷ []
     terms_more =

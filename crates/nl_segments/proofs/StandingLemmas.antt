@@ -5,7 +5,7 @@ use Rattle.std.proofs.lemmas.List.{length-map, length-take-le, map-append, take-
 use Rattle.std.proofs.lemmas.List.Sums.{fold-append}
 use Rattle.texts.specs.Words.{words_of, without_comment, row_of, texts}
 use Rattle.nl_header.specs.Head.{counts_in}
-use Rattle.nl_lines.specs.Rows.{NumberedRow, holds_words, rows_from, rows_of, header_words, body_rows}
+use Rattle.nl_lines.specs.Rows.{NumberedRow, holds_words, rows_from, rows_of, header_words}
 use Rattle.nl_lines.specs.Pieces.{with_row, pieces_of, is_nothing, keeps_pairs, line_kind}
 use Rattle.nl_segments.specs.Grammar.{Standing, standing, is_in_header, line_refusal, end_refusal, reason_of, nl_rules, SaysFile}
 use Rattle.nl_segments.specs.Steps.{after, after_row}
@@ -82,7 +82,7 @@ rows_from-more n (l ∷ lines) line = by (holds_words l) refl (rows_from-more (n
 -- ---- the standing by rows
 
 abbrev standing_by : List NumberedRow → Standing
-standing_by rows = record { header = header_words rows; pieces = pieces_of (counts_in (header_words rows)) (body_rows rows) }
+standing_by rows = record { header = header_words rows; pieces = pieces_of (counts_in (header_words rows)) (drop 10 rows) }
 
 same_standing : (a b : Standing) → a.header ≡ b.header → a.pieces ≡ b.pieces → a ≡ b
 same_standing a b p q = λ i. record { header = p i; pieces = q i }

@@ -1,6 +1,6 @@
 -- The grammar of .nl texts: which have no fault, what they say, and what is the first fault of the
 -- others.
-use Rattle.std.specs.Prelude.{◌≡◌, ℕ, Bool, nat_lt, List, length, Option, Some, None, option_map, if◌then◌else◌}
+use Rattle.std.specs.Prelude.{◌≡◌, ℕ, Bool, nat_lt, List, length, drop, Option, Some, None, option_map, if◌then◌else◌}
 use Rattle.texts.specs.Judged.{Rules, first_reason}
 use Rattle.texts.specs.Words.{words_of, row_of, without_comment}
 use Rattle.texts.specs.declared.lines.LineFault.{LineFault}
@@ -13,7 +13,7 @@ use Rattle.nl_model.specs.File.{File}
 use Rattle.nl_model.specs.Draft.{Draft, file_of}
 use Rattle.nl_lines.specs.declared.fault.NlReason.{NlReason}
 use Rattle.nl_lines.specs.declared.fault.NlReason.TheVariants.{BinaryFile, BadFirstLine, Options, BadHeaderNumber, CountsDisagree, RefusedCount, TooLarge, LineTooLong, InputTooLong, EndInHeader}
-use Rattle.nl_lines.specs.Rows.{rows_of, holds_words, header_words, body_rows}
+use Rattle.nl_lines.specs.Rows.{rows_of, holds_words, header_words}
 use Rattle.nl_lines.specs.Pieces.{Piece, pieces_of}
 use Rattle.nl_lines.specs.Saying.{draft_of, PlaceLines, place_lines}
 use Rattle.nl_lines.specs.Tests.{row_tests, end_tests}
@@ -30,7 +30,7 @@ standing lines =
     let rows = rows_of lines in
     record {
       header = header_words rows;
-      pieces = pieces_of (counts_in (header_words rows)) (body_rows rows);
+      pieces = pieces_of (counts_in (header_words rows)) (drop 10 rows);
     }
 
 -- the ten rows of the header have not all come
@@ -54,18 +54,12 @@ reason_of Disagree = CountsDisagree
 reason_of Refused = RefusedCount
 reason_of Large = TooLarge
 
--- a row of the header
-abbrev pub header_refusal : Standing → List ℕ → Option NlReason
-header_refusal s text =
-    option_map (λ fault. (reason_of fault)) (header_line_fault s.header (words_of text))
-
--- a row of the body
-abbrev pub body_refusal : Standing → List ℕ → Option NlReason
-body_refusal s text = first_reason (row_tests (counts_of s) (said s) s.pieces (row_of text))
-
--- a row, by its text without the comment
+-- a row of the header or of the body, by its text without the comment
 abbrev pub row_refusal : Standing → List ℕ → Option NlReason
-row_refusal s text = if is_in_header s then header_refusal s text else body_refusal s text
+row_refusal s text =
+    if is_in_header s
+    then option_map reason_of (header_line_fault s.header (words_of text))
+    else first_reason (row_tests (counts_of s) (said s) s.pieces (row_of text))
 
 -- a line; one that holds no word means nothing
 unfoldable pub line_refusal : Standing → List ℕ → Option NlReason

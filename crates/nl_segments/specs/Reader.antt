@@ -39,18 +39,14 @@ abbrev pub opcode_of : NlReason → ℕ
 opcode_of (RefusedOpcode opcode) = opcode
 opcode_of reason = 0
 
--- a reason at a line
-abbrev pub reason_in : NlFault → TextFault NlReason
-reason_in f = record { reason = f.reason; line = f.line }
-
 -- the text's first fault
 pub record HasNlFault (text : List ℕ) (f : NlFault) : Type 0 where
-  pub first : HasFault nl_rules text (reason_in f)
+  pub first : HasFault nl_rules text (record { reason = f.reason; line = f.line })
   pub opcode : f.opcode ≡ opcode_of f.reason
 
 -- the same of a text of which more may come
 pub record HasNlFaultSoFar (text : List ℕ) (f : NlFault) : Type 0 where
-  pub first : HasFaultSoFar nl_rules text (reason_in f)
+  pub first : HasFaultSoFar nl_rules text (record { reason = f.reason; line = f.line })
   pub opcode : f.opcode ≡ opcode_of f.reason
 
 abbrev pub value_of : NlRead → NlValue

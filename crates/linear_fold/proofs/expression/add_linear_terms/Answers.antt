@@ -1,9 +1,10 @@
 use Rattle.std.proofs.Common.{◌≡◌, ◌∙◌, ◌+◌, sym, ap, arith, drop}
 use Rattle.nl_meaning.specs.Faults.{line_with_terms, terms_fault}
-use Rattle.file_meaning.specs.Expressions.{linear_term, linear_terms}
+use Rattle.file_meaning.specs.Expressions.{linear_terms}
 use Rattle.linear_program.specs.Forms.{sum_line}
 use Rattle.linear_fold.proofs.Expressions.{fault_past, term_at}
 use Rattle.linear_fold.proofs.expression.add_linear_terms.Goals as goal
+use Rattle.exact_numbers.specs.Values.{dec_value}
 
 pub loop-index-preserved : goal.loop-index-preserved
 loop-index-preserved g c =
@@ -18,7 +19,7 @@ loop-index-preserved g c =
     record {
       fault =
           ap (λ j. terms_fault new j rest) place
-          ∙ sym (fault_past a new (c.args.first + i) (linear_term t) rest c.in-Ok.ensures.adds)
+          ∙ sym (fault_past a new (c.args.first + i) (record { variable = t.0; factor = dec_value t.1 }) rest c.in-Ok.ensures.adds)
           ∙ ap (λ ts. terms_fault a (c.args.first + i) (linear_terms ts)) (sym at)
           ∙ c.loop-index.invariant.fault;
       line =
