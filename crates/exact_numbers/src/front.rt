@@ -218,21 +218,6 @@ pub fn front_dec(text: &[u8]) -> Option<FrontDec>
     front_number(text)
 }
 
-/// The number of a decimal word of the common form; none of some other words.
-#[inline]
-pub fn plain_dec(word: &[u8]) -> Option<Dec>
-    ensures { IfSome result (λ d. (dec_of word.now ≡ Some d) × (0 < length word.now)
-        × IsUnmarked word.now) }
-{
-    let Some(front) = front_dec(word) else {
-        return None;
-    };
-    if front.len < word.len() {
-        return None;
-    }
-    Some(front.value)
-}
-
 // The largest whole number that is read.
 const LARGEST: u64 = 0x7fff_ffff;
 
