@@ -1,8 +1,6 @@
 // A line of an index and a value, read at once.
-ghost use Rattle.std.specs.Prelude.{◌≡◌, ◌<◌, ◌≤◌, IfSome, get_or, length};
-ghost use Rattle.texts.specs.Words.{row_of, without_comment};
+ghost use Rattle.std.specs.Prelude.{◌<◌, IfSome};
 ghost use Rattle.nl_lines.specs.FirstPairs.{IsFirstPair};
-ghost use Rattle.nl_lines.specs.PairTests.{IsPairRow};
 
 use exact_numbers::{Dec, front_dec, plain_index};
 

@@ -1,9 +1,9 @@
 // A line with a node that is a letter and a number alone.
-ghost use Rattle.std.specs.Prelude.{◌≡◌, ◌≤◌, ◌+◌, ◌-◌, ◌^◌, List, ℕ, All, IfSome, length};
+ghost use Rattle.std.specs.Prelude.{◌≤◌, ◌+◌, ◌-◌, ◌^◌, List, ℕ, All, IfSome, length};
 ghost use Rattle.texts.specs.Judged.{Decides};
 ghost use Rattle.nl_lines.specs.declared.awaited.Awaited.TheVariants.{Node};
 ghost use Rattle.nl_segments.specs.Current.{Current as CurrentValue};
-ghost use Rattle.nl_segments.specs.Held.{Body, HoldsSome, IsAwaiting, TakesRow, body_of};
+ghost use Rattle.nl_segments.specs.Held.{Body, HoldsSome, IsAwaiting, body_of};
 ghost use Rattle.nl_segments.specs.InsideNodeRuns.{AwaitsNodes, HasNodes, with_nodes};
 ghost use Rattle.nl_lines.specs.FirstRows.{IsFirstRow};
 ghost use Rattle.nl_lines.specs.Leaves.{IsLeafRow};

@@ -1,12 +1,11 @@
 // A line of an index and a value.
-ghost use Rattle.std.specs.Prelude.{ℕ, List, ◌≡◌, ◌<◌, ◌≤◌, ◌&&◌, length, get_or, true, false, Some, None, IsSome, IsTrue, IsSomeAnd, IfSome, IfOk, IfErr, OnOk, OnErr, if◌then◌else◌};
+ghost use Rattle.std.specs.Prelude.{ℕ, List, ◌≡◌, ◌<◌, length, true, false, Some, None, IsSome, IsSomeAnd, IfSome, OnOk, OnErr, if◌then◌else◌};
 ghost use Rattle.texts.specs.Words.{texts};
 ghost use Rattle.nl_model.specs.Rules.{most_terms};
 ghost use Rattle.nl_lines.specs.declared.awaited.Awaited.TheVariants.{Pair};
 ghost use Rattle.nl_segments.specs.Current.{current_awaits};
 ghost use Rattle.nl_lines.specs.Heads.{is_head};
 ghost use Rattle.nl_segments.specs.Held.{HasRow, HoldsSome, IsAwaiting, TakesRow, body_of};
-ghost use Rattle.nl_lines.specs.PairTests.{IsPairRow};
 ghost use Rattle.nl_segments.specs.InsideKnownPairs.{HasGoodPair, IsGoodPair};
 ghost use Rattle.nl_segments.specs.InsideLineSteps.{unless_complete};
 ghost use Rattle.nl_segments.specs.InsidePairSteps.{CanClose, CanGive, CanUse, one_more, with_closed, with_given, with_kept, with_mark, with_suffix, with_use};
