@@ -1,7 +1,7 @@
 // Numbers as texts.
 
-use exact_numbers::{Dec, front_dec, plain_dec, plain_index, read_dec};
-use nl_lines::{Leaf, leaf_of_line, pair_of_line, whole_of_line};
+use exact_numbers::{Dec, front_dec, plain_index, read_dec};
+use nl_lines::{FirstLeaf, Leaf, first_leaf, first_pair, first_whole};
 
 const LARGEST: i128 = 170141183460469231731687303715884105727;
 
@@ -36,7 +36,7 @@ fn plain_words_are_taken(rt: HostRuntime) {
         (b"1e", None),
     ];
     for (word, wanted) in decimals {
-        assert!(rt; plain_dec(word) == wanted);
+        assert!(rt; value_of(word) == wanted);
     }
     let index = plain_index(b"120 3.5").expect(&rt, "an index");
     assert!(rt; index.number == 120 && index.len == 3);
@@ -46,22 +46,34 @@ fn plain_words_are_taken(rt: HostRuntime) {
     assert!(rt; front_dec(b".5").is_none());
 }
 
-// Lines that are read at once, by ways whose clauses let them give up.
+// The decimal of a word that is read as a whole at the front.
+fn value_of(word: &[u8]) -> Option<Dec> {
+    match front_dec(word) {
+        Some(front) if front.len == word.len() => Some(front.value),
+        _ => None,
+    }
+}
+
+// Lines at the front of a text, by ways whose clauses let them give up.
 #[test]
 fn plain_lines_are_taken(rt: HostRuntime) {
-    let pair = pair_of_line(b"3 2.5").expect(&rt, "a pair");
-    assert!(rt; pair.0 == 3 && Some(pair.1) == Dec::new(25, -1));
-    assert!(rt; whole_of_line(b"12") == Some(12));
-    let variable = number_of(leaf_of_line(b"v7"));
-    let opcode = number_of(leaf_of_line(b"o2"));
-    assert!(rt; variable == 7 && opcode == 2 && leaf_of_line(b"n4").is_some());
+    let pair = first_pair(b"3 2.5\n").expect(&rt, "a pair");
+    assert!(rt; pair.index == 3 && Some(pair.value) == Dec::new(25, -1) && pair.len == 6);
+    let whole = first_whole(b"12\n").expect(&rt, "a number");
+    assert!(rt; whole.number == 12 && whole.len == 3);
+    let variable = number_of(first_leaf(b"v7\n"));
+    let opcode = number_of(first_leaf(b"o2\n"));
+    assert!(rt; variable == 7 && opcode == 2 && first_leaf(b"n4\n").is_some());
 }
 
 // The whole number of a leaf, or 0.
-fn number_of(leaf: Option<Leaf>) -> u32 {
-    match leaf {
-        Some(Leaf::Variable(number)) => number,
-        Some(Leaf::Opcode(number)) => number,
+fn number_of(first: Option<FirstLeaf>) -> u32 {
+    let Some(first) = first else {
+        return 0;
+    };
+    match first.leaf {
+        Leaf::Variable(number) => number,
+        Leaf::Opcode(number) => number,
         _ => 0,
     }
 }

@@ -1,7 +1,6 @@
 -- A text of digits, with one point among them or none, after a sign or none, and an exponent or none.
-use Rattle.std.proofs.Common.{◌≡◌, ◌≢◌, ℕ, zero, suc, ◌+◌, ◌-◌, ◌<◌, ◌≤◌, ◌^◌, ◌||◌, nat_eq, cond, Bool, true, false, Option, Some, None, IfSome, refl, ◌∙◌, sym, ap, ap₂, arith, subst, List, [], ◌∷◌, ◌++◌, length, take, drop, get_or, ℤ, pos, neg_ℤ, ◌-ℤ◌, unsigned_abs, lit<, append_assoc, append-nil, length-drop, length-take-le, take-add}
+use Rattle.std.proofs.Common.{◌≡◌, ◌≢◌, ℕ, zero, suc, ◌+◌, ◌-◌, ◌<◌, ◌≤◌, ◌^◌, ◌||◌, nat_eq, cond, Bool, true, false, Option, Some, None, IfSome, refl, ◌∙◌, sym, ap, ap₂, arith, subst, List, [], ◌∷◌, ◌++◌, length, take, drop, get_or, ℤ, pos, ◌-ℤ◌, unsigned_abs, lit<, append_assoc, append-nil, length-drop, length-take-le, take-add}
 use Rattle.std.proofs.lemmas.List.{take_more}
-use Rattle.std.proofs.lemmas.Int.{ints}
 use Rattle.std.proofs.lemmas.Int.Digits.{digits_value-lt}
 use Rattle.std.proofs.Math.Nat.{pow-le-pow_right}
 use Rattle.std.proofs.lemmas.Bool.Decides.{nat_tests}
@@ -9,7 +8,7 @@ use Rattle.std.specs.Char.{digit_value}
 use Rattle.std.specs.Str.Parse.{AllDigits, digits_value, digits_value_after}
 use Rattle.fractions.specs.Rational.{decimal_value}
 use Rattle.exact_numbers.specs.Decimal.{signed}
-use Rattle.exact_numbers.specs.Text.{begins_minus, after_sign, is_mark, whole_digits, fraction_digits, exponent_value, IsDecText, text_value}
+use Rattle.exact_numbers.specs.Text.{begins_minus, after_sign, is_mark, IsDecText, text_value}
 use Rattle.exact_numbers.specs.InsideFront.{IsBare, IsPlain, IsPower, IsFrontDec}
 use Rattle.exact_numbers.specs.declared.dec.Dec.{Dec}
 use Rattle.exact_numbers.specs.declared.front.FrontDec.{FrontDec}
@@ -91,11 +90,6 @@ bare_of word whole fraction s size places c sign d df some number deep = record 
   after = ap length c.fraction_is ∙ deep;
 }
 
-bare_value : (word : List ℕ) (s : Bool) (size places : ℕ) → IsBare word s size places → text_value word ≡ decimal_value (signed s size) (neg_ℤ (pos places))
-bare_value word s size places b =
-    ap₂ (λ t e. decimal_value (signed t (digits_value 10 (whole_digits word ++ fraction_digits word))) (exponent_value e -ℤ pos (length (fraction_digits word)))) b.sign b.bare
-    ∙ ap₂ (λ v k. decimal_value (signed s v) (pos 0 -ℤ pos k)) b.digits b.after ∙ ap (decimal_value (signed s size)) (omega (arith, ints))
-
 -- digits alone
 pub plain_digits : (text body : List ℕ) (s : Bool) (n size len : ℕ) → body ≡ after_sign text → s ≡ begins_minus text → n ≢ 0 → n ≤ length body → n ≤ 18 → AllDigits 10 (take n body) → size ≡ digits_value_after 10 0 (take n body)
     → len ≡ length text - length body + n → IsPlain text s size 0 len
@@ -140,19 +134,6 @@ plain_point text body fraction s n k front size len e minus more within point be
       short = omega (arith, few_more);
       bare = bare_of (take len text) whole places s size k (cut_point (take len text) whole places rest d df) (f.sign ∙ sym minus) d df (omega (arith, long, more)) number deep;
       unmarked = sign_unmarked (take len text) (subst IsUnmarked (sym rest) (point_unmarked whole places d df));
-    }
-
--- the value of a number without an exponent
-pub bare_front : (text : List ℕ) (s : Bool) (size places len : ℕ) (d : Dec) → IsPlain text s size places len → dec_value d ≡ decimal_value (signed s size) (neg_ℤ (pos places)) → IsFrontDec text d len
-bare_front text s size places len d p same =
-    let b = p.bare in
-    record {
-      within = p.within;
-      some = p.some;
-      few = omega (arith, p.few);
-      is = b.is;
-      value = same ∙ sym (bare_value (take len text) s size places b);
-      unmarked = p.unmarked;
     }
 
 -- ---- an exponent

@@ -1,10 +1,12 @@
 // Numbers of the common form at the front of a text.
-ghost use Rattle.std.specs.Prelude.{◌≡◌, ◌<◌, ◌≤◌, ◌≤ℤ◌, ◌+◌, ◌-◌, ◌*◌, ◌^◌, ◌∷◌, neg_ℤ, pos, true, IfSome, Some, length, take, slice_index};
+ghost use Rattle.std.specs.Prelude.{◌≡◌, ◌<◌, ◌≤◌, ◌≤ℤ◌, ◌+◌, ◌-◌, ◌*◌, ◌^◌, neg_ℤ, pos, IfSome, Some, length, take};
 ghost use Rattle.std.specs.Str.Parse.{AllDigits, digits_value_after};
 ghost use Rattle.exact_numbers.specs.Decimal.{signed};
 ghost use Rattle.exact_numbers.specs.InsideFront.{IsPlain, IsPower, IsFrontDec};
 ghost use Rattle.exact_numbers.specs.Numbers.{dec_of, whole_of, IsUnmarked};
 ghost use Rattle.exact_numbers.specs.Text.{begins_minus, after_sign, is_mark};
+ghost use Rattle.exact_numbers.specs.Values.{dec_value};
+ghost use Rattle.fractions.specs.Rational.{decimal_value};
 
 use crate::dec::Dec;
 
@@ -135,6 +137,8 @@ fn signed_power(negative: bool, size: u64) -> i16
 }
 
 // The exponent of few digits that a text begins with, behind its mark.
+#[cold]
+#[inline(never)]
 fn front_power(text: &[u8]) -> Option<Power>
     ensures { IfSome result (λ x. IsPower text.now x.value x.len) }
 {
@@ -157,15 +161,23 @@ fn is_mark(byte: u8) -> bool
     byte == b'e' || byte == b'E'
 }
 
-// The number with an exponent that a text begins with, of which what stands before the mark is
-// known.
-#[inline(never)]
-fn front_marked(text: &[u8], plain: Plain) -> Option<FrontDec>
-    requires plain { IsPlain text.now plain.negative plain.size plain.places plain.len }
-    requires within { plain.len < length text.now }
-    requires mark { is_mark (slice_index text.now plain.len) ≡ true }
-    ensures { IfSome result (λ d. IsFrontDec text.now d.value d.len) }
+// The power of ten of the number that a text begins with, of which what stands before a mark is
+// known, and how many bytes that number has.
+#[inline(always)]
+fn whole_power(text: &[u8], plain: Plain) -> Option<Power>
+    requires { IsPlain text.now plain.negative plain.size plain.places plain.len }
+    ensures low { IfSome result (λ x. neg_ℤ (pos 300) ≤ℤ x.value) }
+    ensures high { IfSome result (λ x. x.value ≤ℤ pos 300) }
+    ensures is { IfSome result (λ x. (d : Dec)
+        → dec_value d ≡ decimal_value (signed plain.negative plain.size) x.value
+        → IsFrontDec text.now d x.len) }
 {
+    if plain.len >= text.len() || !is_mark(text[plain.len]) {
+        return Some(Power {
+            value: -(plain.places as i16),
+            len: plain.len,
+        });
+    }
     let Some(power) = front_power(text.split_at(plain.len + 1).1) else {
         return None;
     };
@@ -173,8 +185,8 @@ fn front_marked(text: &[u8], plain: Plain) -> Option<FrontDec>
     if sum < -MOST_POWER || sum > MOST_POWER {
         return None;
     }
-    Some(FrontDec {
-        value: Dec::of_few(plain.negative, plain.size, sum),
+    Some(Power {
+        value: sum,
         len: plain.len + 1 + power.len,
     })
 }
@@ -188,12 +200,12 @@ pub(crate) fn front_number(text: &[u8]) -> Option<FrontDec>
     let Some(plain) = front_plain(text) else {
         return None;
     };
-    if plain.len < text.len() && is_mark(text[plain.len]) {
-        return front_marked(text, plain);
-    }
+    let Some(power) = whole_power(text, plain) else {
+        return None;
+    };
     Some(FrontDec {
-        value: Dec::of_few(plain.negative, plain.size, -(plain.places as i16)),
-        len: plain.len,
+        value: Dec::of_few(plain.negative, plain.size, power.value),
+        len: power.len,
     })
 }
 
@@ -204,21 +216,6 @@ pub fn front_dec(text: &[u8]) -> Option<FrontDec>
         × (dec_of (take d.len text.now) ≡ Some d.value) × IsUnmarked (take d.len text.now)) }
 {
     front_number(text)
-}
-
-/// The number of a decimal word of the common form; none of some other words.
-#[inline]
-pub fn plain_dec(word: &[u8]) -> Option<Dec>
-    ensures { IfSome result (λ d. (dec_of word.now ≡ Some d) × (0 < length word.now)
-        × IsUnmarked word.now) }
-{
-    let Some(front) = front_dec(word) else {
-        return None;
-    };
-    if front.len < word.len() {
-        return None;
-    }
-    Some(front.value)
 }
 
 // The largest whole number that is read.

@@ -20,7 +20,7 @@ mod write;
 pub use arithmetic::lcm;
 pub use dec::Dec;
 pub use frac::Frac;
-pub use front::{FrontDec, PlainIndex, front_dec, plain_dec, plain_index};
+pub use front::{FrontDec, PlainIndex, front_dec, plain_index};
 pub use mantissa::MAXN;
 pub use num_text::NumText;
 pub use numbers::{are_digits, dec_of, signed_of, whole_of};

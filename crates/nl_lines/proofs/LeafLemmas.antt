@@ -1,6 +1,6 @@
 -- A line that is a letter and a number alone: its one word, and how that is judged.
-use Rattle.std.proofs.Common.{◌≡◌, ◌∙◌, ℕ, ◌<◌, take, false, List, [], ◌∷◌, refl, sym, ap, ap₂, drop, subst, arith, Option, Some, None, Result, Ok, Err}
-use Rattle.std.specs.Prelude.{IfSome, option_map, option_and_then, slice_index}
+use Rattle.std.proofs.Common.{◌≡◌, ◌∙◌, ℕ, false, List, refl, Option, Some, None, Result, Ok, Err}
+use Rattle.std.specs.Prelude.{option_map, option_and_then}
 use Rattle.code_tables.specs.Opcodes.{operands_of}
 use Rattle.exact_numbers.specs.declared.dec.Dec.{Dec}
 use Rattle.exact_numbers.specs.Numbers.{dec_of}
@@ -8,8 +8,6 @@ use Rattle.nl_model.specs.declared.header_counts.Counts.{Counts}
 use Rattle.nl_model.specs.declared.node.Node.TheVariants.{Num}
 use Rattle.nl_model.specs.Draft.{Draft}
 use Rattle.texts.specs.Judged.{Decides, first_reason}
-use Rattle.texts.specs.Words.{IsUnmarked, row_of, without_comment}
-use Rattle.texts.proofs.PairLemmas.{without_comment-unmarked, words_of-one}
 use Rattle.nl_lines.specs.declared.fault.NlReason.{NlReason}
 use Rattle.nl_lines.specs.declared.leaf.Leaf.{Leaf}
 use Rattle.nl_lines.specs.declared.leaf.Leaf.TheVariants.{Number, Variable, Opcode}
@@ -22,18 +20,6 @@ use Rattle.nl_lines.specs.Tests.{Tests, node_form_tests, number_tests, opcode_te
 use Rattle.nl_lines.proofs.PairRows.{whole_digits}
 
 -- ---- the words of such a line
-
-pub one_word : (letter : ℕ) (text : List ℕ) → 35 < letter → IsUnmarked text → row_of (without_comment (letter ∷ text)) ≡ (letter ∷ text) ∷ []
-one_word letter text above all =
-    ap row_of (without_comment-unmarked (letter ∷ text) (above, all)) ∙ ap (take 12) (words_of-one (letter ∷ text) (omega arith) (above, all))
-
-pub leaf_line : (letter : ℕ) (line text : List ℕ) (first : ℕ) (r : Option Leaf) → first ≡ slice_index line 0 → first ≡ letter → text ≡ drop 1 line → 35 < letter
-    → IfSome r (λ leaf. IsLeafRow ((letter ∷ text) ∷ []) leaf × IsUnmarked text) → IfSome r (λ leaf. IsLeafRow (row_of (without_comment line)) leaf)
-leaf_line letter [] text first r begins is rest above says = absurd (omega (arith, begins, is, above))
-leaf_line letter (b ∷ bytes) text first None begins is rest above says = tt
-leaf_line letter (b ∷ bytes) text first (Some leaf) begins is rest above says =
-    let same : letter ∷ text ≡ b ∷ bytes = ap₂ (λ x xs. x ∷ xs) (sym is ∙ begins) rest in
-    subst (λ ws. IsLeafRow ws leaf) (sym (one_word letter text above says.1) ∙ ap (λ bs. row_of (without_comment bs)) same) says.0
 
 -- ---- such a row is no head
 

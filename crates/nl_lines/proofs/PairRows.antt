@@ -3,13 +3,12 @@ use Rattle.std.proofs.Common.{◌≡◌, ◌∙◌, ℕ, ◌+◌, ◌-◌, ◌<�
 use Rattle.std.specs.Prelude.{unwrap_or, slice_index}
 use Rattle.std.specs.Char.{digit_value}
 use Rattle.std.proofs.lemmas.List.{drop_more}
-use Rattle.std.proofs.lemmas.Bool.{ltb-true, not-false}
+use Rattle.std.proofs.lemmas.Bool.{ltb-true}
 use Rattle.std.proofs.lemmas.Bool.Decides.{nat_tests}
 use Rattle.texts.specs.Judged.{first_reason}
-use Rattle.texts.specs.Words.{IsUnmarked, row_of, words_of, without_comment, word_at}
+use Rattle.texts.specs.Words.{IsUnmarked, words_of, without_comment, word_at}
 use Rattle.texts.proofs.FrontLemmas.{front_one}
-use Rattle.texts.proofs.PairLemmas.{one_line-pair, pair_line, without_comment-pair, words_of-pair}
-use Rattle.texts.proofs.FirstReasons.{none_each}
+use Rattle.texts.proofs.PairLemmas.{one_line-pair, without_comment-pair, words_of-pair}
 use Rattle.exact_numbers.specs.declared.dec.Dec.{Dec}
 use Rattle.exact_numbers.specs.Numbers.{are_any_digits, are_digits, dec_of, whole_of}
 use Rattle.exact_numbers.specs.SpelledLemmas.{first_of_both, second_of_both}
@@ -19,9 +18,9 @@ use Rattle.nl_model.specs.File.{Term}
 use Rattle.nl_lines.specs.declared.head.Head.{Head}
 use Rattle.nl_lines.specs.Heads.{is_ascii_letter, is_head}
 use Rattle.nl_lines.specs.Pieces.{pair_in}
-use Rattle.nl_lines.specs.Tests.{index_limit, pair_form_tests}
+use Rattle.nl_lines.specs.Tests.{pair_form_tests}
 use Rattle.nl_lines.specs.FirstPairs.{IsFirstPair}
-use Rattle.nl_lines.specs.PairTests.{IsPairRow, SaysFreshPair, known_pair_tests, next_pair_tests}
+use Rattle.nl_lines.specs.PairTests.{IsPairRow, known_pair_tests, next_pair_tests}
 use Rattle.nl_lines.proofs.PairJudging.{index_of}
 
 -- ---- the words of such a row
@@ -66,29 +65,11 @@ pub same_known : (c : Counts) (head : Head) (marks : List Bool) (full : Bool) (w
 unfolding pair_form_tests
 same_known c head marks full words t p = rw (p.two, index_digits words t p, index_of words t p.says, value_of words t p.says) refl
 
-pub fresh_known : (c : Counts) (head : Head) (marks : List Bool) (full : Bool) (words : List (List ℕ)) (t : Term) → IsPairRow words t
-    → first_reason (known_pair_tests c head marks full t) ≡ None → SaysFreshPair c head marks full words t
-fresh_known c head marks full words t p e =
-    let none = none_each (known_pair_tests c head marks full t) e in
-    record {
-      says = p.says;
-      below = ltb-true t.0 (index_limit c head) (not-false _ none.0);
-      fresh = none.1.1.0;
-      room = none.1.1.1.0;
-    }
-
 -- ---- a line of the common form
 
 two_words : (index word : List ℕ) (i : ℕ) (d : Dec) → whole_of index ≡ Some i → dec_of word ≡ Some d → IsPairRow (index ∷ word ∷ []) (i, d)
 unfolding pair_in
 two_words index word i d whole dec = record { two = refl; says = rw (whole, dec) refl }
-
-pub pair_row : (line word : List ℕ) (n i : ℕ) (d : Dec) → n < length line → get_or line n 0 ≡ 32 → word ≡ take (length line - (n + 1)) (drop (n + 1) line)
-    → 0 < n → whole_of (take n line) ≡ Some i → IsUnmarked (take n line) → dec_of word ≡ Some d → 0 < length word → IsUnmarked word
-    → IsPairRow (row_of (without_comment line)) (i, d)
-pair_row line word n i d within space cut some whole index dec word_some word_unmarked =
-    let words = pair_line line word n within space cut some index word_some word_unmarked in
-    subst (λ ws. IsPairRow ws (i, d)) (sym (ap (take 12) words)) (two_words (take n line) word i d whole dec)
 
 -- ---- such a line at the front of a text
 

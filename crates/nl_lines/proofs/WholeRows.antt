@@ -1,23 +1,16 @@
 -- A row that is a whole number alone.
-use Rattle.std.proofs.Common.{◌≡◌, ◌∙◌, ℕ, ◌+◌, ◌<◌, ◌^◌, ◌&&◌, nat_le, nat_lt, arith, take, true, false, List, [], ◌∷◌, length, refl, sym, ap, subst, Some, None}
+use Rattle.std.proofs.Common.{◌≡◌, ℕ, ◌+◌, ◌^◌, ◌&&◌, nat_le, nat_lt, arith, true, false, List, length, refl, Some, None}
 use Rattle.std.proofs.lemmas.Bool.{eqb-true, ltb-true, not-false}
 use Rattle.std.proofs.lemmas.Bool.Decides.{nat_tests}
 use Rattle.texts.specs.Judged.{first_reason}
-use Rattle.texts.specs.Words.{IsUnmarked, row_of, without_comment, word_at}
+use Rattle.texts.specs.Words.{word_at}
 use Rattle.texts.proofs.FirstReasons.{none_each}
-use Rattle.texts.proofs.PairLemmas.{without_comment-unmarked, words_of-one}
 use Rattle.exact_numbers.specs.Numbers.{whole_of}
 use Rattle.exact_numbers.specs.SpelledLemmas.{first_of_both, second_of_both}
 use Rattle.nl_lines.specs.Heads.{is_head}
 use Rattle.nl_lines.specs.Tests.{SaysOperandCount, column_tests, operand_tests}
 use Rattle.nl_lines.specs.WholeRows.{IsWholeRow}
 use Rattle.nl_lines.proofs.PairRows.{digits_plain, whole_digits}
-
-pub whole_line : (line : List ℕ) (n : ℕ) → whole_of line ≡ Some n → IsUnmarked line → IsWholeRow (row_of (without_comment line)) n
-whole_line line n e all =
-    let some : 0 < length line = ltb-true 0 (length line) (first_of_both _ _ (whole_digits line n e)) in
-    let words : row_of (without_comment line) ≡ line ∷ [] = ap row_of (without_comment-unmarked line all) ∙ ap (take 12) (words_of-one line some all) in
-    subst (λ ws. IsWholeRow ws n) (sym words) (record { one = refl; says = e })
 
 pub whole_plain : (words : List (List ℕ)) (n : ℕ) → IsWholeRow words n → is_head words ≡ false
 whole_plain words n w = rw (digits_plain (word_at words 0) (whole_digits (word_at words 0) n w.says)) refl

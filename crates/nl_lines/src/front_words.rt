@@ -24,7 +24,7 @@ pub(crate) fn next_whole(text: &[u8], byte: u8) -> Option<PlainIndex>
 }
 
 /// The number of the common form before this byte, and how many bytes both are.
-#[inline]
+#[inline(always)]
 pub(crate) fn next_dec(text: &[u8], byte: u8) -> Option<FrontDec>
     ensures { IfSome result
         (λ p. IsWordBefore 40 byte text.now p.len (λ word. dec_of word ≡ Some p.value)) }

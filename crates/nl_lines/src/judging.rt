@@ -2,13 +2,13 @@
 ghost use Rattle.std.specs.Prelude.{◌≡◌, ◌<◌, ◌≤◌, ◌&&◌, length, get_or, false};
 ghost use Rattle.texts.specs.Judged.{Decides};
 ghost use Rattle.texts.specs.Words.{texts};
-ghost use Rattle.nl_lines.specs.PairTests.{SaysFreshPair, known_pair_tests, next_pair_tests};
+ghost use Rattle.nl_lines.specs.PairTests.{SaysFreshPair, next_pair_tests};
 ghost use Rattle.nl_lines.specs.Tests.{holds_once, index_limit};
 
 use crate::fault::NlReason;
 use crate::head::Head;
 use crate::head_rules::{holds_once, index_limit, wants_whole};
-use crate::pairs::{is_refused, read_pair};
+use crate::pairs::read_pair;
 use exact_numbers::Dec;
 use nl_model::Counts;
 use texts::Marks;
@@ -47,31 +47,4 @@ pub fn read_next_pair(
         return Err(NlReason::TooLarge);
     }
     Ok(pair)
-}
-
-/// What is wrong with a pair whose line is an index and a value alone, after those of its piece.
-pub fn judge_pair(
-    counts: &Counts,
-    head: Head,
-    marks: &Marks,
-    full: bool,
-    pair: (u32, Dec),
-) -> Result<(), NlReason>
-    requires { index_limit counts.now head ≤ length marks.now }
-    ensures { Decides (known_pair_tests counts.now head marks.now full pair)
-        (λ _. Unit {0}) result }
-{
-    if pair.0 >= index_limit(counts, head) {
-        return Err(NlReason::IndexOut);
-    }
-    if is_refused(pair.1, wants_whole(head)) {
-        return Err(NlReason::BadNumber);
-    }
-    if is_repeated(head, marks, pair.0) {
-        return Err(NlReason::RepeatedIndex);
-    }
-    if full {
-        return Err(NlReason::TooLarge);
-    }
-    Ok(())
 }

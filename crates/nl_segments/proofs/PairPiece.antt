@@ -18,7 +18,7 @@ use Rattle.nl_lines.specs.Rows.{NumberedRow, row_words}
 use Rattle.nl_lines.specs.Pieces.{Piece, line_count, line_kind, pair_count, pair_in, piece_pairs, keeps_pairs, awaited_in, is_complete, has_tree, is_nothing, tree_awaits, tree_rows}
 use Rattle.nl_lines.specs.Tests.{has_index, holds_once, index_limit, is_linear, is_suffix, is_same_piece, pair_total}
 use Rattle.nl_segments.specs.Current.{Current, IsCurrent, less_line, with_pair, current_awaits}
-use Rattle.nl_lines.specs.PairTests.{IsMarked, is_full_at, next_pair_tests, SaysFreshPair, IsPairRow, known_pair_tests}
+use Rattle.nl_lines.specs.PairTests.{IsMarked, is_full_at, next_pair_tests}
 use Rattle.nl_segments.specs.Held.{IsSoundPiece, Body, HasRow, HoldsSome, IsAwaiting, IsHeld, IsNodeLeft, TakesRow, words_refusal}
 use Rattle.nl_segments.specs.InsidePairSteps.{with_kept, with_mark, with_closed, with_given, with_suffix, with_use, CanClose, CanGive, CanUse, one_more}
 use Rattle.nl_lines.proofs.RowLemmas.{early_pairs, early_tree}
@@ -45,7 +45,6 @@ use Rattle.nl_segments.specs.InsideLineSteps.{unless_complete}
 use Rattle.nl_lines.specs.NodeRows.{IsNodeKnown}
 use Rattle.nl_lines.proofs.PairJudging.{same_pair_tests}
 use Rattle.nl_segments.specs.InsideKnownPairs.{HasGoodPair, IsGoodPair}
-use Rattle.nl_lines.proofs.PairRows.{pair_plain, same_known, fresh_known}
 use Rattle.std.proofs.Math.Bool.{or-false, or-true}
 
 -- ---- heads of pairs
@@ -618,17 +617,6 @@ kept b new head t line p done words good =
 
 -- ---- a pair that was judged
 
-pub known_good : (b : Body) (counts : Counts) (head : Head) (full : Bool) (t : Term) (words : List (List ℕ)) → counts ≡ b.draft.counts → full ≡ is_full_at head b.linear b.values
-    → first_reason (known_pair_tests counts head b.marks full t) ≡ None → IsPairRow words t → IsGoodPair b head t words
-known_good b counts head full t words counts_is full_is fine p =
-    record {
-      plain = pair_plain words t p;
-      says =
-          subst (λ k. SaysFreshPair k head b.marks (is_full_at head b.linear b.values) words t) counts_is
-          (subst (λ f. SaysFreshPair counts head b.marks f words t) full_is (fresh_known counts head b.marks full words t p fine));
-      fine = sym (ap₂ (λ k f. first_reason (next_pair_tests k head b.marks f words)) counts_is full_is) ∙ same_known counts head b.marks full words t p ∙ fine;
-    }
-
 pub room_for : (b : Body) (cur : Current) (counts : Counts) (head : Head) → b.current ≡ Some cur → counts ≡ b.draft.counts → head ≡ cur.head → HoldsSome b → index_limit counts head ≤ length b.marks
 room_for b cur counts head e counts_is is held =
     let s = held.0 in
@@ -636,8 +624,3 @@ room_for b cur counts head e counts_is is held =
     let range = (last_sound (counts_of s) o.before o.piece (subst (λ t. IsHeld t b) o.whole held.1).sound).range in
     subst (λ k. index_limit k head ≤ length b.marks) (sym (counts_is ∙ held.1.counts))
     (subst (λ y. index_limit (counts_of s) y ≤ length b.marks) (sym (is ∙ o.is_open.current.head)) (held.1.room o.piece.head range))
-
-pub known_refused : (b : Body) (cur : Current) (counts : Counts) (head : Head) (full : Bool) (t : Term) (r : NlReason) → b.current ≡ Some cur → IsAwaiting Pair b → counts ≡ b.draft.counts → head ≡ cur.head
-    → full ≡ is_full_at head b.linear b.values → first_reason (known_pair_tests counts head b.marks full t) ≡ Some r → (words : List (List ℕ)) → IsPairRow words t → (s : Standing) → IsHeld s b → words_refusal s words ≡ Some r
-known_refused b cur counts head full t r e awaits counts_is is full_is fault words p =
-    refused_by b cur words counts head full r e awaits (pair_plain words t p) counts_is is full_is (same_known counts head b.marks full words t p ∙ fault)

@@ -18,9 +18,6 @@ use Rattle.nl_header.specs.Reading.{Taken, IsReading, Takes as TakesRowOfHeader}
 use Rattle.nl_model.specs.declared.header.Header.{Header}
 use Rattle.nl_lines.specs.declared.fault.NlReason.{NlReason}
 use Rattle.nl_lines.specs.declared.fault.NlReason.TheVariants.{EndInHeader}
-use Rattle.nl_lines.specs.declared.leaf.Leaf.{Leaf}
-use Rattle.nl_lines.specs.declared.leaf.Leaf.TheVariants.{Number, Variable, Opcode}
-use Rattle.nl_lines.specs.Leaves.{IsLeafRow}
 use Rattle.nl_segments.specs.declared.nl_read.NlRead.{NlRead}
 use Rattle.nl_segments.specs.Held.{Body, Progress, in_header, in_body, IsHeld, IsHeaderOf, only_header, HoldsStanding, TakesRow, Finishes, HoldsSome}
 use Rattle.nl_segments.specs.InsideTaking.{Takes, TakesBodyLine, TakesLine}
@@ -144,11 +141,6 @@ row_holds_words line text words e w =
 
 pub words_held : (line : List ℕ) (k : ℕ) → length (row_of (without_comment line)) ≡ suc k → holds_words line ≡ true
 words_held line k e = sym (row_begins (words_of (without_comment line))) ∙ ap (λ n. not (n == 0)) e ∙ ap not (some_are k)
-
-pub leaf_held : (line : List ℕ) (leaf : Leaf) → IsLeafRow (row_of (without_comment line)) leaf → holds_words line ≡ true
-leaf_held line (Number d) p = words_held line 0 p.0.one
-leaf_held line (Variable i) p = words_held line 0 p.0.one
-leaf_held line (Opcode o) p = words_held line 0 p.0.one
 
 -- ---- a line
 

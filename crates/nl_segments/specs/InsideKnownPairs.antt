@@ -4,14 +4,8 @@ use Rattle.texts.specs.Judged.{first_reason}
 use Rattle.nl_model.specs.File.{Term}
 use Rattle.nl_lines.specs.declared.head.Head.{Head}
 use Rattle.nl_lines.specs.Heads.{is_head}
-use Rattle.nl_lines.specs.PairTests.{IsPairRow, SaysFreshPair, is_full_at, next_pair_tests}
+use Rattle.nl_lines.specs.PairTests.{SaysFreshPair, is_full_at, next_pair_tests}
 use Rattle.nl_segments.specs.Held.{Body, HasRow}
-
--- there is such a row in this line
-pub record HasPairRow (t : Term) (line : ℕ) : Type 0 where
-  pub words : List (List ℕ)
-  pub exists : HasRow words line
-  pub pair : IsPairRow words t
 
 -- a row of the piece of this head, with which nothing is wrong, says this pair
 pub record IsGoodPair (b : Body) (head : Head) (t : Term) (words : List (List ℕ)) : Type 0 where

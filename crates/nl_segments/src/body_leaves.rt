@@ -1,9 +1,9 @@
 // A line with a node that is a letter and a number alone.
-ghost use Rattle.std.specs.Prelude.{◌≡◌, ◌≤◌, ◌+◌, ◌-◌, ◌^◌, List, ℕ, All, IfSome, length};
+ghost use Rattle.std.specs.Prelude.{◌≤◌, ◌+◌, ◌-◌, ◌^◌, List, ℕ, All, IfSome, length};
 ghost use Rattle.texts.specs.Judged.{Decides};
 ghost use Rattle.nl_lines.specs.declared.awaited.Awaited.TheVariants.{Node};
 ghost use Rattle.nl_segments.specs.Current.{Current as CurrentValue};
-ghost use Rattle.nl_segments.specs.Held.{Body, HoldsSome, IsAwaiting, TakesRow, body_of};
+ghost use Rattle.nl_segments.specs.Held.{Body, HoldsSome, IsAwaiting, body_of};
 ghost use Rattle.nl_segments.specs.InsideNodeRuns.{AwaitsNodes, HasNodes, with_nodes};
 ghost use Rattle.nl_lines.specs.FirstRows.{IsFirstRow};
 ghost use Rattle.nl_lines.specs.Leaves.{IsLeafRow};
@@ -88,21 +88,6 @@ pub(crate) fn give_nodes(
 }
 
 impl BodyReader {
-    /// A line that is a letter and a number alone, which say this.
-    pub(crate) fn take_leaf(&mut self, leaf: Leaf, line: u32) -> Result<(), Stop<NlReason>>
-        requires awaited { IsAwaiting Node (body_of self.old) }
-        requires held { HoldsSome (body_of self.old) }
-        requires exists { (words : List (List ℕ)) × IsLeafRow words leaf }
-        ensures { (words : List (List ℕ)) → IsLeafRow words leaf
-            → TakesRow (body_of self.old) words line result (body_of self.new) }
-    {
-        let row = match read_next(leaf, &self.builder, self.nodes) {
-            Ok(row) => row,
-            Err(reason) => return Err(Stop::Fault(reason)),
-        };
-        self.keep_node(row, line)
-    }
-
     // Takes the line at the front of a piece, which has this number, where that is a letter and a
     // number alone, and follows the lines of the other nodes.
     fn take_leaf_line(&mut self, piece: &[u8], number: u32) -> Front

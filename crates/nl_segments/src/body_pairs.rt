@@ -1,13 +1,12 @@
 // A line of an index and a value.
-ghost use Rattle.std.specs.Prelude.{ℕ, List, ◌≡◌, ◌<◌, ◌≤◌, ◌&&◌, length, get_or, true, false, Some, None, IsSome, IsTrue, IsSomeAnd, IfSome, IfOk, IfErr, OnOk, OnErr, if◌then◌else◌};
+ghost use Rattle.std.specs.Prelude.{ℕ, List, ◌≡◌, ◌<◌, length, true, false, Some, None, IsSome, IsSomeAnd, IfSome, OnOk, OnErr, if◌then◌else◌};
 ghost use Rattle.texts.specs.Words.{texts};
 ghost use Rattle.nl_model.specs.Rules.{most_terms};
 ghost use Rattle.nl_lines.specs.declared.awaited.Awaited.TheVariants.{Pair};
 ghost use Rattle.nl_segments.specs.Current.{current_awaits};
 ghost use Rattle.nl_lines.specs.Heads.{is_head};
 ghost use Rattle.nl_segments.specs.Held.{HasRow, HoldsSome, IsAwaiting, TakesRow, body_of};
-ghost use Rattle.nl_lines.specs.PairTests.{IsPairRow};
-ghost use Rattle.nl_segments.specs.InsideKnownPairs.{HasGoodPair, HasPairRow, IsGoodPair};
+ghost use Rattle.nl_segments.specs.InsideKnownPairs.{HasGoodPair, IsGoodPair};
 ghost use Rattle.nl_segments.specs.InsideLineSteps.{unless_complete};
 ghost use Rattle.nl_segments.specs.InsidePairSteps.{CanClose, CanGive, CanUse, one_more, with_closed, with_given, with_kept, with_mark, with_suffix, with_use};
 ghost use Rattle.nl_lines.specs.Pieces.{is_nothing};
@@ -16,7 +15,7 @@ use crate::body::BodyReader;
 use crate::current::Current;
 use exact_numbers::Dec;
 use nl_lines::{
-    Head, NlReason, holds_once, is_full, is_linear, is_nothing, is_suffix, judge_pair, keeps_pairs,
+    Head, NlReason, holds_once, is_full, is_linear, is_nothing, is_suffix, keeps_pairs,
     read_next_pair,
 };
 use nl_model::{NlBuilder, Suffix};
@@ -154,27 +153,6 @@ impl BodyReader {
             Ok(pair) => pair,
             Err(reason) => return Err(Stop::Fault(reason)),
         };
-        self.keep(head, pair, line)
-    }
-
-    /// A line that is an index and a value alone, this pair.
-    pub(crate) fn take_known(&mut self, pair: (u32, Dec), line: u32) -> Result<(), Stop<NlReason>>
-        requires awaited { IsAwaiting Pair (body_of self.old) }
-        requires held { HoldsSome (body_of self.old) }
-        requires exists { HasPairRow pair line }
-        ensures { (words : List (List ℕ)) → IsPairRow words pair
-            → TakesRow (body_of self.old) words line result (body_of self.new) }
-    {
-        let Some(current) = &self.current else {
-            unreachable!()
-        };
-        let head = current.head();
-        let full = is_full(head, self.linear, self.values);
-        let counts = self.builder.header().counts();
-        let judged = pair;
-        if let Err(reason) = judge_pair(counts, head, &self.marks, full, judged) {
-            return Err(Stop::Fault(reason));
-        }
         self.keep(head, pair, line)
     }
 

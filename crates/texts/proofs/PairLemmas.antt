@@ -1,6 +1,5 @@
 -- A line of one word, or of two with a space between them, whose bytes stand above `#`.
-use Rattle.std.proofs.Common.{◌≡◌, ◌∙◌, ℕ, ◌+◌, ◌-◌, ◌<◌, ◌==◌, ◌&&◌, Bool, true, false, List, [], ◌∷◌, ◌++◌, length, take, drop, get_or, refl, sym, ap, ap₂, subst, arith, append_assoc, append-nil, length-drop, length-take, take-append-drop, take_all}
-use Rattle.std.proofs.lemmas.List.{drop_more}
+use Rattle.std.proofs.Common.{◌≡◌, ◌∙◌, ℕ, ◌+◌, ◌-◌, ◌<◌, ◌==◌, ◌&&◌, Bool, true, false, List, [], ◌∷◌, ◌++◌, length, refl, sym, ap, ap₂, subst, arith, append_assoc, append-nil}
 use Rattle.std.proofs.lemmas.Bool.Decides.{nat_tests}
 use Rattle.texts.proofs.CommentLemmas.{no_mark}
 use Rattle.texts.proofs.LineLemmas.{EndsFree, last-free, trimmed-free}
@@ -51,17 +50,6 @@ words_of-pair (b ∷ index) word first i some w =
     first_word b index (32 ∷ word) i.0 i.1 refl ∙ ap (λ ws. (b ∷ index) ∷ ws) (words_of-one word some w)
 
 -- ---- lines
-
--- a line whose byte n is a space, with the words on both sides of it
-pub pair_line : (line word : List ℕ) (n : ℕ) → n < length line → get_or line n 0 ≡ 32 → word ≡ take (length line - (n + 1)) (drop (n + 1) line)
-    → 0 < n → IsUnmarked (take n line) → 0 < length word → IsUnmarked word → words_of (without_comment line) ≡ take n line ∷ word ∷ []
-pair_line line word n within space behind first i some w =
-    let index = take n line in
-    let rest : word ≡ drop (n + 1) line = behind ∙ take_all (length line - (n + 1)) (drop (n + 1) line) (omega (arith, length-drop (n + 1) line)) in
-    let parts : line ≡ index ++ 32 ∷ word =
-    sym (take-append-drop n line) ∙ ap (λ bs. index ++ bs) (drop_more line n 0 within) ∙ ap₂ (λ b bs. index ++ b ∷ bs) space (sym rest) in
-    let front : 0 < length index = omega (arith, length-take n line) in
-    ap (λ bs. words_of (without_comment bs)) parts ∙ ap words_of (without_comment-pair index word i w) ∙ words_of-pair index word front i some w
 
 -- ---- such a line is one line
 
