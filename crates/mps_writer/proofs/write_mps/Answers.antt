@@ -1,4 +1,4 @@
-use Rattle.std.proofs.Common.{◌≡◌, ◌<◌, ◌++◌, ◌∷◌, [], ◌∙◌, ap, ap₂, false, length, map, subst, sym, All, codes}
+use Rattle.std.proofs.Common.{◌≡◌, ◌<◌, ◌++◌, ◌∷◌, [], ◌∙◌, ap, ap₂, false, length, List, map, subst, sym, All, codes}
 use Rattle.exact_numbers.specs.Values.{text_of}
 use Rattle.texts.specs.Names.{IsName}
 use Rattle.texts.specs.WordLines.{lines_text, unless_empty}
