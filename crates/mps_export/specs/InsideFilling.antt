@@ -62,8 +62,8 @@ IsZeroWithout b = IsWithoutNumber b.0 → dec_value b.1 ≡ zero_ℚ
 -- these are the bounds of a column of these sides
 pub record AreBoundsOf (side : Interval) (first : KindOfBound) (second : Option KindOfBound)
     : Type 0 where
-      pub records : (j : ℕ) →
-          bounds_at j first second ≡ column_bounds j (side_value side.lo) (side_value side.hi)
-      pub zero : IsZeroWithout first
-      pub zero_too : IfSome second IsZeroWithout
-      pub apart : IfSome second (λ b. SetOtherSides first.0 b.0)
+  pub records : (j : ℕ) →
+      bounds_at j first second ≡ column_bounds j (side_value side.lo) (side_value side.hi)
+  pub zero : IsZeroWithout first
+  pub zero_too : IfSome second IsZeroWithout
+  pub apart : IfSome second (λ b. SetOtherSides first.0 b.0)

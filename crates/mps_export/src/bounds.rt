@@ -1,5 +1,5 @@
 // The bounds of a program.
-ghost use Rattle.std.specs.Prelude.{◌≡◌, ◌<◌, length, OnOk, All, map};
+ghost use Rattle.std.specs.Prelude.{◌≡◌, ◌<◌, [], length, OnOk, All, map};
 ghost use Rattle.exact_numbers.specs.Values.{dec_value};
 ghost use Rattle.mps_model.specs.Mps.{bound_with};
 ghost use Rattle.exported_program.specs.Program.{bounds_of, column_bounds};
@@ -45,10 +45,10 @@ fn add_column_bounds(builder: &mut MpsBuilder, j: u32, side: Interval) -> Result
     let bounds = side_bounds(side);
     let first = bounds.0;
     builder.add_bound(first.0, j, first.1)?;
-    let Some(second) = bounds.1 else {
+    let Some((kind, value)) = bounds.1 else {
         return Ok(());
     };
-    builder.add_bound(second.0, j, second.1)?;
+    builder.add_bound(kind, j, value)?;
     Ok(())
 }
 

@@ -60,11 +60,7 @@ fn put_row_lines(
     Ok(())
 }
 
-fn put_rows(
-    out: &mut Vec<u8>,
-    line: &mut LineText<1024>,
-    rows: &[MpsRow],
-) -> Result<(), AllocError>
+fn put_rows(out: &mut Vec<u8>, line: &mut LineText<1024>, rows: &[MpsRow]) -> Result<(), AllocError>
     ensures { OnOk result (out.new.items
         ≡ out.old.items ++ lines_text (section (codes "ROWS") ∷ map row_line rows.now)) }
 {

@@ -36,7 +36,7 @@ pub add_bound-requires-2 : goal.add_bound-requires-2
 add_bound-requires-2 c =
     let first = c.side_bounds-bounds.result.0 in
     let of = c.side_bounds-bounds.ensures in
-    may_bound_too c.args.builder.now c.add_bound.new.self c.args.j first c.in-Some.second c.in_ok-add_bound.ensures.ok c.requires.within c.requires.before
+    may_bound_too c.args.builder.now c.add_bound.new.self c.args.j first (c.in-Some.kind, c.in-Some.value) c.in_ok-add_bound.ensures.ok c.requires.within c.requires.before
     (subst (λ o. IfSome o (λ (b : KindOfBound). SetOtherSides first.0 b.0)) c.in-Some.is of.apart) (subst (λ o. IfSome o IsZeroWithout) c.in-Some.is of.zero_too)
 
 pub returns-in_default-clause-added : goal.returns-in_default-clause-added
@@ -48,11 +48,11 @@ returns-in_default-clause-added c =
 pub returns-clause-added : goal.returns-clause-added
 returns-clause-added c =
     let first = c.side_bounds-bounds.result.0 in
-    let both = both_added c.args.builder.now c.add_bound.new.self c.add_bound-2.new.self (bound_in c.args.j first) (bound_in c.args.j c.in-Some.second) c.in_ok-add_bound.ensures.ok c.in_ok-add_bound-2.ensures.ok in
-    two_put c.args.j c.args.builder.now.bounds c.add_bound-2.new.self.bounds (bound_in c.args.j first) (bound_in c.args.j c.in-Some.second) _ (ap (λ m. m.bounds) both) refl refl
+    let both = both_added c.args.builder.now c.add_bound.new.self c.add_bound-2.new.self (bound_in c.args.j first) (bound_in c.args.j (c.in-Some.kind, c.in-Some.value)) c.in_ok-add_bound.ensures.ok c.in_ok-add_bound-2.ensures.ok in
+    two_put c.args.j c.args.builder.now.bounds c.add_bound-2.new.self.bounds (bound_in c.args.j first) (bound_in c.args.j (c.in-Some.kind, c.in-Some.value)) _ (ap (λ m. m.bounds) both) refl refl
     (ap (bounds_at c.args.j first) (sym c.in-Some.is) ∙ c.side_bounds-bounds.ensures.records c.args.j) c.requires.before
 
 pub returns-clause-only : goal.returns-clause-only
 returns-clause-only c =
     only_bounds c.args.builder.now c.add_bound-2.new.self _
-    (both_added c.args.builder.now c.add_bound.new.self c.add_bound-2.new.self (bound_in c.args.j c.side_bounds-bounds.result.0) (bound_in c.args.j c.in-Some.second) c.in_ok-add_bound.ensures.ok c.in_ok-add_bound-2.ensures.ok)
+    (both_added c.args.builder.now c.add_bound.new.self c.add_bound-2.new.self (bound_in c.args.j c.side_bounds-bounds.result.0) (bound_in c.args.j (c.in-Some.kind, c.in-Some.value)) c.in_ok-add_bound.ensures.ok c.in_ok-add_bound-2.ensures.ok)
