@@ -8,7 +8,7 @@ use Rattle.mps_model.specs.Built.{CanAddEntries, entry_of, CanAddRow}
 use Rattle.mps_model.specs.Valid.{entry_count, IsOtherRow, marker_word, IsOtherColumn, HasEntries, IsBounded, IsComplete}
 use Rattle.exact_numbers.specs.declared.dec.Dec.{Dec}
 use Rattle.linear_program.specs.Decimals.{DecimalTerm as TermOf}
-use Rattle.mps_export.specs.InsideFilling.{or_first, column_from, with_column, AreRising, AreBoundsAdded}
+use Rattle.mps_export.specs.InsideFilling.{or_first, column_from, with_column, AreRising, AreBoundsAdded, AreBoundsOf}
 use Rattle.std.proofs.lemmas.Bool.{cases_eq, eq-eqb, ne_eqb}
 use Rattle.std.specs.Fmt.{decimal}
 use Rattle.std.proofs.lemmas.Fmt.{decimal_injective}
@@ -27,7 +27,7 @@ use Rattle.scaling.specs.Exported.{program_rows, tied_variables, program_variabl
 use Rattle.mps_export.specs.InsideSides.{IsEntryAdded, right_side_of, range_in}
 use Rattle.mps_export.proofs.ColumnLemmas.{Rows, left, left_some, left_end, entries_more, entries_none, entry_front}
 use Rattle.program_meaning.specs.Linear.{Variable, unbounded, Form}
-use Rattle.mps_model.specs.declared.kinds.BoundKind.TheVariants.{Lo, Up, Fx}
+use Rattle.mps_model.specs.declared.kinds.BoundKind.TheVariants.{Lo, Up, Fx, Fr, Mi, Pl}
 use Rattle.linear_program.specs.declared.interval.Interval.{Interval}
 use Rattle.linear_program.specs.declared.kind.Kind.{Kind}
 use Rattle.linear_program.specs.declared.kind.Kind.TheVariants.{Continuous}
@@ -258,6 +258,29 @@ fixed_bounds j l u e = ap (fixed_or_both j l u) (ap (λ x. nonzero (x -ℚ l)) (
 pub both_bounds : (j : ℕ) (l u : ℚ) → (l ≡ u → ⊥) → column_bounds j (Some l) (Some u) ≡ bound_record Lo j l ∷ bound_record Up j u ∷ []
 both_bounds j l u apart =
     ⊎_elim (λ (z : (nonzero (u -ℚ l) ≡ None) × (u -ℚ l ≡ zero_ℚ)). absurd (apart (difference_zero l u z.1))) (λ s. ap (fixed_or_both j l u) s) (nonzero_cases (u -ℚ l))
+
+-- ---- the bounds of a column by its sides
+module _ (side : Interval) where
+  by_sides : (l u : Option Dec) (j : ℕ) → side.lo ≡ l → side.hi ≡ u → column_bounds j (side_value l) (side_value u) ≡ column_bounds j (side_value side.lo) (side_value side.hi)
+  by_sides l u j a b = sym (ap₂ (λ l u. column_bounds j (side_value l) (side_value u)) a b)
+
+  pub of_none : (z : Dec) → side.lo ≡ None → side.hi ≡ None → dec_value z ≡ zero_ℚ → AreBoundsOf side (Fr, z) None
+  of_none z a b e = record { records = λ j. ap (λ v. bound_record Fr j v ∷ []) e ∙ by_sides None None j a b; zero = λ w. e; zero_too = tt; apart = tt }
+
+  pub of_upper : (z u : Dec) → side.lo ≡ None → side.hi ≡ Some u → dec_value z ≡ zero_ℚ → AreBoundsOf side (Mi, z) (Some (Up, u))
+  of_upper z u a b e =
+      record { records = λ j. ap (λ v. bound_record Mi j v ∷ bound_record Up j (dec_value u) ∷ []) e ∙ by_sides None (Some u) j a b; zero = λ w. e; zero_too = λ w. absurd w; apart = record { lower = refl; upper = refl } }
+
+  pub of_lower : (l z : Dec) → side.lo ≡ Some l → side.hi ≡ None → dec_value z ≡ zero_ℚ → AreBoundsOf side (Lo, l) (Some (Pl, z))
+  of_lower l z a b e =
+      record { records = λ j. ap (λ v. bound_record Lo j (dec_value l) ∷ bound_record Pl j v ∷ []) e ∙ by_sides (Some l) None j a b; zero = λ w. absurd w; zero_too = λ w. e; apart = record { lower = refl; upper = refl } }
+
+  pub of_one : (l u : Dec) → side.lo ≡ Some l → side.hi ≡ Some u → dec_value l ≡ dec_value u → AreBoundsOf side (Fx, l) None
+  of_one l u a b e = record { records = λ j. sym (fixed_bounds j (dec_value l) (dec_value u) e) ∙ by_sides (Some l) (Some u) j a b; zero = λ w. absurd w; zero_too = tt; apart = tt }
+
+  pub of_both : (l u : Dec) → side.lo ≡ Some l → side.hi ≡ Some u → (dec_value l ≡ dec_value u → ⊥) → AreBoundsOf side (Lo, l) (Some (Up, u))
+  of_both l u a b e =
+      record { records = λ j. sym (both_bounds j (dec_value l) (dec_value u) e) ∙ by_sides (Some l) (Some u) j a b; zero = λ w. absurd w; zero_too = λ w. absurd w; apart = record { lower = refl; upper = refl } }
 
 -- records that are added at the end
 pub bounds_put : (j : ℕ) (old now bs : List (Bound Dec)) (records : List (Bound ℚ)) → now ≡ old ++ bs → map (bound_with dec_value) bs ≡ records → All (λ b. b.column < j) old → All (λ b. b.column < j + 1) bs → AreBoundsAdded j records old now

@@ -12,10 +12,11 @@ use Rattle.mps_model.specs.declared.kinds.RowKind.TheVariants.{N}
 use Rattle.mps_model.specs.Text.{mps_lines, mps_text_by, entry_line, entry_lines, row_line, section, name_of_row as name_at, bound_line, bound_text, change_lines, column_lines, markers_after, value_words}
 use Rattle.mps_writer.proofs.Writing.{unless_map, column_written, last_change}
 use Rattle.scaled_program.specs.Program.{ScaledRow, nonzero, z_variable}
-use Rattle.exported_program.specs.Program.{mps_of, entries_of, mps_row, obj_name, with_entry, bound_record, bounds_of, column_bounds, column_entries, columns_of, fixed_or_both, or_obj_zero}
+use Rattle.exported_program.specs.Program.{mps_of, entries_of, mps_row, obj_name, with_entry, bounds_of, column_bounds, column_entries, columns_of, fixed_or_both, or_obj_zero}
 use Rattle.scaling.specs.Scaled.{ScaledValue, IsScaled}
 use Rattle.scaling.specs.Exported.{scaled_as, program_objective, program_rows, exported_from, program_variables, tied_rows}
-use Rattle.mps_export.specs.InsideSections.{all_ranges, all_rows, all_sides, first_lines, last_lines, range_lines, row_lines, side_lines, value_lines, all_bounds, all_columns, lines_from, named_bound, bound_by}
+use Rattle.mps_export.specs.InsideSections.{all_ranges, all_rows, all_sides, first_lines, last_lines, range_lines, row_lines, side_lines, value_lines, all_bounds, all_columns, lines_from, named_bound, bound_by, second_lines}
+use Rattle.mps_export.specs.InsideFilling.{AreBoundsOf, KindOfBound, bound_at, bounds_at}
 use Rattle.mps_export.specs.InsideSides.{range_in, right_side_of}
 use Rattle.mps_export.proofs.AddLemmas.{column_rising, columns_more, column_sides, all_kinds, all_variables, bounds_left, bounds_more, bounds_none, variables_end, left_variables, variable_at, variable_of}
 use Rattle.term_batches.proofs.PickLemmas.{others_left}
@@ -30,7 +31,6 @@ use Rattle.linear_program.specs.Intervals.{is_whole_kind, no_sides}
 use Rattle.mps_export.specs.InsideHeads.{AreHeads}
 use Rattle.mps_export.specs.declared.heads.Heads.{Heads}
 use Rattle.linear_program.specs.Decimals.{DecimalTerm as TermOf}
-use Rattle.mps_model.specs.declared.kinds.BoundKind.{BoundKind}
 use Rattle.scaling.specs.Rows.{side_value}
 use Rattle.scaling.specs.Parts.{column_count, row_named, rows_in}
 use Rattle.scaling.proofs.SharedLemmas.{rest_of}
@@ -114,14 +114,14 @@ value_written word name value number out0 out1 is now =
     ∙ ap (λ o. out0 ++ lines_text (value_lines word name (side_value o))) (sym is)
 
 -- the line of a row's value is written, row i being the next of a list
-pub row_line_written : (g : ScaledRow → Option ℚ) (word : List ℕ) (name : ℕ → List ℕ) (rows : Rows) (i : ℕ) (o : Option FactoredRow) (r : FactoredRow) (value : Option Dec) (number : Dec) (n out0 out1 total : List ℕ) →
-    i < length rows → o ≡ get_or rows i o → o ≡ Some r → side_value value ≡ g (row_named (name i) r.row) → value ≡ Some number → n ≡ name i → out0 ++ lines_text (flat_map (λ r. value_lines word r.name (g r)) (left name rows i)) ≡ total →
-    out1 ≡ out0 ++ line_text (indented (word ∷ n ∷ text_of number ∷ [])) → out1 ++ lines_text (flat_map (λ r. value_lines word r.name (g r)) (left name rows (i + 1))) ≡ total
-row_line_written g word name rows i o r value number n out0 out1 total h is some same there named start now =
+pub row_line_written : (g : ScaledRow → Option ℚ) (word : List ℕ) (name : ℕ → List ℕ) (rows : Rows) (i : ℕ) (o : Option FactoredRow) (r : FactoredRow) (v : Option ℚ) (n out0 out1 total : List ℕ) →
+    i < length rows → o ≡ get_or rows i o → o ≡ Some r → v ≡ g (row_named (name i) r.row) → n ≡ name i → out0 ++ lines_text (flat_map (λ r. value_lines word r.name (g r)) (left name rows i)) ≡ total →
+    out1 ≡ out0 ++ lines_text (value_lines word n v) → out1 ++ lines_text (flat_map (λ r. value_lines word r.name (g r)) (left name rows (i + 1))) ≡ total
+row_line_written g word name rows i o r v n out0 out1 total h is some same named start now =
     let lines = λ (r : ScaledRow). value_lines word r.name (g r) in
-    rest_written out0 out1 total (value_lines word (name i) (side_value value)) (flat_map lines (left name rows (i + 1)))
+    rest_written out0 out1 total (value_lines word (name i) v) (flat_map lines (left name rows (i + 1)))
     (ap (λ o. out0 ++ lines_text (value_lines word (name i) o ++ flat_map lines (left name rows (i + 1)))) same ∙ ap (λ rs. out0 ++ lines_text (flat_map lines rs)) (sym (left_some name rows i o r h is some)) ∙ start)
-    (value_written word (name i) value number out0 out1 there (now ∙ ap (λ n. out0 ++ line_text (indented (word ∷ n ∷ text_of number ∷ []))) named))
+    (now ∙ ap (λ n. out0 ++ lines_text (value_lines word n v)) named)
 
 -- ---- the columns in order
 column_is : (o : Form) (rows : List ScaledRow) (i : ℕ) (vs : List Variable) (k : ℕ) (d : Column ℚ) → k < length vs →
@@ -244,19 +244,20 @@ row_is_named s numbers row k e some h is =
     ∙ ap (name_at (all_rows s)) (sym step)
 
 -- ---- bounds
-pub one_written : (name : List ℕ) (kind : BoundKind) (value : Dec) (v : ℚ) (j : ℕ) (records : List (Bound ℚ)) (out0 out1 : List ℕ) → dec_value value ≡ v → records ≡ bound_record kind j v ∷ [] →
-    out1 ≡ out0 ++ lines_text (bound_by name kind value ∷ []) → out1 ≡ out0 ++ lines_text (map (named_bound name) records)
-one_written name kind value v j records out0 out1 e is now =
-    now
-    ∙ ap (λ t. out0 ++ lines_text (indented (bound_text kind ∷ codes "BND" ∷ name ∷ value_words kind t) ∷ [])) (same_text value ∙ ap value_text e)
-    ∙ ap (λ bs. out0 ++ lines_text (map (named_bound name) bs)) (sym is)
+by_value : (name : List ℕ) (j : ℕ) (b : KindOfBound) → bound_by name b.0 b.1 ≡ named_bound name (bound_at j b)
+by_value name j b = ap (λ t. indented (bound_text b.0 ∷ codes "BND" ∷ name ∷ value_words b.0 t)) (same_text b.1)
 
-pub both_written : (name : List ℕ) (k m : BoundKind) (c d : Dec) (v w : ℚ) (j : ℕ) (records : List (Bound ℚ)) (out0 out1 : List ℕ) → dec_value c ≡ v → dec_value d ≡ w → records ≡ bound_record k j v ∷ bound_record m j w ∷ [] →
-    out1 ≡ out0 ++ lines_text (bound_by name k c ∷ bound_by name m d ∷ []) → out1 ≡ out0 ++ lines_text (map (named_bound name) records)
-both_written name k m c d v w j records out0 out1 e f is now =
+lines_by_value : (name : List ℕ) (j : ℕ) (first : KindOfBound) (second : Option KindOfBound) → bound_by name first.0 first.1 ∷ second_lines name second ≡ map (named_bound name) (bounds_at j first second)
+lines_by_value name j first None = ap (λ l. l ∷ []) (by_value name j first)
+lines_by_value name j first (Some second) = ap₂ (λ l m. l ∷ m ∷ []) (by_value name j first) (by_value name j second)
+
+-- the lines of both bounds, the second of which was written first
+pub bounds_written : (name : List ℕ) (side : Interval) (first : KindOfBound) (second : Option KindOfBound) (j : ℕ) (before text out0 out1 : List ℕ) → AreBoundsOf side first second → before ≡ lines_text (second_lines name second) →
+    text ≡ line_text (bound_by name first.0 first.1) ++ before → out1 ≡ out0 ++ text → out1 ≡ out0 ++ lines_text (map (named_bound name) (column_bounds j (side_value side.lo) (side_value side.hi)))
+bounds_written name side first second j before text out0 out1 of last lines now =
     now
-    ∙ ap₂ (λ t u. out0 ++ lines_text (indented (bound_text k ∷ codes "BND" ∷ name ∷ value_words k t) ∷ indented (bound_text m ∷ codes "BND" ∷ name ∷ value_words m u) ∷ [])) (same_text c ∙ ap value_text e) (same_text d ∙ ap value_text f)
-    ∙ ap (λ bs. out0 ++ lines_text (map (named_bound name) bs)) (sym is)
+    ∙ ap (λ t. out0 ++ t) (lines ∙ ap (λ t. line_text (bound_by name first.0 first.1) ++ t) last ∙ ap lines_text (lines_by_value name j first second))
+    ∙ ap (λ bs. out0 ++ lines_text (map (named_bound name) bs)) (of.records j)
 
 -- the bounds of column j, by its name
 named_lines : (cols : List (Column ℚ)) (j : ℕ) (l u : Option ℚ) → map (bound_line value_text cols) (column_bounds j l u) ≡ map (named_bound (get_or cols j no_column).name) (column_bounds j l u)

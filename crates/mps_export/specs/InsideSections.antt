@@ -76,6 +76,11 @@ abbrev pub bound_by : List ℕ → BoundKind → Dec → WordLine
 bound_by name kind value =
     indented (bound_text kind ∷ codes "BND" ∷ name ∷ value_words kind (text_of value))
 
+-- the line of a second bound of the column of this name, where there is one
+abbrev pub second_lines : List ℕ → Option (BoundKind × Dec) → List WordLine
+second_lines name None = []
+second_lines name (Some b) = bound_by name b.0 b.1 ∷ []
+
 -- the line of a bound of the column of this name
 abbrev pub named_bound : List ℕ → Bound ℚ → WordLine
 named_bound name b =

@@ -3,6 +3,7 @@ ghost use Rattle.std.specs.Prelude.{◌≡◌, ℕ, ◌+◌, ◌<◌, ◌≤◌,
 ghost use Rattle.exact_numbers.specs.Values.{value_text};
 ghost use Rattle.scaled_program.specs.Program.{z_variable};
 ghost use Rattle.mps_model.specs.Text.{column_lines, section};
+ghost use Rattle.mps_writer.specs.Names.{name_bytes};
 ghost use Rattle.scaling.specs.Exported.{program_variables};
 ghost use Rattle.scaling.specs.Parts.{column_count};
 ghost use Rattle.scaling.specs.Scaled.{ScaledValue};
@@ -13,9 +14,10 @@ ghost use Rattle.mps_export.specs.InsideSections.{all_columns, all_rows, lines_f
 
 use crate::entry_lines::put_column;
 use crate::heads::Heads;
-use crate::names::{ShortName, column_name};
+use crate::names::column_name;
 use crate::pieces::{Pieces, put_change, put_line};
 use crate::program_columns::is_whole;
+use mps_writer::MpsName;
 use std::alloc::{AllocError, Global};
 use term_batches::{Batches, PartLists, part_end};
 use written_texts::LineText;
@@ -37,10 +39,11 @@ fn is_marked(heads: &Heads, j: u32) -> bool
 }
 
 // The name of column j.
-fn name_of_column(heads: &Heads, j: u32) -> ShortName
+fn name_of_column(heads: &Heads, j: u32) -> MpsName<'static>
     requires { j < length heads.now.kinds.items }
-    ensures { (s : ScaledValue) → AreHeads s heads.now
-        → result ≡ (get_or (program_variables s) j z_variable).name }
+    ensures text { (s : ScaledValue) → AreHeads s heads.now
+        → name_bytes result ≡ (get_or (program_variables s) j z_variable).name }
+    ensures short { length (name_bytes result) ≤ 11 }
 {
     column_name(heads.variables, j)
 }

@@ -12,6 +12,7 @@ use crate::program_columns::add_columns;
 use crate::rows::add_rows;
 use crate::sides::{add_ranges, add_sides};
 use mps_model::{Mps, MpsBuilder};
+use mps_writer::MpsName;
 use scaling::Scaled;
 use std::alloc::{AllocError, Global};
 
@@ -29,7 +30,7 @@ fn make_room(builder: &mut MpsBuilder, scaled: &Scaled) -> Result<(), AllocError
 pub fn program(alloc: Global, scaled: &Scaled) -> Result<Mps, AllocError>
     ensures { IfOk result (λ m. with_values dec_value m ≡ mps_of (scaled_as scaled.now)) }
 {
-    let name = name_of(alloc, b"nl")?;
+    let name = name_of(alloc, &MpsName::Word(b"nl"))?;
     let columns = by_column(alloc, scaled)?;
     let mut builder = MpsBuilder::new(alloc, Some(name), scaled.maximise());
     make_room(&mut builder, scaled)?;

@@ -1,15 +1,18 @@
 // A text in pieces.
-ghost use Rattle.std.specs.Prelude.{◌≡◌, ◌<◌, ◌^◌, ◌++◌, ◌∷◌, [], IfOk, OnOk};
+ghost use Rattle.std.specs.Prelude.{◌≡◌, ◌<◌, ◌≤◌, ◌^◌, ◌++◌, ◌∷◌, [], length, IfOk, OnOk};
 ghost use Rattle.std.specs.List.{flat_map};
 ghost use Rattle.exact_numbers.specs.Values.{text_of};
 ghost use Rattle.mps_model.specs.Text.{change_lines, markers_after, row_line, sense_lines};
+ghost use Rattle.mps_writer.specs.Names.{name_bytes};
 ghost use Rattle.texts.specs.WordLines.{indented, line_text, lines_text};
 
 use exact_numbers::Dec;
 use mps_model::RowKind;
+use mps_writer::MpsName;
 use std::alloc::{AllocError, Global};
 use std::marker::Model;
 use std::mem;
+use written_texts::LineText;
 
 // So many bytes have room in a piece.
 const PIECE: usize = 65_536;
@@ -79,27 +82,38 @@ pub(crate) fn put_sense(out: &mut Pieces, maximise: bool) -> Result<(), AllocErr
     mps_writer::put_sense(&mut out.last, maximise)
 }
 
-/// Writes the line of a row.
-pub(crate) fn put_row(out: &mut Pieces, name: &[u8], kind: RowKind) -> Result<(), AllocError>
+/// Writes the line of a row, by way of the room of a line.
+pub(crate) fn put_row(
+    out: &mut Pieces,
+    line: &mut LineText<2048>,
+    name: &MpsName,
+    kind: RowKind,
+) -> Result<(), AllocError>
+    requires { length (name_bytes name.now) ≤ 11 }
     ensures { OnOk result (out.new ≡ out.old ++ line_text
-        (row_line (record { name = name.now; kind = kind }))) }
+        (row_line (record { name = name_bytes name.now; kind = kind }))) }
 {
-    make_room(out, LINE)?;
-    mps_writer::put_row(&mut out.last, name, kind)
+    line.clear();
+    mps_writer::put_row(line, name, kind);
+    put(out, line.bytes())
 }
 
-/// Writes the line of an entry.
+/// Writes the line of an entry, by way of the room of a line.
 pub(crate) fn put_entry(
     out: &mut Pieces,
-    word: &[u8],
-    row: &[u8],
+    line: &mut LineText<2048>,
+    word: &MpsName,
+    row: &MpsName,
     value: Dec,
 ) -> Result<(), AllocError>
-    ensures { OnOk result (out.new
-        ≡ out.old ++ line_text (indented (word.now ∷ row.now ∷ text_of value ∷ []))) }
+    requires word { length (name_bytes word.now) ≤ 11 }
+    requires row { length (name_bytes row.now) ≤ 11 }
+    ensures { OnOk result (out.new ≡ out.old ++ line_text
+        (indented (name_bytes word.now ∷ name_bytes row.now ∷ text_of value ∷ []))) }
 {
-    make_room(out, LINE)?;
-    mps_writer::put_entry(&mut out.last, word, row, value)
+    line.clear();
+    mps_writer::put_entry(line, word, row, value);
+    put(out, line.bytes())
 }
 
 /// Writes the marker line between two columns, where one is marked and the other is not. Answers

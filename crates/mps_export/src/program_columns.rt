@@ -87,7 +87,7 @@ pub(crate) fn add_columns(
         let Some(entries) = rest.next() else {
             unreachable!()
         };
-        let name = name_of(alloc, name.bytes())?;
+        let name = name_of(alloc, &name)?;
         add_column(builder, name, is_whole(*kind), entries, zero())?;
     }
     Ok(())

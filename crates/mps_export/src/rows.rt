@@ -9,6 +9,7 @@ ghost use Rattle.scaling.specs.Rows.{side_value};
 
 use crate::names::{name_of, row_name};
 use mps_model::{MpsBuilder, RowKind};
+use mps_writer::MpsName;
 use scaling::{FactoredRow, Scaled, ScaledRow};
 use std::alloc::{AllocError, Global};
 
@@ -49,7 +50,7 @@ fn add_listed_rows(
         };
         let name = row_name(n, i as u32);
         let kind = kind_of(&factored.row);
-        builder.add_row(name_of(alloc, name.bytes())?, kind)?;
+        builder.add_row(name_of(alloc, &name)?, kind)?;
     }
     Ok(())
 }
@@ -65,7 +66,7 @@ pub(crate) fn add_rows(
       rows = record { name = obj_name; kind = N } ∷ map mps_row (program_rows scaled.now);
     }) }
 {
-    let name = name_of(alloc, b"obj")?;
+    let name = name_of(alloc, &MpsName::Word(b"obj"))?;
     builder.add_row(name, RowKind::N)?;
     add_listed_rows(builder, alloc, scaled.program_rows(), scaled.constraints())?;
     Ok(())

@@ -1,18 +1,20 @@
 // The lines of the right sides and ranges.
 ghost use Rattle.std.specs.Prelude.{◌≡◌, ℕ, ◌+◌, ◌≤◌, ◌^◌, ◌++◌, ◌∷◌, [], length, codes, OnOk, cond, List};
 ghost use Rattle.std.specs.List.{flat_map};
-ghost use Rattle.exact_numbers.specs.Values.{text_of, value_text};
+ghost use Rattle.exact_numbers.specs.Values.{value_text};
+ghost use Rattle.mps_writer.specs.Names.{name_bytes};
 ghost use Rattle.mps_model.specs.Text.{entry_lines, section};
 ghost use Rattle.scaling.specs.Parts.{name_in, rows_in};
 ghost use Rattle.scaling.specs.Rows.{side_value};
-ghost use Rattle.texts.specs.WordLines.{WordLine, indented, line_text, lines_text, unless_empty};
+ghost use Rattle.texts.specs.WordLines.{WordLine, lines_text, unless_empty};
 ghost use Rattle.mps_export.specs.InsideSections.{all_ranges, all_rows, all_sides, range_lines, side_lines, value_lines};
 
-use crate::names::put_row_name;
+use crate::names::row_name;
 use crate::numbers::{negated, nonzero};
-use crate::pieces::{Pieces, put, put_entry, put_line};
+use crate::pieces::{Pieces, put_entry, put_line};
 use crate::sides::right_side;
 use exact_numbers::Dec;
+use mps_writer::MpsName;
 use scaling::{FactoredRow, Scaled};
 use std::alloc::AllocError;
 use written_texts::LineText;
@@ -20,59 +22,40 @@ use written_texts::LineText;
 // The line of a value at a name, where there is one.
 fn put_value(
     out: &mut Pieces,
+    line: &mut LineText<2048>,
     word: &[u8],
-    name: &[u8],
+    name: &MpsName,
     value: Option<Dec>,
 ) -> Result<(), AllocError>
+    requires word { length word.now ≤ 11 }
+    requires name { length (name_bytes name.now) ≤ 11 }
     ensures { OnOk result (out.new
-        ≡ out.old ++ lines_text (value_lines word.now name.now (side_value value))) }
+        ≡ out.old ++ lines_text (value_lines word.now (name_bytes name.now) (side_value value))) }
 {
     let Some(number) = value else {
         return Ok(());
     };
-    put_entry(out, word, name, number)?;
+    put_entry(out, line, &MpsName::Word(word), name, number)?;
     Ok(())
 }
 
-// The line of a value in row i, in the room of a line.
-fn put_row_value(
-    out: &mut Pieces,
-    line: &mut LineText<256>,
-    word: &[u8],
-    n: usize,
-    i: u32,
-    value: Dec,
-) -> Result<(), AllocError>
-    requires { length word.now ≤ 32 }
-    ensures { OnOk result (out.new ≡ out.old ++ line_text
-        (indented (word.now ∷ name_in n i ∷ text_of value ∷ []))) }
-{
-    line.clear();
-    line.put_byte(b'\n');
-    line.put_dec(value);
-    line.put_byte(b' ');
-    put_row_name(line, n, i);
-    line.put_byte(b' ');
-    line.put_word(word);
-    line.put_byte(b' ');
-    put(out, line.bytes())
-}
-
 // The right sides of the rows of a list, row n being that of a tie.
-fn put_row_sides(out: &mut Pieces, rows: &[Option<FactoredRow>], n: usize) -> Result<(), AllocError>
+fn put_row_sides(
+    out: &mut Pieces,
+    line: &mut LineText<2048>,
+    rows: &[Option<FactoredRow>],
+    n: usize,
+) -> Result<(), AllocError>
     requires { length rows.now ≤ 2 ^ 20 + 1 }
     ensures { OnOk result (out.new
         ≡ out.old ++ lines_text (flat_map side_lines (rows_in (name_in n) 0 rows.now))) }
 {
-    let mut line = LineText::<256>::new();
     for (i, row) in rows.iter().enumerate() {
         let Some(factored) = row else {
             continue;
         };
-        let Some(side) = right_side(&factored.row) else {
-            continue;
-        };
-        put_row_value(out, &mut line, b"RHS", n, i as u32, side)?;
+        let name = row_name(n, i as u32);
+        put_value(out, line, b"RHS", &name, right_side(&factored.row))?;
     }
     Ok(())
 }
@@ -87,8 +70,9 @@ pub(crate) fn put_sides(out: &mut Pieces, scaled: &Scaled) -> Result<(), AllocEr
     put_line(out, b"RHS")?;
     let objective = scaled.program_objective();
     let side = nonzero(negated(objective.constant));
-    put_value(out, b"RHS", b"obj", side)?;
-    put_row_sides(out, scaled.program_rows(), scaled.constraints())?;
+    let mut line = LineText::<2048>::new();
+    put_value(out, &mut line, b"RHS", &MpsName::Word(b"obj"), side)?;
+    put_row_sides(out, &mut line, scaled.program_rows(), scaled.constraints())?;
     Ok(())
 }
 
@@ -119,15 +103,13 @@ fn put_row_ranges(
     ensures { OnOk result (out.new
         ≡ out.old ++ lines_text (flat_map range_lines (rows_in (name_in n) 0 rows.now))) }
 {
-    let mut line = LineText::<256>::new();
+    let mut line = LineText::<2048>::new();
     for (i, row) in rows.iter().enumerate() {
         let Some(factored) = row else {
             continue;
         };
-        let Some(range) = factored.row.range() else {
-            continue;
-        };
-        put_row_value(out, &mut line, b"RNG", n, i as u32, range)?;
+        let name = row_name(n, i as u32);
+        put_value(out, &mut line, b"RNG", &name, factored.row.range())?;
     }
     Ok(())
 }

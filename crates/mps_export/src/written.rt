@@ -14,12 +14,14 @@ ghost use Rattle.mps_export.specs.InsideSections.{first_lines, last_lines};
 
 use crate::bound_lines::put_bounds;
 use crate::column_lines::put_columns;
-use crate::columns::{in_batches, moved_batches};
+use crate::columns::moved_batches;
+use crate::export::program;
 use crate::heads::Heads;
 use crate::heads_of::heads_of;
 use crate::pieces::{Pieces, put, put_line, put_sense};
 use crate::row_lines::put_rows;
 use crate::side_lines::{put_ranges, put_sides};
+use mps_writer::write_mps;
 use scaling::Scaled;
 use std::alloc::{AllocError, Global};
 use term_batches::Batches;
@@ -79,43 +81,11 @@ pub fn text_in_pieces(alloc: Global, scaled: Scaled) -> Result<Vec<Vec<u8>>, All
     with_columns(alloc, first, &heads, batches, last)
 }
 
-// The same text in pieces, of a program that stays.
-fn copied_pieces(alloc: Global, scaled: &Scaled) -> Result<Vec<Vec<u8>>, AllocError>
-    ensures { IfOk result (λ v. flat_map (λ p. p.items) v.items
-        ≡ mps_text_by value_text (mps_of (scaled_as scaled.now))) }
-{
-    let last = last_sections(alloc, scaled)?;
-    let first = first_sections(alloc, scaled)?;
-    let heads = heads_of(alloc, scaled)?;
-    let batches = in_batches(alloc, scaled)?;
-    with_columns(alloc, first, &heads, batches, last)
-}
-
-// How many bytes the pieces have: room alone, of which no clause speaks.
-fn size_of(pieces: &[Vec<u8>]) -> usize {
-    let mut size = 0usize;
-    for piece in pieces {
-        size = size.saturating_add(piece.len());
-    }
-    size
-}
-
-// The bytes of pieces in one list.
-fn joined(alloc: Global, pieces: &[Vec<u8>]) -> Result<Vec<u8>, AllocError>
-    ensures { IfOk result (λ v. v.items ≡ flat_map (λ p. p.items) pieces.now) }
-{
-    let mut out = Vec::with_capacity(alloc, size_of(pieces))?;
-    for piece in pieces {
-        written_texts::put(&mut out, piece)?;
-    }
-    Ok(out)
-}
-
-/// The written text of the MPS program, made without it.
+/// The written text of the MPS program.
 pub fn write_exported(alloc: Global, scaled: &Scaled) -> Result<Vec<u8>, AllocError>
     ensures { IfOk result (λ v. v.items ≡ mps_text_by value_text (mps_of (scaled_as scaled.now))) }
 {
-    let pieces = copied_pieces(alloc, scaled)?;
-    let out = joined(alloc, &pieces)?;
+    let mps = program(alloc, scaled)?;
+    let out = write_mps(alloc, &mps)?;
     Ok(out)
 }

@@ -11,6 +11,7 @@ use Rattle.exact_numbers.proofs.Spelling.{value_text-decimal}
 use Rattle.exact_numbers.specs.declared.dec.Dec.{Dec}
 use Rattle.mps_model.specs.Built.{bound_of, entry_of}
 use Rattle.mps_model.specs.Valid.{AreColumns}
+use Rattle.texts.specs.Names.{IsName}
 use Rattle.texts.specs.WordLines.{WordLine, indented, line_text, lines_text, unless_empty}
 use Rattle.written_texts.proofs.Writing.{line_after, lines_after, rest_written}
 
@@ -26,16 +27,29 @@ terms_in_rows n ts es e h = λ k d l.
     let m : k < length es = subst (λ es. k < length es) e (omega (arith, length-map ts entry_of)) in
     subst (λ (x : Entry Dec). x.row < n) (ap (λ es. get_or es k (entry_of d)) (sym e) ∙ get_or-map entry_of ts k d (entry_of d) l) (h k (entry_of d) m)
 
+-- a name that was found is that of a row
+record IsRowOf (rows : List MpsRow) (i : ℕ) (name : List ℕ) : Type 0 where
+  within : i < length rows
+  named : name ≡ (get_or rows i no_mps_row).name
+
+row_found : (rows : List MpsRow) (names : List (List ℕ)) (name : List ℕ) (i : ℕ) → names ≡ map (λ (r : MpsRow). r.name) rows → Some name ≡ slice_get names i → IsRowOf rows i name
+row_found rows names name i same found =
+    let at : slice_get (map (λ (r : MpsRow). r.name) rows) i ≡ Some name = subst (λ ns. slice_get ns i ≡ Some name) same (sym found) in
+    let inside : i < length rows = omega (arith, slice_get_within (map (λ (r : MpsRow). r.name) rows) i name at, length-map rows (λ (r : MpsRow). r.name)) in
+    record { within = inside; named = sym (get_or_from_slice_get (map (λ (r : MpsRow). r.name) rows) i name [] at) ∙ get_or-map (λ (r : MpsRow). r.name) rows i no_mps_row [] inside }
+
+pub found_short : (rows : List MpsRow) (names : List (List ℕ)) (name : List ℕ) (i : ℕ) → All (λ (r : MpsRow). IsName r.name) rows → names ≡ map (λ (r : MpsRow). r.name) rows → Some name ≡ slice_get names i → length name ≤ 255
+found_short rows names name i all same found =
+    let is = row_found rows names name i same found in
+    subst (λ n. length n ≤ 255) (sym is.named) (all i no_mps_row is.within).most
+
 -- one entry more, in a row of that name
 pub entry_written : (rows : List MpsRow) (names : List (List ℕ)) (word row : List ℕ) (ts : List (ℕ × Dec)) (i : ℕ) (t : ℕ × Dec) (out0 out1 out2 : List ℕ) → i < length ts → t ≡ get_or ts i t →
     names ≡ map (λ (r : MpsRow). r.name) rows → Some row ≡ slice_get names t.0 →
     out1 ≡ out0 ++ lines_text (entry_lines text_of rows word (map entry_of (take i ts))) → out2 ≡ out1 ++ line_text (indented (word ∷ row ∷ text_of t.1 ∷ [])) →
     out2 ≡ out0 ++ lines_text (entry_lines text_of rows word (map entry_of (take (i + 1) ts)))
 entry_written rows names word row ts i t out0 out1 out2 h is same found first second =
-    let at : slice_get (map (λ (r : MpsRow). r.name) rows) t.0 ≡ Some row = subst (λ ns. slice_get ns t.0 ≡ Some row) same (sym found) in
-    let inside : t.0 < length rows = omega (arith, slice_get_within (map (λ (r : MpsRow). r.name) rows) t.0 row at, length-map rows (λ (r : MpsRow). r.name)) in
-    let name : row ≡ (get_or rows t.0 no_mps_row).name =
-    sym (get_or_from_slice_get (map (λ (r : MpsRow). r.name) rows) t.0 row [] at) ∙ get_or-map (λ (r : MpsRow). r.name) rows t.0 no_mps_row [] inside in
+    let name = (row_found rows names row t.0 same found).named in
     let line : Entry Dec → WordLine = entry_line text_of rows word in
     let now : out2 ≡ out1 ++ line_text (line (entry_of t)) = second ∙ ap (λ r. out1 ++ line_text (indented (word ∷ r ∷ text_of t.1 ∷ []))) name in
     let more : map line (map entry_of (take (i + 1) ts)) ≡ map line (map entry_of (take i ts)) ++ line (entry_of t) ∷ [] =

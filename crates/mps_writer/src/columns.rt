@@ -1,17 +1,16 @@
 // The columns, with a line before and after each marked stretch.
 ghost use Rattle.std.specs.Prelude.{◌≡◌, ◌<◌, ◌^◌, ◌++◌, ◌∷◌, length, codes, map, OnOk, IfOk, All, false};
-ghost use Rattle.mps_model.specs.Text.{section, marker_line, change_lines, markers_after, column_lines, entry_lines};
-ghost use Rattle.mps_model.specs.Built.{entry_of};
+ghost use Rattle.mps_model.specs.Text.{section, marker_line, change_lines, markers_after, column_lines};
 ghost use Rattle.mps_model.specs.Valid.{AreColumns};
 ghost use Rattle.exact_numbers.specs.Values.{text_of};
+ghost use Rattle.texts.specs.Names.{IsName};
 ghost use Rattle.texts.specs.WordLines.{line_text, lines_text};
 
-use crate::lines::put_entry;
-use exact_numbers::Dec;
+use crate::entries::put_entries;
 use mps_model::{MpsColumn, MpsRow};
-use std::alloc::{AllocError, Global};
+use std::alloc::AllocError;
 use texts::TextLines;
-use written_texts::{put, put_end, put_line, put_next, put_number};
+use written_texts::{LineText, put, put_end, put_line, put_next, put_number};
 
 fn put_marker(out: &mut Vec<u8>, i: u32, word: &[u8]) -> Result<(), AllocError>
     ensures { OnOk result (out.new.items ≡ out.old.items ++ line_text (marker_line i word.now)) }
@@ -48,44 +47,14 @@ pub fn put_change(
     }
 }
 
-// The names of rows in one list of bytes: the entries of columns come to them in no order.
-fn row_names(alloc: Global, rows: &[MpsRow]) -> Result<TextLines, AllocError>
-    ensures { IfOk result (λ names. names ≡ map (λ r. r.name) rows.now) }
-{
-    let mut names = TextLines::new(alloc);
-    for row in rows {
-        names.push(row.name.bytes())?;
-    }
-    Ok(names)
-}
-
-// The entries of a column, in rows of these names.
-fn put_column(
-    out: &mut Vec<u8>,
-    _rows: &[MpsRow],
-    names: &TextLines,
-    word: &[u8],
-    entries: &[(u32, Dec)],
-) -> Result<(), AllocError>
-    requires named { names.now ≡ map (λ r. r.name) _rows.now }
-    requires within { All (λ t. t.0 < length _rows.now) entries.now }
-    ensures { OnOk result (out.new.items
-        ≡ out.old.items ++ lines_text
-        (entry_lines text_of _rows.now word.now (map entry_of entries.now))) }
-{
-    for entry in entries {
-        let row = names.get(entry.0 as usize);
-        put_entry(out, word, row, entry.1)?;
-    }
-    Ok(())
-}
-
 fn put_column_lines(
     out: &mut Vec<u8>,
+    line: &mut LineText<1024>,
     rows: &[MpsRow],
     names: &TextLines,
     columns: &[MpsColumn],
 ) -> Result<(), AllocError>
+    requires rows { All (λ r. IsName r.name) rows.now }
     requires named { names.now ≡ map (λ r. r.name) rows.now }
     requires columns { AreColumns (length rows.now) columns.now }
     ensures { OnOk result (out.new.items
@@ -97,7 +66,7 @@ fn put_column_lines(
         markers = put_change(out, before, column.marked(), markers)?;
         before = column.marked();
         let name = column.name();
-        put_column(out, rows, names, name.bytes(), column.entries())?;
+        put_entries(out, line, rows, names, name.bytes(), column.entries())?;
     }
     put_change(out, before, false, markers)?;
     Ok(())
@@ -105,15 +74,17 @@ fn put_column_lines(
 
 pub(crate) fn put_columns(
     out: &mut Vec<u8>,
-    alloc: Global,
+    line: &mut LineText<1024>,
     rows: &[MpsRow],
+    names: &TextLines,
     columns: &[MpsColumn],
 ) -> Result<(), AllocError>
-    requires { AreColumns (length rows.now) columns.now }
+    requires rows { All (λ r. IsName r.name) rows.now }
+    requires named { names.now ≡ map (λ r. r.name) rows.now }
+    requires columns { AreColumns (length rows.now) columns.now }
     ensures { OnOk result (out.new.items ≡ out.old.items ++ lines_text
         (section (codes "COLUMNS") ∷ column_lines text_of rows.now false 0 columns.now)) }
 {
-    let names = row_names(alloc, rows)?;
     put_line(out, b"COLUMNS")?;
-    put_column_lines(out, rows, &names, columns)
+    put_column_lines(out, line, rows, names, columns)
 }

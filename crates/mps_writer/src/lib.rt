@@ -1,28 +1,30 @@
-//! The written text of MPS programs: free MPS, one spelling for each program.
+//! The written text of MPS programs: free MPS, one spelling for each program, and its lines.
 #![tactic(auto)]
 
-ghost use Rattle.std.specs.Prelude.{◌≡◌, ◌≤◌, ◌++◌, ◌∷◌, length, OnOk, IfOk, map, codes};
+ghost use Rattle.std.specs.Prelude.{◌≡◌, ◌++◌, ◌∷◌, OnOk, IfOk, map, codes};
 ghost use Rattle.exact_numbers.specs.Values.{dec_value, text_of, value_text};
 ghost use Rattle.mps_model.specs.Mps.{with_values};
-ghost use Rattle.mps_model.specs.Text.{mps_text_by, kind_text, name_lines, sense_lines, section, row_line};
-ghost use Rattle.texts.specs.WordLines.{line_text, lines_text};
+ghost use Rattle.mps_model.specs.Text.{mps_text_by, name_lines, sense_lines, section, row_line};
+ghost use Rattle.texts.specs.WordLines.{lines_text};
 
 mod bounds;
 mod columns;
+mod entries;
 mod lines;
+mod names;
 
 use bounds::put_bounds;
-pub use bounds::{bound_front, put_bound};
 pub use columns::put_change;
 use columns::put_columns;
-pub use lines::put_entry;
-use lines::{put_ranges, put_rhs};
-use mps_model::{Mps, MpsRow, RowKind};
+use entries::{put_ranges, put_rhs, row_names};
+pub use lines::{put_bound, put_entry, put_row};
+use mps_model::{Mps, MpsRow};
+pub use names::{MpsName, put_name};
 use std::alloc::{AllocError, Global};
 use written_texts::{LineText, put, put_end, put_line, put_next};
 
 // The line of the name; none where the name is empty.
-fn put_name(out: &mut Vec<u8>, mps: &Mps) -> Result<(), AllocError>
+fn put_program_name(out: &mut Vec<u8>, mps: &Mps) -> Result<(), AllocError>
     ensures { OnOk result (out.new.items ≡ out.old.items ++ lines_text (name_lines mps.now.name)) }
 {
     if let Some(name) = mps.name() {
@@ -43,59 +45,27 @@ pub fn put_sense(out: &mut Vec<u8>, maximise: bool) -> Result<(), AllocError>
     Ok(())
 }
 
-/// The letter of a kind of row, with a space before and after it.
-pub fn row_front(kind: RowKind) -> &'static [u8]
-    ensures text { result.now ≡ codes " " ++ kind_text kind ++ codes " " }
-    ensures short { length result.now ≤ 3 }
-{
-    match kind {
-        RowKind::N => b" N ",
-        RowKind::L => b" L ",
-        RowKind::G => b" G ",
-        RowKind::E => b" E ",
-    }
-}
-
-// The same word by word, for names of any length.
-fn put_long_row(out: &mut Vec<u8>, name: &[u8], kind: RowKind) -> Result<(), AllocError>
-    ensures { OnOk result (out.new.items ≡ out.old.items ++ line_text
-        (row_line (record { name = name.now; kind = kind }))) }
-{
-    put(out, row_front(kind))?;
-    put(out, name)?;
-    put_end(out)
-}
-
-/// Writes the line of a row. With a name of at most 64 bytes it is appended whole.
-pub fn put_row(out: &mut Vec<u8>, name: &[u8], kind: RowKind) -> Result<(), AllocError>
-    ensures { OnOk result (out.new.items ≡ out.old.items ++ line_text
-        (row_line (record { name = name.now; kind = kind }))) }
-{
-    if name.len() > 64 {
-        return put_long_row(out, name, kind);
-    }
-    let mut line = LineText::<128>::new();
-    line.put_byte(b'\n');
-    line.put_word(name);
-    line.put_word(row_front(kind));
-    put(out, line.bytes())
-}
-
-fn put_row_lines(out: &mut Vec<u8>, rows: &[MpsRow]) -> Result<(), AllocError>
+fn put_row_lines(
+    out: &mut Vec<u8>,
+    line: &mut LineText<1024>,
+    rows: &[MpsRow],
+) -> Result<(), AllocError>
     ensures { OnOk result (out.new.items ≡ out.old.items ++ lines_text (map row_line rows.now)) }
 {
     for row in rows {
-        put_row(out, row.name.bytes(), row.kind)?;
+        line.clear();
+        put_row(line, &MpsName::Word(row.name.bytes()), row.kind);
+        put(out, line.bytes())?;
     }
     Ok(())
 }
 
-fn put_rows(out: &mut Vec<u8>, rows: &[MpsRow]) -> Result<(), AllocError>
+fn put_rows(out: &mut Vec<u8>, line: &mut LineText<1024>, rows: &[MpsRow]) -> Result<(), AllocError>
     ensures { OnOk result (out.new.items
         ≡ out.old.items ++ lines_text (section (codes "ROWS") ∷ map row_line rows.now)) }
 {
     put_line(out, b"ROWS")?;
-    put_row_lines(out, rows)
+    put_row_lines(out, line, rows)
 }
 
 // Room for the text, at 24 bytes a line. It only spares copies: the text grows where it does not
@@ -119,14 +89,16 @@ pub fn write_mps(alloc: Global, mps: &Mps) -> Result<Vec<u8>, AllocError>
     let rhs = mps.rhs();
     let ranges = mps.ranges();
     let bounds = mps.bounds();
+    let names = row_names(alloc, rows)?;
+    let mut line = LineText::<1024>::new();
     let mut out = Vec::with_capacity(alloc, text_room(mps))?;
-    put_name(&mut out, mps)?;
+    put_program_name(&mut out, mps)?;
     put_sense(&mut out, mps.maximise())?;
-    put_rows(&mut out, rows)?;
-    put_columns(&mut out, alloc, rows, columns)?;
-    put_rhs(&mut out, rows, rhs)?;
-    put_ranges(&mut out, rows, ranges)?;
-    put_bounds(&mut out, columns, bounds)?;
+    put_rows(&mut out, &mut line, rows)?;
+    put_columns(&mut out, &mut line, rows, &names, columns)?;
+    put_rhs(&mut out, &mut line, rows, &names, rhs)?;
+    put_ranges(&mut out, &mut line, rows, &names, ranges)?;
+    put_bounds(&mut out, &mut line, columns, bounds)?;
     put_line(&mut out, b"ENDATA")?;
     Ok(out)
 }

@@ -1,18 +1,32 @@
-use Rattle.std.proofs.Common.{◌≡◌, ◌<◌, ◌++◌, ◌∷◌, [], ◌∙◌, ap, ap₂, false, length, map, subst, sym, All, codes}
+use Rattle.std.proofs.Common.{◌≡◌, ◌<◌, ◌++◌, ◌∷◌, [], ◌∙◌, ap, ap₂, false, length, List, map, subst, sym, All, codes}
 use Rattle.exact_numbers.specs.Values.{text_of}
+use Rattle.texts.specs.Names.{IsName}
 use Rattle.texts.specs.WordLines.{lines_text, unless_empty}
 use Rattle.written_texts.proofs.Writing.{lines_after, line_after}
 use Rattle.mps_model.specs.Built.{entry_of, bound_of}
+use Rattle.mps_model.specs.Mps.{MpsRow}
 use Rattle.mps_model.specs.Text.{mps_lines, name_lines, sense_lines, section, row_line, column_lines, entry_lines, bound_line}
 use Rattle.mps_writer.proofs.Writing.{terms_in_rows, bounds_in_columns, unless_map, text_of_values}
 use Rattle.mps_writer.proofs.write_mps.Goals as goal
 
-pub put_rhs-requires : goal.put_rhs-requires
-put_rhs-requires c =
+abbrev are_named : List MpsRow → Type 0
+are_named rows = All (λ (r : MpsRow). IsName r.name) rows
+
+pub put_columns-requires-clause-rows : goal.put_columns-requires-clause-rows
+put_columns-requires-clause-rows c = subst are_named (sym c.rows-rows.ensures.value) c.rows-rows.ensures.valid.part.rows.named
+
+pub put_rhs-requires-clause-rows : goal.put_rhs-requires-clause-rows
+put_rhs-requires-clause-rows c = subst are_named (sym c.rows-rows.ensures.value) c.rows-rows.ensures.valid.part.rows.named
+
+pub put_ranges-requires-clause-rows : goal.put_ranges-requires-clause-rows
+put_ranges-requires-clause-rows c = subst are_named (sym c.rows-rows.ensures.value) c.rows-rows.ensures.valid.part.rows.named
+
+pub put_rhs-requires-clause-within : goal.put_rhs-requires-clause-within
+put_rhs-requires-clause-within c =
     subst (λ n. All (λ t. t.0 < length n) c.rhs-rhs.result.now) (sym c.rows-rows.ensures.value) (terms_in_rows (length c.args.mps.now.rows) c.rhs-rhs.result.now c.args.mps.now.rhs c.rhs-rhs.ensures.value c.rhs-rhs.ensures.valid.part.rhs.within)
 
-pub put_ranges-requires : goal.put_ranges-requires
-put_ranges-requires c =
+pub put_ranges-requires-clause-within : goal.put_ranges-requires-clause-within
+put_ranges-requires-clause-within c =
     subst (λ n. All (λ t. t.0 < length n) c.ranges-ranges.result.now) (sym c.rows-rows.ensures.value)
     (terms_in_rows (length c.args.mps.now.rows) c.ranges-ranges.result.now c.args.mps.now.ranges c.ranges-ranges.ensures.value c.ranges-ranges.ensures.valid.part.ranges.entries.within)
 
@@ -26,8 +40,8 @@ unfolding mps_lines
 returns-clause-spelling c =
     let m = c.args.mps.now in
     let r : c.rows-rows.result.now ≡ m.rows = c.rows-rows.ensures.value in
-    let name : c.put_name.new.out.items ≡ lines_text (name_lines m.name) = c.in_ok-put_name.ensures ∙ ap (λ x. x ++ lines_text (name_lines m.name)) c.in_ok-out.ensures.items in
-    let sense = lines_after [] _ _ _ (sense_lines m.maximise) name (c.in_ok-put_sense.ensures ∙ ap (λ b. c.put_name.new.out.items ++ lines_text (sense_lines b)) c.maximise.ensures) in
+    let name : c.put_program_name.new.out.items ≡ lines_text (name_lines m.name) = c.in_ok-put_program_name.ensures ∙ ap (λ x. x ++ lines_text (name_lines m.name)) c.in_ok-out.ensures.items in
+    let sense = lines_after [] _ _ _ (sense_lines m.maximise) name (c.in_ok-put_sense.ensures ∙ ap (λ b. c.put_program_name.new.out.items ++ lines_text (sense_lines b)) c.maximise.ensures) in
     let rows = lines_after [] _ _ _ (section (codes "ROWS") ∷ map row_line m.rows) sense
     (c.in_ok-put_rows.ensures ∙ ap (λ x. c.put_sense.new.out.items ++ lines_text (section (codes "ROWS") ∷ map row_line x)) r) in
     let columns = lines_after [] _ _ _ (section (codes "COLUMNS") ∷ column_lines text_of m.rows false 0 m.columns) rows

@@ -1,6 +1,7 @@
 use Rattle.std.proofs.Common.{◌<◌, ◌∙◌, All, ap, arith, rules, drop, length, sym, subst, take}
 use Rattle.std.proofs.lemmas.List.Elements.{All-drop, All-take}
 use Rattle.linear_program.specs.Decimals.{DecimalTerm as TermOf}
+use Rattle.mps_writer.specs.Names.{name_bytes}
 use Rattle.mps_export.specs.InsideSections.{all_rows}
 use Rattle.mps_export.proofs.LineLemmas.{entries_end, part_of_entries_written}
 use Rattle.mps_export.proofs.entry_lines.put_entries.Goals as goal
@@ -15,9 +16,9 @@ parts-preserved c = record {
       let part = c.split_at-in-parts.ensures.front ∙ ap (take n) c.split_at.ensures.back in
       let inside : All (λ (t : TermOf). t.0 < length (all_rows s)) c.split_at-in-parts.result.0.now =
       subst (All (λ (t : TermOf). t.0 < length (all_rows s))) (sym part) (All-take (λ (t : TermOf). t.0 < length (all_rows s)) n (drop i entries) (All-drop (λ (t : TermOf). t.0 < length (all_rows s)) i entries within)) in
-      part_of_entries_written s c.args.column.now entries c.split_at-in-parts.result.0.now i n c.bytes.result.now c.parts.out c.put.new.out _ (c.parts.invariant.text s numbers within) part
+      part_of_entries_written s (name_bytes c.args.column.now) entries c.split_at-in-parts.result.0.now i n c.bytes.result.now c.parts.out c.put.new.out _ (c.parts.invariant.text s numbers within) part
       (c.bytes.ensures ∙ c.put_few.ensures s numbers inside) c.in_ok-put.ensures;
 }
 
 pub returns : goal.returns
-returns c = λ s numbers within. entries_end s c.args.column.now c.args.entries.now c.parts.done c.parts.out _ (omega (arith, c.parts-test.false)) (c.parts.invariant.text s numbers within)
+returns c = λ s numbers within. entries_end s (name_bytes c.args.column.now) c.args.entries.now c.parts.done c.parts.out _ (omega (arith, c.parts-test.false)) (c.parts.invariant.text s numbers within)

@@ -2,6 +2,7 @@ use Rattle.std.proofs.Common.{◌≡◌, ◌≤◌, ◌-◌, ◌*◌, ◌<◌, A
 use Rattle.exact_numbers.specs.Values.{value_text}
 use Rattle.mps_model.specs.Text.{entry_lines}
 use Rattle.texts.specs.WordLines.{lines_text}
+use Rattle.mps_writer.specs.Names.{name_bytes}
 use Rattle.mps_export.specs.InsideColumns.{entry_value}
 use Rattle.mps_export.specs.InsideHeads.{AreNumbers}
 use Rattle.mps_export.specs.InsideSections.{all_rows}
@@ -11,7 +12,7 @@ use Rattle.mps_export.proofs.entry_lines.put_few.Given as goal
 abbrev pub invariant-entries : goal.invariant-entries
 invariant-entries l = record {
   within : l.left ≤ length l.entries;
-  text : (s : ScaledValue) → AreNumbers s l.numbers → All (λ t. t.0 < length (all_rows s)) l.entries → l.lines ≡ lines_text (entry_lines value_text (all_rows s) l.column (map entry_value (drop l.left l.entries)));
+  text : (s : ScaledValue) → AreNumbers s l.numbers → All (λ t. t.0 < length (all_rows s)) l.entries → l.lines ≡ lines_text (entry_lines value_text (all_rows s) (name_bytes l.column) (map entry_value (drop l.left l.entries)));
   size : length l.lines ≤ (length l.entries - l.left) * 100;
 }
 

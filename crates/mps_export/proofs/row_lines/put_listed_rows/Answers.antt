@@ -1,4 +1,4 @@
-use Rattle.std.proofs.Common.{◌≡◌, ◌+◌, ◌<◌, ◌∙◌, ◌++◌, ◌∷◌, [], ℕ, List, Option, Some, ap, append-nil, arith, get_or, length, refl, sym}
+use Rattle.std.proofs.Common.{◌≡◌, ◌+◌, ◌<◌, ◌∙◌, ◌++◌, ◌∷◌, [], ℕ, List, Option, Some, ap, append-nil, arith, get_or, length, sym}
 use Rattle.std.specs.List.{flat_map}
 use Rattle.mps_model.specs.Text.{row_line}
 use Rattle.mps_model.specs.declared.kinds.RowKind.{RowKind}
@@ -9,6 +9,7 @@ use Rattle.scaling.specs.Rows.{side_value}
 use Rattle.scaling.specs.declared.row.FactoredRow.{FactoredRow}
 use Rattle.texts.specs.WordLines.{line_text, lines_text}
 use Rattle.written_texts.proofs.Writing.{rest_written}
+use Rattle.mps_writer.specs.Names.{name_bytes}
 use Rattle.mps_export.specs.InsideSections.{row_lines}
 use Rattle.mps_export.proofs.ColumnLemmas.{Rows, left, left_end, left_none, left_some}
 use Rattle.mps_export.proofs.row_lines.put_listed_rows.Goals as goal
@@ -34,7 +35,7 @@ loop-i-preserved-in_default c =
 
 pub loop-i-preserved : goal.loop-i-preserved
 loop-i-preserved c =
-    row_written (name_in c.args.n) c.args.rows.now c.loop-i.i c.index-rows-i.result c.in-Some.factored c.kind_of.result (name_in c.args.n c.loop-i.i) c.loop-i.out c.put_row_line.new.out _ (omega arith) c.index-rows-i.is c.in-Some.is c.kind_of.ensures refl c.loop-i.invariant c.in_ok-put_row_line.ensures
+    row_written (name_in c.args.n) c.args.rows.now c.loop-i.i c.index-rows-i.result c.in-Some.factored c.kind_of.result (name_bytes c.row_name-name.result) c.loop-i.out c.put_row.new.out _ (omega arith) c.index-rows-i.is c.in-Some.is c.kind_of.ensures c.row_name-name.ensures.text c.loop-i.invariant c.in_ok-put_row.ensures
 
 pub returns : goal.returns
 returns c = rows_end (name_in c.args.n) c.args.rows.now c.loop-i.i c.loop-i.out _ (omega arith) c.loop-i.invariant

@@ -1,6 +1,7 @@
 use Rattle.std.proofs.Common.{◌∙◌, ap}
-use Rattle.std.specs.List.{flat_map}
+use Rattle.exact_numbers.specs.Values.{value_text}
+use Rattle.mps_model.specs.Text.{mps_text_by}
 use Rattle.mps_export.proofs.written.write_exported.Goals as goal
 
 pub returns : goal.returns
-returns c = c.in_ok-out.ensures ∙ ap (flat_map (λ p. p.items)) c.deref.ensures.value ∙ c.in_ok-pieces.ensures
+returns c = c.in_ok-out.ensures.text ∙ ap (mps_text_by value_text) c.in_ok-mps.ensures
