@@ -16,8 +16,11 @@ class Theorem:
 
 HEADLINE = "command_parts/Promise:Answers"
 ROW = "bridge_tool/OneFile:row_promise"
-# each promise, and each row of a command of one file, that these name has a row here
-COMMANDS = (("bridge_tool", "Commands", "promise_of"), ("bridge_tool", "OneFile", "row_of"))
+CLAIM = "bridge_tool/Verify:verify_promise"
+YES = "bridge_tool/Verify:SaysVerified"
+# each promise, and each row of commands that share one, that these name has a row here
+COMMANDS = (("bridge_tool", "Commands", "promise_of"), ("bridge_tool", "OneFile", "row_of"),
+            ("bridge_tool", "Verify", "claim_row_of"))
 
 # What numbers are: it stands last, since few doubt it.
 ARITHMETIC = ("fractions", "exact_numbers/Fraction", "exact_numbers/Values")
@@ -28,12 +31,13 @@ THEOREMS = (
             "What is true of an MPS file where `verify_mps` says yes. The shortest of all: begin here."),
     Theorem("what a verified claim means", ("duality/Told:IsTrueOf", "file_certificates/FileProblem:problem_of"),
             "What is true of an .nl file where `verify` says yes."),
-    Theorem("what a denied claim means", ("bridge_tool/Verify:IsDenied",),
+    Theorem("what a denied claim means",
+            ("bridge_tool/Verify:IsDenied", "file_certificates/FileProblem:problem_of", "file_meaning/LinearFile:linear_of"),
             "What is true of the file, or of a leaf's part of its program, where `verify` says no, by the cause that is told."),
-    Theorem("what a yes says", (HEADLINE, "bridge_tool/Verify:SaysVerified"),
+    Theorem("what a yes says", (HEADLINE, YES, "bridge_tool/Verify:nl_states"),
             "Status 0 of `verify` from the headline down to the line that is written: what both texts say, by their lines "
             "alone, and that the line is true of that. Nothing of which texts are refused."),
-    Theorem("what a yes of an MPS file says", (HEADLINE, "bridge_tool/VerifyMps:SaysVerifiedMps"),
+    Theorem("what a yes of an MPS file says", (HEADLINE, YES, "bridge_tool/Verify:mps_states"),
             "The same of `verify_mps` and `verify_fixed`.", 2),
     Theorem("what proved means", ("bridge_tool/Prove:IsProvedOf",), "What is true of the file where `prove` says yes."),
     Theorem("what an export means", ("bridge_tool/Export:MeansTheFile",),
@@ -53,10 +57,10 @@ THEOREMS = (
             "`answer_file` says which texts are answers, `sol_files/Sol` and `Written` what a .sol value and its text are, "
             "`dual_return/Return` what the answer is returned as.", 16),
     Theorem("return with names", (HEADLINE, "bridge_tool/Return:named_return_promise"), "The same by names.", 18),
-    Theorem("verify", (HEADLINE, "bridge_tool/Verify:verify_promise"),
+    Theorem("verify", (HEADLINE, CLAIM, "bridge_tool/Verify:nl_claim_row"),
             "`certificate_text` says which texts are certificates, `duality/Parts`, `Branch`, `Ray` and `Certificate` when one "
             "holds, `duality/Problem` what is then true of the problem that the file states."),
-    Theorem("verify_mps, verify_fixed", (HEADLINE, "bridge_tool/VerifyMps:verify_mps_promise"),
+    Theorem("verify_mps, verify_fixed", (HEADLINE, CLAIM, "bridge_tool/Verify:mps_claim_row"),
             "`mps_reader/Reader` and `fixed_mps` say which texts are MPS texts, `mps_program` what linear program each is.", 7),
     Theorem("check", (HEADLINE, "bridge_tool/Check:check_promise"), "`duality/Verdict` has the phases of a verdict in order.", 20),
     Theorem("prove", (HEADLINE, "bridge_tool/Prove:prove_promise"),

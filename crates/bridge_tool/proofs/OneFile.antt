@@ -172,11 +172,12 @@ module _ {V : Type 0} (reads : List ℕ → V → Type 0) (refuses : List ℕ �
   writing_by_text = by_text reads refuses read (λ value outcome. outcome ≡ Done true (write value)) (λ value old new. new ≡ old) means (λ value bytes. bytes ≡ write value) (λ value line. ⊥)
       (λ value bytes. (done_same bytes (write value), λ e. cc)) (λ value line. (λ e. absurd cc, λ e. absurd e)) texts file text is
 
-module _ (texts : Texts) (file text : List ℕ) (is : texts file ≡ Some text) where
-  pub export_by_text : (k : ℕ) → IsByText IsNl HasTextRefusal (λ nl. IsExported nl k) (λ nl. CannotBeExported nl k) (λ nl old new. new ≤ old + fold_steps nl k) (λ nl. IsExportMeant nl k) (take LIMIT text) (export_told file k texts)
-  export_by_text k = by_text IsNl HasTextRefusal nl_read (λ nl. ExportsAs nl k) (λ nl old new. new ≤ old + fold_steps nl k) (λ nl. IsExportMeant nl k) (λ nl. IsExported nl k) (λ nl. CannotBeExported nl k)
-      (λ nl bytes. (λ h. h, λ h. h)) (λ nl line. (λ h. h, λ h. h)) texts file text is
+pub export_by_text : (texts : Texts) (file text : List ℕ) (k : ℕ) → texts file ≡ Some text
+    → IsByText IsNl HasTextRefusal (λ nl. IsExported nl k) (λ nl. CannotBeExported nl k) (λ nl old new. new ≤ old + fold_steps nl k) (λ nl. IsExportMeant nl k) (take LIMIT text) (export_told file k texts)
+export_by_text texts file text k is = by_text IsNl HasTextRefusal nl_read (λ nl. ExportsAs nl k) (λ nl old new. new ≤ old + fold_steps nl k) (λ nl. IsExportMeant nl k) (λ nl. IsExported nl k) (λ nl. CannotBeExported nl k)
+    (λ nl bytes. (λ h. h, λ h. h)) (λ nl line. (λ h. h, λ h. h)) texts file text is
 
+module _ (texts : Texts) (file text : List ℕ) (is : texts file ≡ Some text) where
   pub nl_by_text : IsWritingByText IsNl HasTextRefusal (λ nl. nl_text nl.file) (λ nl. IsText nl.file (nl_text nl.file)) (take LIMIT text) (row_told nl_row file texts)
   nl_by_text = writing_by_text IsNl HasTextRefusal nl_read (λ nl. nl_text nl.file) (λ nl. IsText nl.file (nl_text nl.file)) texts file text is
 

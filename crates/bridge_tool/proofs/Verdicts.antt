@@ -1,12 +1,9 @@
 -- What a .sol text, a proof text and a certificate show of an .nl text: one outcome, and what each verdict means.
-use Rattle.std.proofs.Common.{[], ◌≡◌, ◌∙◌, inl, inr, ℕ, ◌+◌, ◌≤◌, ◌==◌, ℤ, pos, negsuc, Bool, true, false, List, length, if◌then◌else◌, Option, Some, None, Result, Ok, Err, refl, sym, ap, ap₂, subst, arith, is_none}
-use Rattle.std.specs.Prelude.{◌&&◌, ◌++◌, codes, nat_lt, option_map, IfOk}
-use Rattle.std.specs.Option.{option_map_or}
+use Rattle.std.proofs.Common.{◌≡◌, ◌∙◌, inl, inr, ℕ, ◌+◌, ◌≤◌, ◌==◌, ℤ, pos, negsuc, Bool, true, false, List, length, if◌then◌else◌, Option, Some, None, Result, Ok, Err, refl, sym, ap, ap₂, subst, arith, is_none}
+use Rattle.std.specs.Prelude.{◌&&◌, nat_lt, option_map, IfOk}
 use Rattle.std.specs.Global.{Vec}
 use Rattle.std.proofs.lemmas.Bool.{eqb-true, ltb-false, and_parts}
-use Rattle.duality.specs.Problem.{Problem}
-use Rattle.duality.specs.ProblemSays.{Denies, VerdictSays}
-use Rattle.duality.specs.Told.{Told, IsToldTrue}
+use Rattle.duality.specs.ProblemSays.{VerdictSays}
 use Rattle.duality.specs.Verdict.{Verdict, verdict, yes, gap, refused}
 use Rattle.program_meaning.specs.Linear.{row_count, variable_count, Linear}
 use Rattle.texts.specs.declared.stop.Stop.{Stop}
@@ -29,21 +26,18 @@ use Rattle.sol_files.specs.Built.{IsEmptyOrFull}
 use Rattle.sol_files.specs.Reader.{IsSol}
 use Rattle.sol_files.specs.Sol.{Sol}
 use Rattle.bridge_tool.specs.Check.{IsCertified, IsNotCertified, by_fit, by_fold, by_number, by_verdict, check_outcome, most_steps, objective_number, shown, unfit}
-use Rattle.bridge_tool.specs.Claims.{IsClaimDenied, IsClaimTrue}
-use Rattle.command_parts.specs.Outcome.{Outcome, Done}
-use Rattle.command_parts.specs.Refusal.{HasTextRefusal, IsSolRefused, IsProofRefused, IsCertificateRefused}
-use Rattle.command_parts.specs.InsideAnswer.{IsCounted}
-use Rattle.command_parts.specs.SeveralFiles.{ByVerdict, Comes, desk_promise}
-use Rattle.command_parts.specs.declared.answer.Answer.{Answer}
+use Rattle.command_parts.specs.Outcome.{Done}
+use Rattle.command_parts.specs.Refusal.{IsSolRefused, IsProofRefused}
+use Rattle.command_parts.specs.SeveralFiles.{ByVerdict, Comes}
 use Rattle.command_parts.specs.Stages.{HasFolded, fold_steps}
 use Rattle.command_parts.specs.VerdictTold.{is_yes, verdict_line}
-use Rattle.command_parts.proofs.SeveralFiles.{IsPlain, IsLast, meant_as, text_so, value_said, verdict_last}
-use Rattle.command_parts.proofs.TextsRead.{certificate_read, proof_read, sol_read}
+use Rattle.command_parts.proofs.SeveralFiles.{IsPlain, IsLast, verdict_last}
+use Rattle.command_parts.proofs.TextsRead.{proof_read, sol_read}
 use Rattle.command_parts.specs.declared.refusal.Refusal.{Refusal}
 use Rattle.duality.specs.Branch.{LeafFault, proof_fault}
 use Rattle.branch_check.specs.declared.verdict.ProofVerdict.{ProofVerdict}
 use Rattle.branch_check.specs.declared.verdict.ProofVerdict.TheVariants.{Yes}
-use Rattle.file_certificates.specs.Files.{IsProofIn, IsCertificateIn}
+use Rattle.file_certificates.specs.Files.{IsProofIn}
 use Rattle.branch_check.specs.Leaves.{IsProved, IsVerdictOn, fault_of}
 use Rattle.certificates.specs.Proofs.{IsProofOf, ProofTree, ProofValue, claim_value, tree_over}
 use Rattle.certificates.specs.ProofReading.{tree_in}
@@ -54,22 +48,6 @@ use Rattle.proof_text.specs.Reader.{IsProofText}
 use Rattle.file_certificates.specs.Setting.{setting_of as certificate_setting}
 use Rattle.command_parts.specs.ProofTold.{leaf_line}
 use Rattle.bridge_tool.specs.Prove.{IsLeftOpen, IsProvedOf, by_fold as by_proof_fold, by_leaf, claimed_objective, open_leaf, prove_outcome}
-use Rattle.duality.specs.Certificate.{ClaimOutcome, holds, fails}
-use Rattle.certificates.specs.Certificates.{CertificateValue, Given, IsAskedFor, IsCertificateOf, certificate_over, claim_outcome, claim_objective}
-use Rattle.certificates.specs.Told.{told_claim}
-use Rattle.linear_program.specs.Numbers.{spread}
-use Rattle.certificates.specs.Reading.{given_in}
-use Rattle.certificates.specs.declared.certificate.Claim.{Claim}
-use Rattle.certificates.specs.declared.certificate.Claim.TheVariants.{Within}
-use Rattle.file_certificates.proofs.Given.{certificate_of, claim_denied, claim_true}
-use Rattle.certificates.proofs.Reading.{given_back}
-use Rattle.certificates.specs.Setting.{Setting as CertificateSetting}
-use Rattle.certificate_text.specs.Reader.{IsCertificateText}
-use Rattle.certificate_text.proofs.Files.{text_is_certificate}
-use Rattle.desk.specs.Desk.{Meaning, Texts}
-use Rattle.nl_segments.specs.Reader.{IsNl}
-use Rattle.command_parts.specs.CertificateTold.{HasFittingBound, is_held, objective_text, outcome_line, told_text}
-use Rattle.bridge_tool.specs.Verify.{IsDenied, IsVerified, IsWrittenAs, SaysVerified, by_claim, by_fold as by_claim_fold, claim_shown, verify_outcome, verify_promise, verify_read}
 
 -- ---- one outcome
 
@@ -223,111 +201,3 @@ module _ (nl : NlValue) (p : ProofValue) (given : IsProofIn nl.file p) where
       let line : prove_outcome nl p ≡ by_leaf (fault_of v) = sym (proof_done l v (is_none (fault_of v)) (leaf_line (fault_of v)) folds exact refl refl) in
       let shown : IsProved folded p.claim v = subst (λ (g : Linear). IsProved g p.claim v) folds.linear proved in
       subst (λ (t : Bool). ByVerdict t (IsProvedOf nl p) (IsLeftOpen nl p)) (sym h) (proved_by (fault_of v) v refl file folds.fine shown (sym (leaf_so l v folds exact)) line)
-
--- ---- one outcome
-
-module _ (nl : NlValue) (c : CertificateValue) where
-  plain_claim : (o : Option FoldFault) → IsPlain (by_claim_fold nl c o)
-  plain_claim None = tt
-  plain_claim (Some fault) = tt
-
-pub verify_last : (nl : NlValue) → IsLast true (IsCertificateText (certificate_setting nl.file)) (IsCertificateRefused (certificate_setting nl.file) 2) (λ c outcome. outcome ≡ verify_outcome nl c) (λ c old new. new ≤ old + fold_steps nl (claim_objective c.claim))
-verify_last nl =
-    verdict_last (certificate_read (certificate_setting nl.file) 2) (verify_outcome nl) (λ c. fold_steps nl (claim_objective c.claim)) (λ c. plain_claim nl c (first_fold_fault nl.file (claim_objective c.claim)))
-
--- ---- what the code answers
-
--- what a verdict on a certificate says of a problem with the linear program f
-abbrev pub ClaimSays : Problem → Linear → CertificateValue → ClaimOutcome → Type 0
-ClaimSays p f c (holds value) = IsToldTrue p (spread p.variables (given_in c).point) (told_claim c.claim value)
-ClaimSays p f c (fails cause) = Denies p f (certificate_over p.variables p.constraints c.claim (given_in c)) cause
-
--- then its line means what it should
-pub claim_means : (p : Problem) (f : Linear) (c : CertificateValue) (outcome : Outcome) (bytes : List ℕ) (o : ClaimOutcome) → outcome ≡ by_claim c.claim o → bytes ≡ outcome_line c.claim o → ClaimSays p f c o
-    → ByVerdict (is_held o) (IsClaimTrue p c.claim (given_in c) bytes) (IsClaimDenied p f c outcome)
-claim_means p f c outcome bytes (holds value) is line says =
-    record {
-      told = says.told;
-      line = line ∙ ap (λ (o : Option Told). option_map_or told_text o [] ++ objective_text (claim_objective c.claim) ++ codes "\n") says.is_told;
-      true_of = says.true_of;
-    }
-claim_means p f c outcome bytes (fails cause) is line says = record { cause = cause; line = is; denies = says }
-
-asked_fits : (claim : Claim) (g : Given) → IsAskedFor claim g → HasFittingBound claim
-asked_fits (Within k b) g h = h.2
-asked_fits other g h = tt
-
--- the bound of the claim that was read can be written
-pub bound_fits : (f : File) (c : CertificateValue) → IsCertificateIn f c → HasFittingBound c.claim
-bound_fits f c given = asked_fits c.claim given.given given.asked
-
--- what a yes means
-abbrev pub IsVerifiedOf : NlValue → CertificateValue → List ℕ → Type 0
-IsVerifiedOf nl c = IsVerified nl.file c.claim (given_in c)
-
-module _ (nl : NlValue) (c : CertificateValue) (given : IsCertificateIn nl.file c) where
-  abbrev k : ℕ
-  k = claim_objective c.claim
-
-  abbrev f : Linear
-  f = linear_of nl.file k
-
-  -- what is given is read back
-  given_so : given_in c ≡ given.given
-  given_so = given_back c given.given given.point given.ray given.nodes given.pairs
-
-  -- the certificate is one of the folded program
-  pub certificate_so : (l : LinearValue) → HasFolded nl k l → IsCertificateOf (linear_value l) c
-  certificate_so l folds = subst (λ (g : Linear). IsCertificateOf g c) (sym folds.linear) (certificate_of nl.file k c given)
-
-  shown_so : (l : LinearValue) (o : ClaimOutcome) → HasFolded nl k l → ((h : IsCertificateOf (linear_value l) c) → o ≡ claim_outcome (linear_value l) c.claim h.given) → o ≡ claim_shown nl c
-  shown_so l o folds exact =
-      let h = certificate_so l folds in
-      exact h
-      ∙ ap (λ (g : Given). claim_outcome (linear_value l) c.claim g) (sym (given_back c h.given h.point h.ray h.nodes h.pairs))
-      ∙ ap (λ (g : Linear). claim_outcome g c.claim (given_in c)) folds.linear
-
-  -- the file folds, and the verdict is told
-  pub claim_done : (l : LinearValue) (o : ClaimOutcome) (held : Bool) (bytes : List ℕ) → HasFolded nl k l → ((h : IsCertificateOf (linear_value l) c) → o ≡ claim_outcome (linear_value l) c.claim h.given)
-      → held ≡ is_held o → bytes ≡ outcome_line c.claim o → Done held bytes ≡ verify_outcome nl c
-  claim_done l o held bytes folds exact h b =
-      ap₂ Done h b ∙ ap (by_claim c.claim) (shown_so l o folds exact) ∙ sym (ap (by_claim_fold nl c) (ap (option_map (named_fault nl.file)) folds.fine))
-
-  -- a verdict means what it should
-  claim_says : (o : ClaimOutcome) → IsFile nl.file → fold_fault nl.file k ≡ None → claim_outcome f c.claim given.given ≡ o → ClaimSays (problem_of nl.file k) f c o
-  claim_says (holds value) file fine e = subst (λ (g : Given). IsToldTrue (problem_of nl.file k) (spread nl.file.counts.n_var g.point) (told_claim c.claim value)) (sym given_so) (claim_true nl.file c file fine given value e)
-  claim_says (fails cause) file fine e = subst (λ (g : Given). Denies (problem_of nl.file k) f (certificate_over nl.file.counts.n_var nl.file.counts.n_con c.claim g) cause) (sym given_so) (claim_denied nl.file c file fine given cause e)
-
-  pub verified_so : (l : LinearValue) (o : ClaimOutcome) (held : Bool) (bytes : List ℕ) → IsFile nl.file → HasFolded nl k l → ((h : IsCertificateOf (linear_value l) c) → o ≡ claim_outcome (linear_value l) c.claim h.given)
-      → held ≡ is_held o → bytes ≡ outcome_line c.claim o → ByVerdict held (IsVerifiedOf nl c bytes) (IsDenied nl c)
-  verified_so l o held bytes file folds exact h b =
-      let shown : claim_shown nl c ≡ o = sym (shown_so l o folds exact) in
-      let outcome : claim_outcome f c.claim given.given ≡ o = ap (λ (g : Given). claim_outcome f c.claim g) (sym given_so) ∙ shown in
-      let line : verify_outcome nl c ≡ by_claim c.claim o = sym (claim_done l o (is_held o) (outcome_line c.claim o) folds exact refl refl) in
-      subst (λ (t : Bool). ByVerdict t (IsVerifiedOf nl c bytes) (IsDenied nl c)) (sym h) (claim_means (problem_of nl.file k) f c (verify_outcome nl c) bytes o line b (claim_says o file folds.fine outcome))
-
--- ---- what a yes says
-
--- a certificate's text is written as what is read back of it
-pub written_so : (s : CertificateSetting) (text : List ℕ) (c : CertificateValue) → IsCertificateText s text c → IsWrittenAs c.claim (given_in c) text
-written_so s text c h =
-    let w = text_is_certificate s text c h in
-    let is = w.is in
-    subst (λ (g : Given). IsWrittenAs c.claim g text) (sym (given_back c is.given is.point is.ray is.nodes is.pairs)) w.rows
-
-pub verify_says : (nl certificate : List ℕ) (texts : Texts) (bytes : List ℕ) → (verify_read nl certificate texts).means bytes → SaysVerified texts nl certificate bytes
-verify_says nl certificate texts bytes m =
-    let first = value_said IsNl HasTextRefusal texts nl _ bytes m in
-    let s = certificate_setting first.0.file in
-    let second = value_said (IsCertificateText s) (IsCertificateRefused s 2) texts certificate _ bytes first.1.1 in
-    record {
-      file = first.0.file;
-      claim = second.0.claim;
-      given = given_in second.0;
-      says = text_so _ (λ (text : List ℕ) (h : IsNl text first.0). h.said.file) first.1.0;
-      certifies = text_so _ (λ (text : List ℕ) (h : IsCertificateText s text second.0). written_so s text second.0 h) second.1.0;
-      verified = second.1.1;
-    }
-
-pub verify_counted : {old new : Meaning} {m n : ℕ} {answer : Answer} (nl certificate : List ℕ) (t : Option Texts) → IsCounted (desk_promise true (verify_read nl certificate) t) old new m n answer → IsCounted (verify_promise t nl certificate) old new m n answer
-verify_counted nl certificate t = meant_as true (verify_read nl certificate) (λ texts. SaysVerified texts nl certificate) t (verify_says nl certificate)

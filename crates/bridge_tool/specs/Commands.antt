@@ -3,7 +3,7 @@ use Rattle.std.specs.Prelude.{◌≡◌, ℕ, List}
 use Rattle.std.specs.declared.option.Option.{Option}
 use Rattle.std.specs.declared.option.Option.TheVariants.{None, Some}
 use Rattle.desk.specs.Desk.{Texts, Meaning}
-use Rattle.bridge_tool.specs.Command.{Command, Check, Export, Rewrite, command_of, Prove, Verify, VerifyProgram, Make, Return, NamedExport, NamedReturn}
+use Rattle.bridge_tool.specs.Command.{Command, Check, Export, Rewrite, command_of, Prove, Verify, Make, Return, NamedExport, NamedReturn}
 use Rattle.bridge_tool.specs.Check.{check_promise}
 use Rattle.bridge_tool.specs.Export.{export_promise}
 use Rattle.bridge_tool.specs.Make.{LeavesInput, make_promise}
@@ -13,8 +13,7 @@ use Rattle.command_parts.specs.Outcome.{Outcome, BadWords}
 use Rattle.command_parts.specs.Promise.{Promise}
 use Rattle.bridge_tool.specs.Prove.{prove_promise}
 use Rattle.bridge_tool.specs.Return.{named_return_promise, return_promise}
-use Rattle.bridge_tool.specs.Verify.{verify_promise}
-use Rattle.bridge_tool.specs.VerifyMps.{verify_mps_promise}
+use Rattle.bridge_tool.specs.Verify.{claim_row_of, verify_promise}
 
 -- at a desk with these texts
 abbrev pub promise_of : Option Texts → Command → Promise
@@ -22,9 +21,8 @@ promise_of texts (Export file objective) = export_promise texts file objective
 promise_of texts (Rewrite of file) = row_promise texts (row_of of) file
 promise_of texts (Check nl sol) = check_promise texts nl sol
 promise_of texts (Prove nl proof) = prove_promise texts nl proof
-promise_of texts (Verify nl certificate) = verify_promise texts nl certificate
-promise_of texts (VerifyProgram form mps certificate) =
-    verify_mps_promise texts form mps certificate
+promise_of texts (Verify of first certificate) =
+    verify_promise texts (claim_row_of of) first certificate
 promise_of texts (Return nl answer) = return_promise texts nl answer
 promise_of texts (NamedExport file objective rows columns) =
     named_promise texts file objective rows columns

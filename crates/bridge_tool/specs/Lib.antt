@@ -13,5 +13,4 @@ pub mod OneFile
 pub mod Prove
 pub mod Return
 pub mod Verify
-pub mod VerifyMps
-pub mod InsideVerifyMps
+pub mod InsideVerify

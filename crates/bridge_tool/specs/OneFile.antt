@@ -19,7 +19,7 @@ use Rattle.command_parts.specs.Promise.{Promise}
 use Rattle.command_parts.specs.Refusal.{HasTextRefusal, IsMpsRefused, IsSolRefused}
 use Rattle.command_parts.specs.SeveralFiles.{after_file, desk_promise, ends}
 use Rattle.bridge_tool.specs.Import.{MeansTheProgram, import_outcome}
-use Rattle.bridge_tool.specs.VerifyMps.{IsTextIn, IsTextRefused}
+use Rattle.bridge_tool.specs.Verify.{IsTextIn, IsTextRefused}
 use Rattle.bridge_tool.specs.declared.verify_mps.Layout.{Layout}
 use Rattle.bridge_tool.specs.declared.one_file.OneFile.{OneFile}
 use Rattle.bridge_tool.specs.declared.one_file.OneFile.TheVariants.{Import, Mps, Nl, Sol}

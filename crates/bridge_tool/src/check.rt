@@ -5,7 +5,6 @@ ghost use Rattle.program_meaning.specs.Linear.{row_count, variable_count};
 ghost use Rattle.duality.specs.Verdict.{verdict};
 ghost use Rattle.linear_fold.specs.FoldedFaults.{first_fold_fault};
 ghost use Rattle.linear_program.specs.Programs.{linear_value};
-ghost use Rattle.nl_model.specs.Rules.{IsFile};
 ghost use Rattle.nl_segments.specs.Reader.{HasLines, value_of};
 ghost use Rattle.exact_checks.specs.Answers.{answer_of};
 ghost use Rattle.exact_checks.specs.Terms.{values_of};
@@ -109,11 +108,9 @@ fn to_verdict<L: Ledger>(
 ) -> Result<(bool, Vec<u8>), Stop<Refusal>>
     requires { HasLines read }
     ensures comes { Comes (λ outcome. outcome ≡ check_outcome (value_of read) sol.now) result }
-    ensures file { IsFile read.file }
     ensures above { steps.old ≤ steps.new }
     ensures counts { steps.new ≤ steps.old + most_steps (value_of read) sol.now }
 {
-    let _ = read.file.header();
     if let Err(fault) = fit(&read.file, sol) {
         return Err(Stop::Fault(Refusal::Fit(fault)));
     }

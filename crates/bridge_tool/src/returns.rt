@@ -1,7 +1,6 @@
 // The command return: from an .nl text and an answer to the text of its .sol file, or to a
 // refusal.
 ghost use Rattle.std.specs.Prelude.{◌≡◌, ◌+◌, ◌≤◌};
-ghost use Rattle.nl_model.specs.Rules.{IsFile};
 ghost use Rattle.nl_segments.specs.Reader.{HasLines, value_of};
 ghost use Rattle.dual_return.specs.Return.{IsAnswerFor};
 ghost use Rattle.command_parts.specs.InsideAnswer.{IsCounted};
@@ -40,7 +39,6 @@ fn make<L: Ledger>(
     requires lines { HasLines read }
     requires made { IsAnswerFor read.file given.now }
     ensures makes { Makes (value_of read) given.now result }
-    ensures file { IsFile read.file }
     ensures above { steps.old ≤ steps.new }
     ensures counts { steps.new ≤ steps.old + fold_steps (value_of read)
         given.now.objective }
@@ -67,7 +65,6 @@ fn to_output<L: Ledger>(
     requires lines { HasLines read }
     requires made { IsAnswerFor read.file given.now }
     ensures comes { Comes (ReturnsAs (value_of read) given.now) result }
-    ensures file { IsFile read.file }
     ensures above { steps.old ≤ steps.new }
     ensures counts { steps.new ≤ steps.old + fold_steps (value_of read)
         given.now.objective }

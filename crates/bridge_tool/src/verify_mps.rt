@@ -2,17 +2,16 @@
 // verdict, or to a refusal.
 ghost use Rattle.std.specs.Prelude.{◌≡◌, ◌≢◌, IfErr, IfOk};
 ghost use Rattle.linear_program.specs.Programs.{IsLinear, linear_value};
-ghost use Rattle.certificates.specs.Certificates.{IsCertificateOf};
+ghost use Rattle.certificates.specs.Certificates.{IsCertificateOf, claim_objective};
 ghost use Rattle.certificates.specs.Setting.{IsCertificateFor, program_setting};
 ghost use Rattle.certificate_text.specs.Reader.{IsCertificateText};
-ghost use Rattle.command_parts.specs.CertificateTold.{HasFittingBound};
 ghost use Rattle.command_parts.specs.InsideAnswer.{IsAtRest, status_of};
-ghost use Rattle.bridge_tool.specs.InsideVerifyMps.{GivesProgram};
+ghost use Rattle.bridge_tool.specs.InsideVerify.{GivesProgram};
 ghost use Rattle.command_parts.specs.SeveralFiles.{Comes, ReadsFile, itself};
 ghost use Rattle.command_parts.specs.Refusal.{IsCertificateRefused};
-ghost use Rattle.bridge_tool.specs.VerifyMps.{IsTextIn, IsTextRefused, as_import, program_outcome, verify_mps_promise};
+ghost use Rattle.bridge_tool.specs.Verify.{IsTextIn, IsTextRefused, as_import, by_linear, claim_shown, mps_claim_row, no_objective, verify_promise};
 
-use crate::verify::{outcome_on, told_outcome};
+use crate::verify::verdict_on;
 use certificates::Certificate;
 use command_parts::{
     Answer, Refusal, answered, claim_objective, end, open_certificate_over, open_fixed, open_mps,
@@ -101,10 +100,10 @@ fn to_verdict(
     linear: Linear,
     certificate: &Certificate,
 ) -> Result<(bool, Vec<u8>), Stop<Refusal>>
-    requires certificate { IsCertificateOf (linear_value linear) certificate.now }
-    requires fits { HasFittingBound certificate.now.claim }
-    ensures { Comes (λ outcome. outcome
-        ≡ program_outcome (linear_value linear) certificate.now) result }
+    requires { IsCertificateOf (linear_value linear) certificate.now }
+    ensures { Comes (λ outcome. outcome ≡ by_linear certificate.now
+        (claim_shown (linear_value linear) certificate.now)
+        (no_objective (claim_objective certificate.now.claim))) result }
 {
     let objective = claim_objective(certificate.claim());
     if objective > 0 {
@@ -112,8 +111,7 @@ fn to_verdict(
         let fault = FoldFault::NoSuchObjective(objective);
         return Err(Stop::Fault(Refusal::Fold(objective, fault)));
     }
-    let outcome = outcome_on(alloc, linear, certificate)?;
-    let told = told_outcome(alloc, certificate, outcome)?;
+    let told = verdict_on(alloc, linear, certificate)?;
     Ok(told)
 }
 
@@ -127,7 +125,7 @@ pub(crate) fn verify_program<D: Desk>(
     desk: &mut D,
 ) -> Answer
     ensures { IsAtRest
-        (verify_mps_promise (D.meaning desk.old).texts layout mps.now certificate.now)
+        (verify_promise (D.meaning desk.old).texts (mps_claim_row layout) mps.now certificate.now)
         (D.meaning desk.old) (D.meaning desk.new) result }
 {
     let read = match open_text(alloc, desk, layout, mps) {

@@ -5,6 +5,7 @@ use Rattle.answer_file.specs.declared.naming.Naming.TheVariants.{Listed}
 use Rattle.bridge_tool.specs.Return.{IsReturnMeant, named_return_told}
 use Rattle.command_parts.specs.SeveralFiles.{itself}
 use Rattle.command_parts.proofs.NameLists.{columns_down, columns_stopped, listed_sound, nl_stopped, rows_stopped}
+use Rattle.bridge_tool.proofs.Exporting.{text_file}
 use Rattle.bridge_tool.proofs.Returning.{after_names, answer_last, names_sound, return_meant}
 use Rattle.command_parts.proofs.SeveralFiles.{NoVerdict, last_ended, last_stopped, meant_anyway}
 use Rattle.bridge_tool.proofs.returns.return_named.Goals as goal
@@ -42,4 +43,4 @@ returns g c =
     (columns_down false 3 c.args.nl.now c.args.rows.now c.args.columns.now (after_names c.args.answer.now) (names_sound c.args.answer.now) value_of _ _ c.in-Ok.read c.in-Ok.ensures.reads
     _ c.in-Ok-open_rows.names c.in-Ok-open_rows.ensures.reads _ c.in-Ok-open_columns.names c.in-Ok-open_columns.ensures.reads)
     itself _ c.in-Ok-open_named.given c.in-Ok-open_named.ensures.reads _ _ _ _ _ c.to_output-judged.ensures.comes
-    (meant_anyway _ _ (return_meant (value_of c.in-Ok.read) c.in-Ok-open_named.given c.to_output-judged.ensures.file)) c.end.ensures c.to_output-judged.ensures.above c.to_output-judged.ensures.counts
+    (meant_anyway _ _ (return_meant (value_of c.in-Ok.read) c.in-Ok-open_named.given (text_file _ _ c.in-Ok.ensures.reads.judged.says))) c.end.ensures c.to_output-judged.ensures.above c.to_output-judged.ensures.counts
