@@ -81,6 +81,9 @@ class Answer:
                          "nearest ones are written")
         return notes
 
+    def without_duals(self) -> Answer:
+        return self.with_duals(None)
+
     def with_duals(self, duals: Mapping[str, str] | None) -> Answer:
         other = copy.copy(self)
         other.__dict__.pop("body", None)
@@ -95,8 +98,7 @@ class Answer:
         outcome = replace(self.outcome, values=values, objective=None, code=code)
         if not is_own:
             known = {row: duals[row] for row in self.program.constraints if row in duals}
-            is_integer = bool(self.program.whole) and not self.options.relax
-            lacks = len(known) < len(self.program.constraints) or is_integer
+            lacks = len(known) < len(self.program.constraints) or self.is_integer()
             return Answer(self.program, replace(outcome, duals=None if lacks else known,
                                                 costs=None, column_basis=None, row_basis=None),
                           self.options)
@@ -107,7 +109,10 @@ class Answer:
             outcome.duals = {**old, **duals}
         other = Answer(self.program, replace(outcome, costs=None), self.options)
         other.outcome, other.costs = outcome, self.costs
-        return other if self.duals is not None else other.with_duals(None)
+        return other if self.duals is not None else other.without_duals()
+
+    def is_integer(self) -> bool:
+        return bool(self.program.whole) and not self.options.relax
 
     def with_code(self, code: Code) -> Answer:
         other = copy.copy(self)

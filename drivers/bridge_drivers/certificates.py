@@ -140,7 +140,7 @@ class Certifier:
             return verdict
         except Refused as fault:
             if fault.told.endswith("dual too wide"):
-                return self.as_it_stands(work, answer.with_duals(None))
+                return self.as_it_stands(work, answer.without_duals())
             return Verdict(WITHOUT + fault.line())
 
     def numbers(self, answer: Answer) -> tuple[list[str], list[str]]:

@@ -107,7 +107,6 @@ def status_text(statuses: Iterable[Status]) -> str:
 
 
 def usage() -> str:
-    """All commands, a line each."""
     return (f"usage: {NAME} COMMAND ..\n\nof the proved program:\n{rows_of(COMMANDS)}\n"
             f"around it:\n{rows_of(OWN)}\n{wrapped(MODEL, '', 0)}"
             + wrapped(status_text(PROVED), "status: ", 8)

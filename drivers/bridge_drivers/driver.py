@@ -181,7 +181,6 @@ class Run:
     # after the run -----------------------------------------------------------------
 
     def lines(self, result: Result) -> list[str]:
-        """The message."""
         if result.sol is None:
             lines = [f"{self.name}: {result.lines[0]}", *result.lines[1:]]
         else:
@@ -278,7 +277,6 @@ class Driver(Run):
                                       variable=variable)
 
     def out(self) -> TextIO:
-        """Where the message goes."""
         return sys.stdout
 
     def told(self, ask: str, topic: str = "") -> str:

@@ -16,12 +16,11 @@ from .bridge import BESIDE, PACKAGE, Missing, find, is_plain
 from .built import built, state
 from .codes import Code, Failure, Status
 from .commands import COMMANDS, NAME, OWN, SHELLS, VERDICTS, WORDS
-from .errors import BridgeError
 from .importing import imported
 from .inputs import Inputs, is_flow, named
 from .interrupts import with_child
 from .near import near
-from .report import Report, sum_of
+from .report import BridgeError, Report, sum_of
 
 if TYPE_CHECKING:
     from .driver import Driver
@@ -81,7 +80,6 @@ def read(words: Sequence[str]) -> Call:
 
 
 def command(words: Sequence[str]) -> int:
-    """One call."""
     try:
         call = read(words)
         if call.helps or call.word == "help":

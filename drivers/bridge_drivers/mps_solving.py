@@ -20,7 +20,6 @@ class MpsCertifier(Certifier):
     values_alone = True
 
     def returned(self, answer: Answer, message: list[str], name: str = "bridge") -> bytes:
-        """No .sol is made."""
         return b""
 
     def numbers(self, answer: Answer) -> tuple[list[str], list[str]]:

@@ -22,10 +22,9 @@ from .miss import ROUNDING, largest_share
 from .names import Names
 from .nl import Prepared, header, prepared
 from .options import Options
-from .program import Program
+from .program import Program, given, hollow
 from .settled import Facts, is_final, proved_duals, settled
 from .solvers.base import Outcome, Solver, Unclear
-from .solvers.given import given, hollow
 from .values import BadValue
 from .verdicts import percent, read
 
@@ -274,7 +273,7 @@ class Solving:
             if not fault.told.endswith("dual too wide"):
                 raise
             lines.insert(before, f"duals are left out: {fault.line()}")
-        answer = answer.with_duals(None)
+        answer = answer.without_duals()
         return answer, certifier.returned(answer, lines)
 
     def verdict(self, certifier: Certifier, answer: Answer) -> Verdict:

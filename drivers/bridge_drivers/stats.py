@@ -56,7 +56,6 @@ class Range:
         return [double_of(end) for end in (self.low, self.high) if end is not None]
 
     def ends(self) -> list[float | None] | None:
-        """The same; None where there are none, or are beyond these."""
         found = self.doubles()
         return found if found and None not in found else None
 

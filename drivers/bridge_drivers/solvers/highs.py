@@ -12,10 +12,9 @@ from typing import Any
 
 from ..codes import Code
 from ..job import Job
-from ..options import SHARE, Option
 from ..program import Program
-from .base import (Outcome, Solver, Unclear, first_line, has_values, outcome, read_lines,
-                   stopped)
+from .base import (MIPGAP, Outcome, Solver, Unclear, has_values, outcome, read_lines,
+                   without_answer)
 from .statuses import HIGHS, row_of
 
 PLACES = ("/usr/bin/python3", "python3")
@@ -31,7 +30,7 @@ class Highs(Solver):
     version = r"HiGHS of SciPy (\S+)"
     again = "without presolve"
     infinite = "1e20"
-    options = (Option("mipgap", 0.0, SHARE, "relative gap at which the search stops"),)
+    options = (MIPGAP,)
 
     def place(self, named: str = "") -> str | None:
         for word in (named,) if named else PLACES:
@@ -55,9 +54,7 @@ class Highs(Solver):
         ran = job.run([job.solver, SCRIPT, path, target, words])
         lines = read_lines(target)
         if lines is None:
-            if ran.killed:
-                return Outcome(*stopped("the time limit", False))
-            raise Unclear(first_line(ran.log, "Error"))
+            return without_answer(ran, "Error")
         return answered(job, json.loads(lines[0]))
 
 

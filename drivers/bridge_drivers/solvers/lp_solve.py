@@ -3,12 +3,10 @@ what it prints too, so that a column at 1e30 may have no end."""
 
 from __future__ import annotations
 
-import math
-
 from ..codes import Code
 from ..job import Job
 from ..program import Program
-from .base import Outcome, Solver, Unclear, first_line, has_values, outcome, stopped
+from .base import Outcome, Solver, Unclear, has_values, outcome, stopped, without_answer
 from .statuses import LP_SOLVE, OPTIMAL, TIME, Says, row_in
 
 INFINITE = 1e30
@@ -21,24 +19,18 @@ class LpSolve(Solver):
     package = "lp-solve"
     again = "without scaling"
     infinite = "1e30"
+    flags = {"relax": "-noint", "again": "-s0", "seconds": "-timeout {}"}
 
     def solve(self, job: Job) -> Outcome:
         options, p = job.options, job.program
-        # Without -mps_negobjconst it adds the RHS of the objective row.
-        words = [job.solver, *self.reading(p, job.write("lp_solve.mps", job.given.text))]
-        if options.relax:
-            words += ["-noint"]
-        if job.again:
-            words += ["-s0"]
-        if options.timelim:
-            words += ["-timeout", str(math.ceil(options.timelim))]
-        ran = job.run(words + job.extra)
+        path = job.write("lp_solve.mps", job.given.text)
+        ran = job.run([job.solver, *self.reading(p, path), *self.asked(job)])
         head, heading, _ = ran.log.partition("\nActual values of the variables:\n")
         says = row_in(LP_SOLVE, head) or (SOLVED if heading else None)
         if says is None:
             if ran.killed or options.timelim:
-                return Outcome(*stopped("a limit", False))
-            raise Unclear(first_line(ran.log, r"\S"))
+                return stopped("a limit")
+            return without_answer(ran, r"\S")
         if says.words == SUBOPTIMAL and options.timelim:
             says = says._replace(code=Code.LIMIT, text=TIME)
         odd = unknown(head) if says is SOLVED and not job.extra else ""
@@ -60,6 +52,7 @@ class LpSolve(Solver):
         return found
 
     def reading(self, program: Program, path: str) -> list[str]:
+        """Without -mps_negobjconst it adds the RHS of the objective row."""
         return ["-fmps", path, "-S4", "-mps_negobjconst"]
 
 
