@@ -18,7 +18,7 @@ from typing import Union
 from .bridge import Bridge
 from .files import fill
 from .mps_reader import OBJECTIVE, exact
-from .names import Names
+from .names import Names, with_name
 from .printable import some
 from .program import TIED, TIED_ROW, Program
 from .sol import duals_of
@@ -170,8 +170,7 @@ def sense_line(f: Figures) -> str:
 
 
 def row_name(row: str, names: Names) -> str:
-    name = names.row(int(row[1:])) if row[1:].isdigit() else ""
-    return f"{row} ({name})" if name else row
+    return with_name(row, names.row(int(row[1:])) if row[1:].isdigit() else "")
 
 
 def lines_of(f: Figures, factors: dict[str, str], names: Names) -> list[str]:
