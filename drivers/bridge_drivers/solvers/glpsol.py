@@ -8,8 +8,8 @@ from ..codes import Code
 from ..job import Job, Ran
 from ..options import SWITCH, Option
 from ..program import Program
-from .base import (BASIC, EQUAL, GAP, LOWER, SUPERBASIC, UPPER, Outcome, Solver, Unclear, first_line,
-                   has_values, outcome, read_lines, stopped)
+from .base import (BASIC, EQUAL, GAP, LOWER, SUPERBASIC, UPPER, Outcome, Solver, Unclear,
+                   first_line, has_values, outcome, read_lines, stopped)
 from .statuses import GLPK, GLPK_FILE, row_in, row_of
 
 LETTERS = {"b": BASIC, "l": LOWER, "u": UPPER, "f": SUPERBASIC, "s": EQUAL}
