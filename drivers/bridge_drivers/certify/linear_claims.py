@@ -54,6 +54,7 @@ class LinearClaims(Contradicting):
             yield from self.where_it_fits(self.infeasible)
         if clp is not None and self.shown is None:
             self.know_loose(clp)
+        yield from self.endless()
         yield from self.told()
 
     def at_points(self, given: Given, clp: Clp | None) -> Iterator[Verdict]:

@@ -215,7 +215,8 @@ class Plans:
         """Those of the plan `thin`. The objective's form has the width between the relaxation, the
         last that was made, and the value."""
         p = self.model
-        if self.step is None or not all(p.whole) or sum(p.whole) > MOST_THIN:
+        if self.step is None or not all(p.whole) or sum(p.whole) > MOST_THIN \
+                or math.isinf(self.maker.base):
             return []
         units = (self.maker.base - float(p.constant)) / float(self.step.size)
         return directions(p, self.step.form, Fraction(max(self.value.at - units, 0.5)))

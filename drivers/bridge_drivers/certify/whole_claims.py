@@ -75,9 +75,11 @@ class WholeClaims(LinearClaims):
         return verdict._replace(contradicted=self.contradicted)
 
     def whole_optimum(self, point: Point) -> Iterator[Verdict]:
-        """A tree at the value of a point, then of each better one that the search finds."""
+        """A ray, else a tree at the value of a point, then of each better one that the search
+        finds."""
         p = self.model
         self.know_point(point)
+        yield from self.endless()
         if short.trivial(p) == p.value(point):      # bounds of columns alone say it
             nothing = Closed(Multipliers({}, 1, False), [], 0)
             yield self.one_leaf(nothing, "optimal", None, point)._replace(duals={})

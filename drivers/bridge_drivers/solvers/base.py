@@ -21,7 +21,7 @@ if TYPE_CHECKING:
 BASIC, SUPERBASIC, LOWER, UPPER, EQUAL = 1, 2, 3, 4, 5
 
 
-MIPGAP = Option("mipgap", 0.0, SHARE, "relative gap at which the search stops")
+GAP = Option("mipgap", 0.0, SHARE, "relative gap at which the search stops")
 LONGEST = 200                           # of a line of a log that is told
 NONE_YET = 1e40                         # what stands for an incumbent where there is none
 

@@ -3,7 +3,7 @@
 from __future__ import annotations
 
 from ..options import Option
-from .base import MIPGAP
+from .base import GAP
 from .coin import Coin
 
 
@@ -12,7 +12,7 @@ class Cbc(Coin):
     package = "coinor-cbc"
     again = "without preprocessing"
     version = r"Version: (\S+)"
-    options = (MIPGAP, Option("threads", 0, int, "threads of the search"))
+    options = (GAP, Option("threads", 0, int, "threads of the search"))
     flags = {"timelim": "-timeMode elapsed -sec {:g}", "mipgap": "-ratio {:g}",
              "threads": "-threads {}", "again": "-preprocess off -presolve off"}
 

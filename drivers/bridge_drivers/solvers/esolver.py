@@ -10,7 +10,7 @@ from ..job import Job
 from ..program import Program
 from .base import Outcome, Solver, outcome, read_lines, stopped, without_answer
 from .coin import basis
-from .statuses import ESOLVER, row_of
+from .statuses import ESOLVER, TIME, row_in, row_of
 
 SECTIONS = ("VARS", "REDUCED COST", "PI", "SLACK")
 
@@ -28,7 +28,7 @@ class Esolver(Solver):
         ran = job.run([job.solver, *self.asked(job), "-O", out, "-b", basis_file, path])
         lines = read_lines(out)
         if lines is None:
-            return without_answer(ran, "error")
+            return stopped(TIME) if row_in(ESOLVER, ran.log) else without_answer(ran, "error")
         says = row_of(ESOLVER, status_of(lines))
         if says is None or says.code != Code.SOLVED:
             is_late = ran.killed or job.options.timelim

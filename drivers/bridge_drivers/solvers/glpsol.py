@@ -6,7 +6,7 @@ from ..codes import Code
 from ..job import Job, Ran
 from ..options import SWITCH, Option
 from ..program import Program
-from .base import (BASIC, EQUAL, LOWER, MIPGAP, SUPERBASIC, UPPER, Outcome, Solver, Unclear,
+from .base import (BASIC, EQUAL, LOWER, GAP, SUPERBASIC, UPPER, Outcome, Solver, Unclear,
                    has_values, outcome, read_lines, without_answer)
 from .statuses import GLPK, GLPK_FILE, row_in, row_of
 
@@ -25,7 +25,7 @@ class Glpsol(Solver):
     version = r"GLPSOL.*?Solver,? v?(\S+)"
     flags = {"relax": "--nomip", "seconds": "--tmlim {}", "mipgap": "--mipgap {:g}",
              "xcheck": "--xcheck", "again": "--nopresol"}
-    options = (MIPGAP,
+    options = (GAP,
                Option("xcheck", 0, SWITCH, "1: glpsol checks its final basis in exact arithmetic"))
 
     def solve(self, job: Job) -> Outcome:

@@ -13,7 +13,7 @@ from typing import Any
 from ..codes import Code
 from ..job import Job
 from ..program import Program
-from .base import (MIPGAP, Outcome, Solver, Unclear, has_values, outcome, read_lines,
+from .base import (GAP, Outcome, Solver, Unclear, has_values, outcome, read_lines,
                    without_answer)
 from .statuses import HIGHS, row_of
 
@@ -30,7 +30,7 @@ class Highs(Solver):
     version = r"HiGHS of SciPy (\S+)"
     again = "without presolve"
     infinite = "1e20"
-    options = (MIPGAP,)
+    options = (GAP,)
 
     def place(self, named: str = "") -> str | None:
         for word in (named,) if named else PLACES:

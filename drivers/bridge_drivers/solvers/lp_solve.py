@@ -6,11 +6,12 @@ from __future__ import annotations
 from ..codes import Code
 from ..job import Job
 from ..program import Program
-from .base import Outcome, Solver, Unclear, has_values, outcome, stopped, without_answer
+from .base import GAP, Outcome, Solver, Unclear, has_values, outcome, stopped, without_answer
 from .statuses import LP_SOLVE, OPTIMAL, TIME, Says, row_in
 
 INFINITE = 1e30
 NOTE = "lp_solve prints six digits"
+TO_GAPS = {"-g", "-ga", "-gr", "-f"}    # words with which it stops at a gap, and does not say so
 SOLVED, SUBOPTIMAL = Says("", Code.SOLVED, OPTIMAL), "Suboptimal solution"
 
 
@@ -19,12 +20,13 @@ class LpSolve(Solver):
     package = "lp-solve"
     again = "without scaling"
     infinite = "1e30"
-    flags = {"relax": "-noint", "again": "-s0", "seconds": "-timeout {}"}
+    options = (GAP,)
+    flags = {"relax": "-noint", "mipgap": "-gr {:g}", "again": "-s0", "seconds": "-timeout {}"}
 
     def solve(self, job: Job) -> Outcome:
         options, p = job.options, job.program
-        path = job.write("lp_solve.mps", job.given.text)
-        ran = job.run([job.solver, *self.reading(p, path), *self.asked(job)])
+        words = [*self.reading(p, job.write("lp_solve.mps", job.given.text)), *self.asked(job)]
+        ran = job.run([job.solver, *words])
         head, heading, _ = ran.log.partition("\nActual values of the variables:\n")
         says = row_in(LP_SOLVE, head) or (SOLVED if heading else None)
         if says is None:
@@ -46,9 +48,11 @@ class LpSolve(Solver):
         found.notes.append(NOTE)
         duals = {name: y for name, y in parts["duals"].items() if name in p.kinds}
         costs = {name: d for name, d in parts["duals"].items() if name not in p.kinds}
-        if found.code == Code.SOLVED and (not p.whole or options.relax) \
-                and set(duals) == set(p.constraints):
+        is_whole = bool(p.whole) and not options.relax
+        if found.code == Code.SOLVED and not is_whole and set(duals) == set(p.constraints):
             found.duals, found.costs = duals, costs
+        if found.code == Code.SOLVED and is_whole and TO_GAPS.intersection(words):
+            found.code, found.text, found.is_gap = Code.UNSURE, "solution within the gap", True
         return found
 
     def reading(self, program: Program, path: str) -> list[str]:

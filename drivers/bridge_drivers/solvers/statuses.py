@@ -93,12 +93,14 @@ LIMIT: 11 = a bound of the objective | 12 = a target of the objective | 13 = the
  | 14 = the iteration limit | 16 = the limit of solutions | 17 = an interrupt
 """)
 
-# QSopt_ex: the first line of its answer
+# QSopt_ex: the first line of its answer, or a line of its log where it has none
 ESOLVER = table("""
 SOLVED: OPTIMAL = optimal solution
 INFEASIBLE: INFEASIBLE
 UNBOUNDED: UNBOUNDED
 NO_ANSWER: UNDEFINED | NOT_SOLVED
+LIMIT: TIME_LIMIT_REACHED = the time limit | MEMORY_LIMIT_REACHED = the memory limit
+ | USER_INTERRUPT = an interrupt
 """)
 
 
