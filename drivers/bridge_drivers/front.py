@@ -94,7 +94,7 @@ def command(words: Sequence[str]) -> int:
         end = "" if str(fault).endswith("?") else ";"
         sys.stderr.write(f"{NAME}: {fault}{end} -h lists the commands\n")
         return Status.BAD_WORDS
-    except Missing as fault:
+    except Failure as fault:
         sys.stderr.write(f"{NAME}: {fault}\n")
         return fault.status
 
@@ -300,11 +300,7 @@ def passed_on(place: Sequence[str], words: Sequence[str]) -> int:
     if wrong:
         raise BadWords("bad words: " + wrong)
     with Inputs() as inputs:
-        try:
-            paths = [plain(inputs, *pair) for pair in zip(names_of(words) or (), words[1:])]
-        except kinds.Damaged as fault:
-            sys.stderr.write(f"{NAME}: {fault}\n")
-            return fault.status
+        paths = [plain(inputs, *pair) for pair in zip(names_of(words) or (), words[1:])]
         return ended(run(place, [words[0], *paths], words), words)
 
 
