@@ -99,9 +99,6 @@ def counts_of(path: str) -> tuple[int | None, int | None]:
         return None, None
 
 
-# places in an .nl file -------------------------------------------------------------
-
-
 class Segment(NamedTuple):
     """The piece of an .nl file that a line stands in: the line of its head, which is 0 for the
     ten lines of the header, and its lines as far as an expression needs them."""
@@ -158,9 +155,6 @@ def fault_of(reason: str, expression: str) -> str:
     if expression and reason == "nonlinear":
         return f"{expression} is nonlinear"
     return (f"{expression}: " if expression else "") + reason + meaning(reason)
-
-
-# the whole line ----------------------------------------------------------------------
 
 
 class Refusal:

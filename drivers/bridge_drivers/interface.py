@@ -74,9 +74,6 @@ def text_of(value: object) -> str:
     return str(os.fspath(value) if isinstance(value, os.PathLike) else value)
 
 
-# nl-bridge --------------------------------------------------------------------------
-
-
 @contextlib.contextmanager
 def asked(told: Report, bridge: str) -> Iterator[tuple[Bridge, Inputs]]:
     """The proved program, and room for files; a fault of the block becomes the error of this

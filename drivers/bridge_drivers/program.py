@@ -68,8 +68,6 @@ class Program:
         are_far = {text: abs(float(text)) >= size for text in set(texts)}
         return sum(map(are_far.__getitem__, texts)) if any(are_far.values()) else 0
 
-    # in doubles --------------------------------------------------------------------
-
     def terms(self) -> Terms:
         """Of the constraints."""
         places = range(len(self.constraints))
@@ -90,8 +88,6 @@ class Program:
                      zip(texts, (-INFINITE, INFINITE)))
         return low, high
 
-    # texts for solvers -------------------------------------------------------------
-
     def free_name(self) -> bytes:
         """The text for readers that take `NAME nl` for fixed columns (all COIN readers)."""
         return b"NAME nl FREE\n" + self.text[len(b"NAME nl\n"):]
@@ -104,9 +100,6 @@ class Program:
 def decoded(names: list[bytes]) -> list[str]:
     """Names and numbers, which hold no ends of lines."""
     return b"\n".join(names).decode().split("\n") if names else []
-
-
-# what solvers are given -----------------------------------------------------------------
 
 
 def given(program: Program, relaxed: bool = False) -> Program:

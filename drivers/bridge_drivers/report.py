@@ -113,21 +113,16 @@ class Report:
         self.take(verdicts.read(line))
 
 
-def is_wanted(given: Sequence[str], options: Options, driver: str) -> bool:
-    """Whether the words of a driver ask for it, also where others of them are wrong."""
-    try:
-        options.environment(driver)
-        options.take(given)
-    except BadOption:
-        return "json=1" in given
-    return bool(options.json)
-
-
 def reported(driver: Driver, argv: Sequence[str]) -> int:
-    """The exit status of a driver's call; with json=1 what it tells goes into an object, and what
-    else it prints nowhere, or to standard error."""
+    """The exit status of a driver's call; with json=1, also where other words are wrong, what it
+    tells goes into an object, and what else it prints nowhere, or to standard error."""
     asked, options = words.read(argv), Options(driver.solver.options)
-    if asked.ask is not None or not is_wanted(asked.options, options, driver.name):
+    try:
+        options.environment(driver.name)
+        options.take(asked.options)
+    except BadOption:
+        options.json = int("json=1" in asked.options)
+    if asked.ask is not None or not options.json:
         return driver.main(argv)
     told = Report(driver.name)
     with contextlib.redirect_stdout(sys.stderr if options.outlev else io.StringIO()):

@@ -155,9 +155,6 @@ def columns_of(program: Program) -> dict[str, int]:
             "fixed": sum(low is not None and low == high for low, high in bounds)}
 
 
-# the lines --------------------------------------------------------------------------
-
-
 def sense_line(f: Figures) -> str:
     line = "maximise" if f.maximise else "minimise"
     if not f.costs:

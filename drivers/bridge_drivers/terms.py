@@ -176,8 +176,6 @@ class Arrays(Terms):
         values = map(self.table.__getitem__, self.number[k].tolist())
         return zip(self.row[k].tolist(), self.column_of[k].tolist(), values)
 
-    # whole numbers -------------------------------------------------------------------
-
     def exact(self, to: Any, count: int, at: Any, x: Sequence[Any]) -> List[int]:
         """Sums by `to` of coefficients times `x[at]`: by parts of both, so that each sum of
         products is a whole number that doubles hold."""
