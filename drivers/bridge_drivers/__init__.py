@@ -13,10 +13,9 @@ that the commands are made of:
 VERSION = "0.1.0"
 
 from . import certify as searches       # noqa: E402,F401  read before the call of this name
-from .errors import (BridgeError, FileFault, ModelRefused, NotInstalled,     # noqa: E402
-                     WrongOption)
 from .interface import certify, explain, figures, solve, verify             # noqa: E402
-from .report import Report                                                   # noqa: E402
+from .report import (BridgeError, FileFault, ModelRefused, NotInstalled, Report,    # noqa: E402
+                     WrongOption)
 
 __all__ = ["BridgeError", "FileFault", "ModelRefused", "NotInstalled", "Report", "VERSION",
            "WrongOption", "certify", "explain", "figures", "solve", "verify"]

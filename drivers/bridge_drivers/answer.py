@@ -81,6 +81,9 @@ class Answer:
                          "nearest ones are written")
         return notes
 
+    def without_duals(self) -> Answer:
+        return self.with_duals(None)
+
     def with_duals(self, duals: Mapping[str, str] | None) -> Answer:
         other = copy.copy(self)
         other.__dict__.pop("body", None)
@@ -106,7 +109,7 @@ class Answer:
             outcome.duals = {**old, **duals}
         other = Answer(self.program, replace(outcome, costs=None), self.options)
         other.outcome, other.costs = outcome, self.costs
-        return other if self.duals is not None else other.with_duals(None)
+        return other if self.duals is not None else other.without_duals()
 
     def reduced_costs(self, duals: Mapping[str, Fraction]) -> dict[str, Fraction]:
         """What these leave of the costs, exactly."""

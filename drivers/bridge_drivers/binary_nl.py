@@ -22,7 +22,6 @@ SIDES = {"0": "dd", "1": "d", "2": "d", "3": "", "4": "d", "5": "ii"}
 
 
 def shortest(x: float) -> str:
-    """The shortest decimal with this double."""
     text = repr(x)
     return text[:-2] if text.endswith(".0") else text
 
@@ -108,7 +107,6 @@ class Converter:
             self.out.append(f"{i} {self.bytes.whole() if whole else self.bytes.double()}")
 
     def tree(self) -> None:
-        """One expression in prefix order."""
         wanted = 1
         while wanted:
             wanted += self.node() - 1

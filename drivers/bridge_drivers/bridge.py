@@ -11,7 +11,7 @@ import tempfile
 from typing import Callable, Mapping, NamedTuple, Sequence
 
 from . import explaining
-from .codes import Code, Failure
+from .codes import Code, Failure, Status
 from .interrupts import with_child
 
 PACKAGE = os.path.dirname(os.path.abspath(__file__))
@@ -22,7 +22,6 @@ BESIDE = (os.path.join(PACKAGE, "bin", "bridge"),                               
           os.path.join(HERE, "..", "crates", "bridge", "out", "bridge"),        # a clone
           os.path.join(HERE, "..", "out", "try", "bridge"))             # the same, not proved
 ENDED = {4: "a file could not be read", 5: "its output could not be written", 6: "want of memory"}
-BAD_WORDS, INPUT_FAULT = 3, 4
 
 
 class Missing(Failure):
@@ -52,13 +51,13 @@ class Refused(Exception):
 
     def line(self) -> str:
         """What was told, in words, for a message."""
-        if self.status == BAD_WORDS and not all(map(is_plain, self.words)):
+        if self.status == Status.BAD_WORDS and not all(map(is_plain, self.words)):
             return "a path that is not UTF-8"
-        if self.status == BAD_WORDS:
+        if self.status == Status.BAD_WORDS:
             return f"this bridge does not know the command `{self.command}` (bad words)"
         if self.status < 0:
             return f"`bridge {self.command}` was stopped by signal {-self.status}"
-        if self.status == INPUT_FAULT and self.words:
+        if self.status == Status.UNREAD and self.words:
             return explaining.unreadable(explaining.files_of(self.words), self.shown)
         text = self.told or ENDED.get(self.status, f"ended with {self.status}")
         return explaining.in_words(self.words, text, self.shown)
@@ -79,7 +78,7 @@ def is_ours(place: str) -> bool:
         ran = subprocess.run([place], stdin=subprocess.DEVNULL, capture_output=True, timeout=20)
     except (OSError, subprocess.TimeoutExpired):
         return False
-    return ran.returncode == BAD_WORDS and ran.stderr.strip() == b"bad words"
+    return ran.returncode == Status.BAD_WORDS and ran.stderr.strip() == b"bad words"
 
 
 def find(named: str, beside: Sequence[str]) -> list[str]:
@@ -156,7 +155,6 @@ class Bridge:
         return Refused(words[0], reply, words, self.shown)
 
     def text(self, *words: str) -> bytes:
-        """The text that a command writes."""
         reply = self.call(*words)
         if reply.status != 0:
             raise self.refused(words, reply)

@@ -27,7 +27,6 @@ def built(program: str) -> Mapping[str, str]:
 
 
 def state(facts: Mapping[str, str]) -> str:
-    """In words."""
     if not facts:
         return "not told: there is no note on this program, so that it may not be proved"
     proved = "" if facts.get("proved") == "yes" else " (NOT PROVED: a build for trials)"

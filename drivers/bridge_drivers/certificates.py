@@ -50,13 +50,12 @@ class End(NamedTuple):
 
 
 class Certifier:
-    """Asks `bridge` over the .nl file at `nl`. `values_alone`: no .sol can be made."""
-
-    values_alone = False
+    """Asks `bridge` over the model at `nl`. `alone`: it is an MPS file, of which no .sol can be
+    made; values are judged as the point of a certificate."""
 
     def __init__(self, bridge: Bridge, nl: str, job: Job) -> None:
         self.bridge, self.nl, self.job = bridge, nl, job
-        self.program = job.program
+        self.program, self.alone = job.program, not job.program.is_exported
         self.relaxed = bool(job.program.whole) and bool(job.options.relax)
         self.linear = not job.program.whole or self.relaxed
         self.is_interrupted = False
@@ -65,13 +64,15 @@ class Certifier:
     @property
     def checks(self) -> str:
         """What `checked` is about: a .sol where one is written."""
-        is_sol = self.job.options.is_written and not self.values_alone
+        is_sol = self.job.options.is_written and not self.alone
         return f"bridge check of the {'.sol' if is_sol else 'values'}: "
 
     # calls -----------------------------------------------------------------------
 
     def returned(self, answer: Answer, message: list[str], name: str = "bridge") -> bytes:
         """The .sol of an answer by `bridge return`, which stays in a file."""
+        if self.alone:
+            return b""
         text = self.job.write(name + ".txt", answer.text(message))
         sol: bytes = self.job.clock.timed("return", self.bridge.text, "return", self.nl, text)
         self.job.write(name + ".sol", sol)
@@ -81,17 +82,25 @@ class Certifier:
         """What `bridge check` says of the .sol, in words. It wants duals: where there are none,
         zeros ask for feasibility alone, which fails where the file has constraints of which none is
         exported."""
-        name = "bridge"
+        command, name = "check", "bridge.sol"
         try:
-            if answer.duals is None or not self.linear:
-                zeros = dict.fromkeys(self.program.constraints, "0")
+            if self.alone:
+                command, name = "verify", "values.certificate"
+                lines = answer_lines(self.numbers(answer)[0], [], 0)
+                self.job.write(name, ("\n".join(lines) + "\n").encode())
+            elif answer.duals is None or not self.linear:
+                name, zeros = "check.sol", dict.fromkeys(self.program.constraints, "0")
                 self.returned(answer.with_duals(zeros), [], "check")
-                name = "check"
-            sol = self.job.path(name + ".sol")
-            verdict = self.job.clock.timed("check", self.bridge.verdict, "check", self.nl, sol)
+            verdict: str = self.job.clock.timed("check", self.bridge.verdict, command, self.nl,
+                                                self.job.path(name))
         except Refused as fault:
-            return fault.line().removeprefix(self.job.path(name + ".sol") + ": ")
-        return self.reading(verdict, name == "bridge")
+            return fault.line().removeprefix(self.job.path(name) + ": ")
+        words = verdict.split()
+        if self.alone and words[0] == "variable":
+            return f"{self.thing('column', int(words[1]))} is not whole"
+        if self.alone and words[0] == "feasible":
+            verdict = f"yes {words[1]}"
+        return self.reading(verdict, name == "bridge.sol")
 
     # the verdict -----------------------------------------------------------------
 
@@ -140,12 +149,16 @@ class Certifier:
             return verdict
         except Refused as fault:
             if fault.told.endswith("dual too wide"):
-                return self.as_it_stands(work, answer.with_duals(None))
+                return self.as_it_stands(work, answer.without_duals())
             return Verdict(WITHOUT + fault.line())
 
     def numbers(self, answer: Answer) -> tuple[list[str], list[str]]:
         """The values and duals of an answer as they are written."""
-        duals, values = numbers_of(self.returned(answer, [], "numbers"))
+        if self.alone:
+            values = list((answer.values or {}).values())
+            duals = list((answer.duals or {}).values())
+        else:
+            duals, values = numbers_of(self.returned(answer, [], "numbers"))
         return values, duals if self.linear else []
 
     def given(self, answer: Answer) -> Given:

@@ -202,7 +202,6 @@ class Completion:
             "complete -c nl-bridge -n '__fish_seen_subcommand_from %s' -a '%s'")}
 
     def text(self, shell: str) -> str:
-        """For one of SHELLS."""
         made = {"bash": self.bash, "fish": self.fish, "zsh": self.zsh}[shell]()
         form = {"bash": BASH, "fish": FISH, "zsh": ZSH}[shell]
         return form % {**made, "all": " ".join(["nl-bridge", *self.options])}

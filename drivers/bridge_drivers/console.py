@@ -69,7 +69,6 @@ def is_terminal(stream: TextIO) -> bool:
 
 
 def own_name() -> str:
-    """The name that this command was called by."""
     return os.path.basename(sys.argv[0]).removesuffix(".exe")
 
 

@@ -16,7 +16,6 @@ from .files import Places, own_folder
 from .inputs import Input, Inputs
 from .interrupts import SIGNALS, Interrupted
 from .job import Clock
-from .mps_solving import MpsSolving
 from .options import BadOption, Option, Options
 from .sol import bare, with_message
 from .solving import Result, Solving
@@ -37,7 +36,6 @@ class Run:
     and the solver."""
 
     make_solving = Solving
-    make_mps_solving = MpsSolving
     own_options: Sequence[Option] = ()
 
     def __init__(self, name: str) -> None:
@@ -159,13 +157,13 @@ class Run:
         bridge = self.find_bridge()
         bridge.shown[self.nl] = self.model.shown
         solver_path = "" if self.options.only else self.find_solver()
-        make = self.make_mps_solving if self.is_mps else self.make_solving
         with SIGNALS.kept(True):
             folder = self.folder()
             try:
                 with SIGNALS.kept(False), writing(folder):
-                    return make(self.solver, self.options, bridge, self.clock, self.model,
-                                solver_path, os.path.abspath(folder)).result()
+                    return self.make_solving(self.solver, self.options, bridge, self.clock,
+                                             self.model, solver_path,
+                                             os.path.abspath(folder)).result()
             finally:
                 if not self.options.keep:
                     shutil.rmtree(folder, ignore_errors=True)
@@ -181,7 +179,6 @@ class Run:
     # after the run -----------------------------------------------------------------
 
     def lines(self, result: Result) -> list[str]:
-        """The message."""
         if result.sol is None:
             lines = [f"{self.name}: {result.lines[0]}", *result.lines[1:]]
         else:
@@ -278,7 +275,6 @@ class Driver(Run):
                                       variable=variable)
 
     def out(self) -> TextIO:
-        """Where the message goes."""
         return sys.stdout
 
     def told(self, ask: str, topic: str = "") -> str:

@@ -13,7 +13,7 @@ from typing import Mapping, NamedTuple, Sequence
 
 from . import kinds, mps_faults
 from .expressions import Expression
-from .names import Names, comment_of
+from .names import Names, comment_of, with_name
 from .printable import in_a_line, printable
 from .reasons import OPCODE, meaning_of
 
@@ -99,9 +99,6 @@ def counts_of(path: str) -> tuple[int | None, int | None]:
         return None, None
 
 
-# places in an .nl file -------------------------------------------------------------
-
-
 class Segment(NamedTuple):
     """The piece of an .nl file that a line stands in: the line of its head, which is 0 for the
     ten lines of the header, and its lines as far as an expression needs them."""
@@ -141,7 +138,7 @@ def place_of(segment: Segment, line: int, names: Names) -> str:
     if letter in b"OG":
         return names.objective(number, said)
     if letter == b"V":
-        return f"defined variable {number}" + (f" ({said})" if said else "")
+        return with_name(f"defined variable {number}", said)
     if letter in b"br" and inside >= 0:
         return names.variable(inside) if letter == b"b" else names.constraint(inside)
     return {b"L": f"logical constraint {number}", b"b": "bounds", b"r": "sides of constraints",
@@ -158,9 +155,6 @@ def fault_of(reason: str, expression: str) -> str:
     if expression and reason == "nonlinear":
         return f"{expression} is nonlinear"
     return (f"{expression}: " if expression else "") + reason + meaning(reason)
-
-
-# the whole line ----------------------------------------------------------------------
 
 
 class Refusal:

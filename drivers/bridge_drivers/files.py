@@ -144,7 +144,6 @@ class Places:
 
 
 def has(path: str, data: bytes) -> bool:
-    """Whether a file has these bytes."""
     if os.path.getsize(path) != len(data):
         return False
     with open(path, "rb") as f:

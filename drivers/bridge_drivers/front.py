@@ -16,12 +16,11 @@ from .bridge import BESIDE, PACKAGE, Missing, find, is_plain
 from .built import built, state
 from .codes import Code, Failure, Status
 from .commands import COMMANDS, NAME, OWN, SHELLS, VERDICTS, WORDS
-from .errors import BridgeError
 from .importing import imported
 from .inputs import Inputs, is_flow, named
 from .interrupts import with_child
 from .near import near
-from .report import Report, sum_of
+from .report import BridgeError, Report, sum_of
 
 if TYPE_CHECKING:
     from .driver import Driver
@@ -81,7 +80,6 @@ def read(words: Sequence[str]) -> Call:
 
 
 def command(words: Sequence[str]) -> int:
-    """One call."""
     try:
         call = read(words)
         if call.helps or call.word == "help":
@@ -96,7 +94,7 @@ def command(words: Sequence[str]) -> int:
         end = "" if str(fault).endswith("?") else ";"
         sys.stderr.write(f"{NAME}: {fault}{end} -h lists the commands\n")
         return Status.BAD_WORDS
-    except Missing as fault:
+    except Failure as fault:
         sys.stderr.write(f"{NAME}: {fault}\n")
         return fault.status
 
@@ -302,11 +300,7 @@ def passed_on(place: Sequence[str], words: Sequence[str]) -> int:
     if wrong:
         raise BadWords("bad words: " + wrong)
     with Inputs() as inputs:
-        try:
-            paths = [plain(inputs, *pair) for pair in zip(names_of(words) or (), words[1:])]
-        except kinds.Damaged as fault:
-            sys.stderr.write(f"{NAME}: {fault}\n")
-            return fault.status
+        paths = [plain(inputs, *pair) for pair in zip(names_of(words) or (), words[1:])]
         return ended(run(place, [words[0], *paths], words), words)
 
 

@@ -51,7 +51,6 @@ class Inputs:
             self.made.cleanup()
 
     def place(self) -> str:
-        """A path for a file that is made."""
         self.made = self.made or tempfile.TemporaryDirectory(prefix="nl-bridge-")
         self.count += 1
         return os.path.join(self.made.name, f"given{self.count}")

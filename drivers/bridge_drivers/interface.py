@@ -13,9 +13,8 @@ from typing import TYPE_CHECKING, Iterator, Mapping, Sequence, Union
 from . import explaining
 from .bridge import BESIDE, Bridge, Refused, find
 from .codes import Code, Failure, Status
-from .errors import error_of
 from .inputs import Inputs
-from .report import Report, fill
+from .report import Report, error_of, fill
 from .subjects import Subject, subject
 from .words import Words
 
@@ -53,7 +52,6 @@ def certify(model: Path, *, solver: str = "cbc", certificate: Path | None = None
 
 def solved(command: str, kind: type[Run], solver: str, model: Path,
            options: Mapping[str, object]) -> Report:
-    """The report of a run."""
     from .solvers import NAMES
     told = Report(command)
     if solver not in NAMES:
@@ -74,9 +72,6 @@ def text_of(value: object) -> str:
     if isinstance(value, bool):
         return str(int(value))
     return str(os.fspath(value) if isinstance(value, os.PathLike) else value)
-
-
-# nl-bridge --------------------------------------------------------------------------
 
 
 @contextlib.contextmanager

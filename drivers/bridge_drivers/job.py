@@ -14,9 +14,8 @@ from typing import Any, Callable, Mapping, NamedTuple, Sequence, TypeVar
 from .files import fill
 from .interrupts import SIGNALS, kill, send, with_child
 from .options import Options
-from .program import Program
+from .program import Program, given
 from .progress import Progress, detailed
-from .solvers.given import given
 
 LOG = "solver.log"
 T = TypeVar("T")

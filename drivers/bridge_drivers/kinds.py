@@ -15,9 +15,9 @@ from .files import fill
 
 ELF = b"\x7fELF"
 READ = 4096                     # bytes of a file's start that tell what it is
-OPENERS: dict[bytes, Callable[..., Any]] = {
-    b"\x1f\x8b": gzip.open, b"BZh": bz2.open, b"\xfd7zXZ": lzma.open}
-PACKED = (".gz", ".bz2", ".xz")
+PACKERS: dict[str, tuple[bytes, Callable[..., Any], str]] = {
+    ".gz": (b"\x1f\x8b", gzip.open, "gunzip"), ".bz2": (b"BZh", bz2.open, "bunzip2"),
+    ".xz": (b"\xfd7zXZ", lzma.open, "unxz")}
 MODELS = (".nl", ".mps")
 DAMAGED = (EOFError, ValueError, zlib.error, lzma.LZMAError)
 
@@ -40,16 +40,15 @@ MINIZINC = Kind("a text of MiniZinc", "`minizinc --solver bridge-cbc {path}`")
 ENDS = {
     ".mps": MPS, ".lp": LP, ".mod": AMPL, ".dat": AMPL, ".run": AMPL, ".mzn": MINIZINC,
     ".fzn": MINIZINC, ".dzn": MINIZINC,
-    ".gz": Kind("a compressed file", "`gunzip -k {path}` unpacks it"),
-    ".bz2": Kind("a compressed file", "`bunzip2 -k {path}` unpacks it"),
-    ".xz": Kind("a compressed file", "`unxz -k {path}` unpacks it"),
+    **{end: Kind("a compressed file", f"`{tool} -k {{path}}` unpacks it")
+       for end, (_, _, tool) in PACKERS.items()},
     ".zip": Kind("a compressed file", "`unzip {path}` unpacks it"),
     ".sol": Kind("the answer to a model", "a driver takes the model"),
     ".certificate": Kind("a certificate", "`nl-bridge verify MODEL.nl {path}` judges it"),
     ".py": Kind("a text of Python", "`python3 {path}` runs it"),
     ".elf": Kind("a program (ELF)", "no command takes it for a model"),
 }
-STARTS = ((b"\x1f\x8b", ".gz"), (b"BZh", ".bz2"), (b"\xfd7zXZ", ".xz"), (b"PK\x03\x04", ".zip"),
+STARTS = (*((mark, end) for end, (mark, _, _) in PACKERS.items()), (b"PK\x03\x04", ".zip"),
           (b"certificate 1", ".certificate"), (ELF, ".elf"))
 IS_MPS = re.compile(rb"(?:(?:\*[^\n]*|[^\S\n]*)\n)*(?:NAME\b|OBJSENSE\b|ROWS\b)")
 IS_LP = re.compile(rb"(?:(?:\\[^\n]*|[^\S\n]*|//[^\n]*)\n|/\*.*?\*/[^\S\n]*)*"
@@ -67,7 +66,7 @@ def opener(path: str) -> Callable[..., Any] | None:
     """What opens a packed file; None of another one."""
     with open(path, "rb") as f:
         start = f.read(6)
-    return next((OPENERS[mark] for mark in OPENERS if start.startswith(mark)), None)
+    return next((opens for mark, opens, _ in PACKERS.values() if start.startswith(mark)), None)
 
 
 def is_packed(path: str) -> bool:
@@ -113,7 +112,7 @@ def split(path: str) -> tuple[str, str]:
     """The path of a model without its ends, and the end that is not of its packing: `model` and
     `.mps` of `model.mps.gz`; the path and nothing where it has none of a model."""
     stub, end = os.path.splitext(path)
-    if end.lower() in PACKED:
+    if end.lower() in PACKERS:
         stub, end = os.path.splitext(stub)
     return (stub, end.lower()) if end.lower() in MODELS else (path, "")
 

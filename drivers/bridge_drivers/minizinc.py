@@ -12,26 +12,27 @@ import stat
 
 from .printable import in_a_line
 
-PROGRAM = "minizinc"
+PROGRAM = b"minizinc"
 VERBOSE = (b"-v", b"--verbose")
 ROOM = 200                      # bytes of what MiniZinc writes after its solver has ended
 
 
-def is_minizinc(process: int) -> bool:
+def told_of(process: int, name: str) -> bytes:
+    """What the system tells of a process; nothing where it does not."""
     try:
-        with open(f"/proc/{process}/comm", encoding="utf-8", errors="replace") as f:
-            return f.read().strip() == PROGRAM
+        with open(f"/proc/{process}/{name}", "rb") as f:
+            return f.read()
     except OSError:
-        return False
+        return b""
+
+
+def is_minizinc(process: int) -> bool:
+    return told_of(process, "comm").strip() == PROGRAM
 
 
 def is_verbose(process: int) -> bool:
     """Whether it was called with -v: then it passes on what a solver tells."""
-    try:
-        with open(f"/proc/{process}/cmdline", "rb") as f:
-            return any(word in VERBOSE for word in f.read().split(b"\0"))
-    except OSError:
-        return False
+    return any(word in VERBOSE for word in told_of(process, "cmdline").split(b"\0"))
 
 
 def room_in(process: int, out: int) -> bytes:
@@ -39,11 +40,7 @@ def room_in(process: int, out: int) -> bytes:
     appended, unless it appends too: a line of blanks is there for that."""
     if not stat.S_ISREG(os.fstat(out).st_mode):
         return b""
-    try:
-        with open(f"/proc/{process}/fdinfo/2", encoding="ascii") as f:
-            flags = re.search(r"^flags:\s*([0-7]+)$", f.read(), re.M)
-    except OSError:
-        flags = None
+    flags = re.search(rb"^flags:\s*([0-7]+)$", told_of(process, "fdinfo/2"), re.M)
     appends = flags is not None and int(flags.group(1), 8) & os.O_APPEND
     return b"" if appends else b" " * ROOM + b"\n"
 

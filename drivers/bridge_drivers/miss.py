@@ -76,5 +76,4 @@ def miss(program: Program, values: Mapping[str, str], whole: Collection[str] = (
 
 
 def largest_share(program: Program, values: Mapping[str, str]) -> float:
-    """Of all that is missed."""
     return max((m.share for m in Activities(program, values, ()).misses()), default=0.0)

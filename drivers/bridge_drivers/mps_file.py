@@ -7,6 +7,7 @@ import os
 from typing import NamedTuple, Sequence
 
 from .bridge import Bridge, Refused, Reply
+from .codes import Status
 from .files import fill
 from .mps_text import program_of
 from .program import Program
@@ -16,7 +17,6 @@ READS = {FREE: "mps", FIXED: "fixed"}               # commands by form
 VERIFIES = {FREE: "verify_mps", FIXED: "verify_fixed"}
 PROBE = b"certificate 1\nfeasible 0\npoint 0\n"     # one that any program can be asked about
 NAMES = ((4, 12), (14, 22), (39, 47))               # the fields of names in fixed columns
-DONE, ANOTHER, FAULT = 0, 1, 2
 
 
 class MpsRefused(Refused):
@@ -43,7 +43,7 @@ def reading(bridge: Bridge, path: str, form: str = "") -> Reading:
     if form:
         return Reading(form, bridge.text(READS[form], path))
     replies = {form: bridge.call(command, path) for form, command in READS.items()}
-    taken = [form for form, reply in replies.items() if reply.status == DONE]
+    taken = [form for form, reply in replies.items() if reply.status == Status.DONE]
     if not taken:
         raise both_refused(bridge, path, replies)
     notes = []
@@ -56,7 +56,7 @@ def reading(bridge: Bridge, path: str, form: str = "") -> Reading:
 def both_refused(bridge: Bridge, path: str, replies: dict[str, Reply]) -> Refused:
     """The fault of the form that goes further."""
     for form, reply in replies.items():
-        if reply.status != FAULT:
+        if reply.status != Status.REFUSED:
             return bridge.refused((READS[form], path), reply)
     first = max(READS, key=lambda form: line_of(replies[form].told))
     fault = MpsRefused(READS[first], replies[first], (READS[first], path), bridge.shown)
@@ -86,7 +86,7 @@ def judged(bridge: Bridge, path: str, folder: str, read: Reading) -> Program:
     probe = fill(os.path.join(folder, "probe.certificate"), PROBE)
     bridge.spelled = {"verify": VERIFIES[read.form]}
     reply = bridge.call("verify", path, probe)
-    if reply.status in (DONE, ANOTHER):
+    if reply.status in (Status.DONE, Status.FAILED):
         return program
     words = bridge.in_full(("verify", path, probe))
     fault = MpsRefused(words[0], reply, words, bridge.shown)

@@ -149,8 +149,6 @@ class Text:
         if kind in WHOLE:
             self.whole[at] = True
 
-    # what it says --------------------------------------------------------------------
-
     def entries(self) -> tuple[array[int], array[int], array[int]]:
         """Rows, columns, and which numbers."""
         return self.row, self.column, self.number

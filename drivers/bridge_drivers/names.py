@@ -24,6 +24,11 @@ def read_names(path: str) -> list[str]:
         return []
 
 
+def with_name(thing: str, name: str) -> str:
+    """`constraint 0 (Cap)`."""
+    return f"{thing} ({name})" if name else thing
+
+
 class Names:
     """The names beside a stub; each list is read when it is first asked for. `variables` is how
     many there are, where that is known: numbers from there on are defined variables. So is
@@ -48,9 +53,8 @@ class Names:
         return self.name(".col", number)
 
     def constraint(self, number: int, said: str = "") -> str:
-        """`constraint 0 (Cap)`; `said` is a name from elsewhere, for want of a list."""
-        name = self.row(number) or said
-        return f"constraint {number}" + (f" ({name})" if name else "")
+        """`said` is a name from elsewhere, for want of a list."""
+        return with_name(f"constraint {number}", self.row(number) or said)
 
     def operand(self, number: int, said: str) -> str:
         """A variable or defined variable in an expression: its name, `x2`, or `v7`."""
@@ -59,9 +63,8 @@ class Names:
         return self.column(number) or said or f"x{number}"
 
     def objective(self, number: int, said: str = "") -> str:
-        name = said if self.constraints is None else self.row(self.constraints + number) or said
-        return f"objective {number}" + (f" ({name})" if name else "")
+        own = "" if self.constraints is None else self.row(self.constraints + number)
+        return with_name(f"objective {number}", own or said)
 
     def variable(self, number: int) -> str:
-        name = self.column(number)
-        return f"variable {number}" + (f" ({name})" if name else "")
+        return with_name(f"variable {number}", self.column(number))

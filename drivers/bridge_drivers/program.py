@@ -4,16 +4,19 @@ tied objective."""
 
 from __future__ import annotations
 
+import copy
 import math
+import re
 from functools import cached_property
 from typing import Mapping, Sequence
 
-from .mps_reader import OBJECTIVE, Text
+from .mps_reader import OBJECTIVE, Text, exact
 from .names import Names
 from .terms import Terms, entries_of, terms_of
 
 TIED, TIED_ROW = "z", "zdef"
 INFINITE = math.inf
+BOUND = re.compile(rb"^ (LO|UP) (\S+) (\S+) (\S*[.eE]\S*)$", re.M)
 
 
 class Program:
@@ -65,8 +68,6 @@ class Program:
         are_far = {text: abs(float(text)) >= size for text in set(texts)}
         return sum(map(are_far.__getitem__, texts)) if any(are_far.values()) else 0
 
-    # in doubles --------------------------------------------------------------------
-
     def terms(self) -> Terms:
         """Of the constraints."""
         places = range(len(self.constraints))
@@ -87,8 +88,6 @@ class Program:
                      zip(texts, (-INFINITE, INFINITE)))
         return low, high
 
-    # texts for solvers -------------------------------------------------------------
-
     def free_name(self) -> bytes:
         """The text for readers that take `NAME nl` for fixed columns (all COIN readers)."""
         return b"NAME nl FREE\n" + self.text[len(b"NAME nl\n"):]
@@ -101,3 +100,34 @@ class Program:
 def decoded(names: list[bytes]) -> list[str]:
     """Names and numbers, which hold no ends of lines."""
     return b"\n".join(names).decode().split("\n") if names else []
+
+
+def given(program: Program, relaxed: bool = False) -> Program:
+    """The bounds of whole columns rounded inwards, since GLPK takes no others; no point with whole
+    values is lost by it. The same program where no bound changes."""
+    if relaxed or not program.whole:
+        return program
+    start = program.text.find(b"\nBOUNDS\n")
+    whole = {name.encode() for name in program.whole}
+
+    def rounded(found: re.Match[bytes]) -> bytes:
+        kind, label, name, text = found.groups()
+        if name not in whole:
+            return found.group()
+        end = math.ceil(exact(text)) if kind == b"LO" else math.floor(exact(text))
+        return b" %s %s %s %d" % (kind, label, name, end)
+    bounds = BOUND.sub(rounded, program.text[start:]) if start >= 0 else b""
+    if start < 0 or bounds == program.text[start:]:
+        return program
+    other = copy.copy(program)
+    other.text = program.text[:start] + bounds
+    return other
+
+
+def hollow(program: Program) -> str | None:
+    """A whole column without a whole number between its bounds."""
+    for name, low, high in zip(program.columns, *program.read.bounds()) if program.whole else ():
+        if low and high and name in program.whole and \
+                math.floor(exact(high)) < math.ceil(exact(low)):
+            return name
+    return None

@@ -30,8 +30,6 @@ class Progress:
         self.ended = threading.Event()
         self.thread: threading.Thread | None = None
 
-    # what is known -----------------------------------------------------------------
-
     def begin(self, stage: str, limit: float = 0.0) -> None:
         """A stage that has so many seconds, 0 for no limit."""
         self.stage, self.detail, self.limit = stage, "", limit
@@ -44,8 +42,6 @@ class Progress:
         seconds = f"{time.monotonic() - self.began:.0f}"
         seconds += f" of {self.limit:g} s" if self.limit else " s"
         return f"{self.name}: {self.stage}, {seconds}" + (f", {self.detail}" if self.detail else "")
-
-    # the thread --------------------------------------------------------------------
 
     def start(self, stream: TextIO, in_place: bool) -> None:
         """`in_place`: where the stream is a terminal, on which nothing else is written."""

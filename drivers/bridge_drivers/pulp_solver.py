@@ -18,9 +18,8 @@ from typing import Any, Iterable, Mapping, Sequence
 import pulp
 
 from . import solvers
-from .errors import BridgeError
 from .interface import solve
-from .report import Report
+from .report import BridgeError, Report
 
 FILES = ("mps", "json")         # the problem, and what is told of it
 MOST_BYTES = 255                # of a name in an MPS file
@@ -139,14 +138,12 @@ class BridgeCmd(pulp.LpSolver_CMD):
         return dict(names)
 
     def answered(self, mps: str) -> Report:
-        """What the driver tells."""
         try:
             return solve(mps, self.solver(), **self.given())
         except BridgeError as fault:
             raise pulp.PulpSolverError(in_words(str(fault))) from None
 
     def given(self) -> dict[str, Any]:
-        """The options of the driver."""
         options: dict[str, Any] = {"format": "free", "prove": self.prove, "bridge": self.bridge,
                                    "relax": not self.mip, "timelim": self.timeLimit,
                                    "mipgap": self.optionsDict.get("gapRel"),

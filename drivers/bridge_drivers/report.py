@@ -14,7 +14,7 @@ from fractions import Fraction
 from typing import TYPE_CHECKING, Any, Dict, Optional, Sequence
 
 from . import VERSION, verdicts, words
-from .codes import Code
+from .codes import Code, Status
 from .options import BadOption, Options
 from .values import double_of
 from .verdicts import Said
@@ -93,7 +93,6 @@ class Report:
                 "value": number(self.value), "bound": number(self.bound), **self.more, **there}
 
     def show(self) -> int:
-        """Prints it; the status."""
         text = json.dumps(self.object(), ensure_ascii=True, indent=1)
         print(text, flush=True)
         return self.status
@@ -104,7 +103,6 @@ class Report:
         self.text, self.lines = text, [text]
 
     def take(self, said: Said | None) -> None:
-        """What is claimed."""
         if said is not None:
             self.claim, self.objective = said.word, said.objective
             self.value, self.bound = said.value, said.bound
@@ -115,21 +113,16 @@ class Report:
         self.take(verdicts.read(line))
 
 
-def is_wanted(given: Sequence[str], options: Options, driver: str) -> bool:
-    """Whether the words of a driver ask for it, also where others of them are wrong."""
-    try:
-        options.environment(driver)
-        options.take(given)
-    except BadOption:
-        return "json=1" in given
-    return bool(options.json)
-
-
 def reported(driver: Driver, argv: Sequence[str]) -> int:
-    """The exit status of a driver's call; with json=1 what it tells goes into an object, and what
-    else it prints nowhere, or to standard error."""
+    """The exit status of a driver's call; with json=1, also where other words are wrong, what it
+    tells goes into an object, and what else it prints nowhere, or to standard error."""
     asked, options = words.read(argv), Options(driver.solver.options)
-    if asked.ask is not None or not is_wanted(asked.options, options, driver.name):
+    try:
+        options.environment(driver.name)
+        options.take(asked.options)
+    except BadOption:
+        options.json = int("json=1" in asked.options)
+    if asked.ask is not None or not options.json:
         return driver.main(argv)
     told = Report(driver.name)
     with contextlib.redirect_stdout(sys.stderr if options.outlev else io.StringIO()):
@@ -139,7 +132,6 @@ def reported(driver: Driver, argv: Sequence[str]) -> int:
 
 
 def fill(told: Report, run: Run) -> None:
-    """What is known after a run."""
     told.model, told.program = run.model.shown or None, run.bridge_words
     if run.fault is not None:
         told.say(f"{run.name}: {run.fault.text}")
@@ -151,3 +143,41 @@ def fill(told: Report, run: Run) -> None:
         told.certificate = end.kept.path if end and end.kept else None
         numbers = run.numbers()
         told.values, told.duals, told.costs = map(numbers.get, ("values", "duals", "costs"))
+
+
+# what calls raise that come to no answer and no verdict ---------------------------------
+
+
+class BridgeError(Exception):
+    """No answer: the solver gave none, or something is at fault. `report` is what the command would
+    tell with json=1, `code` AMPL's (None of nl-bridge), `status` the exit status."""
+
+    def __init__(self, report: Report) -> None:
+        super().__init__(report.text)
+        self.report, self.code, self.status = report, report.code, report.status
+
+
+class ModelRefused(BridgeError):
+    """The model, or a certificate, is refused: the text says where and why."""
+
+
+class WrongOption(BridgeError):
+    """An unknown option, or a value out of its range."""
+
+
+class FileFault(BridgeError):
+    """A file cannot be read or written."""
+
+
+class NotInstalled(BridgeError):
+    """The proved program or the solver is not there."""
+
+
+KINDS: dict[int, type[BridgeError]] = {
+    Status.REFUSED: ModelRefused, Status.BAD_WORDS: WrongOption, Status.UNREAD: FileFault,
+    Status.UNWRITTEN: FileFault, Status.NOT_THERE: NotInstalled}
+
+
+def error_of(report: Report) -> BridgeError:
+    """That of its status."""
+    return KINDS.get(report.status, BridgeError)(report)

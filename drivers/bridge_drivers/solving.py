@@ -19,13 +19,13 @@ from .interrupts import Interrupted
 from .job import Clock, Job
 from .kinds import Damaged
 from .miss import ROUNDING, largest_share
+from .mps_file import judged, reading
 from .names import Names
 from .nl import Prepared, header, prepared
 from .options import Options
-from .program import Program
+from .program import Program, given, hollow
 from .settled import Facts, is_final, proved_duals, settled
 from .solvers.base import Outcome, Solver, Unclear
-from .solvers.given import given, hollow
 from .values import BadValue
 from .verdicts import percent, read
 
@@ -51,11 +51,10 @@ class Result:
 
 class Solving:
     """`nl` is the path of the model's text, `solver_path` that of the solver, `folder` one for
-    files."""
+    files. Of an MPS file no .sol is made, rows and columns are its own, and certificates are judged
+    by `verify_mps` or `verify_fixed`."""
 
     make_job = Job
-    make_certifier = Certifier
-    kept_name = "text.nl"
 
     def __init__(self, solver: Solver, options: Options, bridge: Bridge, clock: Clock,
                  model: Input, solver_path: str, folder: str) -> None:
@@ -66,7 +65,7 @@ class Solving:
 
     def result(self) -> Result:
         """The outcome. Failure where there is none."""
-        kept = os.path.join(self.folder, self.kept_name)
+        kept = os.path.join(self.folder, "text.mps" if self.model.is_mps else "text.nl")
         try:
             form = self.prepared(kept)
         except Damaged as fault:
@@ -93,18 +92,30 @@ class Solving:
         job.read = lambda line: self.solver.said(line, program)
         if self.options.keep:
             job.write("model.mps", program.text)
-        return self.told(job, form.path, self.answered(job), [*self.model.notes, *form.notes])
+        return self.told(job, form.path, self.answered(job),
+                         [*self.model.notes, *form.notes, *program.notes])
 
     def prepared(self, target: str) -> Prepared:
-        """The model as the proved program reads it."""
-        is_told = not any(word.startswith("shortest") for word in self.options.given)
-        return prepared(self.nl, target, bool(self.options.shortest), is_told)
+        """The model as the proved program reads it: an MPS file as it stands."""
+        if not self.model.is_mps:
+            is_told = not any(word.startswith("shortest") for word in self.options.given)
+            return prepared(self.nl, target, bool(self.options.shortest), is_told)
+        if self.options.objno != 1:
+            raise Failure(Code.REFUSED, f"{self.model.shown}: objno={self.options.objno}: no such "
+                          "objective: the first N row of an MPS file is its objective, and its "
+                          "only one")
+        return Prepared(self.nl, [])
 
     def exported(self, nl: str) -> Program:
-        words = ["export", nl]
-        if self.options.objno != 1:
-            words.append(str(self.options.objno - 1))
-        program = Program(self.clock.timed("export", self.bridge.text, *words))
+        """An MPS file's own program, with what `bridge` makes of the file."""
+        timed = self.clock.timed
+        if self.model.is_mps:
+            read = timed("reading", reading, self.bridge, nl, self.options.format)
+            program = timed("export", judged, self.bridge, nl, self.folder, read)
+            program.notes = [*read.notes, *program.notes]
+            return program
+        objective = [str(self.options.objno - 1)] if self.options.objno != 1 else []
+        program = Program(timed("export", self.bridge.text, "export", nl, *objective))
         program.names = Names(self.model.stub)
         return program
 
@@ -209,7 +220,7 @@ class Solving:
 
     def told(self, job: Job, nl: str, answer: Answer, notes: list[str]) -> Result:
         """The .sol by `bridge return`, with a message whose last line is the verdict."""
-        certifier = self.make_certifier(self.bridge, nl, job)
+        certifier = Certifier(self.bridge, nl, job)
         outcome, missed = answer.outcome, answer.missed
         lines = [*notes, *outcome.notes, *self.solver.far_notes(job.program)]
         if missed.is_much():
@@ -274,7 +285,7 @@ class Solving:
             if not fault.told.endswith("dual too wide"):
                 raise
             lines.insert(before, f"duals are left out: {fault.line()}")
-        answer = answer.with_duals(None)
+        answer = answer.without_duals()
         return answer, certifier.returned(answer, lines)
 
     def verdict(self, certifier: Certifier, answer: Answer) -> Verdict:

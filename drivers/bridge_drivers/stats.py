@@ -18,7 +18,7 @@ from typing import Union
 from .bridge import Bridge
 from .files import fill
 from .mps_reader import OBJECTIVE, exact
-from .names import Names
+from .names import Names, with_name
 from .printable import some
 from .program import TIED, TIED_ROW, Program
 from .sol import duals_of
@@ -56,7 +56,6 @@ class Range:
         return [double_of(end) for end in (self.low, self.high) if end is not None]
 
     def ends(self) -> list[float | None] | None:
-        """The same; None where there are none, or are beyond these."""
         found = self.doubles()
         return found if found and None not in found else None
 
@@ -156,9 +155,6 @@ def columns_of(program: Program) -> dict[str, int]:
             "fixed": sum(low is not None and low == high for low, high in bounds)}
 
 
-# the lines --------------------------------------------------------------------------
-
-
 def sense_line(f: Figures) -> str:
     line = "maximise" if f.maximise else "minimise"
     if not f.costs:
@@ -171,8 +167,7 @@ def sense_line(f: Figures) -> str:
 
 
 def row_name(row: str, names: Names) -> str:
-    name = names.row(int(row[1:])) if row[1:].isdigit() else ""
-    return f"{row} ({name})" if name else row
+    return with_name(row, names.row(int(row[1:])) if row[1:].isdigit() else "")
 
 
 def lines_of(f: Figures, factors: dict[str, str], names: Names) -> list[str]:

@@ -7,8 +7,9 @@ import tempfile
 from typing import Iterator, NamedTuple, Sequence
 
 from .bridge import Bridge, Reply
+from .codes import Status
 from .inputs import Input, Inputs
-from .mps_file import FAULT, judged, reading
+from .mps_file import judged, reading
 from .names import Names
 from .nl import header, prepared
 from .program import Program
@@ -39,7 +40,7 @@ class Subject(NamedTuple):
         if self.own is None:
             return Program(self.bridge.text("export", self.path, objective))
         if objective != "0":
-            reply = Reply(FAULT, b"", f"refused objective {objective}: no such objective")
+            reply = Reply(Status.REFUSED, b"", f"refused objective {objective}: no such objective")
             raise self.bridge.refused(("verify", self.path, ""), reply)
         return self.own
 

@@ -55,7 +55,6 @@ class Terms:
         return [sum([abs(a) * weights[j] for j, a in row]) for row in self.rows]
 
     def activities(self, x: Sequence[float]) -> List[float]:
-        """Sums of doubles."""
         found = []
         for row in self.rows:
             at = 0.0
@@ -69,7 +68,6 @@ class Terms:
         return [max([abs(a) * sizes[j] for j, a in row], default=0.0) for row in self.rows]
 
     def of_rows(self, rows: Sequence[int]) -> Dict[int, List[Tuple[int, int]]]:
-        """These rows alone."""
         return {i: self.rows[i] for i in rows}
 
     def inside(self, rows: Sequence[int], columns: Sequence[int]) -> Pairs:
@@ -87,12 +85,10 @@ class Terms:
         return columns
 
     def column(self, j: int) -> List[Tuple[int, int]]:
-        """This one alone."""
         return self.columns[j]
 
     @cached_property
     def lengths(self) -> List[int]:
-        """Of rows."""
         return list(map(len, self.rows))
 
 
@@ -179,8 +175,6 @@ class Arrays(Terms):
         k = np.flatnonzero(inside[part])
         values = map(self.table.__getitem__, self.number[k].tolist())
         return zip(self.row[k].tolist(), self.column_of[k].tolist(), values)
-
-    # whole numbers -------------------------------------------------------------------
 
     def exact(self, to: Any, count: int, at: Any, x: Sequence[Any]) -> List[int]:
         """Sums by `to` of coefficients times `x[at]`: by parts of both, so that each sum of

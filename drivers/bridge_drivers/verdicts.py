@@ -82,9 +82,6 @@ def multiples(program: Program) -> Multiples | None:
     return Multiples(-Fraction(program.objective_rhs), step) if step else None
 
 
-# words ---------------------------------------------------------------------------------
-
-
 def decimal(value: Fraction) -> str:
     """A number in decimals: in full where these are few, else `about` it."""
     text = exact_decimal(value)

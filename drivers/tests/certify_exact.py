@@ -6,7 +6,6 @@ from __future__ import annotations
 import contextlib
 import itertools
 import random
-from fractions import Fraction as F
 from unittest import TestCase, main, mock
 
 from support import NEEDS_CLP, NEEDS_PROGRAM, PROGRAM, Case
@@ -126,8 +125,7 @@ class Programs(Case):
                         self.assertEqual(self.claim(model.text(), is_there, wanted), wanted)
 
     def test_planes(self) -> None:
-        """Columns, and rows with the same terms up to a factor, between whose ends there is no whole
-        number."""
+        """Columns, and rows with the same terms up to a factor, without a whole number between."""
         for model in models():
             if model.name.startswith(("two_rows", "crossing_bounds")):
                 work = self.work(model.text())

@@ -1,6 +1,6 @@
-"""Small models that mislead solvers in doubles, always the same, each with what is true of it by an
-exact method of its own: all points of a small box with all vertices of what two continuous variables
-leave, in fractions; or by how it is made."""
+"""Small models that mislead solvers in doubles, each with what is true of it by an exact method of
+its own: all points of a small box with all vertices of what two continuous variables leave, in
+fractions; or by how it is made."""
 
 from __future__ import annotations
 

@@ -212,16 +212,16 @@ def tiny_rays(rng: random.Random) -> Misleading:
 
 
 def whole_rays(rng: random.Random) -> Misleading:
-    """Two whole columns that go on together, with a gain that is little beside their costs; or to an
-    end that is far."""
+    """Two whole columns that go on together, with a gain that is little beside their costs, without
+    an end or to one that is far."""
     a, b, gain = rng.randint(1, 5), rng.randint(1, 5), sized(rng, 5, 14)
     cost, end = F(rng.randint(0, 9)), rng.choice([None, None, 10 ** rng.randint(3, 7)])
     columns: list[Column] = [("I", 0, None if end is None else end * b), ("I", 0, None)]
     rows: list[Row] = [(rng.choice([None, 0]), 0, {0: a, 1: -b})]       # at b and a times t
     costs = {0: cost + gain, 1: -cost * b / a} if a in (1, 2, 4, 5) else {0: gain}
     best = gain * end * b if end is not None else F(0)
-    return Misleading("", columns, rows, "max", terms_of([costs.get(j, F(0)) for j in (0, 1)]), best,
-                      end is None)
+    return Misleading("", columns, rows, "max", terms_of([costs.get(j, F(0)) for j in (0, 1)]),
+                      best, end is None)
 
 
 def two_rows(rng: random.Random) -> Misleading:

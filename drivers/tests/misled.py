@@ -1,6 +1,6 @@
 #!/usr/bin/env python3
-"""Models that mislead solvers in doubles (misleading_kinds.py) through drivers: what ends with code 0
-and is wrong, and what a solver answered rightly and exactly and the driver lost.
+"""Models that mislead solvers in doubles (misleading_kinds.py) through drivers: what ends with code
+0 and is wrong, and what a solver answered rightly and exactly and the driver lost.
 
     misled.py [DRIVER ..] [KIND ..] [option=value ..]   all six drivers, where they are; all kinds
 

@@ -16,16 +16,14 @@ INFEASIBLE, UNBOUNDED = Code.INFEASIBLE, Code.UNBOUNDED
 SAID = (SOLVED, UNSURE, STOPPED, LIMIT, INFEASIBLE, EITHER, UNBOUNDED)
 CLAIMS = ("", "optimal", "within", "feasible", "bound", "infeasible", "unbounded")
 WITH_POINT = (SOLVED, UNSURE, STOPPED)
-FLAGS = ("linear", "is_gap", "closes", "within_gap", "is_beyond", "contradicted", "by_doubles",
-         "checked", "strict")
+FLAGS = ("linear", "is_gap", "mended", "closes", "within_gap", "is_beyond", "contradicted",
+         "by_doubles", "checked", "strict")
 
 
 def all_of_them() -> Iterator[Found]:
     for said, claim, kind, misses in itertools.product(SAID, CLAIMS, ("", "a better"), Misses):
         for values in itertools.product((False, True), repeat=len(FLAGS)):
             yield Found(said, claim, kind=kind, misses=misses, **dict(zip(FLAGS, values)))
-            yield Found(said, claim, kind=kind, misses=misses, mended=True,
-                        **dict(zip(FLAGS, values)))
 
 
 class Rules(unittest.TestCase):

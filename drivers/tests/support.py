@@ -38,8 +38,8 @@ CLOSE = F(1, 10 ** 6)
 LAST_LINE = re.compile(r"(not proved: .|infeasible$|(unbounded|(optimal|feasible|bound) \S+"
                        r"|within \S+ \S+)( of objective [1-9]\d*)?$)")
 # the codes that CODES.md lets stand above a last line, by its first word
-ALLOWED = {word: set(map(int, re.findall(r"\b(?:0|[1-4]\d0)\b", codes))) for word, codes in re.findall(
-    r"^\| `(\w+).* \| (.*) \|$", Path(DRIVERS, "CODES.md").read_text(), re.M)}
+ALLOWED = {word: set(map(int, re.findall(r"\b(?:0|[1-4]\d0)\b", codes))) for word, codes in
+           re.findall(r"^\| `(\w+).* \| (.*) \|$", Path(DRIVERS, "CODES.md").read_text(), re.M)}
 CHECKED = "bridge check of the .sol: "
 PROGRAM = find("", BESIDE) if os.environ.get("BRIDGE") else []
 HAS_CLP = clp.library() is not None

@@ -3,15 +3,16 @@ by the Hermite form. Each is a plane both of whose parts close."""
 
 from __future__ import annotations
 
+from collections import Counter
 from fractions import Fraction
 from math import floor, gcd, lcm
-from operator import itemgetter
-from typing import Dict, Iterator, List, Mapping, NamedTuple
+from typing import Dict, Iterator, List, Mapping, NamedTuple, Tuple
 
 from .model import Model
 
 MOST_ROWS = 120
 MOST_NUMBER = 10 ** 60
+End = Tuple[Fraction, Dict[int, Fraction]]      # with the multipliers that show it
 
 
 class Parity(NamedTuple):
@@ -24,20 +25,14 @@ class Parity(NamedTuple):
     high: Dict[int, Fraction]
 
 
-class End(NamedTuple):
-    """Of a form, with the multipliers that show it."""
-
-    at: Fraction
-    multipliers: Dict[int, Fraction]
-
-
 def hollow(p: Model) -> Parity | None:
     """A whole form between whose ends there is no whole number: the plane there. A column is one,
     and so are all rows of whole columns whose terms are the same up to a factor."""
     for j, (lo, hi) in enumerate(zip(p.lo, p.hi)):
         if p.whole[j] and lo is not None and hi is not None and -(-lo // p.unit) > hi // p.unit:
             return Parity({j: 1}, hi // p.unit, {}, {})
-    lows, highs = dict[object, End](), dict[object, End]()
+    lows: Dict[object, End] = {}
+    highs: Dict[object, End] = {}
     for i in alike(p):
         row = p.rows[i]
         step = gcd(*(a for _, a in row)) * (1 if row[0][1] > 0 else -1)
@@ -45,35 +40,33 @@ def hollow(p: Model) -> Parity | None:
         key = tuple(form.items())
         for is_upper, end in ends(p, i, Fraction(p.scale, step)):
             known, closest = (highs, min) if is_upper else (lows, max)
-            known[key] = closest(known.get(key, end), end, key=itemgetter(0))
-        if key in lows and key in highs and floor(highs[key].at) < lows[key].at:
-            return Parity(form, floor(highs[key].at), lows[key].multipliers,
-                          highs[key].multipliers)
+            known[key] = closest(known.get(key, end), end, key=lambda end: end[0])
+        if key in lows and key in highs and floor(highs[key][0]) < lows[key][0]:
+            return Parity(form, floor(highs[key][0]), lows[key][1], highs[key][1])
     return None
 
 
-def ends(p: Model, i: int, u: Fraction) -> Iterator[tuple[bool, End]]:
-    """Of the form that is u times a row, those below and above; with the bounds of a column that is
-    alone."""
+def alike(p: Model) -> Iterator[int]:
+    """Rows of whole columns that have two ends, or may have terms of others."""
+    kinds = [(len(row), row[0][0], row[-1][0]) if row else None for row in p.rows]
+    counts = Counter(kinds)
+    for i, row in enumerate(p.rows):
+        is_alone = len(row) > 1 and counts[kinds[i]] == 1
+        if row and not (is_alone and None in (p.side_lo[i], p.side_hi[i])) \
+                and all(p.whole[j] for j, _ in row):
+            yield i
+
+
+def ends(p: Model, i: int, u: Fraction) -> Iterator[Tuple[bool, End]]:
+    """Of the form that is u times a row, those below and above; of a column alone its bounds
+    too."""
     for is_upper, side in ((False, p.side_lo[i]), (True, p.side_hi[i])):
         if side is not None:
-            yield is_upper == (u > 0), End(u * Fraction(side, p.unit), {i: u})
+            yield is_upper == (u > 0), (u * Fraction(side, p.unit), {i: u})
     j = p.rows[i][0][0]
     for is_upper, side in ((False, p.lo[j]), (True, p.hi[j])) if len(p.rows[i]) == 1 else ():
         if side is not None:
-            yield is_upper, End(Fraction(side, p.unit), {})
-
-
-def alike(p: Model) -> Iterator[int]:
-    """Rows of whole columns that have two ends, with those of others that may have their terms."""
-    found: Dict[object, List[int]] = {}
-    for i, row in enumerate(p.rows):
-        if row and not p.side_lo[i] is p.side_hi[i] is None:
-            found.setdefault((len(row), row[0][0], row[-1][0]), []).append(i)
-    for rows in found.values():
-        one = rows[0]
-        if len(rows) > 1 or len(p.rows[one]) == 1 or None not in (p.side_lo[one], p.side_hi[one]):
-            yield from (i for i in rows if all(p.whole[j] for j, _ in p.rows[i]))
+            yield is_upper, (Fraction(side, p.unit), {})
 
 
 class Equality(NamedTuple):

@@ -52,7 +52,6 @@ class Bounds:
         return None if number is None else Fraction(number, self.model.unit)
 
     def row(self, number: int) -> Row:
-        """A constraint."""
         model = self.model
         return Row([(j, Fraction(a, model.scale)) for j, a in model.rows[number]],
                    self.over_unit(model.side_lo[number]), self.over_unit(model.side_hi[number]))
@@ -128,5 +127,4 @@ class Bounds:
         return sum((c * ray.get(j, Fraction(0)) for j, c in self.goal.costs.items()), Fraction(0))
 
     def value(self, point: Mapping[int, Fraction]) -> Fraction:
-        """The objective at a point."""
         return self.goal.constant + self.change(point)

@@ -106,7 +106,6 @@ class Explaining:
         return self.drawn
 
     def picture(self) -> str:
-        """In a file of its own."""
         return (self.tree() or Picture(self.wording)).svg(True)
 
     def page(self) -> str:
@@ -138,12 +137,9 @@ class Told(NamedTuple):
 
 def explained(model: Subject, files: Files) -> Told:
     """What a certificate says, and the pages that are asked for. Refused where it is none."""
-    bridge = model.bridge
-    reply = bridge.call("verify", model.path, files.certificate)
-    if reply.status not in (0, 1):
-        raise bridge.refused(("verify", model.path, files.certificate), reply)
-    verdict, status = reply.out.decode("utf-8", "replace").strip(), reply.status
-    told = Explaining(model, files, verdict, status == 0)
+    verdict = model.bridge.verdict("verify", model.path, files.certificate)
+    told = Explaining(model, files, verdict, verdicts.read(verdict) is not None)
+    status = Status.DONE if told.holds else Status.FAILED
     lines = [*map(in_a_line, told.lines()), *model.notes]
     places = Places([model.given.path, model.given.shown, files.certificate], files.overwrite)
     for path, text in ((files.html, told.page), (files.svg, told.picture)):

@@ -112,7 +112,6 @@ def tree_of(drawn: Picture) -> list[str]:
 
 
 def point_of(point: Sequence[tuple[str, str]]) -> list[str]:
-    """The whole point."""
     rows = [f'<tr><td>{escape(name)}</td><td class="number">{escape(value)}</td></tr>'
             for name, value in point]
     return ["<details><summary>The whole point (what is not listed is 0)</summary>", "<table>",

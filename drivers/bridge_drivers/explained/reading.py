@@ -43,7 +43,6 @@ class Certificate(NamedTuple):
     nodes: list[Node]
 
     def children(self, place: int) -> list[int]:
-        """The places of a node's two parts."""
         if self.nodes[place].is_leaf():
             return []
         first = place + 1

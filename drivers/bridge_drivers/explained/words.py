@@ -27,7 +27,6 @@ ABOUT, BEYOND = "\u2248 ", "beyond doubles"
 
 
 def short(value: Fraction) -> str:
-    """A number in few characters."""
     text = exact_decimal(value)
     if text is not None and len(text) <= 12:
         return text
@@ -179,7 +178,6 @@ class Wording:
     # what does not -------------------------------------------------------------------
 
     def failing_leaf(self, verdict: str) -> int | None:
-        """The place of the leaf that the verdict names."""
         found = FAULT.fullmatch(verdict)
         return None if found is None else self.certificate.place_of_leaf(int(found.group(1)))
 

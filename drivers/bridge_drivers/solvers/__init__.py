@@ -10,6 +10,5 @@ NAMES = ("cbc", "clp", "glpsol", "highs", "esolver", "lp_solve")
 
 
 def load(name: str) -> Solver:
-    """The solver of the driver bridge-NAME."""
     solver: Solver = importlib.import_module(f"{__name__}.{name}").SOLVER
     return solver

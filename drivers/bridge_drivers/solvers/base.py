@@ -2,6 +2,7 @@
 
 from __future__ import annotations
 
+import math
 import re
 import shutil
 from dataclasses import dataclass, field
@@ -10,10 +11,10 @@ from typing import TYPE_CHECKING, Mapping, Sequence
 from ..codes import Code
 from ..options import SHARE, Option
 from ..values import Number
-from .statuses import Says
+from .statuses import TIME, Says
 
 if TYPE_CHECKING:
-    from ..job import Job
+    from ..job import Job, Ran
     from ..program import Program
 
 # AMPL's statuses of the basis
@@ -61,6 +62,7 @@ class Solver:
     integers = True                     # takes integer columns
     again = ""                          # how it is asked where an answer is not good
     options: Sequence[Option] = ()      # its own
+    flags: Mapping[str, str] = {}       # its words for what is asked for
     version = ""                        # a pattern whose one group is the version in the log
     lines: Sequence[str] = ()           # patterns of its log, with groups as `detailed` names them
     infinite = ""                       # the size from which sides and bounds are none to it
@@ -79,6 +81,15 @@ class Solver:
 
     def solve(self, job: Job) -> Outcome:
         raise NotImplementedError
+
+    def asked(self, job: Job) -> list[str]:
+        """Its words for all that is asked for, and those that the user adds. `seconds` are those of
+        `timelim` as a whole number."""
+        o = job.options
+        said: dict[str, object] = {**o.own, "timelim": o.timelim, "seconds": math.ceil(o.timelim),
+                                   "relax": o.relax, "again": job.again}
+        words = [form.format(said[name]) for name, form in self.flags.items() if said[name]]
+        return [*" ".join(words).split(), *job.extra]
 
     def said(self, line: str, program: Program) -> dict[str, float]:
         """What a line of its log says, by the names of the patterns' groups."""
@@ -120,11 +131,22 @@ def row_side(kind: str, letter: str) -> int:
     return {"E": EQUAL, "L": UPPER}.get(kind, UPPER if letter == "U" else LOWER)
 
 
-def stopped(why: str, has_point: bool) -> tuple[Code, str]:
-    """Code and words of a run that a limit ended."""
+def stopped(why: str, has_point: bool = False) -> Outcome:
+    """Of a run that a limit ended."""
     if has_point:
-        return Code.LIMIT_WITH_POINT, f"stopped at {why} with a feasible solution"
-    return Code.LIMIT, f"stopped at {why} without a feasible solution"
+        return Outcome(Code.LIMIT_WITH_POINT, f"stopped at {why} with a feasible solution")
+    return Outcome(Code.LIMIT, f"stopped at {why} without a feasible solution")
+
+
+def without_answer(ran: Ran, pattern: str) -> Outcome:
+    """Of a run that wrote none: Unclear where it was not killed for its time, with the first line
+    of its log that has the pattern, the solver's own complaint, or else its last words."""
+    if ran.killed:
+        return stopped(TIME)
+    lines = [line.strip() for line in ran.log.splitlines() if line.strip()]
+    last = f"; its last words: {lines[-1][:LONGEST]}" if lines else ""
+    raise Unclear(next((line for line in lines if re.search(pattern, line, re.I)),
+                       "it wrote no answer" + last))
 
 
 def outcome(says: Says | None, status: str, has_point: bool) -> Outcome:
@@ -137,12 +159,11 @@ def outcome(says: Says | None, status: str, has_point: bool) -> Outcome:
             return Outcome(says.code, says.text, is_gap=True)
         return Outcome(Code.UNSURE, f"a point, and it ended with `{status}`")
     if says.code == Code.LIMIT:
-        return Outcome(*stopped(says.text, has_point))
+        return stopped(says.text, has_point)
     return Outcome(says.code, says.text)
 
 
 def has_values(code: Code) -> bool:
-    """Whether a point comes with that code."""
     return code in (Code.SOLVED, Code.UNSURE, Code.LIMIT_WITH_POINT)
 
 
@@ -153,13 +174,3 @@ def read_lines(path: str) -> list[str] | None:
             return f.read().splitlines()
     except FileNotFoundError:
         return None
-
-
-def first_line(log: str, pattern: str) -> str:
-    """The first line of a log that has the pattern: the solver's own complaint. Else its last
-    words."""
-    lines = [line.strip() for line in log.splitlines() if line.strip()]
-    for line in lines:
-        if re.search(pattern, line, re.I):
-            return line
-    return "it wrote no answer" + (f"; its last words: {lines[-1][:LONGEST]}" if lines else "")

@@ -2,9 +2,8 @@
 
 from __future__ import annotations
 
-from ..job import Job
 from ..options import Option
-from .base import GAP, Outcome
+from .base import GAP
 from .coin import Coin
 
 
@@ -13,26 +12,9 @@ class Cbc(Coin):
     package = "coinor-cbc"
     again = "without preprocessing"
     version = r"Version: (\S+)"
-    options = (GAP,
-               Option("threads", 0, int, "threads of the search"))
-
-    def solve(self, job: Job) -> Outcome:
-        options = job.options
-        words = [job.solver] + self.model(job)
-        if options.timelim:
-            words += ["-timeMode", "elapsed", "-sec", f"{options.timelim:g}"]
-        if options.own["mipgap"]:
-            words += ["-ratio", f"{options.own['mipgap']:g}"]
-        if options.own["threads"]:
-            words += ["-threads", str(options.own["threads"])]
-        if job.again:
-            words += ["-preprocess", "off", "-presolve", "off"]
-        words += job.extra
-        words += ["-initialSolve" if options.relax else "-solve"] + self.answers(job)
-        if options.relax or not job.program.whole:
-            words += self.basis_file(job)
-        ran = job.run(words + ["-quit"])
-        return self.answer(job, ran.log, ran.killed)
+    options = (GAP, Option("threads", 0, int, "threads of the search"))
+    flags = {"timelim": "-timeMode elapsed -sec {:g}", "mipgap": "-ratio {:g}",
+             "threads": "-threads {}", "again": "-preprocess off -presolve off"}
 
 
 SOLVER = Cbc()

@@ -2,8 +2,6 @@
 
 from __future__ import annotations
 
-from ..job import Job
-from .base import Outcome
 from .coin import Coin
 
 
@@ -13,16 +11,7 @@ class Clp(Coin):
     again = "without its presolve"
     version = r"Coin LP version ([0-9.]+)"
     integers = False
-
-    def solve(self, job: Job) -> Outcome:
-        words = [job.solver] + self.model(job)
-        if job.options.timelim:
-            words += ["-sec", f"{job.options.timelim:g}"]
-        if job.again:
-            words += ["-presolve", "off"]
-        words += job.extra + ["-solve"] + self.answers(job) + self.basis_file(job) + ["-quit"]
-        ran = job.run(words)
-        return self.answer(job, ran.log, ran.killed)
+    flags = {"timelim": "-sec {:g}", "again": "-presolve off"}
 
 
 SOLVER = Clp()

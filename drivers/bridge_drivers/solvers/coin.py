@@ -7,12 +7,12 @@ import struct
 from typing import TYPE_CHECKING, NamedTuple
 
 from ..codes import Code
-from .base import (BASIC, LOWER, UPPER, Outcome, Solver, Unclear, first_line, has_values, outcome,
-                   read_lines, row_side, stopped)
+from .base import (BASIC, LOWER, UPPER, Outcome, Solver, Unclear, has_values, outcome, read_lines,
+                   row_side, without_answer)
 from .statuses import COIN, NO_POINT, row_of
 
 if TYPE_CHECKING:
-    from ..job import Job
+    from ..job import Job, Ran
     from ..program import Program
 
 COMPLAINT = r"Bad image|No match|Unknown|Unable to open|errors? on input|infeasible bound"
@@ -41,24 +41,21 @@ class Coin(Solver):
         return {name: sign * value if name in ("incumbent", "bound") else value
                 for name, value in known.items()}
 
-    def model(self, job: Job) -> list[str]:
-        """The words that name the model. To CoinUtils a `NAME nl` line means fixed columns, and
-        OBJSENSE it ignores."""
-        path = job.write("coin.mps", self.text(job.given))
-        return [path, "-max"] if job.program.maximise else [path]
+    def solve(self, job: Job) -> Outcome:
+        """To CoinUtils a `NAME nl` line means fixed columns, and OBJSENSE it ignores."""
+        path, relaxed = job.write("coin.mps", self.text(job.given)), job.options.relax
+        words = [job.solver, path, *(["-max"] if job.program.maximise else []), *self.asked(job),
+                 "-initialSolve" if relaxed and self.integers else "-solve",
+                 "-solution", job.path("answer.txt"), "-saveSolution", job.path("answer.bin")]
+        if relaxed or not job.program.whole:
+            words += ["-basisOut", job.path("answer.bas")]
+        return self.answer(job, job.run([*words, "-quit"]))
 
     def text(self, program: Program) -> bytes:
         return program.free_name()
 
     def reading(self, program: Program, path: str) -> list[str]:
         return [path, *(["-max"] if program.maximise else []), "-solve", "-solution", "stdout"]
-
-    def answers(self, job: Job) -> list[str]:
-        """The words for the files of an answer, which `answer` reads."""
-        return ["-solution", job.path("answer.txt"), "-saveSolution", job.path("answer.bin")]
-
-    def basis_file(self, job: Job) -> list[str]:
-        return ["-basisOut", job.path("answer.bas")]
 
     def saved(self, job: Job) -> Saved:
         """The doubles of -saveSolution (-solution prints 8 digits): two ints, rows and columns,
@@ -79,19 +76,17 @@ class Coin(Solver):
                      dict(zip(p.constraints, doubles[duals:values])),
                      dict(zip(p.columns, doubles[values + columns:])))
 
-    def answer(self, job: Job, log: str, killed: bool) -> Outcome:
+    def answer(self, job: Job, ran: Ran) -> Outcome:
         """The outcome, whose status is the first line of -solution."""
         lines = read_lines(job.path("answer.txt"))
         if not lines:
-            if killed:
-                return Outcome(*stopped("the time limit", False))
-            raise Unclear(first_line(log, COMPLAINT))
+            return without_answer(ran, COMPLAINT)
         status, _, figure = lines[0].strip().partition(" - objective value ")
         has_point = NO_POINT not in status and os.path.exists(job.path("answer.bin"))
         status = status.replace(NO_POINT, "").strip()
         found = outcome(row_of(COIN, status), status, has_point)
-        if status.lower() == "integer infeasible" and "infeasible or unbounded" in log \
-                and "Continuous objective value is" not in log:
+        if status.lower() == "integer infeasible" and "infeasible or unbounded" in ran.log \
+                and "Continuous objective value is" not in ran.log:
             return Outcome(Code.INFEASIBLE_OR_UNBOUNDED, "infeasible or unbounded")
         if not has_values(found.code):
             return found

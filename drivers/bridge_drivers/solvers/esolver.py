@@ -8,9 +8,9 @@ from fractions import Fraction
 from ..codes import Code
 from ..job import Job
 from ..program import Program
-from .base import Outcome, Solver, Unclear, first_line, outcome, read_lines, stopped
+from .base import Outcome, Solver, outcome, read_lines, stopped, without_answer
 from .coin import basis
-from .statuses import ESOLVER, row_in, row_of
+from .statuses import ESOLVER, TIME, row_in, row_of
 
 SECTIONS = ("VARS", "REDUCED COST", "PI", "SLACK")
 
@@ -20,24 +20,20 @@ class Esolver(Solver):
     package = "qsopt-ex"
     version = r"Using QSopt_ex (\S+)"
     integers = False
+    flags = {"timelim": "-R {:g}"}
 
     def solve(self, job: Job) -> Outcome:
-        p, options = job.program, job.options
-        out, basis_file = job.path("answer.sol"), job.path("answer.bas")
+        p, out, basis_file = job.program, job.path("answer.sol"), job.path("answer.bas")
         path = job.write("esolver.mps", self.text(job.given))
-        words = [job.solver]
-        if options.timelim:
-            words += ["-R", f"{options.timelim:g}"]
-        ran = job.run(words + job.extra + ["-O", out, "-b", basis_file, path])
+        ran = job.run([job.solver, *self.asked(job), "-O", out, "-b", basis_file, path])
         lines = read_lines(out)
         if lines is None:
-            if ran.killed or row_in(ESOLVER, ran.log):
-                return Outcome(*stopped("the time limit", False))
-            raise Unclear(first_line(ran.log, "error"))
+            return stopped(TIME) if row_in(ESOLVER, ran.log) else without_answer(ran, "error")
         says = row_of(ESOLVER, status_of(lines))
         if says is None or says.code != Code.SOLVED:
-            if (says is None or says.code == Code.NO_ANSWER) and (ran.killed or options.timelim):
-                return Outcome(*stopped("a limit", False))
+            is_late = ran.killed or job.options.timelim
+            if is_late and (says is None or says.code == Code.NO_ANSWER):
+                return stopped("a limit")
             return outcome(says, lines[0] if lines else "", False)
         value, parts = parsed(lines)
         columns, rows = basis(p, basis_file)

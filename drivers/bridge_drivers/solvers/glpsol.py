@@ -2,14 +2,12 @@
 
 from __future__ import annotations
 
-import math
-
 from ..codes import Code
 from ..job import Job, Ran
 from ..options import SWITCH, Option
 from ..program import Program
-from .base import (BASIC, EQUAL, GAP, LOWER, SUPERBASIC, UPPER, Outcome, Solver, Unclear, first_line,
-                   has_values, outcome, read_lines, stopped)
+from .base import (BASIC, EQUAL, LOWER, GAP, SUPERBASIC, UPPER, Outcome, Solver, Unclear,
+                   has_values, outcome, read_lines, without_answer)
 from .statuses import GLPK, GLPK_FILE, row_in, row_of
 
 LETTERS = {"b": BASIC, "l": LOWER, "u": UPPER, "f": SUPERBASIC, "s": EQUAL}
@@ -25,24 +23,16 @@ class Glpsol(Solver):
              r"\((?P<open>\d+);",
              r"^[ *#] *(?P<iterations>\d+): obj = +(?P<objective>\S+)")
     version = r"GLPSOL.*?Solver,? v?(\S+)"
+    flags = {"relax": "--nomip", "seconds": "--tmlim {}", "mipgap": "--mipgap {:g}",
+             "xcheck": "--xcheck", "again": "--nopresol"}
     options = (GAP,
                Option("xcheck", 0, SWITCH, "1: glpsol checks its final basis in exact arithmetic"))
 
     def solve(self, job: Job) -> Outcome:
-        options, program = job.options, job.program
-        words = [job.solver, *self.reading(program, job.write("glpsol.mps", self.text(job.given))),
-                 "-w", job.path("answer.txt")]
-        if options.relax:
-            words += ["--nomip"]
-        if options.timelim:
-            words += ["--tmlim", str(math.ceil(options.timelim))]
-        if options.own["mipgap"]:
-            words += ["--mipgap", f"{options.own['mipgap']:g}"]
-        if options.own["xcheck"] or job.again:
-            words += ["--xcheck"]
-        if job.again:
-            words += ["--nopresol"]
-        return answer(job, job.run(words + job.extra))
+        words = self.reading(job.program, job.write("glpsol.mps", self.text(job.given)))
+        is_checked = job.again and not job.options.own["xcheck"]
+        return answer(job, job.run([job.solver, *words, "-w", job.path("answer.txt"),
+                                    *(["--xcheck"] if is_checked else []), *self.asked(job)]))
 
     def text(self, program: Program) -> bytes:
         """Without OBJSENSE, which is an error to glpsol, and with the other sign at the RHS of
@@ -61,11 +51,9 @@ def answer(job: Job, ran: Ran) -> Outcome:
     """By the file where it says optimal, else by the log."""
     says, lines = row_in(GLPK, ran.log), read_lines(job.path("answer.txt"))
     if lines is None:
-        if ran.killed:
-            return Outcome(*stopped("the time limit", False))
-        if says is not None:
+        if says is not None and not ran.killed:
             return outcome(says, says.words, False)
-        raise Unclear(first_line(ran.log, r"glpsol\.mps:|glp_\w+:"))
+        return without_answer(ran, r"glpsol\.mps:|glp_\w+:")
     words = [line.split() for line in lines]
     head = next((w for w in words if w[:1] == ["s"]), None)
     if head is None:

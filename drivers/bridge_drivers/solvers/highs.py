@@ -13,8 +13,8 @@ from typing import Any
 from ..codes import Code
 from ..job import Job
 from ..program import Program
-from .base import (GAP, Outcome, Solver, Unclear, first_line, has_values, outcome, read_lines,
-                   stopped)
+from .base import (GAP, Outcome, Solver, Unclear, has_values, outcome, read_lines,
+                   without_answer)
 from .statuses import HIGHS, row_of
 
 PLACES = ("/usr/bin/python3", "python3")
@@ -54,9 +54,7 @@ class Highs(Solver):
         ran = job.run([job.solver, SCRIPT, path, target, words])
         lines = read_lines(target)
         if lines is None:
-            if ran.killed:
-                return Outcome(*stopped("the time limit", False))
-            raise Unclear(first_line(ran.log, "Error"))
+            return without_answer(ran, "Error")
         return answered(job, json.loads(lines[0]))
 
 

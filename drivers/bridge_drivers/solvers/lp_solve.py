@@ -3,12 +3,10 @@ what it prints too, so that a column at 1e30 may have no end."""
 
 from __future__ import annotations
 
-import math
-
 from ..codes import Code
 from ..job import Job
 from ..program import Program
-from .base import GAP, Outcome, Solver, Unclear, first_line, has_values, outcome, stopped
+from .base import GAP, Outcome, Solver, Unclear, has_values, outcome, stopped, without_answer
 from .statuses import LP_SOLVE, OPTIMAL, TIME, Says, row_in
 
 INFINITE = 1e30
@@ -23,26 +21,18 @@ class LpSolve(Solver):
     again = "without scaling"
     infinite = "1e30"
     options = (GAP,)
+    flags = {"relax": "-noint", "mipgap": "-gr {:g}", "again": "-s0", "seconds": "-timeout {}"}
 
     def solve(self, job: Job) -> Outcome:
         options, p = job.options, job.program
-        # Without -mps_negobjconst it adds the RHS of the objective row.
-        words = [job.solver, *self.reading(p, job.write("lp_solve.mps", job.given.text))]
-        if options.relax:
-            words += ["-noint"]
-        if options.own["mipgap"]:
-            words += ["-gr", f"{options.own['mipgap']:g}"]
-        if job.again:
-            words += ["-s0"]
-        if options.timelim:
-            words += ["-timeout", str(math.ceil(options.timelim))]
-        ran = job.run(words + job.extra)
+        words = [*self.reading(p, job.write("lp_solve.mps", job.given.text)), *self.asked(job)]
+        ran = job.run([job.solver, *words])
         head, heading, _ = ran.log.partition("\nActual values of the variables:\n")
         says = row_in(LP_SOLVE, head) or (SOLVED if heading else None)
         if says is None:
             if ran.killed or options.timelim:
-                return Outcome(*stopped("a limit", False))
-            raise Unclear(first_line(ran.log, r"\S"))
+                return stopped("a limit")
+            return without_answer(ran, r"\S")
         if says.words == SUBOPTIMAL and options.timelim:
             says = says._replace(code=Code.LIMIT, text=TIME)
         odd = unknown(head) if says is SOLVED and not job.extra else ""
@@ -61,11 +51,12 @@ class LpSolve(Solver):
         is_whole = bool(p.whole) and not options.relax
         if found.code == Code.SOLVED and not is_whole and set(duals) == set(p.constraints):
             found.duals, found.costs = duals, costs
-        if found.code == Code.SOLVED and is_whole and TO_GAPS.intersection(words + job.extra):
+        if found.code == Code.SOLVED and is_whole and TO_GAPS.intersection(words):
             found.code, found.text, found.is_gap = Code.UNSURE, "solution within the gap", True
         return found
 
     def reading(self, program: Program, path: str) -> list[str]:
+        """Without -mps_negobjconst it adds the RHS of the objective row."""
         return ["-fmps", path, "-S4", "-mps_negobjconst"]
 
 

@@ -18,97 +18,90 @@ class Says(NamedTuple):
 
 
 TIME, OPTIMAL = "the time limit", "optimal solution"
-FAILED = Code.NO_ANSWER
+
+
+def table(text: str) -> tuple[Says, ...]:
+    """Of lines `CODE: words = what is said | ..`: the words themselves where that is left out.
+    A star is at the code of a gap."""
+    lines = [line.partition(": ") for line in text.replace("\n ", " ").strip().split("\n")]
+    rows = [(code, *row.partition(" = ")) for code, _, rest in lines for row in rest.split(" | ")]
+    return tuple(Says(words, Code[code.rstrip("*")], said or words.lower().replace("_", " "),
+                      code.endswith("*")) for code, words, _, said in rows)
+
 
 # CBC and CLP: the first line of -solution
-COIN = (
-    Says("Optimal", Code.SOLVED, OPTIMAL),
-    Says("Optimal (within gap tolerance)", Code.UNSURE, "solution within the gap", True),
-    Says("Infeasible", Code.INFEASIBLE, "infeasible"),
-    Says("Integer infeasible", Code.INFEASIBLE, "integer infeasible"),
-    Says("Unbounded", Code.UNBOUNDED, "unbounded"),
-    Says("Stopped on time", Code.LIMIT, TIME),
-    Says("Stopped on iterations", Code.LIMIT, "the limit of iterations, nodes or solutions"),
-    Says("Stopped on iterations or time", Code.LIMIT, "the limit of iterations or time"),
-    Says("Stopped on difficulties", Code.UNSURE, "stopped on difficulties"),
-    Says("Stopped on ctrl-c", Code.LIMIT, "an interrupt"),
-    Says("Status unknown", Code.UNSURE, "status unknown"),
-)
+COIN = table("""
+SOLVED: Optimal = optimal solution
+UNSURE*: Optimal (within gap tolerance) = solution within the gap
+INFEASIBLE: Infeasible | Integer infeasible
+UNBOUNDED: Unbounded
+LIMIT: Stopped on time = the time limit | Stopped on iterations = the limit of iterations, nodes or
+ solutions | Stopped on iterations or time = the limit of iterations or time
+UNSURE: Stopped on difficulties
+LIMIT: Stopped on ctrl-c = an interrupt
+UNSURE: Status unknown
+""")
 NO_POINT = "(no integer solution - continuous used)"
 
 # lp_solve: a line of its own, before the values; none where it is optimal
-LP_SOLVE = (
-    Says("This problem is infeasible", Code.INFEASIBLE, "infeasible"),
-    Says("This problem is unbounded", Code.UNBOUNDED, "unbounded"),
-    Says("Suboptimal solution", Code.UNSURE, "suboptimal solution"),
-    Says("Presolved solution", Code.UNSURE, "presolved solution"),
-    Says("Timeout", Code.LIMIT, TIME),
-    Says("User aborted", Code.LIMIT, "an interrupt"),
-    Says("Accuracy error", Code.UNSURE, "accuracy error"),
-    Says("Out of memory", FAILED, "out of memory"),
-    Says("The B&B routine failed", FAILED, "the B&B routine failed"),
-    Says("lp_solve failed", FAILED, "lp_solve failed"),
-)
+LP_SOLVE = table("""
+INFEASIBLE: This problem is infeasible = infeasible
+UNBOUNDED: This problem is unbounded = unbounded
+UNSURE: Suboptimal solution | Presolved solution
+LIMIT: Timeout = the time limit | User aborted = an interrupt
+UNSURE: Accuracy error
+NO_ANSWER: Out of memory | The B&B routine failed = the B&B routine failed | lp_solve failed =
+ lp_solve failed
+""")
 
 # GLPK: sentences of the log; after its presolve the file of the answer says `undefined`
-GLPK = (
-    Says("LP HAS NO PRIMAL FEASIBLE SOLUTION", Code.INFEASIBLE, "infeasible"),
-    Says("PROBLEM HAS NO PRIMAL FEASIBLE SOLUTION", Code.INFEASIBLE, "infeasible"),
-    Says("PROBLEM HAS NO FEASIBLE SOLUTION", Code.INFEASIBLE, "infeasible"),
-    Says("PROBLEM HAS NO INTEGER FEASIBLE SOLUTION", Code.INFEASIBLE, "integer infeasible"),
-    Says("LP HAS UNBOUNDED PRIMAL SOLUTION", Code.UNBOUNDED, "unbounded"),
-    Says("PROBLEM HAS UNBOUNDED SOLUTION", Code.UNBOUNDED, "unbounded"),
-    Says("LP HAS NO DUAL FEASIBLE SOLUTION", Code.INFEASIBLE_OR_UNBOUNDED,
-         "infeasible or unbounded"),
-    Says("PROBLEM HAS NO DUAL FEASIBLE SOLUTION", Code.INFEASIBLE_OR_UNBOUNDED,
-         "infeasible or unbounded"),
-    Says("LP RELAXATION HAS NO DUAL FEASIBLE SOLUTION", Code.INFEASIBLE_OR_UNBOUNDED,
-         "infeasible or unbounded"),
-    Says("RELATIVE MIP GAP TOLERANCE REACHED; SEARCH TERMINATED", Code.UNSURE,
-         "solution within the gap", True),
-    Says("TIME LIMIT EXCEEDED; SEARCH TERMINATED", Code.LIMIT, TIME),
-    Says("ITERATION LIMIT EXCEEDED; SEARCH TERMINATED", Code.LIMIT, "the iteration limit"),
-    Says("ITERATIONS LIMIT EXCEEDED; SEARCH TERMINATED", Code.LIMIT, "the iteration limit"),
-    Says("SEARCH TERMINATED BY APPLICATION", Code.LIMIT, "an interrupt"),
-    Says("NO CONVERGENCE; SEARCH TERMINATED", Code.UNSURE, "no convergence"),
-    Says("NUMERIC INSTABILITY; SEARCH TERMINATED", Code.UNSURE, "numeric instability"),
-)
+GLPK = table("""
+INFEASIBLE: LP HAS NO PRIMAL FEASIBLE SOLUTION = infeasible | PROBLEM HAS NO PRIMAL FEASIBLE
+ SOLUTION = infeasible | PROBLEM HAS NO FEASIBLE SOLUTION = infeasible | PROBLEM HAS NO INTEGER
+ FEASIBLE SOLUTION = integer infeasible
+UNBOUNDED: LP HAS UNBOUNDED PRIMAL SOLUTION = unbounded | PROBLEM HAS UNBOUNDED SOLUTION = unbounded
+INFEASIBLE_OR_UNBOUNDED: LP HAS NO DUAL FEASIBLE SOLUTION = infeasible or unbounded | PROBLEM HAS NO
+ DUAL FEASIBLE SOLUTION = infeasible or unbounded | LP RELAXATION HAS NO DUAL FEASIBLE SOLUTION =
+ infeasible or unbounded
+UNSURE*: RELATIVE MIP GAP TOLERANCE REACHED; SEARCH TERMINATED = solution within the gap
+LIMIT: TIME LIMIT EXCEEDED; SEARCH TERMINATED = the time limit | ITERATION LIMIT EXCEEDED; SEARCH
+ TERMINATED = the iteration limit | ITERATIONS LIMIT EXCEEDED; SEARCH TERMINATED = the iteration
+ limit | SEARCH TERMINATED BY APPLICATION = an interrupt
+UNSURE: NO CONVERGENCE; SEARCH TERMINATED = no convergence | NUMERIC INSTABILITY; SEARCH TERMINATED
+ = numeric instability
+""")
 # and the letters of the file: of a basis primal and dual, of an integer program one
-GLPK_FILE = (
-    Says("ff", Code.SOLVED, OPTIMAL), Says("o", Code.SOLVED, OPTIMAL),
-    Says("f", Code.LIMIT, "a limit"),
-    *(Says(letters, Code.INFEASIBLE, "infeasible") for letters in ("n", "nf", "nu", "nn", "ni")),
-    Says("fn", Code.UNBOUNDED, "unbounded"),
-    *(Says(letters, Code.UNSURE, f"status `{letters}`")
-      for letters in ("fu", "fi", "iu", "if", "ii", "in")),
-    *(Says(letters, FAILED, "undefined") for letters in ("u", "uu", "uf", "ui", "un")),
-)
+GLPK_FILE = table("""
+SOLVED: ff = optimal solution | o = optimal solution
+LIMIT: f = a limit
+INFEASIBLE: n = infeasible | nf = infeasible | nu = infeasible | nn = infeasible | ni = infeasible
+UNBOUNDED: fn = unbounded
+UNSURE: fu = status `fu` | fi = status `fi` | iu = status `iu` | if = status `if` | ii = status `ii`
+ | in = status `in`
+NO_ANSWER: u = undefined | uu = undefined | uf = undefined | ui = undefined | un = undefined
+""")
 
-# HiGHS: the number in SciPy's message
-HIGHS = (
-    Says("0", FAILED, "not set"), Says("1", FAILED, "load error"),
-    Says("2", Code.INFEASIBLE, "infeasible"),           # bounds or sides that cross
-    Says("3", FAILED, "presolve error"), Says("4", Code.UNSURE, "solve error"),
-    Says("5", Code.UNSURE, "postsolve error"), Says("6", Code.UNSURE, "empty model"),
-    Says("7", Code.SOLVED, OPTIMAL), Says("8", Code.INFEASIBLE, "infeasible"),
-    Says("9", Code.INFEASIBLE_OR_UNBOUNDED, "infeasible or unbounded"),
-    Says("10", Code.UNBOUNDED, "unbounded"),
-    Says("11", Code.LIMIT, "a bound of the objective"),
-    Says("12", Code.LIMIT, "a target of the objective"),
-    Says("13", Code.LIMIT, TIME), Says("14", Code.LIMIT, "the iteration limit"),
-    Says("15", Code.UNSURE, "unknown"), Says("16", Code.LIMIT, "the limit of solutions"),
-    Says("17", Code.LIMIT, "an interrupt"),
-)
+# HiGHS: the number in SciPy's message; 2 are bounds or sides that cross
+HIGHS = table("""
+NO_ANSWER: 0 = not set | 1 = load error | 3 = presolve error
+UNSURE: 4 = solve error | 5 = postsolve error | 6 = empty model | 15 = unknown
+SOLVED: 7 = optimal solution
+INFEASIBLE: 2 = infeasible | 8 = infeasible
+INFEASIBLE_OR_UNBOUNDED: 9 = infeasible or unbounded
+UNBOUNDED: 10 = unbounded
+LIMIT: 11 = a bound of the objective | 12 = a target of the objective | 13 = the time limit
+ | 14 = the iteration limit | 16 = the limit of solutions | 17 = an interrupt
+""")
 
 # QSopt_ex: the first line of its answer, or a line of its log where it has none
-ESOLVER = (
-    Says("OPTIMAL", Code.SOLVED, OPTIMAL), Says("INFEASIBLE", Code.INFEASIBLE, "infeasible"),
-    Says("UNBOUNDED", Code.UNBOUNDED, "unbounded"),
-    Says("UNDEFINED", FAILED, "undefined"), Says("NOT_SOLVED", FAILED, "not solved"),
-    Says("TIME_LIMIT_REACHED", Code.LIMIT, TIME),
-    Says("MEMORY_LIMIT_REACHED", Code.LIMIT, "the memory limit"),
-    Says("USER_INTERRUPT", Code.LIMIT, "an interrupt"),
-)
+ESOLVER = table("""
+SOLVED: OPTIMAL = optimal solution
+INFEASIBLE: INFEASIBLE
+UNBOUNDED: UNBOUNDED
+NO_ANSWER: UNDEFINED | NOT_SOLVED
+LIMIT: TIME_LIMIT_REACHED = the time limit | MEMORY_LIMIT_REACHED = the memory limit
+ | USER_INTERRUPT = an interrupt
+""")
 
 
 def row_of(rows: Sequence[Says], status: str) -> Says | None:
