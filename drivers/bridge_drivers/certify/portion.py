@@ -12,7 +12,7 @@ from fractions import Fraction
 from typing import Callable, Dict, List, NamedTuple, Optional, Sequence, Tuple
 
 from . import points, tree as trees
-from .choice import Choice, Gains
+from .choice import Choice, Learnt
 from .model import Added, Model, Point
 from .parts import Better, Done, Opened, Step
 from .search import Goal, Search
@@ -23,8 +23,6 @@ EXACT_SECONDS = 30.0            # for an exact point
 MOST_KEPT = 2                   # programs of a process
 
 Exact = Callable[[Sequence[float]], Optional[Point]]
-Sums = Tuple[Dict[int, float], Dict[int, int]]
-Learnt = Tuple[Sums, Sums]      # what splits gained so far, downwards and upwards
 
 
 class Problem(NamedTuple):
@@ -64,7 +62,7 @@ class Portion(NamedTuple):
     problem: bytes
     above: Sequence[Step]
     opened: Sequence[Opened]
-    learnt: Optional[Learnt]
+    learnt: Learnt
     seconds: float
 
 
@@ -98,7 +96,7 @@ class Going:
     def work(self, portion: Portion, watch: Watch) -> Outcome:
         began, search = time.process_time(), self.search
         search.watch, search.until = watch, portion.seconds
-        search.choice = choice(search.choice.strong, portion.learnt)
+        search.choice = Choice(search.choice.strong, portion.learnt)
         search.begin(portion.above, portion.opened)
         done: Done | None = None
         better: tuple[Point, Fraction] | None = None
@@ -115,21 +113,8 @@ class Going:
         return Outcome(None if done is None else trees.flat(done.tree),
                        frozenset() if done is None else frozenset(depths[o] for o in done.needs),
                        [] if done else list(map(worked, search.opened())),
-                       learnt(search.choice), self.spool.taken(), better, fault, search.nodes,
-                       time.process_time() - began)
-
-
-def choice(strong: int, before: Learnt | None) -> Choice:
-    new = Choice(strong)
-    for gains, sums in zip((new.down, new.up), before or ()):
-        gains.sums, gains.counts = dict(sums[0]), dict(sums[1])
-    return new
-
-
-def learnt(of: Choice) -> Learnt:
-    def sums(gains: Gains) -> Sums:
-        return gains.sums, gains.counts
-    return sums(of.down), sums(of.up)
+                       (search.choice.down, search.choice.up), self.spool.taken(), better, fault,
+                       search.nodes, time.process_time() - began)
 
 
 def worked(one: Opened) -> Worked:
