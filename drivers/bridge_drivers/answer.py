@@ -89,9 +89,9 @@ class Answer:
         if not is_own:
             known = {row: duals[row] for row in self.program.constraints if row in duals}
             lacks = len(known) < len(self.program.constraints) or self.is_integer()
-            return Answer(self.program, replace(outcome, duals=None if lacks else known,
-                                                costs=None, column_basis=None, row_basis=None),
-                          self.options)
+            return Answer(self.program, replace(
+                outcome, duals=None if lacks else known, column_basis=None, row_basis=None,
+                costs=None if lacks else self.reduced_costs(known)), self.options)
         old = outcome.duals
         if duals and old is not None and all(
                 abs(float(y) - float(old[row])) <= NEAR_DUAL * max(1.0, abs(float(y)))
@@ -100,6 +100,17 @@ class Answer:
         other = Answer(self.program, replace(outcome, costs=None), self.options)
         other.outcome, other.costs = outcome, self.costs
         return other if self.duals is not None else other.without_duals()
+
+    def reduced_costs(self, duals: Mapping[str, Fraction]) -> dict[str, Fraction]:
+        """What these leave of the costs, exactly."""
+        p = self.program
+        numbers = list(map(Fraction, map(bytes.decode, p.read.numbers)))
+        y = {i: duals[row] for i, row in enumerate(p.constraints) if duals[row]}
+        costs = [Fraction(p.costs.get(column, 0)) for column in p.columns]
+        for i, j, k in zip(*p.read.entries()):
+            if i in y:
+                costs[j] -= y[i] * numbers[k]
+        return dict(zip(p.columns, costs))
 
     def is_integer(self) -> bool:
         return bool(self.program.whole) and not self.options.relax

@@ -207,8 +207,8 @@ class Certifier:
         if said.word == "feasible" and self.linear:
             text += "; no bound was found that says how good it is" if not note else ""
         elif said.word == "feasible":
-            text += "; whether one is better was not searched for: prove=1 goes on" \
-                if not self.job.options.prove else "; the search for a better one did not end"
+            more = "" if self.job.options.prove else ": prove=1 goes on"
+            text += f"; the search for a better one did not end{more}"
         return ["in words: " + text]
 
     def kept(self, verdict: Verdict) -> Kept | None:

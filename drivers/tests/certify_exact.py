@@ -6,20 +6,19 @@ from __future__ import annotations
 import contextlib
 import itertools
 import random
-from fractions import Fraction as F
 from unittest import TestCase, main, mock
 
 from support import NEEDS_CLP, NEEDS_PROGRAM, PROGRAM, Case
 from bridge_drivers import solvers
 from bridge_drivers.bridge import Bridge
-from bridge_drivers.certify import doubles, equations, points
+from bridge_drivers.certify import doubles, points
 from bridge_drivers.certify.claims import Certifying, Given, certified
 from bridge_drivers.certify.leaves import Closer
 from bridge_drivers.certify.model import Box, Model
 from bridge_drivers.certify.simplex import Ended, Simplex
 from bridge_drivers.certify.watch import Watch
 from bridge_drivers.program import Program
-from misleading_more import more
+from misleading_kinds import models
 from models import MODELS, nl, whole
 
 MOST_STEPS = 3000
@@ -117,12 +116,22 @@ class Programs(Case):
     def test_qsopt_and_pivots(self) -> None:
         """Nearly singular ones, by QSopt_ex where its program is there, and in whole numbers."""
         solver = solvers.load("esolver")
-        for model in more(4):
+        for model in models(4):
             if model.is_linear() and any(model.costs.values()):
-                wanted = "unbounded" if model.is_endless else f"optimal {model.best}"
+                wanted = "unbounded" if model.is_endless else \
+                    "infeasible" if model.best is None else f"optimal {model.best}"
                 for is_there in [False, True] if solver.place() else [False]:
                     with self.subTest(model=model.name, by_qsopt=is_there):
                         self.assertEqual(self.claim(model.text(), is_there, wanted), wanted)
+
+    def test_planes(self) -> None:
+        """Columns, and rows with the same terms up to a factor, without a whole number between."""
+        for model in models():
+            if model.name.startswith(("two_rows", "crossing_bounds")):
+                work = self.work(model.text())
+                work.load()
+                found = work.best(work.planes())
+                self.assertEqual(found.is_proved(), model.best is None, model.name)
 
     @NEEDS_CLP
     def test_linear_ones_without_an_answer(self) -> None:
@@ -169,37 +178,6 @@ class Doubles(TestCase):
             broken = [v + 1e-6 * max(1.0, abs(v)) for v in x]
             self.assertFalse(doubles.closes(p, broken, y) and doubles.misses(p, broken))
         self.assertGreater(closed, 40)
-
-
-class Planes(TestCase):
-    """Columns and rows of whole numbers between whose ends there is none."""
-
-    def model(self, lo: str, hi: str, row: "tuple[str, str] | None" = None) -> Model:
-        side = [" RHS c0 " + row[0], "RANGES", " RNG c0 " + row[1]] if row else [" RHS c0 0"]
-        return Model("\n".join([
-            "NAME nl", "ROWS", " N obj", " G c0", "COLUMNS", " M0 'MARKER' 'INTORG'",
-            " x0 obj 1", " x0 c0 3", " x1 c0 -6", " M1 'MARKER' 'INTEND'", "RHS", *side, "BOUNDS",
-            f" LO BND x0 {lo}", f" UP BND x0 {hi}", " FR BND x1", "ENDATA", ""]).encode(), {}, 1)
-
-    def test_columns_and_rows(self) -> None:
-        for lo, hi, row, form, at in (
-                ("1.0000001", "1.9999999", None, {0: 1}, 1), ("1", "1.5", None, None, 0),
-                ("-0.5", "-0.25", None, {0: 1}, -1), ("0", "9", ("0.1", "2.8"), {0: 1, 1: -2}, 0),
-                ("0", "9", ("0.1", "2.9"), None, 0),
-                ("0", "9", ("-2.9", "2.8"), {0: 1, 1: -2}, -1)):
-            found = equations.hollow(self.model(lo, hi, row))
-            self.assertEqual(found is None, form is None, (lo, hi, row))
-            if found is not None:
-                self.assertEqual((found.form, found.at), (form, at))
-
-    def test_against_all_values(self) -> None:
-        """Where a column has no value, and there alone."""
-        rng = random.Random(1)
-        for _ in range(200):
-            lo, by = F(rng.randint(-20, 20), 4), F(rng.randint(0, 7), 4)
-            p = self.model(str(float(lo)), str(float(lo + by)))
-            values = [v for v in range(-30, 30) if lo <= v <= lo + by]
-            self.assertEqual(equations.hollow(p) is not None, not values)
 
 
 if __name__ == "__main__":

@@ -100,7 +100,7 @@ class Misled(Through):
     none that is right and exact is lost. `misled.py` runs all of them, both ways."""
 
     def through(self, driver: str, *words: str) -> None:
-        for model in misled.family(EACH_MISLED, EACH_MISLED):
+        for model in misled.models(EACH_MISLED):
             if not misled.takes(driver, model):
                 continue
             with self.subTest(model=model.name):

@@ -1,25 +1,21 @@
-#!/usr/bin/env python3
-"""Families of models by size, to measure how far certificates reach.
-
-    families.py FOLDER FAMILY SIZE ..       writes FOLDER/FAMILY-SIZE.nl; the same words give the
-                                            same text
+"""Families of models by size, to measure how far certificates reach: the same family and size give
+the same text, and `certify_table.py families FOLDER` writes them.
 
 Linear programs, SIZE being about their nonzeros: `transport`, `flow`, `assignment`, `covering` in
 whole numbers, `staircase`, `diet`, `dense` and `decimal_flow` with decimals; `uneven`: badly
 scaled; `parallel`: SIZE pairs of rows that are nearly parallel. Integer programs, SIZE being
-columns, periods or things:
-`knapsack`, `lots`, `packing`, `stock`, `pigeons`, `frobenius`, `split`.
+columns, periods or things: `knapsack`, `lots`, `packing`, `stock`, `pigeons`, `frobenius`, `split`.
 """
 
 from __future__ import annotations
 
 import math
-import os
 import random
-import sys
 from typing import Callable, List
 
-from models import Model, nl, real, whole                      # noqa: F401
+import whole_families
+from models import nl, real, whole
+from whole_families import cutting, knapsacks
 
 
 def cents(rnd: random.Random, low: float, high: float) -> str:
@@ -177,11 +173,7 @@ def parallel(size: int, rnd: random.Random) -> bytes:
 
 
 def knapsack(size: int, rnd: random.Random) -> bytes:
-    """Of five weights, whose values follow them."""
-    a = [[rnd.randint(10, 90) for _ in range(size)] for _ in range(5)]
-    values = [sum(column) // 5 + rnd.randint(0, 20) for column in zip(*a)]
-    return nl([("B", 0, 1)] * size, [(None, sum(row) // 2, dict(enumerate(row))) for row in a],
-              [("max", 0, dict(enumerate(values)))])
+    return knapsacks(size, rnd, 10, 90, 20)
 
 
 def lots(size: int, rnd: random.Random) -> bytes:
@@ -201,25 +193,11 @@ def lots(size: int, rnd: random.Random) -> bytes:
 
 
 def packing(size: int, rnd: random.Random) -> bytes:
-    """Things into the fewest bins of 100."""
-    weights, bins = [rnd.randint(20, 60) for _ in range(size)], (size + 1) // 2 + 1
-    columns = [("B", 0, 1)] * (bins * (size + 1))
-    rows = [(1, 1, {bins + i * bins + b: 1 for b in range(bins)}) for i in range(size)]
-    rows += [(None, 0, {b: -100, **{bins + i * bins + b: w for i, w in enumerate(weights)}})
-             for b in range(bins)]
-    return nl(columns, rows, [("min", 0, dict.fromkeys(range(bins), 1))])
+    return whole_families.packing(size, rnd, (size + 1) // 2 + 1)
 
 
 def stock(size: int, rnd: random.Random) -> bytes:
-    """Pieces of SIZE lengths cut from the fewest rolls."""
-    lengths = rnd.sample(range(20, 70), size)
-    need, rolls = [rnd.randint(1, 3) for _ in range(size)], size + 1
-    columns = [("B", 0, 1)] * rolls + [whole(0, 3)] * (rolls * size)
-    rows = [(need[i], None, {rolls + i * rolls + b: 1 for b in range(rolls)})
-            for i in range(size)]
-    rows += [(None, 0, {b: -100, **{rolls + i * rolls + b: v for i, v in enumerate(lengths)}})
-             for b in range(rolls)]
-    return nl(columns, rows, [("min", 0, dict.fromkeys(range(rolls), 1))])
+    return cutting(size, rnd, 20, (1, 3), 3, size + 1)
 
 
 def pigeons(size: int, rnd: random.Random) -> bytes:
@@ -269,16 +247,3 @@ FAMILIES = {f.__name__: f for f in (transport, assignment, flow, decimal_flow, c
 
 def made(name: str, size: int) -> bytes:
     return FAMILIES[name](size, random.Random(f"{name} {size}"))
-
-
-def main() -> None:
-    if len(sys.argv) < 4 or len(sys.argv) % 2:
-        sys.exit(__doc__)
-    os.makedirs(sys.argv[1], exist_ok=True)
-    for name, size in zip(sys.argv[2::2], sys.argv[3::2]):
-        with open(os.path.join(sys.argv[1], f"{name}-{size}.nl"), "wb") as f:
-            f.write(made(name, int(size)))
-
-
-if __name__ == "__main__":
-    main()

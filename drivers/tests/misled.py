@@ -1,41 +1,42 @@
 #!/usr/bin/env python3
-"""Models that mislead solvers in doubles (misleading.py, misleading_more.py) through drivers: what
-ends with code 0 and is wrong, and what a solver answered rightly and exactly and the driver lost.
+"""Models that mislead solvers in doubles (misleading_kinds.py) through drivers: what ends with code
+0 and is wrong, and what a solver answered rightly and exactly and the driver lost.
 
     misled.py [DRIVER ..] [KIND ..] [option=value ..]   all six drivers, where they are; all kinds
 
 BRIDGE names the program. Each model goes through each driver as it comes, and with `prove=1`;
-`prove=0` or `prove=1` says which alone, `each=2` takes two models of each kind, `code=100` lists
-those that end with it. `second=5` makes five of the second that a run without
-`prove=1` has for its certificate: on a machine that does much else. A line for each wrong or lost
-answer, and one for each driver: how many end with which code. The status is 1 where one is wrong.
+`prove=0` or `prove=1` says which alone, `each=2` takes two models of each kind. `second=5` makes
+five of the second that a run without `prove=1` has for its certificate, `time=60` sixty of the ten
+that a run has: on a machine that does much else. `workers=2` runs two at a time. `log=FILE` gets a
+line for each run, and what stands there is not run again. A line for each wrong or lost answer, and
+one for each driver: how many end with which code. The status is 1 where one is wrong.
 """
 
 from __future__ import annotations
 
 import collections
-import itertools
+import json
 import os
 import sys
 import tempfile
 import time
-from concurrent.futures import ProcessPoolExecutor
+from concurrent.futures import ProcessPoolExecutor, as_completed
 from fractions import Fraction as F
-from typing import Any, Iterator, NamedTuple
+from typing import Any, NamedTuple
 
 sys.dont_write_bytecode = True
 HERE = os.path.dirname(os.path.abspath(__file__))
 sys.path[:0] = [HERE]
 
-from misleading import EACH, Misleading, models         # noqa: E402
-from misleading_more import EACH as EACH_MORE, more     # noqa: E402
+from misleading import Misleading               # noqa: E402
+from misleading_kinds import EACH, models       # noqa: E402
 from support import Sol                         # noqa: E402
 from bridge_drivers import certificates, solvers    # noqa: E402
 from bridge_drivers.codes import Code           # noqa: E402
 from bridge_drivers.driver import Driver        # noqa: E402
 from bridge_drivers.solving import Solving      # noqa: E402
 
-WORKERS, SECONDS = 4, 10        # lp_solve goes on for ever at some of them
+OWN = {"second": "1", "each": str(EACH), "time": "10", "workers": "4", "log": ""}
 
 
 class Judged(NamedTuple):
@@ -62,18 +63,13 @@ class NotingDriver(Driver):
     make_solving = Noting
 
 
-def family(each: int = EACH, each_more: int = EACH_MORE) -> Iterator[Misleading]:
-    """The first models of each kind."""
-    return itertools.chain(models(each), more(each_more))
-
-
 def judged(folder: str, driver: str, model: Misleading, options: list[str]) -> Judged:
     """One run. What a solver takes no whole variables for is refused, and that is right."""
     stub = os.path.join(folder, f"{driver}-{model.name}-{'-'.join(options)}")
     with open(stub + ".nl", "wb") as f:
         f.write(model.text())
     Noting.own = None
-    status = NotingDriver(driver).main([stub, "-AMPL", "-e", f"timelim={SECONDS}", *options])
+    status = NotingDriver(driver).main([stub, "-AMPL", "-e", *options])
     if status != 0:
         return Judged(-1, f"it ended with {status}")
     return told(model, Sol(stub + ".sol"))
@@ -82,7 +78,9 @@ def judged(folder: str, driver: str, model: Misleading, options: list[str]) -> J
 def told(model: Misleading, sol: Sol) -> Judged:
     """Of a .sol: infeasible and unbounded are claims too, where they are proved."""
     wrong, last = "", sol.message[-1]
-    if sol.code == 0:
+    if not sol.is_allowed():
+        wrong = "no code above this line"
+    elif sol.code == 0:
         wrong = model.fault(sol.values) if sol.values or not model.columns else "no values"
     elif last == "infeasible" and model.best is not None:
         wrong = "there is a point"
@@ -113,49 +111,62 @@ def takes(driver: str, model: Misleading) -> bool:
     return solvers.load(driver).integers or model.is_linear()
 
 
+class Log:
+    """What was run, by driver, way and model: lines of JSON. `log=` keeps it."""
+
+    def __init__(self, path: str) -> None:
+        self.path, self.known = path, dict[str, Judged]()
+        if path and os.path.exists(path):
+            with open(path, encoding="utf-8") as f:
+                self.known = {key: Judged(*found) for key, *found in map(json.loads, f)}
+
+    def add(self, key: str, found: Judged) -> None:
+        self.known[key] = found
+        if self.path:
+            with open(self.path, "a", encoding="utf-8") as f:
+                f.write(json.dumps([key, *found]) + "\n")
+
+
 def main() -> int:
     words = [w for w in sys.argv[1:] if "=" not in w]
-    options = [w for w in sys.argv[1:] if "=" in w
-               and not w.startswith(("second=", "prove=", "each=", "code="))]
-    codes = [int(w[5:]) for w in sys.argv[1:] if w.startswith("code=")]
-    ways = [w for w in sys.argv[1:] if w.startswith("prove=")] or ["prove=0", "prove=1"]
-    counts = (EACH, EACH_MORE)
-    for name, _, value in (word.partition("=") for word in sys.argv[1:]):
-        if name == "second":
-            certificates.ONE_LEAF = float(value)
-        if name == "each":
-            counts = int(value), int(value)
+    given = dict(w.split("=", 1) for w in sys.argv[1:] if "=" in w)
+    own = {name: given.pop(name, value) for name, value in OWN.items()}
+    ways = [given.pop("prove")] if "prove" in given else ["0", "1"]
+    options = [f"timelim={own['time']}", *(f"{name}={value}" for name, value in given.items())]
+    certificates.ONE_LEAF = float(own["second"])
     kinds = [w for w in words if w not in solvers.NAMES]
-    chosen = [m for m in family(*counts) if not kinds or m.name.rstrip("0123456789") in kinds]
+    chosen = [m for m in models(int(own["each"]))
+              if not kinds or m.name.rstrip("0123456789") in kinds]
     print(f"{len(chosen)} models, {sum(m.best is None for m in chosen)} without a point, "
           f"{sum(m.is_endless for m in chosen)} without an end", flush=True)
-    wrong = 0
+    wrong, log = 0, Log(own["log"])
     for driver in [w for w in words if w in solvers.NAMES] or solvers.NAMES:
         for way in ways if solvers.load(driver).place() else ():
-            wrong += run(driver, [m for m in chosen if takes(driver, m)], [way, *options], codes)
+            wrong += run(driver, [m for m in chosen if takes(driver, m)],
+                         [f"prove={way}", *options], int(own["workers"]), log)
     print(f"{wrong} wrong")
     return 1 if wrong else 0
 
 
-def run(driver: str, chosen: list[Misleading], options: list[str], shown: list[int]) -> int:
+def run(driver: str, chosen: list[Misleading], options: list[str], workers: int, log: Log) -> int:
     """How many are wrong."""
-    start, codes, wrong, gone = time.monotonic(), collections.Counter(), 0, 0
+    start, key = time.monotonic(), f"{driver} {options[0]} {{}}".format
     with tempfile.TemporaryDirectory(prefix="misled-") as folder, \
-            ProcessPoolExecutor(WORKERS) as pool:
-        jobs = [pool.submit(judged, folder, driver, model, options) for model in chosen]
-        for model, job in zip(chosen, jobs):
-            found = job.result()
-            codes[found.code] += 1
-            wrong += bool(found.wrong)
-            gone += bool(found.lost)
-            left = found.last if found.code in shown else ""
-            for word, text in (("wrong", found.wrong), ("lost", found.lost), ("left", left)):
-                if text:
-                    print(f"{driver} {options[0]} {model.name}: code {found.code}, {word}: {text}",
-                          flush=True)
+            ProcessPoolExecutor(workers) as pool:
+        jobs = {pool.submit(judged, folder, driver, model, options): model.name
+                for model in chosen if key(model.name) not in log.known}
+        for job in as_completed(jobs):
+            log.add(key(jobs[job]), job.result())
+    every = {model.name: log.known[key(model.name)] for model in chosen}
+    for name, found in every.items():
+        for word, text in (("wrong", found.wrong), ("lost", found.lost)):
+            if text:
+                print(f"{key(name)}: code {found.code}, {word}: {text}", flush=True)
+    codes = collections.Counter(found.code for found in every.values())
     shares = ", ".join(f"code {code}: {count}" for code, count in sorted(codes.items()))
-    print(f"{driver} {options[0]}: {shares}; {wrong} wrong, {gone} lost; "
-          f"{time.monotonic() - start:.0f} s", flush=True)
+    wrong = sum(bool(found.wrong) for found in every.values())
+    print(f"{key('all')}: {shares}; {wrong} wrong, {sum(bool(f.lost) for f in every.values())} "
+          f"lost; {time.monotonic() - start:.0f} s", flush=True)
     return wrong
 
 

@@ -45,6 +45,7 @@ REAL = (
     Real("glpsol time", "glpsol", HARD, ["timelim=1"], (400,), "the time limit with a feasible"),
     Real("highs gap", "highs", SMALL, ["mipgap=0.4"], (0, 100), GAP),
     Real("highs time", "highs", LARGE, ["timelim=1"], (400,), "the time limit with a feasible"),
+    Real("lp_solve gap", "lp_solve", SMALL, ["mipgap=0.4"], (0, 100), GAP),
     Real("lp_solve time", "lp_solve", HARD, ["timelim=1"], (400,),
          "the time limit with a feasible"),
     Real("clp iterations", "clp", LARGE, ["extra=-maxIt 1"], (0, 100, 400, 450), ""),

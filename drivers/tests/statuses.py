@@ -96,8 +96,8 @@ class Strings(unittest.TestCase):
         texts = set()
         for path in (found("/usr/bin/esolver"), found(LIBRARIES + "libqsopt_ex.so.*")):
             if path:
-                texts |= {m.group(1) for text in strings(path) for m in
-                          [re.fullmatch(r"status =? ?([A-Z_]+)\s*", text)] if m}
+                texts |= {m.group(1) or m.group(2) for text in strings(path) for m in [re.fullmatch(
+                    r"status =? ?([A-Z_]+)\s*|([A-Z_]+) \(ending now\)\s*", text)] if m}
         if not texts:
             self.skipTest("a solver's library is not there")
         self.assertEqual(texts, {row.words for row in statuses.ESOLVER})

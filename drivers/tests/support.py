@@ -37,6 +37,9 @@ LOOSE = ("lp_solve",)           # prints six digits
 CLOSE = F(1, 10 ** 6)
 LAST_LINE = re.compile(r"(not proved: .|infeasible$|(unbounded|(optimal|feasible|bound) \S+"
                        r"|within \S+ \S+)( of objective [1-9]\d*)?$)")
+# the codes that CODES.md lets stand above a last line, by its first word
+ALLOWED = {word: set(map(int, re.findall(r"\b(?:0|[1-4]\d0)\b", codes))) for word, codes in
+           re.findall(r"^\| `(\w+).* \| (.*) \|$", Path(DRIVERS, "CODES.md").read_text(), re.M)}
 CHECKED = "bridge check of the .sol: "
 PROGRAM = find("", BESIDE) if os.environ.get("BRIDGE") else []
 HAS_CLP = clp.library() is not None
@@ -116,6 +119,11 @@ class Sol:
             self.suffixes[(int(kind) & 3, lines[at + 1])] = {int(a): F(b) for a, b in pairs}
             at += 2 + int(table) + int(count)
 
+    def is_allowed(self) -> bool:
+        """Whether its code may stand above its last line, where that is a verdict."""
+        last = self.message[-1]
+        return not LAST_LINE.match(last) or self.code in ALLOWED[last.split()[0]]
+
 
 class Injected(Bridge):
     """`bridge`, but for replies in `says`: a function of the last file's text by command, which
@@ -189,7 +197,9 @@ class Case(unittest.TestCase):
         return str(path)
 
     def sol(self) -> Sol:
-        return Sol(self.stub + ".sol")
+        sol = Sol(self.stub + ".sol")
+        self.assertTrue(sol.is_allowed(), sol.text)
+        return sol
 
     def replay(self, driver: str, name: str, *words: str, run: dict | None = None,
                environment: dict[str, str] | None = None) -> Ended:

@@ -38,10 +38,11 @@ def knapsack(n: int, apart: int, rnd: random.Random) -> bytes:
                    dict(enumerate(values)), "max")
 
 
-def knapsacks(n: int, rnd: random.Random) -> bytes:
-    """Five at once."""
-    weights = [[rnd.randint(1, 1000) for _ in range(n)] for _ in range(5)]
-    values = [sum(column) // 5 + rnd.randint(0, 500) for column in zip(*weights)]
+def knapsacks(n: int, rnd: random.Random, least: int = 1, most: int = 1000,
+              above: int = 500) -> bytes:
+    """Five at once; values follow weights."""
+    weights = [[rnd.randint(least, most) for _ in range(n)] for _ in range(5)]
+    values = [sum(column) // 5 + rnd.randint(0, above) for column in zip(*weights)]
     return program([BINARY] * n, [(None, sum(row) // 2, dict(enumerate(row))) for row in weights],
                    dict(enumerate(values)), "max")
 
@@ -90,23 +91,24 @@ def colouring(nodes: int, colours: int, rnd: random.Random) -> bytes:
                    dict.fromkeys(range(colours), 1))
 
 
-def cutting(sizes: int, rnd: random.Random) -> bytes:
-    """Rolls of 100."""
-    lengths = rnd.sample(range(15, 70), sizes)
-    need = [rnd.randint(2, 5) for _ in range(sizes)]
-    rolls = -(-sum(a * b for a, b in zip(lengths, need)) // 75) + 1
+def cutting(sizes: int, rnd: random.Random, least: int = 15, needs: Tuple[int, int] = (2, 5),
+            most: int = 6, rolls: int = 0) -> bytes:
+    """Pieces of some lengths from the fewest rolls of 100."""
+    lengths = rnd.sample(range(least, 70), sizes)
+    need = [rnd.randint(*needs) for _ in range(sizes)]
+    rolls = rolls or -(-sum(a * b for a, b in zip(lengths, need)) // 75) + 1
     rows: List[Row] = [(need[i], None, {rolls + i * rolls + b: 1 for b in range(rolls)})
                        for i in range(sizes)]
     rows += [(None, 0, {b: -100, **{rolls + i * rolls + b: v for i, v in enumerate(lengths)}})
              for b in range(rolls)]
-    return program([BINARY] * rolls + [whole(0, 6)] * (rolls * sizes), rows,
+    return program([BINARY] * rolls + [whole(0, most)] * (rolls * sizes), rows,
                    dict.fromkeys(range(rolls), 1))
 
 
-def packing(things: int, rnd: random.Random) -> bytes:
-    """Bins of 100."""
+def packing(things: int, rnd: random.Random, bins: int = 0) -> bytes:
+    """Things into the fewest bins of 100."""
     weights = [rnd.randint(20, 60) for _ in range(things)]
-    bins = -(-sum(weights) // 100) + 1
+    bins = bins or -(-sum(weights) // 100) + 1
     at = [[bins + i * bins + b for b in range(bins)] for i in range(things)]
     rows: List[Row] = [(1, 1, dict.fromkeys(one, 1)) for one in at]
     rows += [(None, 0, {b: -100, **{one[b]: w for one, w in zip(at, weights)}})

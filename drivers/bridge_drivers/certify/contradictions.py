@@ -121,6 +121,12 @@ class Contradicting(Judging):
             return Verdict(WITHOUT + "no exact point was found")
         return self.without_end(point, direction)
 
+    def endless(self) -> Iterator[Verdict]:
+        """By a ray, which is looked for wherever a point is known and no bound."""
+        direction = self.ray() if self.point is not None and self.shown is None else None
+        if self.point is not None and direction is not None:
+            yield self.without_end(self.point, direction)
+
     def without_end(self, point: Point, direction: Point | None) -> Verdict:
         self.figures = "a point and a ray"
         return self.judged(text.head("unbounded", self.objective, None, point, direction), None,

@@ -3,40 +3,70 @@ by the Hermite form. Each is a plane both of whose parts close."""
 
 from __future__ import annotations
 
+from collections import Counter
 from fractions import Fraction
 from math import floor, gcd, lcm
-from typing import Dict, List, Mapping, NamedTuple
+from typing import Dict, Iterator, List, Mapping, NamedTuple, Tuple
 
 from .model import Model
 
 MOST_ROWS = 120
 MOST_NUMBER = 10 ** 60
+End = Tuple[Fraction, Dict[int, Fraction]]      # with the multipliers that show it
 
 
 class Parity(NamedTuple):
-    """A form that multipliers of equations make whole, between whose values `at` and `at + 1`
-    the equations' side lies."""
+    """A whole form that is more than `at` by the multipliers of `low`, and less than `at + 1` by
+    those of `high`; by none where its ends are a column's bounds."""
 
     form: Dict[int, int]
     at: int
-    multipliers: Dict[int, Fraction]
+    low: Dict[int, Fraction]
+    high: Dict[int, Fraction]
 
 
 def hollow(p: Model) -> Parity | None:
-    """A whole column, or a row of whole columns, between whose ends there is no value: the plane
-    there."""
+    """A whole form between whose ends there is no whole number: the plane there. A column is one,
+    and so are all rows of whole columns whose terms are the same up to a factor."""
     for j, (lo, hi) in enumerate(zip(p.lo, p.hi)):
         if p.whole[j] and lo is not None and hi is not None and -(-lo // p.unit) > hi // p.unit:
-            return Parity({j: 1}, hi // p.unit, {})
-    for i, (row, lo, hi) in enumerate(zip(p.rows, p.side_lo, p.side_hi)):
-        if not row or lo is None or hi is None or not all(p.whole[j] for j, _ in row):
-            continue
-        step = Fraction(gcd(*(a for _, a in row)), p.scale)
-        at = floor(Fraction(hi, p.unit) / step)
-        if Fraction(lo, p.unit) / step > at:
-            form = {j: int(Fraction(a, p.scale) / step) for j, a in row}
-            return Parity(form, at, {i: 1 / step})
+            return Parity({j: 1}, hi // p.unit, {}, {})
+    lows: Dict[object, End] = {}
+    highs: Dict[object, End] = {}
+    for i in alike(p):
+        row = p.rows[i]
+        step = gcd(*(a for _, a in row)) * (1 if row[0][1] > 0 else -1)
+        form = {j: a // step for j, a in row}
+        key = tuple(form.items())
+        for is_upper, end in ends(p, i, Fraction(p.scale, step)):
+            known, closest = (highs, min) if is_upper else (lows, max)
+            known[key] = closest(known.get(key, end), end, key=lambda end: end[0])
+        if key in lows and key in highs and floor(highs[key][0]) < lows[key][0]:
+            return Parity(form, floor(highs[key][0]), lows[key][1], highs[key][1])
     return None
+
+
+def alike(p: Model) -> Iterator[int]:
+    """Rows of whole columns that have two ends, or may have terms of others."""
+    kinds = [(len(row), row[0][0], row[-1][0]) if row else None for row in p.rows]
+    counts = Counter(kinds)
+    for i, row in enumerate(p.rows):
+        is_alone = len(row) > 1 and counts[kinds[i]] == 1
+        if row and not (is_alone and None in (p.side_lo[i], p.side_hi[i])) \
+                and all(p.whole[j] for j, _ in row):
+            yield i
+
+
+def ends(p: Model, i: int, u: Fraction) -> Iterator[Tuple[bool, End]]:
+    """Of the form that is u times a row, those below and above; of a column alone its bounds
+    too."""
+    for is_upper, side in ((False, p.side_lo[i]), (True, p.side_hi[i])):
+        if side is not None:
+            yield is_upper == (u > 0), (u * Fraction(side, p.unit), {i: u})
+    j = p.rows[i][0][0]
+    for is_upper, side in ((False, p.lo[j]), (True, p.hi[j])) if len(p.rows[i]) == 1 else ():
+        if side is not None:
+            yield is_upper, (Fraction(side, p.unit), {})
 
 
 class Equality(NamedTuple):
@@ -66,7 +96,7 @@ def parity(p: Model) -> Parity | None:
             form[j] = form.get(j, Fraction(0)) + u * a
     whole = {j: int(a) for j, a in form.items() if a}
     used = {row.row: u for row, u in zip(rows, found) if u}
-    return Parity(whole, floor(total), used) if whole else None
+    return Parity(whole, floor(total), used, used) if whole else None
 
 
 def multipliers(rows: List[Equality]) -> list[Fraction] | None:

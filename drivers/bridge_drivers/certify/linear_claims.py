@@ -53,6 +53,7 @@ class LinearClaims(Contradicting):
             yield Verdict(NO_POINT)
             yield from self.where_it_fits(self.infeasible)
         self.know_trivial()
+        yield from self.endless()
         yield from self.told()
 
     def at_points(self, given: Given, clp: Clp | None) -> Iterator[Verdict]:

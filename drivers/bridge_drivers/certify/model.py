@@ -203,13 +203,15 @@ class Model:
         return self.with_costs([Fraction(0)] * self.n, self.constant)
 
     def cone(self) -> Model:
-        """The directions in which the program has no end, each column at most 1 in size."""
+        """The directions in which the program has no end, each column at most 1 in size, and the
+        greatest cost 1."""
         def zero(ends: Sides) -> Sides:
             return [None if end is None else 0 for end in ends]
         new = self.with_bounds([-1 if v is None else 0 for v in self.lo],
                                [1 if v is None else 0 for v in self.hi])
         new.side_lo, new.side_hi, new.unit = zero(self.side_lo), zero(self.side_hi), 1
-        return new.with_costs(self.cost)
+        most = max(map(abs, self.cost), default=Fraction(0)) or Fraction(1)
+        return new.with_costs([c / most for c in self.cost])
 
     # in doubles --------------------------------------------------------------------
 

@@ -157,6 +157,8 @@ class Plans:
             return []
         if self.step is None:
             return directions(p)
+        if math.isinf(self.maker.base):
+            return []
         units = (self.maker.base - float(p.constant)) / float(self.step.size)
         return directions(p, self.step.form, Fraction(max(self.value.at - units, 0.5)))
 

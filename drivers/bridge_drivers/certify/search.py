@@ -15,10 +15,12 @@ from .clp import Clp, State
 from .leaves import Closed, Closer, Multipliers
 from .model import TIGHT, Box, Model, Point
 from .parts import Better, Branch, Done, Owner, Parts
+from .points import Basis, vertex
 from .tree import Empty, Leaf, Spool, Tree
 from .watch import Paused, Stopped, Watch
 
-NEAR = 1e-6                     # of a whole number: not split first
+NEAR, TINY = 1e-6, Fraction(1, 10 ** 9)     # of a whole number: not split first; it is this
+LARGE = 2.0 ** 53               # from here on doubles do not hold each whole number
 CLOSE = 1e-7                    # of the goal: a leaf is tried
 FEASIBLE = 1e-9                 # by how much rows may be missed
 LEAST = 1e-14                   # the same where nothing else is left to try
@@ -210,10 +212,15 @@ class Search(Parts):
 
     # splits ------------------------------------------------------------------------
 
-    def branched(self, x: Sequence[float], base: float, state: State) -> Branch | Done:
+    def branched(self, x: Sequence[float | Fraction], base: float, state: State) -> Branch | Done:
         """A split of what is not whole. Where all is: a better point where it is an exact one,
-        else a split of what is whole only within a tolerance, or of what is not fixed."""
+        else a split of what is whole only within a tolerance, or of what is not fixed. Whole values
+        that doubles do not tell apart are the exact ones of the basis."""
         p = self.model
+        if state is State.OPTIMAL and any(w and abs(v) >= LARGE for v, w in zip(x, p.whole)):
+            part = p.with_bounds(self.box.lo, self.box.hi).with_whole([False] * p.n)
+            x = vertex(part, Basis(*self.clp.basis()), x) or [
+                next((end for end in part.ends(j) if float(end) == v), v) for j, v in enumerate(x)]
         values = [*x, *(sum(a * x[j] for j, a in terms) for terms in self.form_terms)]
         apart = [abs(v - round(v)) for v in values]
         fractional = [j for j, w in enumerate(p.whole) if w and apart[j] > NEAR]
@@ -236,7 +243,7 @@ class Search(Parts):
             raise Stopped("a leaf does not close")
         return done
 
-    def compare(self, x: Sequence[float]) -> None:
+    def compare(self, x: Sequence[float | Fraction]) -> None:
         """Better where the exact point there should not be."""
         p, aim = self.model, self.aim
         point = [Fraction(round(v)) for v in x] if all(p.whole) else aim.exact(x)
@@ -246,18 +253,18 @@ class Search(Parts):
         if aim.target is None or value < aim.target or aim.strict and value == aim.target:
             raise Better(point, value)
 
-    def unfixed(self, apart: Sequence[float]) -> int | None:
+    def unfixed(self, apart: Sequence[float | Fraction]) -> int | None:
         """A whole column that is not fixed: the least whole, else one with a cost and the
         widest."""
         p = self.model
-        best: tuple[float, bool, float] | None = None
+        best: tuple[float | Fraction, bool, float] | None = None
         column = None
         for j, is_whole in enumerate(p.whole):
             lo, hi = self.ends(j)
             if not is_whole:
                 continue
             is_wide = lo is None or hi is None
-            if not is_wide and -(-lo // p.unit) >= hi // p.unit:        # type: ignore
+            if lo == hi and lo is not None:     # others are rounded by it
                 continue
             width = math.inf if is_wide else float(hi - lo)             # type: ignore
             rank = (apart[j], bool(p.cost[j]), -width)
@@ -265,10 +272,10 @@ class Search(Parts):
                 best, column = rank, j
         return column
 
-    def branch(self, column: int, value: float, first: int, base: float) -> Branch:
+    def branch(self, column: int, value: float | Fraction, first: int, base: float) -> Branch:
         """Bounds of whole columns need not be whole: a part may be empty, but never both."""
         (lo, hi), unit = self.ends(column), self.model.unit
-        at = math.floor(value + 1e-9)
+        at = math.floor(value + TINY)
         if column < self.model.n:
             if hi is not None:
                 at = min(at, -(-hi // unit) - 1)

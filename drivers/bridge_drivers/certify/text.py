@@ -133,9 +133,9 @@ def answer_lines(values: Sequence[str], duals: Sequence[str], objective: int) ->
 
 
 def parity_lines(odd: Parity, row: int) -> Iterator[str]:
-    """The plane between whose parts the side lies; it is row `row`."""
+    """The plane between whose parts the ends lie; it is row `row`."""
     yield from head("infeasible", None)
     yield from plane_lines(odd.form, odd.at)
-    for sign in (1, -1):
-        weights = {i: sign * u for i, u in odd.multipliers.items()}
+    for sign, multipliers in ((1, odd.low), (-1, odd.high)):
+        weights = {i: sign * u for i, u in multipliers.items()}
         yield from duals_lines({**weights, row: Fraction(-sign)}, True)

@@ -8,7 +8,7 @@ from dataclasses import dataclass, field
 from typing import TYPE_CHECKING, Mapping, Sequence
 
 from ..codes import Code
-from ..options import Option
+from ..options import SHARE, Option
 from ..values import Number
 from .statuses import Says
 
@@ -20,6 +20,7 @@ if TYPE_CHECKING:
 BASIC, SUPERBASIC, LOWER, UPPER, EQUAL = 1, 2, 3, 4, 5
 
 
+GAP = Option("mipgap", 0.0, SHARE, "relative gap at which the search stops")
 LONGEST = 200                           # of a line of a log that is told
 NONE_YET = 1e40                         # what stands for an incumbent where there is none
 

@@ -3,8 +3,8 @@
 from __future__ import annotations
 
 from ..job import Job
-from ..options import SHARE, Option
-from .base import Outcome
+from ..options import Option
+from .base import GAP, Outcome
 from .coin import Coin
 
 
@@ -13,7 +13,7 @@ class Cbc(Coin):
     package = "coinor-cbc"
     again = "without preprocessing"
     version = r"Version: (\S+)"
-    options = (Option("mipgap", 0.0, SHARE, "relative gap at which the search stops"),
+    options = (GAP,
                Option("threads", 0, int, "threads of the search"))
 
     def solve(self, job: Job) -> Outcome:

@@ -10,7 +10,7 @@ from ..job import Job
 from ..program import Program
 from .base import Outcome, Solver, Unclear, first_line, outcome, read_lines, stopped
 from .coin import basis
-from .statuses import ESOLVER, row_of
+from .statuses import ESOLVER, row_in, row_of
 
 SECTIONS = ("VARS", "REDUCED COST", "PI", "SLACK")
 
@@ -31,7 +31,7 @@ class Esolver(Solver):
         ran = job.run(words + job.extra + ["-O", out, "-b", basis_file, path])
         lines = read_lines(out)
         if lines is None:
-            if ran.killed:
+            if ran.killed or row_in(ESOLVER, ran.log):
                 return Outcome(*stopped("the time limit", False))
             raise Unclear(first_line(ran.log, "error"))
         says = row_of(ESOLVER, status_of(lines))

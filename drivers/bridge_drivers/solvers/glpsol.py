@@ -6,10 +6,10 @@ import math
 
 from ..codes import Code
 from ..job import Job, Ran
-from ..options import SHARE, SWITCH, Option
+from ..options import SWITCH, Option
 from ..program import Program
-from .base import (BASIC, EQUAL, LOWER, SUPERBASIC, UPPER, Outcome, Solver, Unclear, first_line,
-                   has_values, outcome, read_lines, stopped)
+from .base import (BASIC, EQUAL, GAP, LOWER, SUPERBASIC, UPPER, Outcome, Solver, Unclear,
+                   first_line, has_values, outcome, read_lines, stopped)
 from .statuses import GLPK, GLPK_FILE, row_in, row_of
 
 LETTERS = {"b": BASIC, "l": LOWER, "u": UPPER, "f": SUPERBASIC, "s": EQUAL}
@@ -25,7 +25,7 @@ class Glpsol(Solver):
              r"\((?P<open>\d+);",
              r"^[ *#] *(?P<iterations>\d+): obj = +(?P<objective>\S+)")
     version = r"GLPSOL.*?Solver,? v?(\S+)"
-    options = (Option("mipgap", 0.0, SHARE, "relative gap at which the search stops"),
+    options = (GAP,
                Option("xcheck", 0, SWITCH, "1: glpsol checks its final basis in exact arithmetic"))
 
     def solve(self, job: Job) -> Outcome:

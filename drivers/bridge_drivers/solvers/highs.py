@@ -12,9 +12,8 @@ from typing import Any
 
 from ..codes import Code
 from ..job import Job
-from ..options import SHARE, Option
 from ..program import Program
-from .base import (Outcome, Solver, Unclear, first_line, has_values, outcome, read_lines,
+from .base import (GAP, Outcome, Solver, Unclear, first_line, has_values, outcome, read_lines,
                    stopped)
 from .statuses import HIGHS, row_of
 
@@ -31,7 +30,7 @@ class Highs(Solver):
     version = r"HiGHS of SciPy (\S+)"
     again = "without presolve"
     infinite = "1e20"
-    options = (Option("mipgap", 0.0, SHARE, "relative gap at which the search stops"),)
+    options = (GAP,)
 
     def place(self, named: str = "") -> str | None:
         for word in (named,) if named else PLACES:

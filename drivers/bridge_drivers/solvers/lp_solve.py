@@ -8,11 +8,12 @@ import math
 from ..codes import Code
 from ..job import Job
 from ..program import Program
-from .base import Outcome, Solver, Unclear, first_line, has_values, outcome, stopped
+from .base import GAP, Outcome, Solver, Unclear, first_line, has_values, outcome, stopped
 from .statuses import LP_SOLVE, OPTIMAL, TIME, Says, row_in
 
 INFINITE = 1e30
 NOTE = "lp_solve prints six digits"
+TO_GAPS = {"-g", "-ga", "-gr", "-f"}    # words with which it stops at a gap, and does not say so
 SOLVED, SUBOPTIMAL = Says("", Code.SOLVED, OPTIMAL), "Suboptimal solution"
 
 
@@ -21,6 +22,7 @@ class LpSolve(Solver):
     package = "lp-solve"
     again = "without scaling"
     infinite = "1e30"
+    options = (GAP,)
 
     def solve(self, job: Job) -> Outcome:
         options, p = job.options, job.program
@@ -28,6 +30,8 @@ class LpSolve(Solver):
         words = [job.solver, *self.reading(p, job.write("lp_solve.mps", job.given.text))]
         if options.relax:
             words += ["-noint"]
+        if options.own["mipgap"]:
+            words += ["-gr", f"{options.own['mipgap']:g}"]
         if job.again:
             words += ["-s0"]
         if options.timelim:
@@ -54,9 +58,11 @@ class LpSolve(Solver):
         found.notes.append(NOTE)
         duals = {name: y for name, y in parts["duals"].items() if name in p.kinds}
         costs = {name: d for name, d in parts["duals"].items() if name not in p.kinds}
-        if found.code == Code.SOLVED and (not p.whole or options.relax) \
-                and set(duals) == set(p.constraints):
+        is_whole = bool(p.whole) and not options.relax
+        if found.code == Code.SOLVED and not is_whole and set(duals) == set(p.constraints):
             found.duals, found.costs = duals, costs
+        if found.code == Code.SOLVED and is_whole and TO_GAPS.intersection(words + job.extra):
+            found.code, found.text, found.is_gap = Code.UNSURE, "solution within the gap", True
         return found
 
     def reading(self, program: Program, path: str) -> list[str]:

@@ -100,11 +100,14 @@ HIGHS = (
     Says("17", Code.LIMIT, "an interrupt"),
 )
 
-# QSopt_ex: the first line of its answer
+# QSopt_ex: the first line of its answer, or a line of its log where it has none
 ESOLVER = (
     Says("OPTIMAL", Code.SOLVED, OPTIMAL), Says("INFEASIBLE", Code.INFEASIBLE, "infeasible"),
     Says("UNBOUNDED", Code.UNBOUNDED, "unbounded"),
     Says("UNDEFINED", FAILED, "undefined"), Says("NOT_SOLVED", FAILED, "not solved"),
+    Says("TIME_LIMIT_REACHED", Code.LIMIT, TIME),
+    Says("MEMORY_LIMIT_REACHED", Code.LIMIT, "the memory limit"),
+    Says("USER_INTERRUPT", Code.LIMIT, "an interrupt"),
 )
 
 
