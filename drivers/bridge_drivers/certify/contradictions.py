@@ -72,6 +72,8 @@ class Contradicting(Judging):
         if is_infeasible:
             yield self.one_leaf(leaf, "infeasible", None)
         if ended.claim == "optimal" and ended.point is not None:
+            self.know_point(ended.point)
+            self.know_leaf(leaf)
             yield from self.at_optimum(ended.point, leaf)
 
     def settled(self, given: Given) -> simplex.Ended:

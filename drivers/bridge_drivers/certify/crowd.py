@@ -283,9 +283,8 @@ class Crowd:
             self.close(strand.above, strand.side, Closed(tree, found.needs))
             return
         before = strand.progress()
-        strand.opened = [
-            Opened(step, None if other is None else trees.rebuilt(other, moved, held), nodes, needs)
-            for step, other, nodes, needs in found.opened]
+        strand.opened = [one._replace(other=trees.rebuilt(other, moved, held)) if other else one
+                         for one, other in zip(found.opened, found.others)]
         strand.seconds = 2 * max(strand.seconds, LEAST) if before == strand.progress() else 0.0
         strand.learnt, strand.faults = found.learnt, 0
         self.put(strand)
@@ -334,7 +333,8 @@ class Crowd:
         """The share of the tree that is closed, where both parts of a split count alike."""
         if self.root is None:
             return self.search.closed()
-        closed, stack = 0.0, [(self.root, 1.0)]
+        closed = 0.0
+        stack: list[tuple[Part, float]] = [(self.root, 1.0)]
         while stack:
             part, size = stack.pop()
             if isinstance(part, Knot):

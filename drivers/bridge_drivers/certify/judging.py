@@ -257,8 +257,6 @@ class Judging:
             verdict = self.one_leaf(leaf, "optimal", point)
             self.note = f"the exact optimum: {verdict.line.partition(': ')[2]}"
             yield verdict
-        self.know_point(point)
-        self.know_leaf(leaf)
 
     # what CLP says -----------------------------------------------------------------
 

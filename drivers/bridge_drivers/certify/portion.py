@@ -44,15 +44,6 @@ class Problem(NamedTuple):
         return pickle.dumps(self, pickle.HIGHEST_PROTOCOL)
 
 
-class Worked(NamedTuple):
-    """A split above what is left, as `Opened`, the other part's tree in short."""
-
-    step: Step
-    other: Optional[Flat]
-    nodes: int
-    needs: frozenset[int]
-
-
 class Portion(NamedTuple):
     """`above` are the splits around it, from the root, `opened` those in it that were worked
     partly, whose trees are held. `learnt` is what was learnt above, `name` that of the problem,
@@ -68,12 +59,14 @@ class Portion(NamedTuple):
 
 class Outcome(NamedTuple):
     """`tree` where it is closed, with the depths of the splits above that it `needs`; else what
-    is left is `opened`. `leaves` are the lines that places of leaves are in, `better` a better
-    point, `fault` why the search cannot go on, `spent` its seconds of the processor."""
+    is left is `opened`, whose trees are in `others`. `leaves` are the lines that places of leaves
+    are in, `better` a better point, `fault` why the search cannot go on, `spent` its seconds of
+    the processor."""
 
     tree: Optional[Flat]
     needs: frozenset[int]
-    opened: Sequence[Worked]
+    opened: Sequence[Opened]
+    others: Sequence[Flat]
     learnt: Learnt
     leaves: bytes
     better: Optional[Tuple[Point, Fraction]]
@@ -109,17 +102,13 @@ class Going:
             fault = str(stopped)
         except Better as found:
             better = found.point, found.value
-        depths = search.depths()
+        depths, opened = search.depths(), [] if done else search.opened()
         return Outcome(None if done is None else trees.flat(done.tree),
                        frozenset() if done is None else frozenset(depths[o] for o in done.needs),
-                       [] if done else list(map(worked, search.opened())),
+                       [one._replace(other=one.other and trees.THERE) for one in opened],
+                       [trees.flat(one.other) if one.other else [] for one in opened],
                        (search.choice.down, search.choice.up), self.spool.taken(), better, fault,
                        search.nodes, time.process_time() - began)
-
-
-def worked(one: Opened) -> Worked:
-    tree = None if one.other is None else trees.flat(one.other)
-    return Worked(one.step, tree, one.nodes, one.needs)
 
 
 # in a process ------------------------------------------------------------------------

@@ -17,8 +17,8 @@ if TYPE_CHECKING:
     from .plans import Plan, Plans
 
 FIRST_NODES = 100               # of the plain search, before all else
-OTHERS = 0.12                   # of the time of all, for what is not the first plan
-FARTHEST = 4.0                  # of the time so far, that a forecast counts for this
+OTHERS = 0.1                    # of the time of all, for what is not the first plan
+FARTHEST = 2.0                  # of the time so far, that a forecast counts for this
 LEAST_SLICE = 0.05              # seconds that rows are made
 LEAST_MAKING = 0.5              # seconds that they may be made at once
 LEAST_TURN = 0.25               # seconds that a plan goes on
