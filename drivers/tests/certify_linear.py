@@ -10,12 +10,12 @@ from unittest import TestCase, mock
 
 from certify_search import Certified
 from support import NEEDS_CLP, NEEDS_PROGRAM
-from bridge_drivers.certify import bases, decimals, linear, points, short, sparse
+from bridge_drivers.certify import bases, decimals, points, short, sparse
 from bridge_drivers.certify.claims import Given, certified
 from bridge_drivers.certify.clp import State
 from bridge_drivers.certify.leaves import Closer, Multipliers
 from bridge_drivers.certify.model import Box, Model, over_one
-from bridge_drivers.certify.refined import Refining
+from bridge_drivers.certify.numbers import width
 from bridge_drivers.certify.sparse import NoSolution, Wide
 import families
 from families import made
@@ -114,7 +114,7 @@ class Bases(TestCase):
         self.assertEqual(found.point, OPTIMUM)
         self.assertEqual({i: F(y, found.den) for i, y in found.duals.items()},
                          {0: F(12, 13), 1: F(-10, 13)})
-        self.assertEqual(found.bits(), 5)
+        self.assertEqual(width(found.point), 5)
         for columns, rows, x, why in (([0], [0], [1.3, 0.0], "row 1 is broken"),
                                       ([1], [0], [0.0, 2.0], "column 0 could be better"),
                                       ([0, 1], [1], [1.3, 0.0], "not square")):
@@ -301,13 +301,10 @@ class Linear(Certified):
         for size in (2, 3):
             work, verdict = self.verdict(made("parallel", size))
             self.assertEqual(verdict.claim(), "optimal", verdict.line)
-            optima = linear.Optima(work.model)
             clp, _ = work.relaxation()
-            self.assertIsNone(optima.first(iter([next(optima.bases(clp, 1.0))])))
-            self.assertEqual(len(optima.faults), 1)
-            near = list(Refining(work.model, clp, 1.0).bases())
-            found = optima.first(iter(near))
-            self.assertEqual(work.model.sign * work.model.value(found.point), verdict.value)
+            work.note, (own, *others) = "", work.bases(clp)
+            self.assertEqual(list(work.by_bases(iter([own]))), [])
+            self.assertEqual(next(work.by_bases(iter(others))).value, verdict.value)
 
     def test_refused_text(self) -> None:
         """An optimum that `bridge verify` finds too wide: short numbers come next."""

@@ -256,13 +256,9 @@ class Lattices(TestCase):
         rows = [[1, 0, 0, 12223], [0, 1, 0, 12224], [0, 0, 1, 36674]]
         reduction = directions.Reduction(rows)
         self.assertTrue(reduction.run())
-        for made, steps in zip(reduction.rows, reduction.steps):
-            self.assertEqual(made, [sum(s * row[c] for s, row in zip(steps, rows))
-                                    for c in range(4)])
-        back = directions.inverse(reduction.steps)
-        product = [[sum(back[i][k] * reduction.steps[k][j] for k in range(3)) for j in range(3)]
-                   for i in range(3)]
-        self.assertEqual(product, [[int(i == j) for j in range(3)] for i in range(3)])
+        for given, back in zip(rows, zip(*reduction.back)):
+            self.assertEqual(given, [sum(s * row[c] for s, row in zip(back, reduction.rows))
+                                     for c in range(4)])
         self.assertFalse(directions.Reduction([[1, 2], [2, 4]]).run())
 
     def test_parity(self) -> None:
@@ -287,7 +283,8 @@ class Points(TestCase):
 
     def test_vertex(self) -> None:
         p = model()
-        found = points.vertex(p, points.Basis([0], [0]), [0.6666, 1.0, 0.0], {1: F(1), 2: F(0)})
+        fixed = points.with_fixed(p, {1: F(1), 2: F(0)})
+        found = points.vertex(fixed, points.Basis([0], [0]), [0.6666, 1.0, 0.0])
         self.assertEqual(found, [F(2, 3), F(1), F(0)])
 
     def test_ray(self) -> None:

@@ -24,7 +24,7 @@ from unittest import mock
 from certify_search import SECONDS, Certified
 from support import HERE, PROGRAM
 from bridge_drivers.bridge import Bridge
-from bridge_drivers.certify import pool as pools, portion, shared, text
+from bridge_drivers.certify import crowd, pool as pools, portion, text
 from bridge_drivers.certify.claims import Certifying, certified
 from bridge_drivers.certify.parts import Better
 from bridge_drivers.certify.pool import Pool, Processes, pool_of
@@ -76,7 +76,7 @@ def random_model(rng: random.Random, mixed: bool) -> bytes:
 class Pooled(Certified):
     @contextlib.contextmanager
     def few(self, nodes: int = 3) -> Iterator[None]:
-        with mock.patch("bridge_drivers.certify.shared.AT_HOME", nodes), \
+        with mock.patch("bridge_drivers.certify.crowd.AT_HOME", nodes), \
                 mock.patch("bridge_drivers.certify.portion.Until", Counting):
             yield
 
@@ -180,7 +180,7 @@ class OfThisMachine(Pooled):
                     executor.submit(killing, None)
                 return executor
             with mock.patch.object(pool, "executor", submitted), \
-                    mock.patch("bridge_drivers.certify.shared.AT_HOME", 3):
+                    mock.patch("bridge_drivers.certify.crowd.AT_HOME", 3):
                 self.assertTrue(plans.goes(plans.begun("plain"), SECONDS), plans.told())
             self.assertEqual(bool(pool.fault), kills == 99, pool.fault)
             head = text.head("optimal", 0, None, found.point)
@@ -193,7 +193,7 @@ class OfThisMachine(Pooled):
         pool = Processes(2)
         found, work, plans = self.pooled(random_model(random.Random(11), False), pool)
         with mock.patch("os.fork", side_effect=BlockingIOError("no more processes")), \
-                mock.patch("bridge_drivers.certify.shared.AT_HOME", 3):
+                mock.patch("bridge_drivers.certify.crowd.AT_HOME", 3):
             self.assertTrue(plans.goes(plans.begun("plain"), SECONDS), plans.told())
         self.assertIn("no more processes", pool.fault)
         pool.close()
@@ -204,7 +204,7 @@ class OfThisMachine(Pooled):
             pool = Processes(2)
             self.addCleanup(pool.close)
             found, work, plans = self.pooled(random_model(random.Random(11), False), pool)
-            with mock.patch("bridge_drivers.certify.shared.AT_HOME", 3):
+            with mock.patch("bridge_drivers.certify.crowd.AT_HOME", 3):
                 self.assertTrue(plans.goes(plans.begun("plain"), SECONDS), plans.told())
         self.assertEqual(pool.fault, "")
 
@@ -282,7 +282,7 @@ class OfACluster(Pooled):
         """The verdict is that of one process."""
         self.addCleanup(pool.close)
         found, work, plans = self.pooled(random_model(random.Random(11), False), pool)
-        with mock.patch("bridge_drivers.certify.shared.AT_HOME", 3):
+        with mock.patch("bridge_drivers.certify.crowd.AT_HOME", 3):
             self.assertTrue(plans.goes(plans.begun("plain"), SECONDS), plans.told())
         head = text.head("optimal", 0, None, found.point)
         self.assertEqual(work.judged(head, plans.best.path).line, found.line)
@@ -334,7 +334,7 @@ def goes(pid: int) -> bool:
 def long(path: str, folder: str) -> None:
     """A long search by two processes, as a driver makes it."""
     SIGNALS.take()
-    shared.AT_HOME = 3
+    crowd.AT_HOME = 3
     bridge, pool = Bridge(PROGRAM, lambda argv: None), Processes(2)
     work = Certifying(bridge, path, folder, Program(bridge.text("export", path)), 0, Watch(600.0),
                       pool=pool)

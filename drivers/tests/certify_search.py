@@ -17,10 +17,10 @@ from support import HERE, NEEDS_CLP, NEEDS_PROGRAM, PROGRAM, Case
 from bridge_drivers.bridge import Bridge, Late
 from bridge_drivers.certify import text
 from bridge_drivers.certify.claims import Certifying, Given, Verdict, certified
+from bridge_drivers.certify.crowd import Crowd
 from bridge_drivers.certify.parts import Better
 from bridge_drivers.certify.plans import Plans
 from bridge_drivers.certify.search import Search
-from bridge_drivers.certify.shared import Shared
 from bridge_drivers.certify.short import trivial
 from bridge_drivers.certify.watch import Watch
 from bridge_drivers.program import Program
@@ -227,8 +227,7 @@ class Spines(Certified):
         for size in (4, 5):
             for claim in ("infeasible", "nothing"):
                 work = self.work(families.made("frobenius", size))
-                with mock.patch("bridge_drivers.certify.turns.LATE", 0.2):
-                    verdict = certified(work, claim)
+                verdict = certified(work, claim)
                 self.assertEqual(verdict.line, "infeasible")
                 self.assertLess(os.path.getsize(verdict.path), 20_000)
 
@@ -273,14 +272,14 @@ class Spines(Certified):
         """A bound that does not close is lowered."""
         work, plans = self.plans(CLAIMED["lots"].text, F("14.3"))
         self.assertFalse(plans.goes(plans.begun("plain"), SECONDS, 4))
-        ended, tries = Shared.ended_at, []
+        ended, tries = Crowd.ended_at, []
 
         def ending(search, goal):
             tries.append(goal.target)
             return None if len(tries) < 2 else ended(search, goal)
-        with mock.patch.object(Shared, "ended_at", ending):
+        with mock.patch.object(Crowd, "ended_at", ending):
             bound, path = plans.bounded()
-        self.assertEqual(sorted(set(tries), reverse=True), tries)
+        self.assertEqual(sorted(tries, reverse=True), tries)
         verdict = work.judged(text.head("bound", 0, work.model.sign * bound), path)
         self.assertEqual(verdict.claim(), "bound", verdict.line)
 

@@ -31,8 +31,8 @@ class Forecasts(Case):
         watch = SimpleNamespace(spent=lambda: 10.0)
         turns = Turns(SimpleNamespace(watch=watch, value=SimpleNamespace(value=1)))
         turns.began = 0.0
-        for closed, spent, room in ((0.5, 10.0, 2.4), (0.5, 8.0, 0.16), (0.9999, 10.0, 0.0005),
-                                    (0.0, 10.0, 6.0), (0.0, 5.0, 1.0)):
+        for closed, spent, room in ((0.5, 10.0, 2.0), (0.5, 9.0, 0.9), (0.9999, 10.0, 0.0005),
+                                    (0.0, 10.0, 3.0), (0.0, 8.0, 1.0)):
             self.assertAlmostEqual(turns.room(self.plan(closed, spent)), room, 3)
         self.assertEqual(turns.room(None), math.inf)
 

@@ -6,6 +6,7 @@ import os
 
 from support import NEEDS_PROGRAM, Case, Replay
 from bridge_drivers import solvers
+from bridge_drivers.program import Program
 from models import MODELS, is_solved
 import stored
 
@@ -74,3 +75,7 @@ class StoredRuns(Case):
         self.assertIn("\n RHS obj 5\n", texts["glpsol"])
         self.assertNotIn("OBJSENSE", texts["glpsol"])
         self.assertTrue(texts["cbc"].startswith("NAME nl FREE\nOBJSENSE\n MAX\n"))
+        text, long = "NAME nl\nROWS\n N obj\nCOLUMNS\n x0 obj {}\nENDATA\n", "0.1" + "0" * 19
+        for number, wanted in ((long, long), (long + "15", "0.1"), (f"-{long}15e-9", "-1e-10")):
+            got = solvers.load("cbc").text(Program(text.format(number).encode())).decode()
+            self.assertIn(f" x0 obj {wanted}\n", got)

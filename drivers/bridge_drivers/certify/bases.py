@@ -7,7 +7,7 @@ from typing import NamedTuple, Sequence
 
 from .exact import solved
 from .model import Model, Point, over_one
-from .points import Basis
+from .points import Basis, Placed, place
 from .sparse import NoSolution, Solution, Square, Tools, tools
 
 BY_HAND = 300                   # unknowns of a system that is eliminated without SciPy
@@ -22,23 +22,6 @@ class Optimum(NamedTuple):
     point: Point
     duals: dict[int, int]
     den: int
-
-    def bits(self) -> int:
-        """Of the widest numerator or denominator."""
-        values = [*{id(v): v for v in self.point}.values(),
-                  *(Fraction(y, self.den) for y in self.duals.values())]
-        return max((max(v.numerator.bit_length(), v.denominator.bit_length())
-                    for v in values), default=0)
-
-
-class Placed(NamedTuple):
-    """A basis with the ends that its columns and rows stand at: `at` by column (0 where it is
-    basic), over `unit`; `side` by tight row."""
-
-    columns: list[int]
-    rows: list[int]
-    at: list[int]
-    side: dict[int, int]
 
 
 def can_be_large() -> bool:
@@ -68,37 +51,10 @@ def optimum(p: Model, basis: Basis, x: Sequence[float]) -> Optimum:
                    duals.den * p.cost_scale)
 
 
-def place(p: Model, basis: Basis, x: Sequence[float]) -> Placed:
-    """Each column that is not basic at the end near x, each tight row at the side near it."""
-    is_basic = [False] * p.n
-    for j in basis.columns:
-        is_basic[j] = True
-    at = [0 if basic else nearest(lo, hi, v * p.unit) or 0
-          for basic, lo, hi, v in zip(is_basic, p.lo, p.hi, x)]
-    side = {}
-    ranged = [i for i in basis.rows if p.side_lo[i] is not None and p.side_hi[i] is not None
-              and p.side_lo[i] != p.side_hi[i]]
-    bodies = {i: sum([a * x[j] for j, a in row]) / p.scale
-              for i, row in p.terms.of_rows(ranged).items()}
-    for i in basis.rows:
-        lo, hi = p.side_lo[i], p.side_hi[i]
-        side[i] = nearest(lo, hi, bodies.get(i, 0.0) * p.unit)
-    rows = [i for i in basis.rows if side[i] is not None]
-    return Placed(list(basis.columns), rows, at, {i: s for i, s in side.items() if s is not None})
-
-
-def nearest(lo: int | None, hi: int | None, value: float) -> int | None:
-    if lo is None or hi is None:
-        return hi if lo is None else lo
-    return lo if lo == hi or abs(lo - value) <= abs(hi - value) else hi
-
-
 def systems(p: Model, placed: Placed) -> tuple[Solution, Solution]:
     """The basic columns times `unit`, and the duals of tight rows times `cost_scale` over
     `scale`."""
-    inside = p.terms.inside(placed.rows, placed.columns)
-    taken = p.terms.sums(placed.at)
-    sides = [placed.side[i] * p.scale - taken[i] for i in placed.rows]
+    inside, sides = placed.inside, placed.rest
     costs, n = [p.costs[j] for j in placed.columns], len(placed.columns)
     with_scipy = tools()
     if with_scipy is not None and n:

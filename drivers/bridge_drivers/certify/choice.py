@@ -3,9 +3,10 @@ those that were split seldom."""
 
 from __future__ import annotations
 
+import copy
 import math
 import time
-from typing import TYPE_CHECKING, NamedTuple, Sequence
+from typing import TYPE_CHECKING, NamedTuple, Sequence, Tuple
 
 from .clp import State
 
@@ -38,6 +39,9 @@ class Gains:
         return self.sums[column] / count if count else mean
 
 
+Learnt = Tuple[Gains, Gains]    # downwards and upwards
+
+
 class Candidate(NamedTuple):
     """A column with what its two parts gain."""
 
@@ -49,11 +53,12 @@ class Candidate(NamedTuple):
 
 
 class Choice:
-    """The gains of one search. `strong` columns are tried at a node."""
+    """The gains of one search, which begin with those of another. `strong` columns are tried at a
+    node."""
 
-    def __init__(self, strong: int) -> None:
-        self.down, self.up, self.strong = Gains(), Gains(), strong
-        self.spent, self.began = 0.0, time.monotonic()
+    def __init__(self, strong: int, learnt: Learnt | None = None) -> None:
+        self.down, self.up = copy.deepcopy(learnt) or (Gains(), Gains())
+        self.strong, self.spent, self.began = strong, 0.0, time.monotonic()
 
     def learn(self, column: int, part: int, gain: float, share: float) -> None:
         if share > LEAST_SHARE:

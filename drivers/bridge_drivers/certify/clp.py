@@ -13,9 +13,11 @@ from .columns import Columns
 
 INFINITE = 1.7976931348623157e308       # COIN's own
 STATUS_BITS = 7
+STOPPED = 3                             # by time or iterations
 STATUS_FREE, STATUS_BASIC, STATUS_UPPER, STATUS_LOWER = 0, 1, 2, 3
 SMALL = 1e-3                            # numbers that are scaled
 ITERATIONS = 100_000                    # of one relaxation
+PORTION = 1.0                           # seconds of the processor, which is what CLP counts
 NAMES = ("libClp.so.1", "libClp.so", "libClp.1.dylib", "libClp.dylib")
 End = Optional[float]
 
@@ -27,7 +29,8 @@ CALLS: dict[str, tuple[Any, list[Any]]] = {
     "chgColumnLower": (None, [P, P]), "chgColumnUpper": (None, [P, P]),
     "chgRowLower": (None, [P, P]), "chgRowUpper": (None, [P, P]),
     "chgObjCoefficients": (None, [P, P]),
-    "setNumberIterations": (None, [P, I]), "setMaximumIterations": (None, [P, I]),
+    "numberIterations": (I, [P]), "setNumberIterations": (None, [P, I]),
+    "setMaximumIterations": (None, [P, I]),
     "setMaximumSeconds": (None, [P, D]), "setPrimalTolerance": (None, [P, D]),
     "dual": (I, [P, I]), "primal": (I, [P, I]), "status": (I, [P]),
     "objectiveValue": (D, [P]), "primalColumnSolution": (P, [P]), "dualRowSolution": (P, [P]),
@@ -193,10 +196,19 @@ class Clp:
             lib.Clp_chgRowUpper(model, self.side_hi)
         lib.Clp_setNumberIterations(model, 0)
         lib.Clp_setMaximumIterations(model, most)
-        seconds = min(self.seconds, self.until - time.monotonic())
-        lib.Clp_setMaximumSeconds(model, max(seconds, 0.0) if seconds < math.inf else -1.0)
-        (lib.Clp_primal if again else lib.Clp_dual)(model, 0)
-        status = lib.Clp_status(model)
+        now, portion = time.monotonic(), PORTION
+        end = min(now + self.seconds, self.until)
+        while True:
+            seconds = max(min(end - now, portion), 0.0) if end < math.inf else -1.0
+            lib.Clp_setMaximumSeconds(model, seconds)
+            (lib.Clp_primal if again else lib.Clp_dual)(model, 0)
+            status = lib.Clp_status(model)
+            if status != STOPPED or lib.Clp_numberIterations(model) >= most:
+                break
+            began, now = now, time.monotonic()
+            if now >= end:
+                break
+            portion = min(2 * portion, (end - now) * seconds / max(now - began, seconds))
         return State(status) if status in (0, 1, 2) else State.OTHER
 
     def objective(self) -> float:

@@ -10,7 +10,6 @@ from .clp import NoClp, State
 from .equations import hollow, parity
 from .judging import WITHOUT, Given, Judging, Verdict
 from .leaves import Closer
-from .linear import WIDTH, wide_note
 from .model import Box, Model, Point
 from .parts import Better
 from .watch import Paused, Stopped
@@ -73,13 +72,9 @@ class Contradicting(Judging):
         if is_infeasible:
             yield self.one_leaf(leaf, "infeasible", None)
         if ended.claim == "optimal" and ended.point is not None:
-            bits = max(map(width, (*ended.point, *ended.rows.values())), default=0)
             self.know_point(ended.point)
             self.know_leaf(leaf)
-            if bits <= WIDTH:
-                yield self.one_leaf(leaf, "optimal", ended.point)
-            else:
-                self.note = wide_note(f"{bits} bits")
+            yield from self.at_optimum(ended.point, leaf)
 
     def settled(self, given: Given) -> simplex.Ended:
         """What is not soon done in whole numbers QSopt_ex has a try at, where it is there."""
@@ -169,11 +164,6 @@ class Contradicting(Judging):
         except Stopped:
             pass
         return None
-
-
-def width(value: Fraction) -> int:
-    """Bits of its numerator or denominator, whichever has more."""
-    return max(value.numerator.bit_length(), value.denominator.bit_length())
 
 
 def short_of_rays(p: Model) -> bool:

@@ -16,14 +16,16 @@ from concurrent.futures import FIRST_COMPLETED, Future, wait
 from dataclasses import dataclass, field
 from typing import List, Optional, Sequence, Union
 
-from . import portion, tree as trees
+from . import tree as trees
+from .choice import Learnt
 from .parts import Better, Opened, Step
-from .pool import Failed, Pool
-from .portion import Learnt, Outcome, Portion, Problem
-from .search import Goal, Search
-from .tree import Held, Tree
-from .watch import Paused, Stopped
+from .pool import Alone, Failed, Pool
+from .portion import Exact, Outcome, Portion, Problem
+from .search import MOST_NODES, Goal
+from .tree import Held, Spool, Tree
+from .watch import Paused, Stopped, Watch
 
+AT_HOME = 100                   # nodes that this process works first
 RESERVE = 2                     # portions that wait, for each process
 LEAST, MOST, SHARE = 0.2, 5.0, 0.1      # seconds of a portion, and their share of all so far
 TURN = 0.2                      # seconds between looks at the watch
@@ -50,7 +52,7 @@ class Strand:
 
     path: Sequence[Step]
     opened: List[Opened]
-    learnt: Optional[Learnt]
+    learnt: Learnt
     above: Optional[Knot]
     side: int
     base: float
@@ -83,20 +85,44 @@ Part = Union[Knot, Strand, Closed, None]
 
 
 class Crowd:
-    """One search over a pool, which goes on from where `search` was paused. What `search` has of
-    the problem stays here, and closes what is left for a bound."""
+    """One search, which this process begins, and a pool goes on with, where there is one: small
+    trees start no process. `root` is what is worked apart, None where nothing is. What `search` has
+    of the problem stays here, and closes what is left for a bound."""
 
-    def __init__(self, pool: Pool, search: Search, problem: Problem) -> None:
-        self.pool, self.search = pool, search
-        self.spool, self.watch = search.spool, search.watch
-        self.problem = problem.packed()
-        self.name = hashlib.sha256(self.problem).hexdigest()
-        self.nodes = search.nodes
+    def __init__(self, problem: Problem, exact: Exact, spool: Spool, watch: Watch,
+                 pool: Pool | None = None) -> None:
+        self.given, self.spool, self.watch = problem, spool, watch
+        self.pool, self.search = pool or Alone(), problem.search(exact, spool, watch)
         self.running: dict[Future[Outcome], Strand] = {}
         self.waiting: list[Strand] = []
         self.root: Part = None
-        self.began = time.monotonic()
-        self.put(Strand([], search.opened(), portion.learnt(search.choice), None, 0, -math.inf))
+
+    def resume(self, until: float = math.inf, most: int = MOST_NODES) -> Tree:
+        """The tree, where there is one until then, in seconds of the watch, or in so many nodes.
+        Paused, Stopped or Better where there is none; after Paused it can go on."""
+        if self.root is None:
+            is_alone = isinstance(self.pool, Alone) or bool(self.pool.fault)
+            try:
+                return self.search.resume(until, most if is_alone else min(most, AT_HOME))
+            except Paused:
+                if is_alone or most <= AT_HOME or self.watch.spent() >= until:
+                    raise
+            self.begin()
+        if not self.pool.fault:
+            try:
+                return self.apart(until, most)
+            except Failed as fault:
+                self.pool.failed(fault)
+        self.pool = Alone()
+        return self.apart(until, most)
+
+    def begin(self) -> None:
+        """What the search has left is the first strand."""
+        search, self.problem = self.search, self.given.packed()
+        self.name = hashlib.sha256(self.problem).hexdigest()
+        self.nodes, self.began = search.nodes, time.monotonic()
+        self.put(Strand([], search.opened(), (search.choice.down, search.choice.up), None, 0,
+                        -math.inf))
 
     # the tree ----------------------------------------------------------------------
 
@@ -166,8 +192,7 @@ class Crowd:
 
     # portions ----------------------------------------------------------------------
 
-    def resume(self, until: float, most: int) -> Tree:
-        """The tree. Paused, Stopped or Better where there is none."""
+    def apart(self, until: float, most: int) -> Tree:
         try:
             while not isinstance(self.root, Closed):
                 self.look(until, most)
@@ -195,6 +220,8 @@ class Crowd:
 
     def bound(self) -> float:
         """That of what is not closed, as it was last seen."""
+        if self.root is None:
+            return self.search.bound()
         return min((strand.bound() for strand in [*self.waiting, *self.running.values()]),
                    default=math.inf)
 
@@ -256,9 +283,8 @@ class Crowd:
             self.close(strand.above, strand.side, Closed(tree, found.needs))
             return
         before = strand.progress()
-        strand.opened = [
-            Opened(step, None if other is None else trees.rebuilt(other, moved, held), nodes, needs)
-            for step, other, nodes, needs in found.opened]
+        strand.opened = [one._replace(other=trees.rebuilt(other, moved, held)) if other else one
+                         for one, other in zip(found.opened, found.others)]
         strand.seconds = 2 * max(strand.seconds, LEAST) if before == strand.progress() else 0.0
         strand.learnt, strand.faults = found.learnt, 0
         self.put(strand)
@@ -276,27 +302,39 @@ class Crowd:
     # a bound -----------------------------------------------------------------------
 
     def best_bound(self) -> float:
-        """As that of a search."""
+        """As that of a search, which can go on."""
+        if self.root is None:
+            return self.search.best_bound()
         least = math.inf
         for strand in self.waiting:
             self.search.begin(strand.path, strand.opened)
             least = min(least, self.search.best_bound())
         return least
 
-    def ended_at(self, goal: Goal) -> Tree:
-        while self.waiting:
-            strand = self.waiting[-1]
-            self.search.begin(strand.path, strand.opened)
-            done, depths = self.search.ended_at(goal), self.search.depths()
-            self.waiting.pop()
-            self.close(strand.above, strand.side,
-                       Closed(done.tree, frozenset(depths[o] for o in done.needs)))
+    def ended_at(self, goal: Goal) -> Tree | None:
+        """For a value that is not better, the tree where what is left closes so; all that goes on
+        is for that value."""
+        try:
+            if self.root is None:
+                return self.search.ended_at(goal).tree
+            while self.waiting:
+                strand = self.waiting[-1]
+                self.search.begin(strand.path, strand.opened)
+                done, depths = self.search.ended_at(goal), self.search.depths()
+                self.waiting.pop()
+                self.close(strand.above, strand.side,
+                           Closed(done.tree, frozenset(depths[o] for o in done.needs)))
+        except (Stopped, Better):
+            return None
         assert isinstance(self.root, Closed)
         return self.root.tree
 
     def closed(self) -> float:
         """The share of the tree that is closed, where both parts of a split count alike."""
-        closed, stack = 0.0, [(self.root, 1.0)]
+        if self.root is None:
+            return self.search.closed()
+        closed = 0.0
+        stack: list[tuple[Part, float]] = [(self.root, 1.0)]
         while stack:
             part, size = stack.pop()
             if isinstance(part, Knot):

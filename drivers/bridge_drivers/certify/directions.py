@@ -34,13 +34,14 @@ class Thin(NamedTuple):
 
 
 class Reduction:
-    """Integral LLL (de Weger) of independent rows: `rows` are reduced, `steps` times the given
-    rows. `d` and `lam` are the determinants and products of its orthogonal basis."""
+    """Integral LLL (de Weger) of independent rows: `rows` are reduced, and the given ones are
+    `back`, turned, times these. `d` and `lam` are the determinants and products of its orthogonal
+    basis."""
 
     def __init__(self, rows: Matrix) -> None:
         n = len(rows)
         self.rows = [list(row) for row in rows]
-        self.steps = [[int(i == j) for j in range(n)] for i in range(n)]
+        self.back = [[int(i == j) for j in range(n)] for i in range(n)]
         self.d = [1] + [0] * n
         self.lam = [[0] * n for _ in range(n)]
 
@@ -62,15 +63,15 @@ class Reduction:
         if 2 * abs(lam[k][other]) <= d[other + 1]:
             return
         q = (2 * lam[k][other] + d[other + 1]) // (2 * d[other + 1])
-        for matrix in (self.rows, self.steps):
-            matrix[k] = [x - q * y for x, y in zip(matrix[k], matrix[other])]
+        self.rows[k] = [x - q * y for x, y in zip(self.rows[k], self.rows[other])]
+        self.back[other] = [x + q * y for x, y in zip(self.back[other], self.back[k])]
         lam[k][other] -= q * d[other + 1]
         for i in range(other):
             lam[k][i] -= q * lam[other][i]
 
     def swap(self, k: int, last: int) -> None:
         d, lam = self.d, self.lam
-        for matrix in (self.rows, self.steps):
+        for matrix in (self.rows, self.back):
             matrix[k], matrix[k - 1] = matrix[k - 1], matrix[k]
         for j in range(k - 1):
             lam[k][j], lam[k - 1][j] = lam[k - 1][j], lam[k][j]
@@ -105,22 +106,6 @@ class Reduction:
                     self.reduce(k, other)
                 k += 1
         return False
-
-
-def inverse(matrix: Matrix) -> Matrix:
-    """Of a whole matrix with determinant 1 or -1."""
-    n = len(matrix)
-    a = [[Fraction(v) for v in row] + [Fraction(int(i == j)) for j in range(n)]
-         for i, row in enumerate(matrix)]
-    for c in range(n):
-        p = next(r for r in range(c, n) if a[r][c])
-        a[c], a[p] = a[p], a[c]
-        a[c] = [v / a[c][c] for v in a[c]]
-        for r in range(n):
-            if r != c and a[r][c]:
-                g = a[r][c]
-                a[r] = [x - g * y for x, y in zip(a[r], a[c])]
-    return [[int(v) for v in row[n:]] for row in a]
 
 
 def thin_columns(p: Model, wide: Sequence[int]) -> list[Thin]:
@@ -178,13 +163,12 @@ def directions(p: Model, objective: Mapping[int, int] = {},
                             for t in thin] for k in range(len(wide))])
     if not reduction.run():
         return []
-    # a point is `lambda` times the steps, so lambda is the point times their inverse
-    back, d = inverse(reduction.steps), reduction.d
+    back, d = reduction.back, reduction.d
     order = sorted(range(len(wide)), key=lambda k: -Fraction(d[k + 1], d[k]))
     found: list[Form] = []
     equations = whole_equations(p, place)
     for k in order:
-        form = {wide[j]: back[j][k] for j in range(len(wide)) if back[j][k]}
+        form = {wide[j]: a for j, a in enumerate(back[k]) if a}
         form = without(form, equations)
         if len(form) > 1 and max(abs(a) for a in form.values()) < MOST_COEFFICIENT:
             sign = 1 if form[min(form)] > 0 else -1

@@ -12,14 +12,14 @@ from typing import Callable, Iterator, Mapping, NamedTuple, Sequence
 
 from . import points, text
 from .clp import Clp, State, library
+from .crowd import Crowd
 from .leaves import Closer, Multipliers
 from .model import Box, Model, Point, model_of
-from .numbers import is_narrow
+from .numbers import is_narrow, width
 from .plans import Plans, Shaped, written
 from .points import Basis
 from .pool import Pool
 from .portion import Problem
-from .shared import Shared
 from .short import shortened
 from .text import Naming
 from .tree import Spool
@@ -35,6 +35,7 @@ MOST_CLP_SECONDS = 30.0
 TREE = 0.75                     # of the seconds that are left, to judge a tree
 MOST_POINTS = 4                 # that are known at a time
 MOST_DIGITS = 15                # of a bound that is told as it is
+WIDTH = 127                     # bits of numbers in a certificate
 NOTHING = Multipliers({}, 1, False)     # the leaf of bounds alone
 
 
@@ -114,9 +115,9 @@ class Judging:
     def plans_for(self, p: Model, value: Fraction | None) -> Plans:
         return Plans(p, value, self.exact, self.folder, self.watch, self.shortens, self.pool)
 
-    def shared(self, p: Model) -> Shared:
+    def shared(self, p: Model) -> Crowd:
         """The search for a point."""
-        return Shared(Problem(p, [], [], None, False), self.exact, Spool(), self.watch, self.pool)
+        return Crowd(Problem(p, [], [], None, False), self.exact, Spool(), self.watch, self.pool)
 
     def load(self) -> None:
         if not hasattr(self, "model"):
@@ -248,6 +249,15 @@ class Judging:
         """`optimal`, or `infeasible`."""
         return next(self.claimed(claim, self.bound_of(leaf), point))
 
+    def at_optimum(self, point: Point, leaf: Multipliers) -> Iterator[Verdict]:
+        """Both are exact; where they do not fit, the note says so."""
+        bits = width([*point, *(Fraction(y, leaf.den) for y in leaf.numbers.values())])
+        self.note = wide_note(f"{bits} bits")
+        if bits <= WIDTH:
+            verdict = self.one_leaf(leaf, "optimal", point)
+            self.note = f"the exact optimum: {verdict.line.partition(': ')[2]}"
+            yield verdict
+
     # what CLP says -----------------------------------------------------------------
 
     def clp_seconds(self) -> float:
@@ -269,3 +279,7 @@ class Judging:
 
     def exact(self, x: Sequence[float | Fraction]) -> Point | None:
         return points.whole_point(self.model, x, self.clp_seconds())
+
+
+def wide_note(bits: str) -> str:
+    return f"the exact optimum needs numbers of {bits}; a certificate holds {WIDTH}"

@@ -6,16 +6,21 @@ from __future__ import annotations
 from fractions import Fraction
 from typing import Iterator
 
-from . import linear, points, short, simplex
+from . import points, short, simplex
+from .bases import can_be_large, optimum
 from .clp import Clp, State
 from .contradictions import Contradicting
-from .judging import NO_POINT, NOTHING, WITHOUT, Given, Verdict
+from .judging import NO_POINT, NOTHING, WITHOUT, Given, Verdict, wide_note
 from .leaves import Closed, Closer, Multipliers
 from .model import Box, Point
 from .numbers import is_narrow
 from .points import Basis
-from .refined import Near
+from .refined import Near, Refining
+from .sparse import NoSolution, Wide
 from .watch import Stopped
+
+LARGE = 3000                    # coefficients: bases come first, where SciPy is there
+MOST_REFINED = 200_000          # coefficients of a program whose bases are bettered
 
 
 class LinearClaims(Contradicting):
@@ -24,11 +29,11 @@ class LinearClaims(Contradicting):
     def linear_optimum(self, given: Given) -> Iterator[Verdict]:
         """`optimal` from short numbers, else from a basis, else in fractions; a large program from
         a basis at once. Where its numbers are too wide, a point and a bound in short ones."""
-        optima = linear.Optima(self.model)
-        is_large = optima.is_large()
+        p = self.model
+        is_large = p.terms.count() > LARGE and can_be_large() and any(p.costs)
         if is_large and given.basis is not None and given.values is not None:
             x = [float(v) for v in given.values]
-            yield from self.by_bases(optima, iter([Near(given.basis, x)]))
+            yield from self.by_bases(iter([Near(given.basis, x)]))
         clp, state = self.relaxation(given)
         if state is not State.OPTIMAL:
             clp = None
@@ -37,10 +42,10 @@ class LinearClaims(Contradicting):
         if state is State.UNBOUNDED:
             yield self.unbounded()
         if clp is not None:
-            yield from self.by_bases(optima, optima.bases(clp, self.clp_seconds()))
-        if not optima.wide and not optima.refused and simplex.is_small(self.model):
+            yield from self.by_bases(self.bases(clp))
+        if not self.note and simplex.is_small(p):
             yield from self.in_fractions(given, clp)
-        self.note = self.note or optima.note()
+        self.note = self.note or "no basis was found that is exactly optimal"
         if clp is not None:
             self.know_short(clp)
             yield from self.short_points(clp)
@@ -72,20 +77,30 @@ class LinearClaims(Contradicting):
         except Stopped as fault:
             yield Verdict(f"{WITHOUT}{fault}")
 
-    def by_bases(self, optima: linear.Optima, bases: Iterator[Near]) -> Iterator[Verdict]:
+    def bases(self, clp: Clp) -> Iterator[Near]:
+        """CLP's, then such that come nearer to the exact optimum."""
+        yield Near(Basis(*clp.basis()), clp.values())
+        if self.model.terms.count() <= MOST_REFINED:
+            yield from Refining(self.model, clp, self.clp_seconds()).bases()
+
+    def by_bases(self, bases: Iterator[Near]) -> Iterator[Verdict]:
         """`optimal` by the first basis that is exactly optimal, where its numbers are narrow."""
-        found = optima.first(bases)
-        if found is not None:
-            leaf = Multipliers(found.duals, found.den, False)
-            verdict = self.one_leaf(leaf, "optimal", found.point)
-            optima.refused = "" if verdict.is_proved() else verdict.line
-            yield verdict
+        for basis, x in bases if not self.note else ():
+            try:
+                found = optimum(self.model, basis, x)
+            except NoSolution:
+                continue
+            except Wide as wide:
+                self.note = wide_note(str(wide))
+                return
+            yield from self.at_optimum(found.point, Multipliers(found.duals, found.den, False))
+            return
 
     def short_points(self, clp: Clp) -> Iterator[Verdict]:
         """`within` by short numbers, at the first that is near the bound, else at the best."""
         note, bound, refused = self.note, self.shown, ""
         found: list[tuple[Fraction, Point]] = []
-        is_uneven = self.model.terms.count() <= linear.MOST_REFINED
+        is_uneven = self.model.terms.count() <= MOST_REFINED
         for by_rows in (False, True) if is_uneven else (False,):
             rounding = short.Rounding(self.model, clp.keep(), clp.values(), self.clp_seconds(),
                                       by_rows)

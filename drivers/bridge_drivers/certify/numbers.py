@@ -3,7 +3,7 @@
 from __future__ import annotations
 
 from fractions import Fraction
-from typing import Union
+from typing import Iterable, Union
 
 from ..values import MOST_DIGITS, exact_decimal
 
@@ -13,6 +13,13 @@ MOST_ZEROS = 3                  # that stand at the end of a whole number
 def is_narrow(value: Fraction) -> bool:
     """Whether numerator and denominator fit 128 bits."""
     return abs(value.numerator) <= MOST_DIGITS and value.denominator <= MOST_DIGITS
+
+
+def width(values: Iterable[Fraction]) -> int:
+    """Bits of the widest numerator or denominator. Each object counts once: most stand many
+    times."""
+    return max((max(abs(v.numerator), v.denominator).bit_length()
+                for v in {id(v): v for v in values}.values()), default=0)
 
 
 def written(value: Union[int, Fraction]) -> str:

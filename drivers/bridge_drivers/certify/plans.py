@@ -13,12 +13,12 @@ from dataclasses import dataclass
 from fractions import Fraction
 from typing import Callable, Iterator, NamedTuple, Sequence
 
+from .crowd import Crowd
 from .directions import directions
 from .model import Added, Model, Point
 from .pool import Pool
 from .portion import Problem
 from .search import MOST_NODES
-from .shared import Shared
 from .short import trivial
 from .spine import Figures, Maker, Row, Spined, Value
 from .tree import Spool, Tree
@@ -50,7 +50,7 @@ class Plan:
 
     name: str
     rows: Sequence[Row]
-    search: Shared
+    search: Crowd
     spent: float = 0.0
     guessed: float = math.inf       # seconds that it takes, before it says so itself
     factor: float = 1.0             # by which forecasts were too low
@@ -102,8 +102,8 @@ class Plans:
         above += [row.added() for row in rows]
         goal = self.value.goal(self.exact)
         problem = Problem(self.model, above, list(forms), goal.target, goal.strict)
-        self.going.append(Plan(name, rows, Shared(problem, self.exact, self.spool, self.watch,
-                                                  self.pool)))
+        self.going.append(Plan(name, rows, Crowd(problem, self.exact, self.spool, self.watch,
+                                                 self.pool)))
         return self.going[-1]
 
     def goes(self, plan: Plan, seconds: float, most: int = MOST_NODES) -> bool:

@@ -10,6 +10,7 @@ from .clp import Clp, State, library
 from .exact import solved
 from .model import Model, Point, Side
 from .numbers import is_narrow
+from ..terms import Pairs
 
 NEAR_WHOLE = 1e-3               # how far from whole numbers a point may be
 NEAR = Fraction(1, 10 ** 9)     # of a bound: the bound itself
@@ -25,38 +26,56 @@ class Basis(NamedTuple):
     rows: Sequence[int]
 
 
-def vertex(model: Model, basis: Basis, x: Sequence[float],
-           fixed: Mapping[int, Fraction] = {}) -> Point | None:
-    """The exact point of a basis whose values are near x; `fixed` columns have a value."""
-    p, inside = model, set(basis.columns) - set(fixed)
-    out = [ZERO] * p.n
-    for j in range(p.n):
-        if j in fixed:
-            out[j] = fixed[j]
-        elif j not in inside:
-            out[j] = min(p.ends(j), key=lambda end: abs(float(end) - x[j]), default=ZERO)
-    found = solved(equations(p, basis.rows, x, out, inside))
+class Placed(NamedTuple):
+    """A basis with the ends that its columns and rows stand at: `at` by column (0 where it is
+    basic), over `unit`; `side` by tight row. `inside` are these rows in basic columns, by place,
+    and `rest` what is left for them."""
+
+    columns: list[int]
+    rows: list[int]
+    at: list[int]
+    side: dict[int, int]
+    inside: Pairs
+    rest: list[int]
+
+
+def place(p: Model, basis: Basis, x: Sequence[float]) -> Placed:
+    """Each column that is not basic at the end near x, each tight row at the side near it."""
+    is_basic = [False] * p.n
+    for j in basis.columns:
+        is_basic[j] = True
+    at = [0 if basic else end_near(lo, hi, v * p.unit) or 0
+          for basic, lo, hi, v in zip(is_basic, p.lo, p.hi, x)]
+    ranged = [i for i in basis.rows if p.side_lo[i] is not None and p.side_hi[i] is not None
+              and p.side_lo[i] != p.side_hi[i]]
+    bodies = {i: sum([a * x[j] for j, a in row]) / p.scale
+              for i, row in p.terms.of_rows(ranged).items()}
+    side = {}
+    for i in basis.rows:
+        end = end_near(p.side_lo[i], p.side_hi[i], bodies.get(i, 0.0) * p.unit)
+        if end is not None:
+            side[i] = end
+    taken, columns, rows = p.terms.sums(at), list(basis.columns), list(side)
+    return Placed(columns, rows, at, side, p.terms.inside(rows, columns),
+                  [side[i] * p.scale - taken[i] for i in rows])
+
+
+def end_near(lo: Side, hi: Side, value: float) -> Side:
+    if lo is None or hi is None:
+        return hi if lo is None else lo
+    return lo if lo == hi or abs(lo - value) <= abs(hi - value) else hi
+
+
+def vertex(p: Model, basis: Basis, x: Sequence[float]) -> Point | None:
+    """The exact point of a basis whose values are near x."""
+    placed = place(p, basis, x)
+    found = solved((dict(row), rest) for row, rest in zip(placed.inside, placed.rest))
     if found is None:
         return None
-    for j in inside:
-        out[j] = found.get(j, ZERO)
+    out = [Fraction(v, p.unit) for v in placed.at]
+    for k, j in enumerate(placed.columns):
+        out[j] = found.get(k, ZERO) / p.unit
     return out if p.fits(out) else None
-
-
-def equations(model: Model, rows: Sequence[int], x: Sequence[float], out: Point,
-              inside: set[int]) -> Iterator[tuple[dict[int, int], Fraction]]:
-    """Each row at the side that it stands at, over the basic columns."""
-    p = model
-    for i in rows:
-        sides = [Fraction(s, p.unit) for s in (p.side_lo[i], p.side_hi[i]) if s is not None]
-        if not sides:
-            continue
-        at = sum(a * x[j] for j, a in p.rows[i]) / p.scale
-        side = min(sides, key=lambda s: abs(float(s) - at))
-        rest = side * p.scale - sum(a * out[j] for j, a in p.rows[i] if j not in inside)
-        terms = {j: a for j, a in p.rows[i] if j in inside}
-        if terms or not rest:
-            yield terms, rest
 
 
 def near(model: Model, x: Sequence[float | Fraction]) -> Iterator[Point]:
@@ -98,9 +117,11 @@ def whole_point(model: Model, x: Sequence[float | Fraction], seconds: float) -> 
         return out if p.fits(out) else None
     if library() is None:
         return nearest(p, x)
-    clp = with_fixed(p, fixed, seconds)
+    around = with_fixed(p, fixed)
+    clp = around.relaxation()
+    clp.limit(seconds)
     if clp.solve() is State.OPTIMAL or clp.solve(again=True) is State.OPTIMAL:
-        found = vertex(p, Basis(*clp.basis()), clp.values(), fixed)
+        found = vertex(around, Basis(*clp.basis()), clp.values())
         if found is not None and all(map(is_narrow, found)):
             return found
         short = nearest(p, clp.values())
@@ -119,14 +140,10 @@ def whole_columns(model: Model, x: Sequence[float | Fraction]) -> dict[int, Frac
     return {j: Fraction(round(x[j])) for j, w in enumerate(model.whole) if w}
 
 
-def with_fixed(model: Model, fixed: Mapping[int, Fraction], seconds: float) -> Clp:
-    """The relaxation under values of columns."""
-    p = model
-    lo = [int(fixed[j] * p.unit) if j in fixed else v for j, v in enumerate(p.lo)]
-    hi = [int(fixed[j] * p.unit) if j in fixed else v for j, v in enumerate(p.hi)]
-    clp = p.with_bounds(lo, hi).relaxation()
-    clp.limit(seconds)
-    return clp
+def with_fixed(p: Model, fixed: Mapping[int, Fraction]) -> Model:
+    """Under values of columns."""
+    return p.with_bounds(*([int(fixed[j] * p.unit) if j in fixed else v for j, v in enumerate(ends)]
+                           for ends in (p.lo, p.hi)))
 
 
 def loosened(model: Model, x: Sequence[float | Fraction], frees: bool) -> Model:
@@ -151,7 +168,8 @@ def is_contradicted(model: Model, x: Sequence[float | Fraction], seconds: float)
     """Whether CLP finds no values of the other columns for the whole ones of x."""
     if all(model.whole) or library() is None:
         return False
-    clp = with_fixed(model, whole_columns(model, x), seconds)
+    clp = with_fixed(model, whole_columns(model, x)).relaxation()
+    clp.limit(seconds)
     return clp.solve() is State.INFEASIBLE and clp.solve(again=True) is State.INFEASIBLE
 
 

@@ -12,7 +12,7 @@ from fractions import Fraction
 from typing import Callable, Dict, List, NamedTuple, Optional, Sequence, Tuple
 
 from . import points, tree as trees
-from .choice import Choice, Gains
+from .choice import Choice, Learnt
 from .model import Added, Model, Point
 from .parts import Better, Done, Opened, Step
 from .search import Goal, Search
@@ -23,8 +23,6 @@ EXACT_SECONDS = 30.0            # for an exact point
 MOST_KEPT = 2                   # programs of a process
 
 Exact = Callable[[Sequence[float]], Optional[Point]]
-Sums = Tuple[Dict[int, float], Dict[int, int]]
-Learnt = Tuple[Sums, Sums]      # what splits gained so far, downwards and upwards
 
 
 class Problem(NamedTuple):
@@ -46,15 +44,6 @@ class Problem(NamedTuple):
         return pickle.dumps(self, pickle.HIGHEST_PROTOCOL)
 
 
-class Worked(NamedTuple):
-    """A split above what is left, as `Opened`, the other part's tree in short."""
-
-    step: Step
-    other: Optional[Flat]
-    nodes: int
-    needs: frozenset[int]
-
-
 class Portion(NamedTuple):
     """`above` are the splits around it, from the root, `opened` those in it that were worked
     partly, whose trees are held. `learnt` is what was learnt above, `name` that of the problem,
@@ -64,18 +53,20 @@ class Portion(NamedTuple):
     problem: bytes
     above: Sequence[Step]
     opened: Sequence[Opened]
-    learnt: Optional[Learnt]
+    learnt: Learnt
     seconds: float
 
 
 class Outcome(NamedTuple):
     """`tree` where it is closed, with the depths of the splits above that it `needs`; else what
-    is left is `opened`. `leaves` are the lines that places of leaves are in, `better` a better
-    point, `fault` why the search cannot go on, `spent` its seconds of the processor."""
+    is left is `opened`, whose trees are in `others`. `leaves` are the lines that places of leaves
+    are in, `better` a better point, `fault` why the search cannot go on, `spent` its seconds of
+    the processor."""
 
     tree: Optional[Flat]
     needs: frozenset[int]
-    opened: Sequence[Worked]
+    opened: Sequence[Opened]
+    others: Sequence[Flat]
     learnt: Learnt
     leaves: bytes
     better: Optional[Tuple[Point, Fraction]]
@@ -98,7 +89,7 @@ class Going:
     def work(self, portion: Portion, watch: Watch) -> Outcome:
         began, search = time.process_time(), self.search
         search.watch, search.until = watch, portion.seconds
-        search.choice = choice(search.choice.strong, portion.learnt)
+        search.choice = Choice(search.choice.strong, portion.learnt)
         search.begin(portion.above, portion.opened)
         done: Done | None = None
         better: tuple[Point, Fraction] | None = None
@@ -111,30 +102,13 @@ class Going:
             fault = str(stopped)
         except Better as found:
             better = found.point, found.value
-        depths = search.depths()
+        depths, opened = search.depths(), [] if done else search.opened()
         return Outcome(None if done is None else trees.flat(done.tree),
                        frozenset() if done is None else frozenset(depths[o] for o in done.needs),
-                       [] if done else list(map(worked, search.opened())),
-                       learnt(search.choice), self.spool.taken(), better, fault, search.nodes,
-                       time.process_time() - began)
-
-
-def choice(strong: int, before: Learnt | None) -> Choice:
-    new = Choice(strong)
-    for gains, sums in zip((new.down, new.up), before or ()):
-        gains.sums, gains.counts = dict(sums[0]), dict(sums[1])
-    return new
-
-
-def learnt(of: Choice) -> Learnt:
-    def sums(gains: Gains) -> Sums:
-        return gains.sums, gains.counts
-    return sums(of.down), sums(of.up)
-
-
-def worked(one: Opened) -> Worked:
-    tree = None if one.other is None else trees.flat(one.other)
-    return Worked(one.step, tree, one.nodes, one.needs)
+                       [one._replace(other=one.other and trees.THERE) for one in opened],
+                       [trees.flat(one.other) if one.other else [] for one in opened],
+                       (search.choice.down, search.choice.up), self.spool.taken(), better, fault,
+                       search.nodes, time.process_time() - began)
 
 
 # in a process ------------------------------------------------------------------------

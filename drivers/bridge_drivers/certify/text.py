@@ -44,8 +44,8 @@ def point_lines(word: str, x: Point) -> Iterator[str]:
     yield from pairs(word, {j: v for j, v in enumerate(x) if v})
 
 
-def plane_lines(form: Mapping[int, int], at: int) -> Iterator[str]:
-    yield f"plane {len(form)} {written(at)}"
+def plane_lines(form: Mapping[int, int], at: int, word: str = "plane") -> Iterator[str]:
+    yield f"{word} {len(form)} {written(at)}"
     for j in sorted(form):
         yield f"{j} {written(form[j])}"
 
@@ -100,9 +100,7 @@ def form_of(model: Model, cut: Cut) -> dict[int, int]:
 def lemma_lines(terms: Mapping[int, int], at: int, proof: Proof, spool: Spool,
                 place: Mapping[int, int]) -> Iterator[str]:
     """The lemma and its proof, whose plane takes the number that the lemma gets below."""
-    yield f"lemma {len(terms)} {written(at)}"
-    for j in sorted(terms):
-        yield f"{j} {written(terms[j])}"
+    yield from plane_lines(terms, at, "lemma")
     yield from plane_lines(proof.form, proof.at)
     for leaf in (proof.low, proof.high):
         yield from leaf_lines(spool.get(leaf.place), Naming(place, 0, -1), {})

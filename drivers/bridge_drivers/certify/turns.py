@@ -8,8 +8,8 @@ of it goes on for some times as long.
 from __future__ import annotations
 
 import math
-from dataclasses import dataclass, field
-from typing import TYPE_CHECKING, List
+from dataclasses import dataclass
+from typing import TYPE_CHECKING, Sequence
 
 from .spine import Row
 
@@ -17,8 +17,8 @@ if TYPE_CHECKING:
     from .plans import Plan, Plans
 
 FIRST_NODES = 100               # of the plain search, before all else
-OTHERS = 0.12                   # of the time of all, for what is not the first plan
-FARTHEST = 4.0                  # of the time so far, that a forecast counts for this
+OTHERS = 0.1                    # of the time of all, for what is not the first plan
+FARTHEST = 2.0                  # of the time so far, that a forecast counts for this
 LEAST_SLICE = 0.05              # seconds that rows are made
 LEAST_MAKING = 0.5              # seconds that they may be made at once
 LEAST_TURN = 0.25               # seconds that a plan goes on
@@ -37,7 +37,7 @@ class Making:
     """Rows of one kind, which are made as there is time."""
 
     name: str
-    rows: List[Row] = field(default_factory=list)
+    rows: Sequence[Row] = ()
     gain: float = 0.0               # what they close of the gap
     vain: int = 0                   # times that they were made without more of it
 
@@ -48,7 +48,8 @@ class Turns:
     def __init__(self, plans: Plans) -> None:
         self.plans, self.began, self.end = plans, plans.watch.spent(), math.inf
         self.is_blind = plans.value.value is None
-        self.makings = [Making(name) for name in (*KINDS, "thin")[self.is_blind:]]
+        names = ("thin", "clique") if self.is_blind else (*KINDS, "thin")
+        self.makings = [Making(name) for name in names]
 
     def run(self) -> None:
         plans = self.plans
@@ -91,11 +92,12 @@ class Turns:
     # rows --------------------------------------------------------------------------
 
     def due(self, room: float) -> Making | None:
-        if room < LEAST_SLICE or not self.makings:
-            return None
-        if self.makings[0].name == "thin" and self.total() < LATE and room < math.inf:
-            return None
-        return self.makings[0]
+        """What is made now: rows, and late a lattice; that at once where there is no objective."""
+        first = self.makings[0] if self.makings else None
+        if first is None or first.name != "thin":
+            return first if room >= LEAST_SLICE else None
+        is_late = room >= LEAST_SLICE and self.total() >= LATE or room == math.inf
+        return first if self.is_blind or is_late else None
 
     def make(self, making: Making, room: float) -> None:
         """Some seconds of it; where it is done, or closes much of the gap, there is a plan. Without
@@ -105,26 +107,21 @@ class Turns:
             self.makings.remove(making)
             forms = plans.forms() if making.name == "thin" else []
             if forms:
-                plans.begun("thin", [], forms)
+                plans.begun("thin", [], forms).guessed = LEAST_TURN if self.is_blind else math.inf
             return
         root = maker.base
         until = plans.until(min(room, max(self.total(), LEAST_MAKING)))
-        making.rows = maker.cuts(KINDS[making.name], making.rows or self.rows("lemma"), until)
-        gain, before = (maker.base - root) / max(maker.goal - root, 1e-9), making.gain
+        lemmas = next((plan.rows for plan in plans.going if plan.name == "lemma"), [])
+        making.rows = maker.cuts(KINDS[making.name], making.rows or lemmas, until)
+        gain = (maker.base - root) / max(maker.goal - root, 1e-9)
+        making.vain = making.vain + 1 if gain < making.gain + LEAST_GAIN else 0
         making.gain = gain
-        making.vain = making.vain + 1 if gain < before + LEAST_GAIN else 0
         if not maker.is_over(until) or making.vain > MOST_VAIN or WORTH * (1 - gain) <= 1:
             self.makings.remove(making)
             if making.rows and (gain >= LEAST_GAIN or self.is_blind):
-                self.begin(making, gain)
-
-    def rows(self, name: str) -> list[Row]:
-        return next((list(plan.rows) for plan in self.plans.going if plan.name == name), [])
-
-    def begin(self, making: Making, gain: float) -> None:
-        """A plan, whose time is first guessed by that of the plain one."""
-        plan, plain = self.plans.begun(making.name, making.rows), self.plans.going[0]
-        plan.guessed = min(plain.expected(), FARTHEST * self.total()) * WORTH * max(1 - gain, 0.0)
+                guessed = min(plans.going[0].expected(), FARTHEST * self.total()) * WORTH
+                plans.begun(making.name, making.rows).guessed = \
+                    LEAST_TURN if self.is_blind else guessed * max(1 - gain, 0.0)
 
     # plans -------------------------------------------------------------------------
 
