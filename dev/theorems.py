@@ -29,10 +29,9 @@ THEOREMS = (
     Theorem("what a verified claim means", ("duality/Told:IsTrueOf", "file_certificates/FileProblem:problem_of"),
             "What is true of an .nl file where `verify` says yes."),
     Theorem("what a denied claim means", ("bridge_tool/Verify:IsDenied",),
-            "What is true of the file, or of a leaf's part of its program, where `verify` says no, by the cause that is told."),
+            "What is true of it, or of a leaf's part, where `verify` says no, by the cause that is told."),
     Theorem("what a yes says", (HEADLINE, "bridge_tool/Verify:SaysVerified"),
-            "Status 0 of `verify` from the headline down to the line that is written: what both texts say, by their lines "
-            "alone, and that the line is true of that. Nothing of which texts are refused."),
+            "Status 0 of `verify` from the headline down to the line that is written, which is true of what both texts say."),
     Theorem("what a yes of an MPS file says", (HEADLINE, "bridge_tool/VerifyMps:SaysVerifiedMps"),
             "The same of `verify_mps` and `verify_fixed`.", 2),
     Theorem("what proved means", ("bridge_tool/Prove:IsProvedOf",), "What is true of the file where `prove` says yes."),
@@ -42,7 +41,7 @@ THEOREMS = (
             ("nl_segments/Reader:IsNl", "bridge_tool/Export:IsExported", "export_round_trip/ReadAs:IsReadAs"),
             "Each text that a file is exported as is read, as an MPS text, as the program that was exported.", 19),
     Theorem("which texts are certificates", ("certificate_text/Written:IsWrittenFor",),
-            "What the lines of a certificate are, by the value that they say: exactly these texts are read as the value."),
+            "What the lines of a certificate are, by the value that they say."),
     Theorem("export", (HEADLINE, "bridge_tool/Export:export_promise"),
             "`nl_segments/Reader` (`IsNl`) says which texts are .nl texts, `file_meaning/Meaning` which assignments satisfy a "
             "file, `nl_meaning/Faults` and `file_meaning/FoldFaults` what does not fold, `scaled_program` what it is scaled to, "
