@@ -122,9 +122,6 @@ def truncation(program: str) -> bool:
     for count in (27, 31):
         done = runs.run("export", [text(KNAPSACK[:count])])
         runs.expect(done.returncode == 0, f"knapsack, {count} lines", done)
-    for count in range(17):
-        done = runs.run("mps", [text(mps.PAIRS[:count])])
-        runs.expect(done.stderr.decode() == f"refused line {count + 1}: no end\n", f"mps, {count} lines", done)
     for command, files in COMMANDS.items():
         if not known(runs.program, command):
             print(f"{command}: not known to this program")

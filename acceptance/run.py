@@ -57,8 +57,8 @@ def is_written_again(program: Program, content: bytes, exported: bytes, words: S
 
 def is_imported(program: Program, text: bytes, file: bytes | None) -> bool:
     """The file that was imported from an MPS text is exported as the same program, its columns in groups."""
-    exported = None if file is None else program.output(file, "export")
-    return exported is not None and is_same_in_groups(text.decode(), exported.decode())
+    exported, written = None if file is None else program.output(file, "export"), program.output(text, "mps")
+    return exported is not None and written is not None and is_same_in_groups(written.decode(), exported.decode())
 
 
 def is_kept(program: Program, case: Case, out: bytes) -> bool:

@@ -17,8 +17,8 @@ from collections.abc import Iterator
 from dataclasses import dataclass, field
 from pathlib import Path
 
-from imports import CRATES, DEFINED, IMPORT, TOP, WORD, imports_of
-from made import asked
+from imports import CRATES, DEFINED, IMPORT, WORD, imports_of
+from made import TOP, asked
 
 BEGINS = re.compile(r"^\s*(?:pub |abbrev |unfoldable |record |data )*(?P<name>[^\s:(){}]+)[^=]*? : ")
 HEADER = re.compile(r"^\s*(?:module |mutual|(?:pub )?ruleset )")

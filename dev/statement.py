@@ -20,6 +20,7 @@ from __future__ import annotations
 
 import re
 import sys
+from collections.abc import Callable
 from dataclasses import dataclass, field
 from graphlib import TopologicalSorter
 from pathlib import Path
@@ -197,13 +198,7 @@ class Statement:
 
     def lemmas_below(self, keys: list[Key]) -> list[Key]:
         """The lemmas that these cite, with those that they rest on."""
-        found: set[Key] = set()
-        left = list(keys)
-        while left:
-            cited = {it for it in self.names_in(left.pop()) if self[it].is_lemma} - found
-            found |= cited
-            left += cited
-        return sorted(found)
+        return reached(keys, lambda key: {it for it in self.names_in(key) if self[it].is_lemma})
 
     def names_in(self, key: Key) -> set[Key]:
         """The definitions that one names, lemmas among them."""
@@ -215,20 +210,8 @@ class Statement:
         return {found for name in names if (found := self.resolve(file, name))} - {key}
 
     def closure(self, roots: list[Key]) -> list[Key]:
-        """What these rest on, themselves among them, each after what it rests on, where that can be."""
-        found: dict[Key, None] = {}
-        entered: set[Key] = set()
-        stack = [(key, False) for key in reversed(roots)]
-        while stack:
-            key, is_done = stack.pop()
-            if is_done:
-                found[key] = None
-            elif key not in entered:
-                entered.add(key)
-                stack.append((key, True))
-                below = sorted(self.rests_on(key) - entered, reverse=True)
-                stack += [(it, False) for it in below]
-        return list(found)
+        """What these rest on, themselves among them."""
+        return sorted({*roots, *reached(roots, self.rests_on)})
 
     def of(self, theorem: Theorem) -> list[Key]:
         """What the statement of a theorem rests on."""
@@ -250,6 +233,17 @@ class Statement:
         rank = {crate: number for number, crate in enumerate(upwards(crates))}
         order = sorted(upwards(below), key=lambda it: (is_arithmetic(it), rank[it[0]]))
         return {it: sorted(files[it], key=lambda found: found.line) for it in order}
+
+
+def reached(roots: list[Key], below: Callable[[Key], set[Key]]) -> list[Key]:
+    """What is below these, and below that."""
+    found: set[Key] = set()
+    left = list(roots)
+    while left:
+        new = below(left.pop()) - found
+        found |= new
+        left += new
+    return sorted(found)
 
 
 def is_arithmetic(file: tuple[str, str]) -> bool:
@@ -402,26 +396,32 @@ def complaints(statement: Statement) -> list[str]:
     return sorted(found)
 
 
+def told_senses(statement: Statement) -> str:
+    lines = []
+    for it in THEOREMS[:-1]:
+        named = senses(statement, statement.of(it))
+        lines.append(f"{it.name}: {len(named)}")
+        lines += [f"    {name}: " + ", ".join(f"{crate}/{file}" for crate, file, _ in keys) for name, keys in named.items()]
+    return "\n".join(lines)
+
+
+def checked(statement: Statement) -> list[str]:
+    found = complaints(statement)
+    if not READING.exists() or READING.read_text() != reading(statement):
+        found.append(f"{READING.relative_to(TOP)} is not as the definitions are: dev/statement.py --write")
+    return found
+
+
 def main(words: list[str]) -> int:
     statement = Statement()
-    if words == ["--all"]:
-        print(all_texts(), end="")
-    elif words == ["--lists"]:
-        print("\n".join(lists(statement)))
-    elif words == ["--senses"]:
-        for it in THEOREMS[:-1]:
-            named = senses(statement, statement.of(it))
-            print(f"{it.name}: {len(named)}")
-            for name, keys in named.items():
-                print(f"    {name}: " + ", ".join(f"{crate}/{file}" for crate, file, _ in keys))
-    elif words == ["--write"]:
-        READING.write_text(reading(statement))
-    elif words == ["--check"]:
-        found = complaints(statement)
-        if not READING.exists() or READING.read_text() != reading(statement):
-            found.append(f"{READING.relative_to(TOP)} is not as the definitions are: dev/statement.py --write")
+    if words == ["--check"]:
+        found = checked(statement)
         print("\n".join(found), end="\n" if found else "")
         return 1 if found else 0
+    if words == ["--write"]:
+        READING.write_text(reading(statement))
+    elif words in (["--all"], ["--lists"], ["--senses"]):
+        print({"--all": lambda _: all_texts().rstrip("\n"), "--lists": lambda it: "\n".join(lists(it)), "--senses": told_senses}[words[0]](statement))
     elif unknown := next((word for word in words if not statement.has(key_of(word))), None):
         sys.exit(f"dev/statement.py: {unknown}: no definition CRATE/FILE:NAME and no option (dev/statement.py without words lists them)")
     else:

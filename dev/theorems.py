@@ -46,7 +46,7 @@ THEOREMS = (
             ("nl_segments/Reader:IsNl", "bridge_tool/Export:IsExported", "export_round_trip/ReadAs:IsReadAs"),
             "Each text that a file is exported as is read, as an MPS text, as the program that was exported.", 19),
     Theorem("which texts are certificates", ("certificate_text/Written:IsWrittenFor",),
-            "What the lines of a certificate are, by the value that they say: exactly these texts are read as the value."),
+            "What the lines of a certificate are, by the value that they say."),
     Theorem("export", (HEADLINE, "bridge_tool/Export:export_promise"),
             "`nl_segments/Reader` (`IsNl`) says which texts are .nl texts, `file_meaning/Meaning` which assignments satisfy a "
             "file, `nl_meaning/Faults` and `file_meaning/FoldFaults` what does not fold, `scaled_program` what it is scaled to, "
@@ -107,8 +107,7 @@ CLOSING = (
     "",
     "## What no definition says",
     "",
-    "That the files a desk names are those of the machine (`HostDesk` is trusted), that the compilers and the prover are",
-    "right, how long a run takes and how much memory it needs.",
+    "[What is trusted, and what is only tested](theorems.md#what-is-not-proved).",
     "",
     "That points may be real: a point is a list of rational numbers. Of a file that folds each claim holds of real points,",
     "too: a system of linear inequalities with rational numbers, strict ones among them (`better than V`) and some variables",

@@ -2,6 +2,7 @@
 
 from __future__ import annotations
 
+import glob
 import hashlib
 import json
 import os
@@ -15,7 +16,7 @@ try:
 except ImportError:
     raise SystemExit("packaging/build: needs Python 3.11 or later") from None
 
-from sources import BUILT, TOP, TRIED, noted, said_by, tried
+from sources import BUILT, TOP, TRIED, fault_of, said_by
 
 sys.path += [os.path.join(TOP, "dev"), os.path.join(TOP, "drivers")]
 import calls                                            # noqa: E402
@@ -24,7 +25,8 @@ import statement                                        # noqa: E402
 from bridge_drivers.completion import Completion, place     # noqa: E402
 
 PACKAGE = "bridge_drivers"
-FOLDERS = ("user", "verify", "dev")         # of documents
+DOCUMENTS = ("README.md", "drivers/*.md", "drivers/report.schema.json", "docs/user/*.md",
+             "docs/verify/*.md", "docs/dev/*.md", "docs/pictures/*", "crates/*/README.md")
 MADE = {"docs/verify/wrong-bodies.txt": ("wrong-bodies", "--list"),
         "docs/dev/crates.txt": ("map.py", "--table")}       # texts that scripts of dev/ print
 LINK = re.compile(r"\]\(([^)#]+)(?:#[^)]*)?\)")
@@ -71,10 +73,10 @@ def program_of(other: str | None) -> tuple[str, bool, str]:
     the gate, else that which dev/try built of these sources."""
     if other:
         return other, False, said_by("rt", "--version")
-    facts, why = noted() if os.path.isfile(BUILT) else ({}, "it is not built")
+    facts, why = fault_of(BUILT)
     if not why:
         return BUILT, True, facts["toolchain"]
-    told, no_trial = tried()
+    told, no_trial = fault_of(TRIED)
     if no_trial:
         raise Unfit(f"{os.path.relpath(BUILT, TOP)}: {why}: .ci/run builds and proves it; "
                     f"{os.path.relpath(TRIED, TOP)}: {no_trial}: dev/try builds it without proofs")
@@ -169,25 +171,12 @@ class Project:
 
     def documents(self) -> Iterator[File]:
         """What users read. Unfit where a link leads to none of it."""
-        found = [File("README.md", read("README.md")),
-                 File("drivers/report.schema.json", read("drivers", "report.schema.json"))]
-        found += [File(f"drivers/{name}", read("drivers", name))
-                  for name in sorted(os.listdir(os.path.join(TOP, "drivers")))
-                  if name.endswith(".md")]
-        for folder in FOLDERS:
-            for name in sorted(os.listdir(os.path.join(TOP, "docs", folder))):
-                if name.endswith(".md"):
-                    found.append(File(f"docs/{folder}/{name}", read("docs", folder, name)))
-        for name in sorted(os.listdir(os.path.join(TOP, "docs", "pictures"))):
-            found.append(File(f"docs/pictures/{name}", read("docs", "pictures", name)))
-        for crate in sorted(os.listdir(os.path.join(TOP, "crates"))):
-            if os.path.isfile(os.path.join(TOP, "crates", crate, "README.md")):
-                found.append(File(f"crates/{crate}/README.md", read("crates", crate, "README.md")))
+        paths = sorted(path for pattern in DOCUMENTS for path in glob.glob(pattern, root_dir=TOP))
+        found = [File(path, read(path)) for path in paths]
         found.append(File("docs/verify/definitions.txt", statement.all_texts().encode()))
         found.append(File("docs/verify/calls.txt", calls.listed().encode()))
-        for made, words in MADE.items():
-            said = said_by(os.path.join(TOP, "dev", words[0]), words[1])
-            found.append(File(made, said.encode()))
+        found += [File(made, said_by(os.path.join(TOP, "dev", script), word).encode())
+                  for made, (script, word) in MADE.items()]
         dead = dead_links(found)
         if dead:
             raise Unfit("links that lead nowhere: " + ", ".join(dead))

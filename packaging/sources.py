@@ -20,7 +20,6 @@ from typing import Iterator, Mapping
 TOP = os.path.dirname(os.path.dirname(os.path.realpath(__file__)))
 BUILT = os.path.join(TOP, "crates", "bridge", "out", "bridge")
 TRIED = os.path.join(TOP, "out", "try", "bridge")     # by dev/try, without proofs
-NOTE = BUILT + ".built"
 
 
 def said_by(*words: str) -> str:
@@ -66,31 +65,18 @@ def write_note(program: str, of: str, proved: str) -> None:
         f.write(json.dumps(facts, indent=1) + "\n")
 
 
-def tried() -> tuple[Mapping[str, str], str]:
-    """The note of the program that dev/try built, and why it is not of these sources; nothing where
-    it is."""
+def fault_of(program: str) -> tuple[Mapping[str, str], str]:
+    """The note beside a program, and why it does not say that it is of these sources; nothing
+    where it does."""
     try:
-        with open(TRIED + ".built", encoding="ascii") as f:
+        with open(program + ".built", encoding="ascii") as f:
             facts: dict[str, str] = json.load(f)
-        is_own = facts.get("program") == sum_of(TRIED)
+        is_own = facts.get("program") == sum_of(program)
     except (OSError, ValueError):
-        return {}, "it is not built"
-    return facts, "" if is_own and facts.get("sources") == sources() else "it is of other sources"
-
-
-def noted() -> tuple[Mapping[str, str], str]:
-    """The note, and why it does not say that the gate built this program from these sources;
-    nothing where it does."""
-    try:
-        with open(NOTE, encoding="ascii") as f:
-            facts: dict[str, str] = json.load(f)
-    except (OSError, ValueError):
-        return {}, "there is no note of its sources"
-    if facts.get("program") != sum_of(BUILT):
+        return {}, "it is not built, or has no note of its sources"
+    if not is_own:
         return facts, "it is not the program that was noted"
-    if facts.get("sources") != sources():
-        return facts, "it was built from other sources than these"
-    return facts, ""
+    return facts, "" if facts.get("sources") == sources() else "it is of other sources than these"
 
 
 if __name__ == "__main__":

@@ -9,9 +9,9 @@ from .texts import Case, KNAPSACK, bad_words, file, lines, text
 ROW = "O0 0 / n0 / r / {} / b / {} / J0 1 / 0 {} / G0 1 / 0 {}"
 
 
-def row(side: str = "2 1", bound: str = "3", factor: str = "3", cost: str = "1", whole: int = 0) -> bytes:
+def row(side: str = "2 1", bound: str = "3", factor: str = "3", cost: str = "1", whole: int | str = 0) -> bytes:
     """min cost x with factor x in this row, and x in this bound."""
-    return text(file((1, 1, 1, 0, whole, 1, 1, 0), ROW.format(side, bound, factor, cost)))
+    return text(file((1, 1, 1, 0, int(whole), 1, 1, 0), ROW.format(side, bound, factor, cost)))
 
 
 THIRD = row()

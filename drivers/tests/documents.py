@@ -1,7 +1,4 @@
-#!/usr/bin/env python3
-"""The documents for users: their tables are made of those of the code, and their commands are run.
-
-    documents.py --write        writes the tables between their marks
+"""The documents for users: the table of statuses is that of the code, and commands are run.
 
 A block that begins with `$ ` is a transcript: what each command prints is what stands below it. A
 block of `sh` is run line by line, each with status 0 or that of a comment `# status N`, and prints
@@ -15,24 +12,20 @@ import os
 import re
 import shutil
 import subprocess
-import sys
 import unittest
 from typing import Iterator, NamedTuple
 
-HERE = os.path.dirname(os.path.abspath(__file__))
-sys.path[:0] = [HERE, os.path.join(HERE, "..")]
-from support import EXAMPLES, NEEDS_CLP, NEEDS_MPS, PROGRAM, TOP, Case    # noqa: E402
+from support import EXAMPLES, NEEDS_CLP, NEEDS_MPS, PROGRAM, TOP, Case
 
-from bridge_drivers import solvers                          # noqa: E402
-from bridge_drivers.certify.command import OPTIONS          # noqa: E402
-from bridge_drivers.codes import STATUSES                   # noqa: E402
-from bridge_drivers.options import COMMON                   # noqa: E402
+from bridge_drivers import solvers
+from bridge_drivers.certify.command import OPTIONS
+from bridge_drivers.codes import STATUSES
+from bridge_drivers.options import COMMON
 
 DOCUMENTS = ("README.md", "drivers/README.md", "drivers/SYSTEMS.md", "drivers/REPORT.md",
              "drivers/SEARCH.md", "docs/user/commands.md", "docs/user/formats.md",
              "docs/user/refusals.md")
 BLOCK = re.compile(r"(?ms)^(?:<!-- not run: ([^\n]+) -->\n)?```(\w*)\n(.*?)^```$")
-MADE = re.compile(r"(?ms)^<!-- made: (\w+) -->\n(.*?)^<!-- end -->$")
 VERDICT = re.compile(r"#\s+((?:optimal|within|feasible|bound) [\d/ -]+|infeasible|unbounded)$")
 STATUS = re.compile(r"# status (\d+)$")
 COMMANDS = ("bridge", "nl-bridge", "drivers/install")      # the words that ours begin with
@@ -56,25 +49,10 @@ def blocks(name: str) -> Iterator[Block]:
         yield Block(why, kind, text.rstrip("\n").split("\n"))
 
 
-def status_rows() -> str:
-    return "| status | meaning |\n|---|---|\n" + "".join(
-        f"| {int(status)} | {text} |\n" for status, text in STATUSES.items())
-
-
-TABLES = {"statuses": status_rows}
-
-
-def filled(text: str) -> str:
-    """A document with its tables."""
-    return MADE.sub(lambda found: f"<!-- made: {found[1]} -->\n{TABLES[found[1]]()}<!-- end -->",
-                    text)
-
-
 class Tables(unittest.TestCase):
-    def test_made(self) -> None:
-        for name in DOCUMENTS:
-            self.assertEqual(filled(text_of(name)), text_of(name), f"{name}: documents.py --write")
-        self.assertIn("<!-- made: statuses -->", text_of("drivers/README.md"))
+    def test_statuses(self) -> None:
+        rows = "".join(f"| {int(status)} | {text} |\n" for status, text in STATUSES.items())
+        self.assertIn("| status | meaning |\n|---|---|\n" + rows, text_of("drivers/README.md"))
 
     def test_options_that_are_named(self) -> None:
         """Words `name=..` of documents are options, and the README has each option in its table."""
@@ -165,13 +143,3 @@ class Commands(Case):
 for document in DOCUMENTS:
     label = "test_" + document.replace("/", "_").replace(".", "_").lower()
     setattr(Commands, label, lambda self, document=document: self.document(document))
-
-
-if __name__ == "__main__":
-    if sys.argv[1:] != ["--write"]:
-        sys.exit(__doc__)
-    for document in DOCUMENTS:
-        text, made = text_of(document), filled(text_of(document))
-        if made != text:
-            with open(os.path.join(TOP, document), "w", encoding="utf-8") as f:
-                f.write(made)

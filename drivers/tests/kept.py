@@ -103,14 +103,15 @@ class InWords(unittest.TestCase):
 class Keeping(Case):
     """Over a `bridge` that says a line of each older certificate."""
 
-    def keep(self, line: str, says: str, overwrite: bool = False) -> Kept:
+    def keep(self, line: str, says: "str | None", overwrite: bool = False) -> Kept:
+        """Nothing is said in time where it says None."""
         bridge, source = Bridge([], lambda argv: None), os.path.join(self.folder, "source")
         self.put(b"model")
         with open(source, "wb") as f:
             f.write(OPTIMAL)
-        status = int(verdicts.read(says) is None)
-        with mock.patch.object(bridge, "call",
-                               lambda *words: Reply(status, says.encode() + b"\n", "")):
+        status = int(verdicts.read(says or "") is None)
+        reply = Reply(status, f"{says}\n".encode(), "") if says is not None else Late("verify")
+        with mock.patch.object(bridge, "call", side_effect=[reply]):
             keeper = Keeper(bridge, self.stub + ".nl", True, overwrite)
             return keeper.kept(source, line, self.target)
 
@@ -135,31 +136,16 @@ class Keeping(Case):
             self.assertEqual(self.keep(line, says, True).path, self.target)
             self.assertEqual(self.bytes_of(".certificate"), OPTIMAL)
 
-    def test_verdicts_that_take_long(self) -> None:
-        self.put(OPTIMAL, ".certificate")
-        self.put(b"model")
-        bridge, source = Bridge([], lambda argv: None), os.path.join(self.folder, "source")
-        with open(source, "wb") as f:
-            f.write(OPTIMAL[:-2])
-        with mock.patch.object(bridge, "call", side_effect=Late("verify")):
-            kept = Keeper(bridge, self.stub + ".nl", True, False).kept(source, "bound 1",
-                                                                       self.target)
-        self.assertEqual((kept.failed, self.bytes_of(".certificate")), (True, OPTIMAL))
-
     def test_other_files(self) -> None:
-        """What is no certificate stays, an empty file does not, the same text is written again,
-        and the model always stays."""
-        self.put(b"letters\n", ".certificate")
-        kept = self.keep("optimal 17", "")
-        self.assertEqual((kept.failed, self.bytes_of(".certificate")), (True, b"letters\n"))
-        self.assertIn(STANDS, kept.line)
-        for there in (b"", OPTIMAL):
+        """What is no certificate, or cannot be judged in time, stays; an empty file does not."""
+        for there, says, stays in ((b"letters\n", "", True), (OPTIMAL + b"\n", None, True),
+                                   (b"", "", False)):
             self.put(there, ".certificate")
-            self.assertEqual(self.keep("optimal 17", "").line, f"{self.target} is written: the "
-                             f"certificate of `optimal 17`, {len(OPTIMAL)} bytes")
-        with mock.patch.object(Keeping, "target", self.stub + ".nl"):
-            kept = self.keep("optimal 17", "", True)
-            self.assertEqual((kept.failed, self.bytes_of(".nl")), (True, b"model"))
+            kept = self.keep("optimal 17", says)
+            self.assertEqual((kept.failed, self.bytes_of(".certificate")),
+                             (stays, there if stays else OPTIMAL))
+            self.assertIn(STANDS if stays else f"{self.target} is written: the certificate of "
+                          f"`optimal 17`, {len(OPTIMAL)} bytes", kept.line)
 
     def test_what_cannot_be_written(self) -> None:
         """No empty or partial file is left."""

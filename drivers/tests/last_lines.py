@@ -14,7 +14,7 @@ from bridge_drivers.certificates import Certifier
 from bridge_drivers.certify import clp
 from bridge_drivers.certify.claims import Verdict
 from bridge_drivers.certify.watch import Watch
-from models import FAR, MODELS
+from models import MODELS
 import stored
 
 
@@ -226,40 +226,6 @@ class Claims(Case):
             self.assertEqual("prove=1 needs the library of CLP, which is not there (Debian: apt "
                              "install coinor-libclp1)" in self.sol().message, name == "knap")
             self.assertNotIn("in words", self.sol().message[-1])
-
-    def test_stopped_and_undecided(self) -> None:
-        self.put(MODELS["knap"].text)
-        for first, code, line in (
-                ("Stopped on time - objective value 17.0", 400, "^(feasible|optimal) 17$"),
-                ("Stopped on time (no integer solution - continuous used) - objective value 17.0",
-                 450, r"^bound \S+$" if HAS_CLP else "^not proved: there is no point"),
-                ("Unbounded", 0, "^optimal 17$"),
-                ("Integer infeasible", 290, "^(not proved|feasible|optimal)")):
-            run = copy.deepcopy(stored.runs("cbc")["knap"])
-            run["files"]["answer.txt"][0] = first
-            if code == 290:
-                run["logs"]["solver.log"] = ["Problem is infeasible or unbounded"]
-            self.assertRegex(self.last("cbc", "knap", run=run), line)
-            last = self.sol().message[-1]
-            self.assertEqual(self.sol().code, 0 if last.startswith("optimal") else
-                             100 if last.startswith("feasible") and code == 290 else code)
-
-    def test_lp_solve_at_1e30(self) -> None:
-        """The size that it prints where there is no end: there is an optimum, whatever it says."""
-        for name, value in (("lower", "1e+30"), ("upper", "1e+30"), ("beyond", "1e+30"),
-                            ("side", "1e+30"), ("near", "1e+29")):
-            text, optimum = FAR[name]
-            self.put(text)
-            columns = ["x0", "x1"] if name == "upper" else ["x0"]
-            rows = ["c0"] if name in ("upper", "side") else []
-            log = ["", f"Value of objective function: {float(value):.8f}", "",
-                   "Actual values of the variables:", *(f"{j} {value}" for j in columns), "",
-                   "Dual values with from - till limits:", *(f"{i} 0" for i in rows + columns), ""]
-            run = {"files": {}, "logs": {"solver.log": log}}
-            last = self.last("lp_solve", name, run=run)
-            self.assertEqual((self.sol().code, last), (0, f"optimal {optimum}"), self.sol().text)
-            self.assertEqual("1 side or bound from 1e30 on, which lp_solve may take for none"
-                             in self.sol().text, name != "near")
 
     def test_shortest(self) -> None:
         text = MODELS["diet"].text.replace(b"0.9", b"0.90000000000000002")

@@ -102,6 +102,7 @@ class Mended(unittest.TestCase):
                 self.assertEqual(got, self.text(f"PL{label} x", f"UP{label} inf 3",
                                                 f"MI{label} x"))
                 self.assertEqual(notes[0], "2 bounds of infinity are read as none")
+        self.assertEqual(mended(self.text("UP x inf"))[1][0], "a bound of infinity is read as none")
         plain = self.text()
         for given, wanted in (
                 (BOM + plain, plain), (self.text(head="NAME p\nOBJNAME\n cost\n"), plain),

@@ -9,6 +9,7 @@ import subprocess
 import sys
 import unittest
 import zipfile
+from pathlib import Path
 
 from support import PROGRAM, TOP, Case
 
@@ -32,27 +33,28 @@ class Built(Case):
         self.out = out
 
     def test_contents(self) -> None:
-        self.sums()
-        self.fields()
-        self.wheel()
-        self.lintian()
-
-    def lintian(self) -> None:
-        """No error, where it is there."""
-        if shutil.which("lintian"):
-            ran = subprocess.run(["lintian", "--allow-root", "--fail-on", "error,warning",
-                                  os.path.join(self.out, self.names[0])], capture_output=True,
-                                 text=True)
-            self.assertEqual((ran.returncode, ran.stdout), (0, ""))
-
-    def sums(self) -> None:
-        """They pass, and tell that of the program in the packages."""
+        """Sums that pass, and tell that of the program; fields of both packages; no error of
+        lintian, where it is there."""
+        deb = os.path.join(self.out, self.names[0])
         ran = subprocess.run(["sha256sum", "-c", "SHA256SUMS"], cwd=self.out, capture_output=True)
         self.assertEqual((ran.returncode, ran.stderr), (0, b""))
-        with open(PROGRAM[0], "rb") as f:
-            own = hashlib.sha256(f.read()).hexdigest()
-        with open(os.path.join(self.out, "SHA256SUMS"), encoding="ascii") as f:
-            self.assertEqual(f.readline(), f"# {own}  bridge, the program in them\n")
+        own = hashlib.sha256(Path(PROGRAM[0]).read_bytes()).hexdigest()
+        self.assertTrue(Path(self.out, "SHA256SUMS").read_text().startswith(
+            f"# {own}  bridge, the program in them\n"))
+        told = subprocess.run(["dpkg-deb", "-f", deb], capture_output=True, text=True).stdout
+        for pattern in (r"(?m)^Depends: .*\bcoinor-libclp1\b", "Description: UNPROVED bridge",
+                        "no gate has proved the program", r"(?m)^Recommends: .*\bcoinor-cbc\b",
+                        r"(?m)^Suggests: .*\bminizinc, python3-pulp\b"):
+            self.assertRegex(told, pattern)
+        self.assertNotIn("is proved", told)
+        with zipfile.ZipFile(os.path.join(self.out, self.names[1])) as z:
+            facts = next(name for name in z.namelist() if name.endswith(".dist-info/METADATA"))
+            told = z.read(facts).decode()
+        self.assertIn("Provides-Extra: pulp\nRequires-Dist: pulp; extra == 'pulp'\n", told)
+        if shutil.which("lintian"):
+            linted = subprocess.run(["lintian", "--allow-root", "--fail-on", "error,warning", deb],
+                                    capture_output=True, text=True)
+            self.assertEqual((linted.returncode, linted.stdout), (0, ""))
 
     def test_uninstalled(self) -> None:
         """A virtual environment is as it was before, once commands have run there, too."""
@@ -70,22 +72,6 @@ class Built(Case):
         self.assertIn("NOT PROVED", ran.stdout)
         subprocess.run([*words, "uninstall", "-y", "nl-bridge"], check=True)
         self.assertEqual(paths_of(place), before)
-
-    def fields(self) -> None:
-        deb = os.path.join(self.out, self.names[0])
-        told = subprocess.run(["dpkg-deb", "-f", deb], capture_output=True, text=True).stdout
-        self.assertRegex(told, r"(?m)^Depends: .*\bcoinor-libclp1\b")
-        self.assertIn("Description: UNPROVED bridge", told)
-        self.assertIn("no gate has proved the program", told)
-        self.assertNotIn("is proved", told)
-        self.assertRegex(told, r"(?m)^Recommends: .*\bcoinor-cbc\b")
-        self.assertRegex(told, r"(?m)^Suggests: .*\bminizinc, python3-pulp\b")
-
-    def wheel(self) -> None:
-        with zipfile.ZipFile(os.path.join(self.out, self.names[1])) as z:
-            facts = next(name for name in z.namelist() if name.endswith(".dist-info/METADATA"))
-            told = z.read(facts).decode()
-        self.assertIn("Provides-Extra: pulp\nRequires-Dist: pulp; extra == 'pulp'\n", told)
 
 
 def paths_of(folder: str) -> set[str]:

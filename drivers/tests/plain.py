@@ -5,7 +5,9 @@ from __future__ import annotations
 
 import random
 from fractions import Fraction as F
+from typing import Optional, Tuple
 
+Ends = Tuple[Optional[F], Optional[F]]
 KINDS = {"LO": "l", "LI": "l", "UP": "u", "UI": "u", "FX": "lu", "MI": "-", "PL": "+", "FR": "-+"}
 
 
@@ -14,8 +16,14 @@ class Plain:
     which columns are whole."""
 
     def __init__(self, text: bytes) -> None:
-        self.maximise, self.kinds, self.rhs, self.ranges = False, {}, {}, {}
-        self.entries, self.low, self.high, self.whole = {}, {}, {}, {}
+        self.maximise = False
+        self.kinds: dict[str, str] = {}
+        self.rhs: dict[str, F] = {}
+        self.ranges: dict[str, F] = {}
+        self.entries: dict[tuple[str, str], F] = {}
+        self.low: dict[str, F | None] = {}
+        self.high: dict[str, F | None] = {}
+        self.whole: dict[str, bool] = {}
         part, in_whole = "", False
         for line in text.decode().split("\n"):
             words = line.split(" ")[1:]
@@ -29,8 +37,8 @@ class Plain:
                 in_whole = words[2] == "'INTORG'"
             elif part == "COLUMNS":
                 self.entries[words[1], words[0]] = F(words[2])
-                self.low.setdefault(words[0])
-                self.high.setdefault(words[0])
+                self.low.setdefault(words[0], None)
+                self.high.setdefault(words[0], None)
                 self.whole.setdefault(words[0], in_whole)
             elif part in ("RHS", "RANGES"):
                 (self.rhs if part == "RHS" else self.ranges)[words[1]] = F(words[2])
@@ -48,15 +56,16 @@ class Plain:
         if kind == "BV":
             self.low[column], self.high[column] = F(0), F(1)
 
-    def bounds(self) -> dict[str, tuple[F | None, F | None]]:
+    def bounds(self) -> dict[str, Ends]:
         """None where there are none."""
-        found = {}
+        found: dict[str, Ends] = {}
         for column, low in self.low.items():
             high = self.high[column]
             if low is None and (high is None or high >= 0):
                 low = F(0)
-            found[column] = tuple(None if end is None or abs(end) >= F(10) ** 1000 else end
-                                  for end in (low, high))
+            low, high = (None if end is None or abs(end) >= F(10) ** 1000 else end
+                         for end in (low, high))
+            found[column] = low, high
         return found
 
     def objective(self) -> str:
@@ -65,15 +74,15 @@ class Plain:
     def constraints(self) -> list[str]:
         return [row for row, kind in self.kinds.items() if kind != "N"]
 
-    def sides(self) -> dict[str, tuple[F | None, F | None]]:
-        found = {}
+    def sides(self) -> dict[str, Ends]:
+        found: dict[str, Ends] = {}
         for row in self.constraints():
             kind, at, width = self.kinds[row], self.rhs.get(row, F(0)), self.ranges.get(row)
             ends = [None if kind == "L" else at, None if kind == "G" else at]
             if width is not None:
                 up = kind == "G" or kind == "E" and width >= 0
                 ends[int(up)] = at + abs(width) if up else at - abs(width)
-            found[row] = tuple(ends)
+            found[row] = ends[0], ends[1]
         return found
 
 

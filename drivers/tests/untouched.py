@@ -125,6 +125,8 @@ class Commands(Case):
                 self.assertEqual(f"{path}: it stands there" in ended.stderr, status == 5)
                 self.assertEqual(self.bytes_of(f".{driver}.mps") == OLDER, status == 5)
             os.unlink(path)
+        self.replay("cbc", "product", self.stub, "only=mps", "-AMPL")
+        self.assertEqual((self.sol().code, self.sol().values), (450, []))
         self.put(MODELS["knap"].text)
         for driver in ("clp", "esolver"):
             for words, status in (([], 2), (["relax=1"], 0)):
