@@ -1,5 +1,5 @@
 -- Rows that are held, and their forms with their terms.
-use Rattle.std.proofs.Common.{◌≡◌, ℕ, ◌+◌, ◌^◌, ◌<◌, ◌≤◌, ◌∙◌, sym, ap, refl, subst, arith, true, Some, option_map, List, [], ◌∷◌, drop, take, length, get_or}
+use Rattle.std.proofs.Common.{◌≡◌, ℕ, ◌+◌, ◌^◌, ◌<◌, ◌≤◌, ◌∙◌, sym, ap, refl, subst, arith, true, Some, option_map, List, [], ◌∷◌, drop, take, length, get_or, pos}
 use Rattle.std.proofs.lemmas.List.{drop_all, take_all, length-map}
 use Rattle.exact_numbers.specs.declared.dec.Dec.{Dec}
 use Rattle.exact_numbers.specs.declared.frac.Frac.{Frac}
