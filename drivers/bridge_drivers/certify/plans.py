@@ -170,16 +170,15 @@ class Plans:
 
     def bounded(self) -> tuple[Fraction, str] | None:
         """A value that no point is better than, which the stopped searches have, with the file
-        of its tree: the best that closes. None of these can go on."""
-        while self.going:
-            plan = max(self.going, key=lambda plan: plan.search.bound())
-            self.going.remove(plan)
+        of its tree: the best that closes. That search can not go on."""
+        for plan in sorted(self.going, key=lambda plan: -plan.search.bound()):
             bound = plan.search.best_bound()
             for room in LOOSER if bound > -math.inf else ():
                 low = self.rounded(bound - room * max(1.0, abs(bound)))
                 value = Value(self.model, low, self.step)
                 tree = plan.search.ended_at(value.goal(self.exact))
                 if tree is not None:
+                    self.going.remove(plan)
                     return low, self.shaped(plan, value, tree, f"bound by {plan.name}").path
         return None
 
