@@ -131,9 +131,7 @@ def explain(model: Path, certificate: Path | None = None, *, objective: int = 0,
             told.certificate = os.fspath(certificate)
             files = Files(found.given.shown, told.certificate, os.fspath(html), os.fspath(svg),
                           overwrite)
-            said = explained(found, files)
-            told.take_line(said.verdict)
-            told.status, told.lines, told.explained = said.status, said.lines, said.object
+            explained(found, files, told)
     return told.end()
 
 

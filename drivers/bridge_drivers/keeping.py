@@ -5,7 +5,7 @@ from __future__ import annotations
 from typing import NamedTuple
 
 from . import verdicts
-from .bridge import Bridge, Late
+from .bridge import Bridge, Late, Refused
 from .files import Places
 from .verdicts import Said
 
@@ -47,12 +47,10 @@ class Keeper:
         """What an older certificate proves of the model as it is now, where that is no less."""
         self.bridge.limit = SECONDS
         try:
-            reply = self.bridge.call("verify", self.nl, target)
-        except Late:
+            line = self.bridge.verdict("verify", self.nl, target)
+        except (Late, Refused):
             return ""
         finally:
             self.bridge.limit = None
-        line = reply.out.decode("utf-8", "replace").strip()
-        old = verdicts.read(line) if reply.status == 0 else None
-        is_enough = new and old and verdicts.covers(old, new, self.maximise)
-        return line if is_enough else ""
+        old = verdicts.read(line)
+        return line if new and old and verdicts.covers(old, new, self.maximise) else ""

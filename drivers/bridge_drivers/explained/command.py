@@ -12,6 +12,7 @@ from ..certify.model import Model, Unfit, model_of
 from ..codes import Status
 from ..files import Places
 from ..printable import in_a_line
+from ..report import Report
 from ..subjects import Subject
 from .bounds import Bounds
 from .page import text_of
@@ -125,21 +126,13 @@ class Explaining:
                  found.shows) for found in sums(self.wording, places)]
 
 
-class Told(NamedTuple):
-    """What is said of a certificate: the status, that of `verify`, or 5 where a page could not be
-    written; the verdict, the lines, the same for programs."""
-
-    status: int
-    verdict: str
-    lines: list[str]
-    object: dict[str, object]
-
-
-def explained(model: Subject, files: Files) -> Told:
-    """What a certificate says, and the pages that are asked for. Refused where it is none."""
+def explained(model: Subject, files: Files, report: Report) -> None:
+    """What a certificate says, into the report, and the pages that are asked for. The status is
+    that of `verify`, or 5 where a page could not be written. Refused where it is none."""
     verdict = model.bridge.verdict("verify", model.path, files.certificate)
     told = Explaining(model, files, verdict, verdicts.read(verdict) is not None)
-    status = Status.DONE if told.holds else Status.FAILED
+    report.take_line(verdict)
+    report.status = Status.DONE if told.holds else Status.FAILED
     lines = [*map(in_a_line, told.lines()), *model.notes]
     places = Places([model.given.path, model.given.shown, files.certificate], files.overwrite)
     for path, text in ((files.html, told.page), (files.svg, told.picture)):
@@ -148,6 +141,6 @@ def explained(model: Subject, files: Files) -> Told:
                 places.write(path, text().encode("utf-8", "backslashreplace"))
                 lines.append(f"{path} is written")
             except OSError as fault:
-                status = Status.UNWRITTEN
+                report.status = Status.UNWRITTEN
                 lines.append(f"{path} is not written: {fault.strerror or fault}")
-    return Told(status, verdict, lines, told.object())
+    report.lines, report.explained = lines, told.object()
