@@ -54,7 +54,7 @@ class Search(Parts):
         self.missing: Clp | None = None
         self.constant = float(model.constant) if has_cost else 0.0
         self.choice = Choice(strong)
-        self.base = -math.inf
+        self.base, self.deepest = -math.inf, float(MOST_DEPTH)
         self.tells = most == MOST_NODES         # small searches tell no progress
         self.aim_at(goal)
 
@@ -153,7 +153,7 @@ class Search(Parts):
         self.watch.look(self.nodes, self.until)
         if self.nodes >= self.most:
             raise (Paused if self.most < MOST_NODES else Stopped)(f"more than {self.most} nodes")
-        if len(self.above) + len(self.open) > MOST_DEPTH:
+        if len(self.above) + len(self.open) > self.deepest:
             raise Stopped("the tree is too deep")
         if self.tells and self.watch.is_due():
             known = {"nodes": float(self.nodes), "open": float(len(self.open) + 1)}
@@ -206,7 +206,7 @@ class Search(Parts):
         """What is left, each part by a leaf or few, whatever time it is. Stopped where that is not
         enough."""
         self.aim_at(goal)
-        self.watch, self.until, self.tells = Watch(0.0), math.inf, False
+        self.watch, self.until, self.deepest, self.tells = Watch(0.0), math.inf, math.inf, False
         self.most = self.nodes + 2 * len(self.open) + MORE
         return self.worked()
 
