@@ -181,6 +181,15 @@ class Models(Case):
                                  (b"NAME\n", True, self.stub))
 
     @NEEDS_PROGRAM
+    def test_damaged(self) -> None:
+        """A packed file that ends too soon, of each command."""
+        self.put(gzip.compress(MODELS["knap"].text)[:40], ".nl.gz")
+        for words in (["export"], ["stats"], ["explain"], ["explain", "export"]):
+            status, out, err = called(lambda: front.command([*words, self.stub + ".nl.gz"]))
+            self.assertEqual(status, 2, words)
+            self.assertIn(".nl.gz: the packed file ends too soon or is damaged", out + err)
+
+    @NEEDS_PROGRAM
     def test_each_command(self) -> None:
         """Of one model in each form each command says the same."""
         self.put(Path(EXAMPLES, "knap.certificate").read_bytes(), ".certificate")
