@@ -210,7 +210,7 @@ class Model:
         new = self.with_bounds([-1 if v is None else 0 for v in self.lo],
                                [1 if v is None else 0 for v in self.hi])
         new.side_lo, new.side_hi, new.unit = zero(self.side_lo), zero(self.side_hi), 1
-        most = max(map(abs, self.cost), default=Fraction(0)) or Fraction(1)
+        most = max((abs(c) for c in self.cost), default=Fraction(0)) or Fraction(1)
         return new.with_costs([c / most for c in self.cost])
 
     # in doubles --------------------------------------------------------------------

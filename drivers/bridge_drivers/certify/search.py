@@ -7,7 +7,7 @@ from __future__ import annotations
 
 import math
 from fractions import Fraction
-from typing import Callable, Iterable, NamedTuple, Sequence
+from typing import Any, Callable, Iterable, NamedTuple, Sequence
 
 from . import tree as trees
 from .choice import Choice
@@ -212,15 +212,16 @@ class Search(Parts):
 
     # splits ------------------------------------------------------------------------
 
-    def branched(self, x: Sequence[float | Fraction], base: float, state: State) -> Branch | Done:
+    def branched(self, x: Sequence[float], base: float, state: State) -> Branch | Done:
         """A split of what is not whole. Where all is: a better point where it is an exact one,
         else a split of what is whole only within a tolerance, or of what is not fixed. Whole values
         that doubles do not tell apart are the exact ones of the basis."""
         p = self.model
         if state is State.OPTIMAL and any(w and abs(v) >= LARGE for v, w in zip(x, p.whole)):
             part = p.with_bounds(self.box.lo, self.box.hi).with_whole([False] * p.n)
-            x = vertex(part, Basis(*self.clp.basis()), x) or [
-                next((end for end in part.ends(j) if float(end) == v), v) for j, v in enumerate(x)]
+            near: list[Any] = [next((end for end in part.ends(j) if float(end) == v), v)
+                               for j, v in enumerate(x)]
+            x = vertex(part, Basis(*self.clp.basis()), x) or near       # type: ignore[assignment]
         values = [*x, *(sum(a * x[j] for j, a in terms) for terms in self.form_terms)]
         apart = [abs(v - round(v)) for v in values]
         fractional = [j for j, w in enumerate(p.whole) if w and apart[j] > NEAR]
@@ -243,7 +244,7 @@ class Search(Parts):
             raise Stopped("a leaf does not close")
         return done
 
-    def compare(self, x: Sequence[float | Fraction]) -> None:
+    def compare(self, x: Sequence[float]) -> None:
         """Better where the exact point there should not be."""
         p, aim = self.model, self.aim
         point = [Fraction(round(v)) for v in x] if all(p.whole) else aim.exact(x)
@@ -253,11 +254,11 @@ class Search(Parts):
         if aim.target is None or value < aim.target or aim.strict and value == aim.target:
             raise Better(point, value)
 
-    def unfixed(self, apart: Sequence[float | Fraction]) -> int | None:
+    def unfixed(self, apart: Sequence[float]) -> int | None:
         """A whole column that is not fixed: the least whole, else one with a cost and the
         widest."""
         p = self.model
-        best: tuple[float | Fraction, bool, float] | None = None
+        best: tuple[float, bool, float] | None = None
         column = None
         for j, is_whole in enumerate(p.whole):
             lo, hi = self.ends(j)
@@ -272,7 +273,7 @@ class Search(Parts):
                 best, column = rank, j
         return column
 
-    def branch(self, column: int, value: float | Fraction, first: int, base: float) -> Branch:
+    def branch(self, column: int, value: float, first: int, base: float) -> Branch:
         """Bounds of whole columns need not be whole: a part may be empty, but never both."""
         (lo, hi), unit = self.ends(column), self.model.unit
         at = math.floor(value + TINY)
