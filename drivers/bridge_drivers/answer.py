@@ -126,6 +126,8 @@ class Answer:
         return bool(self.program.whole) and not self.options.relax
 
     def with_code(self, code: Code) -> Answer:
+        if self.outcome.code == code:
+            return self
         other = copy.copy(self)
         other.outcome = replace(self.outcome, code=code)
         return other

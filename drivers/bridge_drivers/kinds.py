@@ -47,9 +47,11 @@ ENDS = {
     ".certificate": Kind("a certificate", "`nl-bridge verify MODEL.nl {path}` judges it"),
     ".py": Kind("a text of Python", "`python3 {path}` runs it"),
     ".elf": Kind("a program (ELF)", "no command takes it for a model"),
+    ".utf16": Kind("a text in UTF-16", "save it in UTF-8"),
 }
 STARTS = (*((mark, end) for end, (mark, _, _) in PACKERS.items()), (b"PK\x03\x04", ".zip"),
-          (b"certificate 1", ".certificate"), (ELF, ".elf"))
+          (b"certificate 1", ".certificate"), (ELF, ".elf"), (b"\xff\xfe", ".utf16"),
+          (b"\xfe\xff", ".utf16"))
 IS_MPS = re.compile(rb"(?:(?:\*[^\n]*|[^\S\n]*)\n)*(?:NAME\b|OBJSENSE\b|ROWS\b)")
 IS_LP = re.compile(rb"(?:(?:\\[^\n]*|[^\S\n]*|//[^\n]*)\n|/\*.*?\*/[^\S\n]*)*"
                    rb"(?:min|max)(?:imi[sz]e|imum)?\s*(?::|\n|\s)", re.I | re.S)

@@ -114,8 +114,10 @@ def unknown(words: Sequence[str], known: Iterable[str]) -> str:
 
 
 def plain(line: Line) -> str:
-    """A kind of a row; else how many words there are."""
+    """A kind of a row, a sense; else how many words there are."""
     word, count = line.words[0], len(line.words)
     if line.section == "ROWS" and word.upper() not in ("N", "L", "G", "E"):
         return of(word, "no kind of a row, which are N, L, G and E")
+    if line.section == "OBJSENSE":
+        return of(word, "no sense, which are MAX and MIN")
     return f"of {count} {'word' if count == 1 else 'words'}: `{' '.join(line.words)[:60]}`"

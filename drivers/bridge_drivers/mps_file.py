@@ -68,10 +68,11 @@ def both_refused(bridge: Bridge, path: str, replies: dict[str, Reply]) -> Refuse
 
 
 def has_blank_name(path: str, line: int) -> bool:
-    """Whether a field of a name has two words at this line, as fixed columns have it."""
+    """Whether a field of a name has two words at this line, as fixed columns have it. The head of a
+    section has no names."""
     with open(path, "rb") as f:
         text = next(itertools.islice(f, max(line - 1, 0), None), b"")
-    return any(len(text[a:b].split()) > 1 for a, b in NAMES)
+    return text[:1] == b" " and any(len(text[a:b].split()) > 1 for a, b in NAMES)
 
 
 def line_of(told: str) -> int:

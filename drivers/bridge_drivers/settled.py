@@ -56,9 +56,9 @@ def settled(answer: Answer, verdict: Verdict, facts: Facts = Facts()) -> Settled
         return at_point(answer, verdict, values, kind, ruling)
     if ruling.at is At.ANSWER:
         text = STRICT if ruling.lacks == STRICT else None
-        return Settled(ruling.code, recoded(answer, ruling.code), text, "", ruling.lacks)
+        return Settled(ruling.code, answer.with_code(ruling.code), text, "", ruling.lacks)
     if ruling.code == Code.UNSURE:
-        return Settled(ruling.code, recoded(answer, ruling.code), ruling.lacks)
+        return Settled(ruling.code, answer.with_code(ruling.code), ruling.lacks)
     return without_point(answer, ruling.code)
 
 
@@ -124,10 +124,6 @@ def without_point(answer: Answer, code: Code) -> Settled:
     if answer.values is None and answer.outcome.code == code:
         return Settled(code, answer)
     return Settled(code, answer.without_point(code), WORDS[code])
-
-
-def recoded(answer: Answer, code: Code) -> Answer:
-    return answer if answer.outcome.code == code else answer.with_code(code)
 
 
 def proved_values(answer: Answer, verdict: Verdict) -> dict[str, Fraction] | None:

@@ -22,7 +22,7 @@ import tempfile
 import time
 from concurrent.futures import ProcessPoolExecutor, as_completed
 from fractions import Fraction as F
-from typing import Any, NamedTuple
+from typing import Any, NamedTuple, TextIO
 
 sys.dont_write_bytecode = True
 HERE = os.path.dirname(os.path.abspath(__file__))
@@ -111,22 +111,6 @@ def takes(driver: str, model: Misleading) -> bool:
     return solvers.load(driver).integers or model.is_linear()
 
 
-class Log:
-    """What was run, by driver, way and model: lines of JSON. `log=` keeps it."""
-
-    def __init__(self, path: str) -> None:
-        self.path, self.known = path, dict[str, Judged]()
-        if path and os.path.exists(path):
-            with open(path, encoding="utf-8") as f:
-                self.known = {key: Judged(*found) for key, *found in map(json.loads, f)}
-
-    def add(self, key: str, found: Judged) -> None:
-        self.known[key] = found
-        if self.path:
-            with open(self.path, "a", encoding="utf-8") as f:
-                f.write(json.dumps([key, *found]) + "\n")
-
-
 def main() -> int:
     words = [w for w in sys.argv[1:] if "=" not in w]
     given = dict(w.split("=", 1) for w in sys.argv[1:] if "=" in w)
@@ -139,34 +123,40 @@ def main() -> int:
               if not kinds or m.name.rstrip("0123456789") in kinds]
     print(f"{len(chosen)} models, {sum(m.best is None for m in chosen)} without a point, "
           f"{sum(m.is_endless for m in chosen)} without an end", flush=True)
-    wrong, log = 0, Log(own["log"])
-    for driver in [w for w in words if w in solvers.NAMES] or solvers.NAMES:
-        for way in ways if solvers.load(driver).place() else ():
-            wrong += run(driver, [m for m in chosen if takes(driver, m)],
-                         [f"prove={way}", *options], int(own["workers"]), log)
+    wrong = 0
+    with open(own["log"] or os.devnull, "a+", encoding="utf-8") as log:
+        log.seek(0)
+        known = {key: Judged(*found) for key, *found in map(json.loads, log)}
+        for driver in [w for w in words if w in solvers.NAMES] or solvers.NAMES:
+            for way in ways if solvers.load(driver).place() else ():
+                wrong += run(driver, [m for m in chosen if takes(driver, m)],
+                             [f"prove={way}", *options], int(own["workers"]), known, log)
     print(f"{wrong} wrong")
     return 1 if wrong else 0
 
 
-def run(driver: str, chosen: list[Misleading], options: list[str], workers: int, log: Log) -> int:
+def run(driver: str, chosen: list[Misleading], options: list[str], workers: int,
+        known: dict[str, Judged], log: TextIO) -> int:
     """How many are wrong."""
     start, key = time.monotonic(), f"{driver} {options[0]} {{}}".format
     with tempfile.TemporaryDirectory(prefix="misled-") as folder, \
             ProcessPoolExecutor(workers) as pool:
-        jobs = {pool.submit(judged, folder, driver, model, options): model.name
-                for model in chosen if key(model.name) not in log.known}
+        jobs = {pool.submit(judged, folder, driver, model, options): key(model.name)
+                for model in chosen if key(model.name) not in known}
         for job in as_completed(jobs):
-            log.add(key(jobs[job]), job.result())
-    every = {model.name: log.known[key(model.name)] for model in chosen}
+            known[jobs[job]] = job.result()
+            print(json.dumps([jobs[job], *job.result()]), file=log, flush=True)
+    every = {key(model.name): known[key(model.name)] for model in chosen}
     for name, found in every.items():
         for word, text in (("wrong", found.wrong), ("lost", found.lost)):
             if text:
-                print(f"{key(name)}: code {found.code}, {word}: {text}", flush=True)
+                print(f"{name}: code {found.code}, {word}: {text}", flush=True)
     codes = collections.Counter(found.code for found in every.values())
     shares = ", ".join(f"code {code}: {count}" for code, count in sorted(codes.items()))
-    wrong = sum(bool(found.wrong) for found in every.values())
-    print(f"{key('all')}: {shares}; {wrong} wrong, {sum(bool(f.lost) for f in every.values())} "
-          f"lost; {time.monotonic() - start:.0f} s", flush=True)
+    wrong, gone = (sum(map(bool, part)) for part in zip(*((f.wrong, f.lost)
+                                                          for f in every.values())))
+    print(f"{key('all')}: {shares}; {wrong} wrong, {gone} lost; {time.monotonic() - start:.0f} s",
+          flush=True)
     return wrong
 
 

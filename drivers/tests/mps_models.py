@@ -113,12 +113,13 @@ FAULTS = [(FIXED_TEXT.replace("ENDATA", "SOS"),
            "18: bad section `SOS`: special ordered sets are not read")]
 FAULTS += [(FAULTY.replace(old, new), line) for old, new, line in (
     ("ROWS", "ROW", "2: bad section `ROW`: no section that is known; did you mean `ROWS`?"),
+    ("ROWS", "OBJSENSE\n most\nROWS", "3: bad line `most`: no sense, which are MAX and MIN"),
     (" L cap", " M cap", "4: bad line `M`: no kind of a row, which are N, L, G and E"),
     ("x cap 2", "x capp 2", "7: unknown row `capp`: no line before has it; did you mean `cap`?"),
     ("x cap 2", "x cap two", "7: bad number `two`: no decimal number"),
     ("x cap 2", "x cap 2,5", "7: bad number `2,5`: no decimal number; a point stands before "
                              "decimals"),
-    ("BOUNDS", "BOUND", "10: bad section `BOUND`: no section that is known; did you mean "
+    ("BOUNDS", "BOUND of all x", "10: bad section `BOUND`: no section that is known; did you mean "
                         "`BOUNDS`?"),
     ("BOUNDS", "ROWS", "10: bad section `ROWS`: out of its order, or twice"),
     (" UP b x", " SC b x", "11: bad bound kind `SC`: semi-continuous columns are not read"),

@@ -88,7 +88,6 @@ class Rules(unittest.TestCase):
                 (Found(STOPPED, misses=Misses.MUCH), LIMIT, At.NONE, ""),
                 (Found(LIMIT, "feasible"), STOPPED, proved, ""),
                 (Found(UNBOUNDED, "bound"), LIMIT, At.NONE, ""),
-                (Found(UNBOUNDED), UNBOUNDED, At.NONE, ""),
                 (Found(INFEASIBLE, "feasible", kind="a"), UNSURE, proved, "")):
             self.assertEqual(ruled(found), Ruling(code, at, lacks), found)
 

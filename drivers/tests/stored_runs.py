@@ -3,9 +3,15 @@
 from __future__ import annotations
 
 import os
+from fractions import Fraction as F
 
 from support import NEEDS_PROGRAM, Case, Replay
 from bridge_drivers import solvers
+from bridge_drivers.answer import Answer
+from bridge_drivers.codes import Code
+from bridge_drivers.options import Options
+from bridge_drivers.program import Program
+from bridge_drivers.solvers.base import Outcome
 from models import MODELS, is_solved
 import stored
 
@@ -36,6 +42,14 @@ class StoredRuns(Case):
             suffixes = self.sol().suffixes
             self.assertEqual(suffixes[(0, "sstatus")], {0: 1, 1: 4}, driver)
             self.assertEqual(suffixes[(1, "sstatus")], {0: 4, 1: 1}, driver)
+
+    def test_reduced_costs(self) -> None:
+        """Those that duals of a certificate leave."""
+        program = Program(b"NAME nl\nROWS\n N obj\n L c0\nCOLUMNS\n x0 obj 2\n x0 c0 3\n x1 c0 -1\n"
+                          b"ENDATA\n")
+        answer = Answer(program, Outcome(Code.SOLVED, "", {"x0": 0, "x1": 0}), Options())
+        moved = answer.at({"x0": 0, "x1": 0}, {"c0": F(1, 2)}, Code.SOLVED, False)
+        self.assertEqual(moved.costs, {"x0": "0.5", "x1": "0.5"})
 
     def test_command_lines(self) -> None:
         """The words that solvers are called with, where options make them."""
@@ -74,3 +88,7 @@ class StoredRuns(Case):
         self.assertIn("\n RHS obj 5\n", texts["glpsol"])
         self.assertNotIn("OBJSENSE", texts["glpsol"])
         self.assertTrue(texts["cbc"].startswith("NAME nl FREE\nOBJSENSE\n MAX\n"))
+        text, long = "NAME nl\nROWS\n N obj\nCOLUMNS\n x0 obj {}\nENDATA\n", "0.1" + "0" * 19
+        for number, wanted in ((long, long), (long + "15", "0.1"), (f"-{long}15e-9", "-1e-10")):
+            got = solvers.load("cbc").text(Program(text.format(number).encode())).decode()
+            self.assertIn(f" x0 obj {wanted}\n", got)

@@ -3,6 +3,7 @@
 from __future__ import annotations
 
 import os
+import re
 import struct
 from typing import TYPE_CHECKING, NamedTuple
 
@@ -15,6 +16,7 @@ if TYPE_CHECKING:
     from ..job import Job, Ran
     from ..program import Program
 
+LONG = re.compile(rb"(?<= )[-+]?[\d.]{23,}(?:[eE]\S+)?$", re.M)
 COMPLAINT = r"Bad image|No match|Unknown|Unable to open|errors? on input|infeasible bound"
 
 
@@ -52,7 +54,8 @@ class Coin(Solver):
         return self.answer(job, job.run([*words, "-quit"]))
 
     def text(self, program: Program) -> bytes:
-        return program.free_name()
+        """CoinUtils does not take all numbers of more than 22 digits: they are doubles here."""
+        return LONG.sub(lambda found: repr(float(found.group())).encode(), program.free_name())
 
     def reading(self, program: Program, path: str) -> list[str]:
         return [path, *(["-max"] if program.maximise else []), "-solve", "-solution", "stdout"]
