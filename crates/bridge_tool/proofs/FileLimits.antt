@@ -24,6 +24,7 @@ use Rattle.file_meaning.specs.LinearFile.{linear_of, linear_row, linear_variable
 use Rattle.file_meaning.proofs.Files.{linear_lem}
 use Rattle.file_meaning.proofs.Formed.{file_formed}
 use Rattle.export_round_trip.specs.Exportable.{HasDecimalBounds, IsExportable, IsNamedByNumber, coefficient_total, form_count}
+use Rattle.nl_model.specs.declared.at.Owner.{Owner}
 use Rattle.nl_model.specs.declared.at.Owner.TheVariants.{Con, Obj}
 
 -- ---- counts and names

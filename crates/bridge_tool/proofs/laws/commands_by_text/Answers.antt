@@ -2,7 +2,7 @@ use Rattle.bridge_tool.proofs.OneFile.{export_by_text, fixed_by_text, import_by_
 use Rattle.bridge_tool.proofs.laws.commands_by_text.Goals as goal
 
 pub returns-clause-export : goal.returns-clause-export
-returns-clause-export c = λ texts file text k is. export_by_text texts file text is k
+returns-clause-export c = export_by_text
 
 pub returns-clause-nl : goal.returns-clause-nl
 returns-clause-nl c = nl_by_text
