@@ -184,9 +184,9 @@ class Models(Case):
     def test_damaged(self) -> None:
         """A packed file that ends too soon, of each command."""
         self.put(gzip.compress(MODELS["knap"].text)[:40], ".nl.gz")
-        for words in (["export"], ["stats"], ["explain"], ["explain", "export"]):
-            status, out, err = called(lambda: front.command([*words, self.stub + ".nl.gz"]))
-            self.assertEqual(status, 2, words)
+        for given in (["export"], ["stats"], ["explain"], ["explain", "export"]):
+            status, out, err = called(lambda: front.command([*given, self.stub + ".nl.gz"]))
+            self.assertEqual(status, 2, given)
             self.assertIn(".nl.gz: the packed file ends too soon or is damaged", out + err)
 
     @NEEDS_PROGRAM
