@@ -55,7 +55,7 @@ class Noting(Solving):
 
     def answered(self, job: Any) -> Any:
         found = super().answered(job)
-        Noting.own = found[0]
+        Noting.own = found.outcome
         return found
 
 
