@@ -50,7 +50,7 @@ class Claims(Case):
         self.put(MODELS["diet"].text)
         self.put(b"first\nsecond\ncost\n", ".row")
         self.put(b"alpha\nbeta\n", ".col")
-        unproved = "not proved: no exact point was found near the answer"
+        unproved = "bound 0"
         for old, new, line, last in (
                 ("x0 4", "x0 3", "its point misses constraint 1 (second) by 0.23 of the largest "
                  "term", unproved),
@@ -60,9 +60,9 @@ class Claims(Case):
                  "term", unproved),
                 ("x1 0.8", "x1 101", CHECKED + "a bound of variable 1 (beta) is broken; no row or "
                  "bound is missed by more than 0.0099 of its largest term", unproved),
-                ("c0 0.3", "c0 0.2", CHECKED + "gap 4.4 4", "feasible 22/5"),
+                ("c0 0.3", "c0 0.2", CHECKED + "gap 4.4 4", "within 0 22/5"),
                 ("c0 0.3", "c0 -0.3", CHECKED + "the dual of constraint 0 (first) has the wrong "
-                 "sign", "feasible 22/5")):
+                 "sign", "within 0 22/5")):
             run = self.changed("lp_solve", "diet", old, new)
             self.assertEqual(self.last("lp_solve", "diet", run=run), last)
             self.assertIn(line, self.sol().message)
