@@ -177,7 +177,8 @@ class OfThisMachine(Pooled):
                 executor = submit()
                 if left[0]:
                     left[0] -= 1
-                    executor.submit(killing, None)
+                    for _ in range(2):          # each of both, before they take a portion
+                        executor.submit(killing, None)
                 return executor
             with mock.patch.object(pool, "executor", submitted), \
                     mock.patch("bridge_drivers.certify.crowd.AT_HOME", 3):

@@ -78,7 +78,9 @@ def judged(folder: str, driver: str, model: Misleading, options: list[str]) -> J
 def told(model: Misleading, sol: Sol) -> Judged:
     """Of a .sol: infeasible and unbounded are claims too, where they are proved."""
     wrong, last = "", sol.message[-1]
-    if not sol.is_allowed():
+    if any("a fault of the driver" in line for line in sol.message):
+        wrong = "a fault of the driver"
+    elif not sol.is_allowed():
         wrong = "no code above this line"
     elif sol.code == 0:
         wrong = model.fault(sol.values) if sol.values or not model.columns else "no values"
