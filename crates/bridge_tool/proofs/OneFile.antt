@@ -22,8 +22,6 @@ use Rattle.sol_files.specs.Written.{sol_text}
 use Rattle.sol_files.proofs.KeptTexts.{read_keeps}
 use Rattle.sol_files.proofs.RoundTrip.{is_read_back}
 use Rattle.nl_round_trip.specs.Writable.{IsText}
-use Rattle.nl_round_trip.proofs.Rewriting.{written_again as nl_again}
-use Rattle.nl_segments.specs.Grammar.{NlValue}
 use Rattle.nl_segments.specs.Reader.{IsNl}
 use Rattle.nl_writer.specs.Written.{nl_text}
 use Rattle.command_parts.specs.Refusal.{HasTextRefusal, IsFixedRefused, IsMpsRefused, IsSolRefused}
@@ -56,10 +54,6 @@ mps_meant m valid = λ le. written_again m (record { valid = valid; room = le })
 -- what was read keeps the rules of values, so that its written text is read as itself
 pub sol_meant : (text : List ℕ) (sol : SolValue) → IsSol text sol → IsSolMeant sol
 sol_meant text sol read = λ le. is_read_back sol (record { rules = read_keeps text sol read; text = le })
-
--- what was read is writable, so that its written text says the same file
-pub nl_meant : (text : List ℕ) (nl : NlValue) → IsNl text nl → IsText nl.file (nl_text nl.file)
-nl_meant text nl read = nl_again text nl read
 
 module _ (m : Program Dec) where
   plain : (o : Option ImportFault) → IsPlain (by_fault m o)

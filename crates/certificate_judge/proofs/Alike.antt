@@ -18,11 +18,11 @@ use Rattle.duality.specs.Verdict.{bound_or_fault, bound_total, cost_check, cost_
 use Rattle.exact_numbers.proofs.Bridge.{frac_fits_lem}
 use Rattle.exact_numbers.proofs.Zeros.{fits_zero, sum_fits_zero, zero_sum_fits}
 use Rattle.linear_program.specs.Intervals.{interval_of}
+use Rattle.linear_program.proofs.FracLemmas.{fits_neg}
 use Rattle.exact_checks.specs.Lists.{form_of}
 use Rattle.exact_checks.specs.declared.form.Row.{Row}
 use Rattle.certificate_judge.specs.InsidePaths.{IsLemmaRow}
 use Rattle.certificate_judge.proofs.Lasts.{get_inside, get_last}
-use Rattle.exact_checks.proofs.CostLemmas.{fits_neg}
 
 pub record IsAlike (a b : LinearRow) : Type 0 where
   pub coefficient : a.body.coefficient ≡ b.body.coefficient

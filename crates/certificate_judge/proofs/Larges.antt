@@ -2,7 +2,7 @@
 use Rattle.std.proofs.Common.{◌≡◌, ℕ, zero, suc, ◌*◌, ◌<◌, ◌≤◌, ◌^◌, ◌⊎◌, inl, inr, ◌∙◌, sym, ap, subst, refl, arith, ⊎_elim, one-mul, mul-one, Bool, true, false, ℤ, pos, negsuc, ◌*ℤ◌, ◌≤ℤ◌, neg_ℤ, unsigned_abs}
 use Rattle.std.specs.Prelude.{if◌then◌else◌, Option, Some, None, IsTrue, ◌↔◌, ◌||◌, ◌&&◌, not}
 use Rattle.std.proofs.lemmas.Int.{ints, unsigned_abs-mul}
-use Rattle.std.proofs.lemmas.Bool.{cases_lt}
+use Rattle.std.proofs.lemmas.Bool.{cases_lt, false_from_ne_true, or_right}
 use Rattle.fractions.specs.Fits.{fits, is_small}
 use Rattle.fractions.specs.Rational.{ℚ, IsWhole, decimal_value, whole, zero_ℚ, neg_ℚ, ◌<ℚ◌}
 use Rattle.fractions.proofs.Arithmetic.{decimal_value_lem, not_both, whole-neg, whole-≤ℚ, whole_of, ≤ℚ_of_<ℚ}
@@ -27,25 +27,17 @@ or_cases false b h = inr h
 or_first : (a b : Bool) → a ≡ true → a || b ≡ true
 or_first a b h = ap (λ x. x || b) h
 
-or_second : (a b : Bool) → b ≡ true → a || b ≡ true
-or_second true b h = refl
-or_second false b h = h
-
 neither : (a b : Bool) → (a ≡ true → ⊥) → (b ≡ true → ⊥) → a || b ≡ false
 neither true b h k = absurd (h refl)
 neither false true h k = absurd (k refl)
 neither false false h k = refl
 
-is_false : (b : Bool) → (b ≡ true → ⊥) → b ≡ false
-is_false true h = absurd (h refl)
-is_false false h = refl
-
 at_most_false : (x y : ℚ) → y <ℚ x → is_at_most x y ≡ false
-at_most_false x y h = is_false (is_at_most x y) (λ e. not_both x y (at_most_yes x y e) h)
+at_most_false x y h = false_from_ne_true (is_at_most x y) (λ e. not_both x y (at_most_yes x y e) h)
 
 module _ (x s : ℚ) (negative : Bool) (fit : fits x ≡ true) (sign : IsTrue negative ↔ (s <ℚ zero_ℚ)) where
   above_all : is_at_most large s ≡ true → negative ≡ false
-  above_all h = is_false negative (λ n. not_both s zero_ℚ (≤ℚ_of_<ℚ s zero_ℚ (sign.0 n)) (large_above zero_ℚ s fits_zero h))
+  above_all h = false_from_ne_true negative (λ n. not_both s zero_ℚ (≤ℚ_of_<ℚ s zero_ℚ (sign.0 n)) (large_above zero_ℚ s fits_zero h))
 
   below_all : is_at_most s (neg_ℚ large) ≡ true → negative ≡ true
   below_all h = sign.1 (large_below zero_ℚ s fits_zero h)
@@ -67,7 +59,7 @@ module _ (x s : ℚ) (negative : Bool) (fit : fits x ≡ true) (sign : IsTrue ne
 -- ---- sides that do not fit and are large
 module _ (d : Dec) (x : ℚ) (negative large_here : Bool) (side : Option Dec) (is : side ≡ Some d) (fit : fits x ≡ true) (sign : IsTrue negative ↔ (dec_value d <ℚ zero_ℚ)) (here : large_here ≡ true) (test : large_here ≡ is_large (dec_value d)) where
   can : can_compare (side_value side) ≡ true
-  can = ap (λ o. can_compare (side_value o)) is ∙ or_second (fits (dec_value d)) (is_large (dec_value d)) (sym test ∙ here)
+  can = ap (λ o. can_compare (side_value o)) is ∙ or_right (fits (dec_value d)) (is_large (dec_value d)) (sym test ∙ here)
 
   pub least_decides : Some negative ≡ (if can_compare (side_value side) then Some (is_not_below (side_value side) x) else None)
   least_decides =
@@ -97,7 +89,7 @@ whole_large z h = ⊎_elim (λ (l : unsigned_abs z < 2 ^ 127). absurd (small l))
         or_first (is_at_most large (whole (pos n))) (is_at_most (whole (pos n)) (neg_ℚ large))
         (at_most_of large (whole (pos n)) ((whole-≤ℚ (pos (2 ^ 127)) (pos n)).1 (omega (arith, ints, l))))
     by (negsuc n) l =
-        or_second (is_at_most large (whole (negsuc n))) (is_at_most (whole (negsuc n)) (neg_ℚ large))
+        or_right (is_at_most large (whole (negsuc n))) (is_at_most (whole (negsuc n)) (neg_ℚ large))
         (ap (is_at_most (whole (negsuc n))) (whole-neg (pos (2 ^ 127)))
         ∙ at_most_of (whole (negsuc n)) (whole (neg_ℤ (pos (2 ^ 127)))) ((whole-≤ℚ (negsuc n) (neg_ℤ (pos (2 ^ 127)))).1 (omega (arith, ints, l))))
 

@@ -14,13 +14,13 @@ use Rattle.linear_program.proofs.Closing.{found_last, found_other}
 use Rattle.linear_program.proofs.CoefLemmas.{ascending_last, below_append, below_from, found_beyond}
 use Rattle.certificates.specs.Certificates.{AreNumbers, number_form, whole_form}
 use Rattle.linear_program.specs.Numbers.{Pair, number_of, number_value}
+use Rattle.linear_program.proofs.ListLemmas.{rest_of}
 use Rattle.exact_checks.specs.Lists.{form_of}
 use Rattle.exact_checks.specs.Terms.{AreTerms}
 use Rattle.exact_checks.specs.declared.form.Body.{Body}
 use Rattle.exact_checks.proofs.Copied.{are_terms}
 use Rattle.exact_checks.proofs.Paired.{before_number, here_number, other_number}
 use Rattle.certificate_judge.proofs.Written.{indices_of, number_at}
-use Rattle.exact_checks.proofs.Sparse.{rest_of}
 
 -- ---- numbers
 whole_is : (x : ℚ) → IsWhole x → x ≡ whole x.top

@@ -1,11 +1,12 @@
 -- A walk over the leaves of a written tree, with the subtrees that are still to come.
-use Rattle.std.proofs.Common.{◌≡◌, ℕ, suc, ◌+◌, ◌<◌, ◌∙◌, sym, ap, ap₂, subst, refl, List, [], ◌∷◌, ◌++◌, length, length-append, append-nil, append_assoc, Option, Some, None, ℤ, add_assoc, add-one, All, true}
+use Rattle.std.proofs.Common.{◌≡◌, ℕ, suc, ◌+◌, ◌<◌, ◌∙◌, sym, ap, ap₂, subst, refl, List, [], ◌∷◌, ◌++◌, length, append-nil, append_assoc, Option, Some, None, ℤ, add_assoc, All, true}
 use Rattle.std.specs.Option.{option_or}
 use Rattle.fractions.specs.Fits.{fits}
 use Rattle.fractions.specs.Rational.{IsWhole}
-use Rattle.program_meaning.specs.Linear.{Form, Interval, Linear, row_count}
+use Rattle.program_meaning.specs.Linear.{row_count}
 use Rattle.duality.specs.Branch.{LeafFault, BranchTree, leaves, split as split_tree, branch_fault}
-use Rattle.duality.specs.Parts.{Cut, Part, bound, form_of as plane_form, first_part, second_part, lemma as lemma_cut, plane as plane_cut, sum_of, with_added_row}
+use Rattle.duality.specs.Parts.{Cut, Part, bound, form_of as plane_form, first_part, second_part, lemma as lemma_cut, plane as plane_cut, sum_of}
+use Rattle.duality.proofs.Parts.{rows_added}
 use Rattle.certificates.specs.declared.certificate.CertificateNode.{CertificateNode}
 use Rattle.certificates.specs.declared.certificate.CertificateNode.TheVariants.{Split, Plane, Lemma}
 use Rattle.linear_program.specs.declared.number.Number.{Number}
@@ -36,9 +37,6 @@ leaf_count_over m tree = refl
 -- in the parts of a plane, and where a lemma goes on, there is one row more
 abbrev pub rows_in : Part → ℕ
 rows_in p = row_count p.program
-
-grown : (g : Linear) (form : Form) (side : Interval) → row_count (with_added_row g form side) ≡ suc (row_count g)
-grown g form side = length-append g.rows _ ∙ add-one (length g.rows)
 
 -- ---- the parts that are still to come
 abbrev parts_left : Part → List Turn → List Part
@@ -203,10 +201,10 @@ module _ (n : ℕ) (base : Part) where
     at_plane count t nodes on = by on.todos on.rest on.nodes_are on.pairs_are on.trees on.place
       where
         rows_first : (p : Part) (qs : List Pair) → suc (rows_in p) ≡ rows_in (first_part (plane_cut (whole_form qs) t) p)
-        rows_first p qs = sym (grown p.program (plane_form (whole_form qs)) _)
+        rows_first p qs = sym (rows_added p.program (plane_form (whole_form qs)) _)
 
         rows_second : (p : Part) (qs : List Pair) → suc (rows_in p) ≡ rows_in (second_part (plane_cut (whole_form qs) t) p)
-        rows_second p qs = sym (grown p.program (plane_form (whole_form qs)) _)
+        rows_second p qs = sym (rows_added p.program (plane_form (whole_form qs)) _)
 
         cut_rest : (p : Part) (qs : List Pair) (a b : CertificateTree) (more : List Todo) → faults_left k ((p, plane qs t a b) ∷ more) ≡ faults_left k ((first_part (plane_cut (whole_form qs) t) p, a) ∷ (second_part (plane_cut (whole_form qs) t) p, b) ∷ more)
         cut_rest p qs a b more = walk_cuts k p (plane qs t a b) (plane_cut (whole_form qs) t) (suc (rows_in p)) (suc (rows_in p)) a b more refl refl (rows_first p qs) (rows_second p qs)
@@ -250,7 +248,7 @@ module _ (n : ℕ) (base : Part) where
     at_lemma count t nodes on = by on.todos on.rest on.nodes_are on.pairs_are on.trees on.place
       where
         rows_second : (p : Part) (qs : List Pair) → suc (rows_in p) ≡ rows_in (second_part (lemma_cut (number_form qs) (number_value t)) p)
-        rows_second p qs = sym (grown p.program (sum_of (number_form qs)) _)
+        rows_second p qs = sym (rows_added p.program (sum_of (number_form qs)) _)
 
         cut_rest : (p : Part) (qs : List Pair) (a b : CertificateTree) (more : List Todo) → faults_left k ((p, lemma qs t a b) ∷ more) ≡ faults_left k ((first_part (lemma_cut (number_form qs) (number_value t)) p, a) ∷ (second_part (lemma_cut (number_form qs) (number_value t)) p, b) ∷ more)
         cut_rest p qs a b more = walk_cuts k p (lemma qs t a b) (lemma_cut (number_form qs) (number_value t)) (rows_in p) (suc (rows_in p)) a b more refl refl refl (rows_second p qs)

@@ -12,9 +12,9 @@ use Rattle.program_meaning.specs.Elements.{elements_from}
 use Rattle.program_meaning.proofs.Elements.{elements_at, elements_length}
 use Rattle.certificates.specs.Certificates.{AreNumbers}
 use Rattle.linear_program.specs.Numbers.{Pair, number_of, spread, number_value}
+use Rattle.linear_program.proofs.ListLemmas.{rest_of}
 use Rattle.exact_checks.specs.Leaves.{AreIndices}
 use Rattle.certificate_judge.specs.InsidePoints.{fractions_of}
-use Rattle.exact_checks.proofs.Sparse.{rest_of}
 
 -- ---- numbers of a program
 pub number_at : (from n : ℕ) (ps : List Pair) (k : ℕ) (p : Pair) → AreNumbers from n ps → k < length ps → p ≡ get_or ps k p → (p.0 < n) × (fits (number_value p.1) ≡ true)

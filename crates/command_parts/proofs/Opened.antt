@@ -15,12 +15,9 @@ use Rattle.nl_model.specs.Kinds.{kinds_in}
 use Rattle.linear_program.specs.declared.kind.Kind.{Kind}
 use Rattle.file_certificates.specs.Setting.{setting_of}
 use Rattle.certificates.specs.Certificates.{CertificateValue}
-use Rattle.certificates.specs.Proofs.{ProofValue}
-use Rattle.certificates.specs.Setting.{IsCertificateFor, IsProofFor, Setting}
+use Rattle.certificates.specs.Setting.{IsCertificateFor, Setting}
 use Rattle.certificate_text.specs.Reader.{IsCertificateText}
 use Rattle.certificate_text.proofs.Files.{certificate_from}
-use Rattle.proof_text.specs.Reader.{IsProofText}
-use Rattle.proof_text.proofs.ReadingLemmas.{proof_from}
 use Rattle.command_parts.specs.InsideRefusal.{refusal_line}
 use Rattle.command_parts.specs.Refusal.{HasTextRefusal, IsSolRefused}
 use Rattle.command_parts.specs.SeveralFiles.{HasEnded, HasSaid, IsRefusedBy, ReadsFile, itself}
@@ -77,6 +74,3 @@ pub setting_in : (f : File) (counts : Counts) (kinds : List Kind) (s : Setting) 
 setting_in f counts kinds s e k same =
     let by : Counts → List Kind → Setting = λ cs ks. record { rows = cs.n_con; kinds = ks } in
     same ∙ ap₂ by e k
-
-pub proof_known : (s : Setting) (text : List ℕ) (p : ProofValue) → IsProofText s text p → IsProofFor s p
-proof_known s text p h = proof_from s text s refl (Ok p) h

@@ -1,6 +1,6 @@
 -- What each answer keeps: its numbers are small, its message is lines of a text, none of them
 -- `Options`, and its suffixes are within their limits.
-use Rattle.std.proofs.Common.{◌≡◌, ◌∙◌, ℕ, suc, ◌<◌, ◌≤◌, Bool, true, false, ◌^◌, nat_le, cond, eqb, List, [], ◌∷◌, ◌++◌, length, get_or, Option, Some, None, refl, sym, ap, subst, arith, ◌&&◌, ltb, ◌+◌, ◌/◌, ◌%◌, ◌==◌, not, ◌||◌, nat_lt, is_none, append_assoc, append-nil, length-append, length-drop}
+use Rattle.std.proofs.Common.{◌≡◌, ◌∙◌, ℕ, suc, ◌<◌, ◌≤◌, Bool, true, false, ◌^◌, nat_le, cond, eqb, List, [], ◌∷◌, ◌++◌, length, get_or, Option, Some, None, refl, sym, ap, subst, arith, ◌&&◌, ltb, ◌+◌, ◌/◌, ◌%◌, ◌==◌, not, ◌||◌, nat_lt, is_none, length-append, length-drop}
 use Rattle.std.specs.Prelude.{option_map, codes, IfSome, unwrap_or, option_and_then}
 use Rattle.std.specs.List.{AllByRecursion}
 use Rattle.std.specs.Str.{bytes_eq}
@@ -37,24 +37,13 @@ use Rattle.name_lists.proofs.NumeralLemmas.{position-cons, named_so}
 use Rattle.answer_file.specs.Suffixes.{has_place, place_named, suffix_at, suffix_named, value_count}
 use Rattle.shared_parts.proofs.ObjectLemmas.{same_objects}
 use Rattle.answer_file.proofs.TableLemmas.{one_value_more}
-use Rattle.sol_files.specs.Tests.{has_index}
 use Rattle.sol_files.specs.Written.{IsSaidLine, are_values}
+use Rattle.sol_files.proofs.KeptTail.{values_push}
 use Rattle.texts.proofs.AllLemmas.{all_here, all_push}
 use Rattle.texts.proofs.JudgedLemmas.{clean_keeps}
+use Rattle.texts.proofs.FirstReasons.{none_head}
 
 -- ---- values of a suffix
-
--- one value more, of a place that has none
-values-more : (limit : ℕ) (w : Bool) (before ts : List (ℕ × Dec)) (t : ℕ × Dec) → are_values limit w before ts ≡ true → nat_lt t.0 limit ≡ true → has_index (before ++ ts) t.0 ≡ false → (not w || is_whole t.1) ≡ true
-    → are_values limit w before (ts ++ t ∷ []) ≡ true
-unfolding are_values
-values-more limit w before [] t all low fresh fits =
-    let none : has_index before t.0 ≡ false = ap (λ xs. has_index xs t.0) (sym (append-nil before)) ∙ fresh in
-    rw (low, none, fits) refl
-values-more limit w before (x ∷ ts) t all low fresh fits =
-    let parts = and_parts ((nat_lt x.0 limit && not (has_index before x.0)) && (not w || is_whole x.1)) (are_values limit w (before ++ x ∷ []) ts) all in
-    let rest = values-more limit w (before ++ x ∷ []) ts t parts.1 low (ap (λ xs. has_index xs t.0) (append_assoc before (x ∷ []) ts) ∙ fresh) fits in
-    rw (parts.0, rest) refl
 
 -- ---- suffixes
 
@@ -98,7 +87,7 @@ one_fine s x line h l same alike fresh =
     record {
       kind = h.kind;
       name = h.name;
-      values = values-more (limit_of s x.kind) (wants_whole x.kind) [] x.values (line.place, line.value) h.values
+      values = values_push (limit_of s x.kind) (wants_whole x.kind) [] x.values (line.place, line.value) h.values
           (ap (nat_lt line.place) limit ∙ l.place) fresh (ap (λ b. not b || is_whole line.value) wants ∙ l.fits);
     }
 
@@ -110,7 +99,7 @@ new_fine : (s : Setting) (line : SuffixLine) → IsFineLine s line → IsFine s 
 new_fine s line l = record {
   kind = l.kind;
   name = l.name;
-  values = values-more (limit_of s line.kind) (wants_whole line.kind) [] [] (line.place, line.value) (no-values (limit_of s line.kind) (wants_whole line.kind)) l.place refl l.fits;
+  values = values_push (limit_of s line.kind) (wants_whole line.kind) [] [] (line.place, line.value) (no-values (limit_of s line.kind) (wants_whole line.kind)) l.place refl l.fits;
 }
 
 line_fine : (s : Setting) (xs : List FileSuffix) (line : SuffixLine) → AllByRecursion (IsFine s) xs → IsFineLine s line → differs (suffix_named xs line.kind line.name) line.kind ≡ false → is_given_in (suffix_named xs line.kind line.name) (Some (Place line.place)) ≡ false
@@ -196,10 +185,6 @@ object_below s Problem text i e = only_first (codes "problem") text i e
 
 -- ---- tests that do not hold
 
-pub not_first : {R : Type 0} (b : Bool) (r : R) (tests : List (Bool × R)) → first_reason ((b, r) ∷ tests) ≡ None → (b ≡ false) × (first_reason tests ≡ None)
-not_first true r tests e = absurd cc
-not_first false r tests e = (refl, e)
-
 -- what the tests of a value of a suffix say of its line
 record IsTaken (s : Setting) (suffixes : List FileSuffix) (line : SuffixLine) : Type 0 where
   fine : IsFineLine s line
@@ -214,11 +199,11 @@ object_taken s suffixes kind name text i v small named at e =
     let last : Tests = (is_full suffixes found, TooLarge) ∷ [] in
     let given : Tests = (is_given_in found (Some (Place i)), Repeated) ∷ last in
     let number : Tests = (is_bad_value kind (Some v), BadNumber) ∷ given in
-    let one = not_first (differs found kind) BadLine ((false, UnknownName) ∷ number) e in
-    let two = not_first false UnknownName number one.1 in
-    let three = not_first (is_bad_value kind (Some v)) BadNumber given two.1 in
-    let four = not_first (is_given_in found (Some (Place i))) Repeated last three.1 in
-    let five = not_first (is_full suffixes found) TooLarge [] four.1 in
+    let one = none_head (differs found kind) BadLine ((false, UnknownName) ∷ number) e in
+    let two = none_head false UnknownName number one.1 in
+    let three = none_head (is_bad_value kind (Some v)) BadNumber given two.1 in
+    let four = none_head (is_given_in found (Some (Place i))) Repeated last three.1 in
+    let five = none_head (is_full suffixes found) TooLarge [] four.1 in
     record {
       fine = record { kind = small; name = named; place = lt-ltb i (limit_of s kind) (object_below s (objects_of kind) text i at); fits = whole (wants_whole kind) (is_whole v) three.0 };
       alike = one.0;
@@ -265,8 +250,8 @@ blanks_length (b ∷ line) = cond_both (is_blank b) (without_blanks line) (b ∷
 message_said : (st : Standing) (line : List ℕ) → IsTextLine line → first_reason (message_tests st (message_in line)) ≡ None → IsSaid st.message → IsSaid (st.message ++ message_in line ∷ [])
 unfolding message_tests
 message_said st line one e h =
-    let tests = not_first (bytes_eq (message_in line) (codes "Options")) BadLine ((nat_le (2 ^ 16) (length st.message), TooLarge) ∷ []) e in
-    let room = leb-false (2 ^ 16) (length st.message) (not_first (nat_le (2 ^ 16) (length st.message)) TooLarge [] tests.1).0 in
+    let tests = none_head (bytes_eq (message_in line) (codes "Options")) BadLine ((nat_le (2 ^ 16) (length st.message), TooLarge) ∷ []) e in
+    let room = leb-false (2 ^ 16) (length st.message) (none_head (nat_le (2 ^ 16) (length st.message)) TooLarge [] tests.1).0 in
     let short : length (message_in line) ≤ 65536 = omega (arith, length-drop 8 (without_blanks line), blanks_length line, one.short) in
     record {
       each = all_push IsSaidLine st.message (message_in line) h.each (record { line_of_text = record { one = one_line-drop 8 (without_blanks line) (one_line-blanks line one.one); short = short }; other = tests.0 });
@@ -310,8 +295,8 @@ suffix_kept : (s : Setting) (st : Standing) (words : List (List ℕ)) → first_
 unfolding suffix_tests
 suffix_kept s st words e h =
     let rest : Tests = kind_tests s st.suffixes words (kind_in words) in
-    let form = not_first (not (length words == 5)) BadLine ((not (is_name (word_at words 2)), BadLine) ∷ rest) e in
-    let name = not_first (not (is_name (word_at words 2))) BadLine rest form.1 in
+    let form = none_head (not (length words == 5)) BadLine ((not (is_name (word_at words 2)), BadLine) ∷ rest) e in
+    let name = none_head (not (is_name (word_at words 2))) BadLine rest form.1 in
     kind_kept s st words (kind_in words) refl (not-false (is_name (word_at words 2)) name.0) name.1 h
 
 entry_kept : (s : Setting) (st : Standing) (line : List ℕ) (words : List (List ℕ)) (k : Option Keyword) → IsTextLine line → first_reason (tests_by s st line words k) ≡ None → Kept s st → Kept s (with_said st (entry_by s line words k))

@@ -18,13 +18,13 @@ use Rattle.linear_program.specs.declared.form.Form.{Form}
 use Rattle.linear_program.specs.Coefs.{Term, AreAscending, AreBelow, coef_in}
 use Rattle.linear_program.specs.Forms.{form_terms}
 use Rattle.linear_program.specs.Programs.{IsFormOver, form_of as folded_form, rows_from, variables_from}
+use Rattle.linear_program.proofs.ListLemmas.{rest_of}
 use Rattle.exact_checks.specs.declared.form.Body.{Body}
 use Rattle.exact_checks.specs.declared.form.Row.{Row}
 use Rattle.exact_checks.specs.Built.{IsCopy, AreRowsOf, AreWithin}
 use Rattle.exact_checks.specs.Lists.{form_of, body_in, side_in}
 use Rattle.exact_checks.specs.Programs.{program_row, side_listed, program_variable}
 use Rattle.exact_checks.specs.Terms.{AreTerms, side_value}
-use Rattle.exact_checks.proofs.Sparse.{rest_of}
 
 -- ascending and below are one fact
 pub are_terms : (from n : ℕ) (ts : List Term) → AreAscending from ts → AreBelow n ts → AreTerms from n ts

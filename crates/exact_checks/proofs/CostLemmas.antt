@@ -1,13 +1,12 @@
 -- A cost and the bound that it needs: its fault and its part.
-use Rattle.std.proofs.Common.{◌≡◌, ◌≢◌, ℕ, ◌∙◌, sym, ap, ap₂, refl, subst, Bool, true, false, ◌&&◌, ◌||◌, ℤ, neg_ℤ, unsigned_abs, pos, negsuc, int_lt, Option, Some, None, IfSome}
+use Rattle.std.proofs.Common.{◌≡◌, ◌≢◌, ℕ, ◌∙◌, sym, ap, ap₂, refl, subst, Bool, true, false, ◌||◌, ℤ, pos, negsuc, int_lt, Option, Some, None, IfSome}
 use mathlib.Core.Bool.{beq}
 use Rattle.std.specs.Prelude.{if◌then◌else◌, option_and_then, is_some}
 use Rattle.std.specs.Option.{option_map}
-use Rattle.fractions.specs.Divisors.{AreCoprime}
-use Rattle.fractions.specs.Fits.{fits, is_small, sum_fits}
+use Rattle.fractions.specs.Fits.{fits, sum_fits}
 use Rattle.fractions.specs.Functions.{is_zero}
 use Rattle.fractions.specs.Rational.{ℚ, whole, zero_ℚ, ◌+ℚ◌, ◌-ℚ◌, ◌*ℚ◌, neg_ℚ}
-use Rattle.fractions.proofs.Arithmetic.{+ℚ_zero, *ℚ_zero, over_lowest, -ℚ_lem, neg-neg, neg-*ℚ, top_zero}
+use Rattle.fractions.proofs.Arithmetic.{+ℚ_zero, *ℚ_zero, -ℚ_lem, neg-neg, neg-*ℚ, top_zero, not-is_zero}
 use Rattle.program_meaning.specs.Linear.{Interval}
 use Rattle.duality.specs.Checked.{fitting, fitting_difference, fitting_sum, less_product, plus_product}
 use Rattle.duality.specs.Verdict.{bound_side_missing, cost_check, cost_part_of, needed_side}
@@ -20,8 +19,8 @@ use Rattle.exact_checks.specs.declared.sums.RunningSum.{RunningSum}
 use Rattle.exact_checks.specs.declared.sums.RunningSum.TheVariants.{Untouched, Short, Exact, TooWide}
 use Rattle.exact_checks.specs.Sums.{IsNeeded, less_part, short_value, sum_value}
 use Rattle.exact_checks.specs.Terms.{side_value}
-use Rattle.exact_checks.proofs.ShortLemmas.{IsShort, less_is, neg_size, not_negative, short_fits, short_over}
-use Rattle.exact_checks.proofs.Sparse.{not_zero}
+use Rattle.exact_checks.proofs.ShortLemmas.{IsShort, less_is, not_negative, short_fits, short_over}
+use Rattle.linear_program.proofs.FracLemmas.{fits_neg}
 
 -- ---- the sign
 pub zero_not_negative : (d : ℚ) → zero_ℚ ≡ d → false ≡ int_lt d.top (pos 0)
@@ -61,14 +60,6 @@ sum_fits_own (Exact f) s e = subst (λ v. fits v ≡ true) (let same : frac_valu
 sum_fits_own TooWide s e = absurd (cc)
 
 -- ---- parts
--- a sum is the difference of the other sign
-neg_parts : (p : ℚ) → ((neg_ℚ p).top ≡ neg_ℤ p.top) × ((neg_ℚ p).bottom ≡ p.bottom)
-unfolding neg_ℚ
-neg_parts p = over_lowest (neg_ℤ p.top) p.bottom p.above (subst (λ n. AreCoprime n p.bottom) (sym (neg_size p.top)) p.lowest)
-
-pub fits_neg : (p : ℚ) → fits (neg_ℚ p) ≡ fits p
-fits_neg p = let h = neg_parts p in ap₂ (λ n m. is_small n && is_small m) (ap unsigned_abs h.0 ∙ neg_size p.top) h.1
-
 plus_is_less : (s d v : ℚ) → less_product s (neg_ℚ d) v ≡ plus_product s d v
 unfolding less_product plus_product
 plus_is_less s d v =
@@ -86,7 +77,7 @@ not_equal d n e = n (ap Some e)
 -- the part of a cost that is not 0
 part_of : (max : Bool) (i : Interval) (s d : ℚ) (o : Option ℚ) → Some d ≢ Some zero_ℚ → o ≡ option_and_then fitting (needed_side max d.top i) → cost_part_of max i s d ≡ option_and_then (λ x. plus_product s d x) o
 part_of max i s d o n e =
-    ap (λ b. if b then Some s else option_and_then (λ x. plus_product s d x) (option_and_then fitting (needed_side max d.top i))) (not_zero d (not_equal d n))
+    ap (λ b. if b then Some s else option_and_then (λ x. plus_product s d x) (option_and_then fitting (needed_side max d.top i))) (not-is_zero d (not_equal d n))
     ∙ sym (ap (option_and_then (λ x. plus_product s d x)) e)
 
 pub part_added : (max : Bool) (i : Interval) (cost old : Option ℚ) (side : Option Dec) (v : ℚ) → cost ≢ Some zero_ℚ → IsNeeded max i cost side → Some v ≡ option_and_then fitting (side_value side)
@@ -146,7 +137,7 @@ fault_of_side max i j o d e n h =
     sym
     (ap (cost_check max i j) e
     ∙ ap (λ x. if is_zero d || is_some x then None else Some (bound_side_missing j)) (sym h)
-    ∙ ap (λ b. if b || false then None else Some (bound_side_missing j)) (not_zero d (λ z. n (e ∙ ap Some z))))
+    ∙ ap (λ b. if b || false then None else Some (bound_side_missing j)) (not-is_zero d (λ z. n (e ∙ ap Some z))))
 
 -- what has no fault has a value
 value_without_fault : (max : Bool) (i : Interval) (j : ℕ) (o : Option ℚ) → None ≡ cost_check max i j o → (d : ℚ) × (o ≡ Some d)

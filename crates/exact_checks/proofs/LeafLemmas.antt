@@ -11,6 +11,7 @@ use Rattle.duality.specs.Points.{Box, Numbers}
 use Rattle.duality.specs.Verdict.{Fault as Cause, BoundVerdict as Answer, at_cost, bound_side_missing, bound_or_fault, bound_total, no_bound, cost_check, cost_fault, dual_bound, dual_fault, first_fault, has_needed, IsDualFault, reduced_cost, row_part, side_fault, too_wide}
 use Rattle.linear_program.specs.Coefs.{Term, coef_in}
 use Rattle.linear_program.specs.Numbers.{Pair, spread}
+use Rattle.linear_program.proofs.FracLemmas.{coef_fits}
 use Rattle.exact_checks.specs.declared.program.Program.{Program}
 use Rattle.exact_checks.specs.declared.form.Row.{Row}
 use Rattle.exact_checks.specs.declared.verdict.Goal.{Goal}
@@ -19,7 +20,7 @@ use Rattle.exact_checks.specs.Leaves.{AreIndices, HasRows, IsGoal, IsOver, cost_
 use Rattle.exact_checks.specs.Programs.{asked}
 use Rattle.exact_checks.specs.Sums.{bound_by, bound_from}
 use Rattle.exact_checks.specs.Terms.{AreTerms}
-use Rattle.exact_checks.proofs.PartRows.{coef_fits, cost_paired}
+use Rattle.exact_checks.proofs.PartRows.{cost_paired}
 
 -- ---- what costs can lack
 if_fault : (b : Bool) (f v : Cause) → IsDualFault f → (if b then None else Some f) ≡ Some v → IsDualFault v

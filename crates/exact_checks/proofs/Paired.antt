@@ -10,9 +10,9 @@ use Rattle.duality.specs.Checked.{run}
 use Rattle.duality.specs.Verdict.{first_fault}
 use Rattle.program_meaning.proofs.Elements.{elements_at}
 use Rattle.linear_program.specs.Numbers.{Pair, number_of, spread, number_value}
+use Rattle.linear_program.proofs.ListLemmas.{rest_of}
 use Rattle.exact_checks.specs.Leaves.{AreIndices, run_pairs}
 use Rattle.exact_numbers.proofs.OptionLemmas.{or_assoc, or_none}
-use Rattle.exact_checks.proofs.Sparse.{rest_of}
 
 -- ---- the numbers of pairs
 pub spread_at : (m : ℕ) (ps : List Pair) (i : ℕ) → i < m → value_at (spread m ps) i ≡ number_of ps i zero_ℚ

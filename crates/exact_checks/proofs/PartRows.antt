@@ -11,12 +11,11 @@ use Rattle.duality.specs.Checked.{fitting, less_product, run}
 use Rattle.duality.specs.Points.{Numbers}
 use Rattle.duality.specs.Verdict.{Fault as Cause, first_fault, has_needed, reduced_cost, row_part, row_part_of, row_side_missing, side_fault}
 use Rattle.exact_numbers.specs.Values.{frac_value}
-use Rattle.exact_numbers.proofs.Bridge.{frac_fits_lem}
 use Rattle.exact_numbers.proofs.Zeros.{fits_zero}
-use Rattle.exact_numbers.specs.declared.frac.Frac.{Frac}
 use Rattle.linear_program.specs.Intervals.{interval_of}
-use Rattle.linear_program.specs.Coefs.{Term, coef_in, found, value_or_zero}
+use Rattle.linear_program.specs.Coefs.{coef_in}
 use Rattle.linear_program.specs.Numbers.{Pair, spread, number_value}
+use Rattle.linear_program.proofs.ListLemmas.{rest_of}
 use Rattle.exact_checks.specs.declared.program.Program.{Program}
 use Rattle.exact_checks.specs.declared.costs.Costs.{Costs}
 use Rattle.exact_checks.specs.declared.form.Row.{Row}
@@ -26,7 +25,6 @@ use Rattle.exact_checks.specs.Sums.{AreKept, cost_count, cost_in}
 use Rattle.exact_checks.specs.Terms.{AreTerms}
 use Rattle.exact_checks.proofs.InRange.{less_nothing, less_product_fits}
 use Rattle.exact_checks.proofs.Paired.{IsStillAtZero, all_first, all_paired, first_in, pair_within, pairs_next, run_pairs_none, spread_at}
-use Rattle.exact_checks.proofs.Sparse.{rest_of}
 
 -- ---- rows
 append_cases : {X : Type 0} (xs ys : List X) (i : ℕ) (x : X) → slice_get (xs ++ ys) i ≡ Some x → (slice_get xs i ≡ Some x) ⊎ ((j : ℕ) × (slice_get ys j ≡ Some x))
@@ -71,13 +69,6 @@ cost_still f j =
     kept_by a s r v g true t e = subst (λ x. fits x ≡ true) (let same : s ≡ r = cc in same) g
     kept_by a s r v g false true e = less_product_fits s v a r g e
     kept_by a s r v g false false e = absurd (cc)
-
-pub coef_fits : (ts : List Term) (j : ℕ) → fits (coef_in ts j) ≡ true
-coef_fits ts j = by (found ts j)
-  where
-    by : (o : Option Frac) → fits (value_or_zero o) ≡ true
-    by None = fits_zero
-    by (Some f) = frac_fits_lem f
 
 -- ---- a program over such rows
 module _ (c : Program) (planes : List Row) (f : Linear) (held : HasRows c planes f) where

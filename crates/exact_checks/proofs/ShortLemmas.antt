@@ -10,7 +10,7 @@ use Rattle.std.proofs.lemmas.Int.{ints, unsigned_abs-mul}
 use Rattle.fractions.specs.Fits.{fits, sum_fits}
 use Rattle.fractions.specs.LowestLemmas.{gcd_of, is_gcd, size-div}
 use Rattle.fractions.specs.Rational.{ℚ, over, whole, zero_ℚ, ◌-ℚ◌, ◌*ℚ◌, neg_ℚ}
-use Rattle.fractions.proofs.Arithmetic.{over_parts, -ℚ_lem, over_same, value_is}
+use Rattle.fractions.proofs.Arithmetic.{over_parts, -ℚ_lem, over_same, value_is, neg_size}
 use Rattle.fractions.proofs.Signed.{down_times}
 use Rattle.fractions.proofs.Values.{neg_value, over_value, scaled_value, sum_value}
 use Rattle.duality.specs.Checked.{fitting_difference, less_product}
@@ -36,11 +36,6 @@ short_over p (suc q) h k =
       top = (let less = div-le_self (unsigned_abs p) g in omega (arith, h, size-div p g));
       bottom = lt_of_le_of_lt (div-le_self (suc q) g) k;
     }
-
-pub neg_size : (z : ℤ) → unsigned_abs (neg_ℤ z) ≡ unsigned_abs z
-neg_size (pos zero) = refl
-neg_size (pos (suc n)) = refl
-neg_size (negsuc n) = refl
 
 pub short_neg : (x : ℚ) → IsShort x → IsShort (neg_ℚ x)
 unfolding neg_ℚ

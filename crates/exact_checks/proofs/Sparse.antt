@@ -1,7 +1,7 @@
 -- A run over the terms of a list is a run over every index.
-use Rattle.std.proofs.Common.{◌≡◌, ◌≢◌, ℕ, zero, suc, ◌+◌, ◌<◌, ◌≤◌, ◌-◌, ◌==◌, ◌∙◌, sym, ap, subst, refl, arith, Bool, true, false, List, [], ◌∷◌, drop, length, get_or, drop-cons, Option, Some, None, add-one}
+use Rattle.std.proofs.Common.{◌≡◌, ◌≢◌, ℕ, zero, suc, ◌+◌, ◌<◌, ◌≤◌, ◌-◌, ◌==◌, ◌∙◌, ap, subst, refl, arith, Bool, true, false, List, [], ◌∷◌, drop, length, get_or, Option, Some, None}
 use Rattle.std.specs.Prelude.{if◌then◌else◌, option_and_then}
-use Rattle.std.proofs.lemmas.Bool.{eqb-true, eq-eqb}
+use Rattle.std.proofs.lemmas.Bool.{eqb-true}
 use Rattle.std.proofs.lemmas.List.{drop_all}
 use Rattle.fractions.specs.Rational.{ℚ, zero_ℚ}
 use Rattle.fractions.proofs.Arithmetic.{zero-is_zero, not-is_zero}
@@ -9,11 +9,9 @@ use Rattle.exact_numbers.specs.Values.{frac_value}
 use Rattle.duality.specs.Checked.{run}
 use Rattle.fractions.specs.Functions.{is_zero}
 use Rattle.linear_program.specs.Coefs.{Term, found, value_or_zero, coef_in}
+use Rattle.linear_program.proofs.PlaceTerms.{coef_there}
+use Rattle.linear_program.proofs.ListLemmas.{rest_of}
 use Rattle.exact_checks.specs.Terms.{AreTerms}
-
--- what is left of a list, by its first element
-pub rest_of : {A : Type 0} (xs : List A) (i : ℕ) (x : A) → i < length xs → x ≡ get_or xs i x → drop i xs ≡ x ∷ drop (i + 1) xs
-rest_of xs i x h is = drop-cons xs i x h ∙ ap (λ y. y ∷ drop (suc i) xs) (sym is) ∙ ap (λ n. x ∷ drop n xs) (sym (add-one i))
 
 -- a step for the factor at an index, where it is not 0
 abbrev pub dense : (ℚ → ℕ → ℚ → Option ℚ) → (ℕ → ℚ) → ℚ → ℕ → Option ℚ
@@ -36,9 +34,6 @@ unequal i j h = by (i == j) refl
     by true e = absurd (h (eqb-true i j e))
     by false e = refl
 
-pub here : (t : Term) (ts : List Term) → coef_in (t ∷ ts) t.0 ≡ frac_value t.1
-here t ts = ap (λ b. value_or_zero (if b then Some t.1 else found ts t.0)) (eq-eqb t.0 t.0 refl)
-
 pub elsewhere : (t : Term) (ts : List Term) (j : ℕ) → j ≢ t.0 → coef_in (t ∷ ts) j ≡ coef_in ts j
 elsewhere t ts j h = ap (λ b. value_or_zero (if b then Some t.1 else found ts j)) (unequal j t.0 h)
 
@@ -46,12 +41,6 @@ pub before : (from n : ℕ) (ts : List Term) (j : ℕ) → AreTerms from n ts �
 unfolding AreTerms
 before from n [] j h l = refl
 before from n (t ∷ ts) j h l = elsewhere t ts j (λ e. omega (arith, h.0, e)) ∙ before (suc t.0) n ts j h.3 (omega (arith, h.0))
-
-pub zero_is : (x : ℚ) → x ≡ zero_ℚ → is_zero x ≡ true
-zero_is x e = zero-is_zero x e
-
-pub not_zero : (x : ℚ) → x ≢ zero_ℚ → is_zero x ≡ false
-not_zero x h = not-is_zero x h
 
 module _ (step : ℚ → ℕ → ℚ → Option ℚ) (g : ℕ → ℚ) (start : ℚ) where
   -- indices with the factor 0 change nothing
@@ -66,7 +55,7 @@ module _ (step : ℚ → ℕ → ℚ → Option ℚ) (g : ℕ → ℚ) (start : 
     where
       one : (o : Option ℚ) → option_and_then (λ s. dense step g s (from + more)) o ≡ o
       one None = refl
-      one (Some s) = ap (λ b. if b then Some s else step s (from + more) (g (from + more))) (zero_is (g (from + more)) (h (from + more) (omega arith) (omega arith)))
+      one (Some s) = ap (λ b. if b then Some s else step s (from + more) (g (from + more))) (zero-is_zero (g (from + more)) (h (from + more) (omega arith) (omega arith)))
 
   -- from one index to a later one
   skip_to : (from to : ℕ) → from ≤ to → ((j : ℕ) → from ≤ j → j < to → g j ≡ zero_ℚ) → run (dense step g) start to ≡ run (dense step g) start from
@@ -78,7 +67,7 @@ module _ (step : ℚ → ℕ → ℚ → Option ℚ) (g : ℕ → ℚ) (start : 
   unfolding run AreTerms
   sparse from n [] ok l same = skip_to from n l same
   sparse from n (t ∷ ts) ok l same =
-      let at : g t.0 ≡ frac_value t.1 = same t.0 ok.0 ok.1 ∙ here t ts in
+      let at : g t.0 ≡ frac_value t.1 = same t.0 ok.0 ok.1 ∙ coef_there t ts in
       let left = skip_to from t.0 ok.0 (λ j a b. same j a (omega (arith, ok.1)) ∙ elsewhere t ts j (λ x. omega (arith, x)) ∙ before (suc t.0) n ts j ok.3 (omega arith)) in
       sparse (suc t.0) n ts ok.3 (omega (arith, ok.1)) (λ j a b. same j (omega (arith, ok.0)) b ∙ elsewhere t ts j (λ x. omega (arith, x)))
       ∙ ap (λ o. run_terms step o ts)
@@ -89,7 +78,7 @@ module _ (step : ℚ → ℕ → ℚ → Option ℚ) (g : ℕ → ℚ) (start : 
       taken None at = refl
       taken (Some s) at =
           ap (λ a. if is_zero a then Some s else step s t.0 a) at
-          ∙ ap (λ b. if b then Some s else step s t.0 (frac_value t.1)) (not_zero (frac_value t.1) ok.2)
+          ∙ ap (λ b. if b then Some s else step s t.0 (frac_value t.1)) (not-is_zero (frac_value t.1) ok.2)
 
 -- ---- a loop over terms: where it stands after k of them, with s so far, on the way to the answer
 run_none : (step : ℚ → ℕ → ℚ → Option ℚ) (ts : List Term) → run_terms step None ts ≡ None

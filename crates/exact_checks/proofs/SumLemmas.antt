@@ -9,6 +9,7 @@ use Rattle.std.proofs.lemmas.List.Sorted.{Contains-permutation, IsPermutation-sy
 use Rattle.exact_checks.specs.declared.sums.RunningSum.{RunningSum}
 use Rattle.exact_checks.specs.declared.sums.RunningSum.TheVariants.{Untouched, Short, Exact, TooWide}
 use Rattle.exact_checks.specs.Sums.{AreTouched, sum_at}
+use Rattle.linear_program.proofs.PlaceLemmas.{one_only}
 
 -- ---- sums
 pub sum_there : (ss : List RunningSum) (i : ℕ) (s : RunningSum) → i < length ss → s ≡ get_or ss i s → sum_at ss i ≡ s
@@ -31,9 +32,6 @@ untouched_or_not (Exact f) n = absurd (n (λ e. cc))
 untouched_or_not TooWide n = absurd (n (λ e. cc))
 
 -- ---- marks
-pub one_only : (i j : ℕ) → Contains (i ∷ []) j → j ≡ i
-one_only i j c = let within = c.1 in let k : c.0 ≡ 0 = omega arith in sym c.2 ∙ ap (λ q. get_or (i ∷ []) q j) k
-
 module _ (ss : List RunningSum) (i : ℕ) (s : RunningSum) (within : i < length ss) where
   pub kept_marks : (touched : List ℕ) → AreTouched ss touched → Contains touched i → AreTouched (slice_set ss i s) touched
   kept_marks touched m mark =

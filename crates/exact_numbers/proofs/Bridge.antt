@@ -7,7 +7,7 @@ use Rattle.exact_numbers.proofs.Signed.{sizes_of}
 use Rattle.std.specs.declared.cmp.Ordering.{Ordering}
 use Rattle.std.specs.Ordering.{MatchOrdering}
 use Rattle.std.specs.Cmp.{int_ranks}
-use Rattle.std.proofs.lemmas.Bool.{ltb-true, lt-ltb}
+use Rattle.std.proofs.lemmas.Bool.{ltb-true, lt-ltb, false_from_ne_true}
 use lib.IntN.{*ℤ_comm, zero-*ℤ}
 use borrow.Author.Differences.{up, down}
 use Rattle.fractions.specs.Divisors.{AreCoprime}
@@ -45,10 +45,6 @@ pub and_true : (a b : Bool) → a && b ≡ true → (a ≡ true) × (b ≡ true)
 and_true true b e = (refl, e)
 and_true false b e = absurd (cc)
 
-pub not_true : (b : Bool) → (b ≡ true → ⊥) → b ≡ false
-not_true true n = absurd (n refl)
-not_true false n = refl
-
 -- ---- fractions
 -- the two numbers of a Frac fit
 pub frac_fits_lem : (f : Frac) → fits (frac_value f) ≡ true
@@ -57,12 +53,16 @@ frac_fits_lem f = both_true _ _ (small_of _ f.spelled.size) (small_of _ f.spelle
 pub frac_of_fits : (x : ℚ) → fits x ≡ true → IsFrac x.top x.bottom
 frac_of_fits x e = let both = and_true _ _ e in record { size = small_out _ both.0; above = x.above; small = small_out _ both.1; reduced = x.lowest }
 
+pub whole_fits : (z : ℤ) → unsigned_abs z < 2 ^ 127 → fits (whole z) ≡ true
+unfolding whole
+whole_fits z h = both_true _ _ (small_of (unsigned_abs z) h) refl
+
 fits_out : (x : ℚ) (y : Fraction) → Is x y → fits x ≡ true → HasFrac y
 fits_out x y h e = record { num = x.top; den = x.bottom; frac = frac_of_fits x e; same = record { equal = h.equal } }
 
 -- what no Frac has does not fit
 pub not_fits : (x : ℚ) (y : Fraction) → Is x y → (HasFrac y → ⊥) → fits x ≡ false
-not_fits x y h none = not_true (fits x) (λ e. none (fits_out x y h e))
+not_fits x y h none = false_from_ne_true (fits x) (λ e. none (fits_out x y h e))
 
 pub same_frac_value : (f : Frac) (x : ℚ) (y : Fraction) → Is x y → SameValue (pair f.num f.den) y → frac_value f ≡ x
 same_frac_value f x y h e = let k : HasValue (frac_value f) y.top y.bottom = record { above = h.above; equal = e.equal } in same_over k h refl
@@ -125,7 +125,7 @@ sum_fits_out x y e =
     }
 
 pub not_sum : (x y : ℚ) → (SumFits x.top x.bottom y.top y.bottom → ⊥) → sum_fits x y ≡ false
-not_sum x y none = not_true (sum_fits x y) (λ e. none (sum_fits_out x y e))
+not_sum x y none = false_from_ne_true (sum_fits x y) (λ e. none (sum_fits_out x y e))
 
 -- a sum over a denominator, where both of its parts are in range
 pub summed : (r : Option Frac) (x y z : ℚ) → fits z ≡ true → SumFits x.top x.bottom y.top y.bottom → z ≡ x +ℚ y → MatchOption r (fits z ≡ false) (λ f. (fits z ≡ true) × (frac_value f ≡ z)) → MatchOption r (sum_fits x y ≡ false) (λ f. (sum_fits x y ≡ true) × (frac_value f ≡ x +ℚ y))

@@ -3,6 +3,7 @@ use Rattle.std.proofs.Common.{◌≡◌, ◌∙◌, ℕ, zero, suc, ◌*◌, ◌
 use Rattle.std.specs.Prelude.{MatchOption, unwrap_or}
 use Rattle.std.proofs.lemmas.Int.{ints}
 use Rattle.fractions.specs.Rational.{ℚ, decimal_value, whole, zero_ℚ, one_ℚ, neg_ℚ}
+use Rattle.fractions.proofs.Arithmetic.{neg_size}
 use Rattle.exact_numbers.specs.Decimal.{signed}
 use Rattle.exact_numbers.specs.Values.{FitsDec, dec_value, fits_dec}
 use Rattle.exact_numbers.specs.Numbers.{dec_from}
@@ -55,17 +56,14 @@ whole_fits (pos zero) h = zero_fits
 whole_fits (pos (suc n)) h = stripped (suc n) (pos (suc n)) refl (omega arith) h
 whole_fits (negsuc n) h = stripped (suc n) (negsuc n) refl (omega arith) h
 
-abs_neg : (m : ℤ) → unsigned_abs (neg_ℤ m) ≡ unsigned_abs m
-abs_neg m = omega (arith, ints)
-
 pub neg_fits : (x : ℚ) → FitsDec x → FitsDec (neg_ℚ x)
 neg_fits x f = record {
   m = neg_ℤ f.m;
   e = f.e;
   dec = record {
-    mantissa = subst (λ n. n < 2 ^ 127) (sym (abs_neg f.m)) f.dec.mantissa;
+    mantissa = subst (λ n. n < 2 ^ 127) (sym (neg_size f.m)) f.dec.mantissa;
     exponent = f.dec.exponent;
-    shortest = λ h. let z = f.dec.shortest (ap (λ n. n % 10) (sym (abs_neg f.m)) ∙ h) in (ap neg_ℤ z.0, z.1);
+    shortest = λ h. let z = f.dec.shortest (ap (λ n. n % 10) (sym (neg_size f.m)) ∙ h) in (ap neg_ℤ z.0, z.1);
   };
   same = decimal-neg f.m f.e ∙ ap neg_ℚ f.same;
 }

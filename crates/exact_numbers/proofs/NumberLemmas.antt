@@ -160,7 +160,7 @@ pub same_dec : (c d : Dec) → c.m ≡ d.m → c.e ≡ d.e → c ≡ d
 same_dec c d m e =
     λ i. record { m = m i; e = e i; spelled = is_prop→PathP (λ j. IsDec (m j) (e j)) (λ j. hlevel props) c.spelled d.spelled i }
 
-clash : {P : Type 0} (b : Bool) → b ≡ false → b ≡ true → P
+pub clash : {P : Type 0} (b : Bool) → b ≡ false → b ≡ true → P
 clash true e f = absurd cc
 clash false e f = absurd cc
 
@@ -237,3 +237,13 @@ dec_of-none NotNumber text isnt = by (is_dec_text text) refl
     by true e = absurd (isnt (dec_text_out text e))
     by false e = rw e refl
 dec_of-none TooWide text wide = rw (dec_text_in text wide.0) (dec_from-none (text_value text) wide.1)
+
+-- a signed number that was read fits
+pub signed_of-fits : (word : List ℕ) (z : ℤ) → signed_of word ≡ Some z → has_31_bits z ≡ true
+unfolding signed_of
+signed_of-fits word z e = by (are_digits (without_leading_sign word)) (has_31_bits (signed_digits_value 10 word)) refl e
+  where
+    by : (a b : Bool) → has_31_bits (signed_digits_value 10 word) ≡ b → (cond (a && b) (Some (signed_digits_value 10 word)) None) ≡ Some z → has_31_bits z ≡ true
+    by true true f g = subst (λ x. has_31_bits x ≡ true) (let same : signed_digits_value 10 word ≡ z = cc in same) f
+    by true false f g = absurd cc
+    by false b f g = absurd cc

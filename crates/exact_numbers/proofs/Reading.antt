@@ -103,10 +103,10 @@ cut_mark text xs ys e d =
     }
 
 -- ---- the sign
-no_sign : (b : ℕ) → (48 ≤ b) × (b ≤ 57) × (digit_value b ≡ b - 48) → (nat_eq b 43 || nat_eq b 45) ≡ false
+pub no_sign : (b : ℕ) → (48 ≤ b) × (b ≤ 57) × (digit_value b ≡ b - 48) → (nat_eq b 43 || nat_eq b 45) ≡ false
 no_sign b h = grind (arith, nat_tests)
 
-no_minus : (b : ℕ) → (48 ≤ b) × (b ≤ 57) × (digit_value b ≡ b - 48) → nat_eq b 45 ≡ false
+pub no_minus : (b : ℕ) → (48 ≤ b) × (b ≤ 57) × (digit_value b ≡ b - 48) → nat_eq b 45 ≡ false
 no_minus b h = grind (arith, nat_tests)
 
 unsigned_text : (b : ℕ) (bs : List ℕ) → digit_value b < 10 → (after_sign (b ∷ bs) ≡ b ∷ bs) × (begins_minus (b ∷ bs) ≡ false)
@@ -179,7 +179,7 @@ marked (b ∷ bs) s size places y ys bare mark de =
     })
     bare.sign bare.is.whole bare.is.fraction bare.is.some de (ap₂ (λ v k. decimal_value (signed s v) (exponent_value (y ∷ ys) -ℤ pos k)) bare.digits bare.after)
 
-zeros-length : (k : ℕ) → length (zeros k) ≡ k
+pub zeros-length : (k : ℕ) → length (zeros k) ≡ k
 zeros-length k = length-replicate {A = ℕ} k 48
 
 zeros-digits : (k : ℕ) → AllDigits 10 (zeros k)

@@ -149,20 +149,21 @@ short_product m b k d a c g h n q x y bs ds al cl p r isg ish ns qs =
       same = subst₂ (λ i j. SameValue (pair (signed s i) j) (product_of (pair m b) (pair k d))) (sym ns) (sym qs) w.same;
     }
 
+-- the same of the numbers that the parts were read of
+pub sum_read : {n m k j : ℤ} {d b e c : ℕ} {s : ℤ} {v : ℕ} → n ≡ m → d ≡ b → k ≡ j → e ≡ c → ShortSum n d k e s v → ShortSum m b j c s v
+sum_read {m = m} {k = k} {b = b} {e = e} {s = s} {v = v} p q r t w = subst₂ (λ x y. ShortSum m b x y s v) r t (subst₂ (λ x y. ShortSum x y k e s v) p q w)
+
+pub product_read : {n m k j : ℤ} {d b e c : ℕ} {s : ℤ} {v : ℕ} → n ≡ m → d ≡ b → k ≡ j → e ≡ c → ShortProduct n d k e s v → ShortProduct m b j c s v
+product_read {m = m} {k = k} {b = b} {e = e} {s = s} {v = v} p q r t w = subst₂ (λ x y. ShortProduct m b x y s v) r t (subst₂ (λ x y. ShortProduct x y k e s v) p q w)
+
 -- the answers, where f is the pair that was found for x and y
-pub sum_found : (f x y : Frac) (n : ℤ) (d : ℕ) (k : ℤ) (e : ℕ) (s : ℤ) (v : ℕ) → n ≡ x.num → d ≡ x.den → k ≡ y.num → e ≡ y.den → f.num ≡ s → f.den ≡ v → ShortSum n d k e s v → (sum_fits (frac_value x) (frac_value y) ≡ true) × (frac_value f ≡ frac_value x +ℚ frac_value y)
-sum_found f x y n d k e s v p q r t i j w =
-    let first = subst₂ (λ a b. ShortSum a b k e s v) p q w in
-    let second = subst₂ (λ a b. ShortSum x.num x.den a b s v) r t first in
-    let whole = subst₂ (λ a b. ShortSum x.num x.den y.num y.den a b) (sym i) (sym j) second in
+pub sum_found : (f x y : Frac) (s : ℤ) (v : ℕ) → f.num ≡ s → f.den ≡ v → ShortSum x.num x.den y.num y.den s v → (sum_fits (frac_value x) (frac_value y) ≡ true) × (frac_value f ≡ frac_value x +ℚ frac_value y)
+sum_found f x y s v i j w =
+    let whole = subst₂ (λ a b. ShortSum x.num x.den y.num y.den a b) (sym i) (sym j) w in
     (sum_fits_in (frac_value x) (frac_value y) whole.fits, (fitting f _ _ (sum_is (frac_value x) (frac_value y)) whole.same).1)
 
-pub product_found : (f x y : Frac) (m : ℤ) (b : ℕ) (k : ℤ) (d : ℕ) (s : ℤ) (q : ℕ) → m ≡ x.num → b ≡ x.den → k ≡ y.num → d ≡ y.den → f.num ≡ s → f.den ≡ q → ShortProduct m b k d s q → (fits (frac_value x *ℚ frac_value y) ≡ true) × (frac_value f ≡ frac_value x *ℚ frac_value y)
-product_found f x y m b k d s q p r t u i j w =
-    let first = subst₂ (λ a b. ShortProduct a b k d s q) p r w in
-    let second = subst₂ (λ a b. ShortProduct x.num x.den a b s q) t u first in
-    let whole = subst₂ (λ a b. ShortProduct x.num x.den y.num y.den a b) (sym i) (sym j) second in
-    fitting f _ _ (product_is (frac_value x) (frac_value y)) whole.same
+pub product_found : (f x y : Frac) (s : ℤ) (q : ℕ) → f.num ≡ s → f.den ≡ q → ShortProduct x.num x.den y.num y.den s q → (fits (frac_value x *ℚ frac_value y) ≡ true) × (frac_value f ≡ frac_value x *ℚ frac_value y)
+product_found f x y s q i j w = fitting f _ _ (product_is (frac_value x) (frac_value y)) (subst₂ (λ a b. ShortProduct x.num x.den y.num y.den a b) (sym i) (sym j) w).same
 
 -- a decimal number with the exponent 0
 pub whole_same : (m e : ℤ) → e ≡ pos 0 → SameValue (pair m 1) (scaled m e)

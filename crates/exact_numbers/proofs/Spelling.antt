@@ -1,8 +1,7 @@
 -- The one spelling of the value of a Dec.
-use Rattle.std.proofs.Common.{◌≡◌, ◌≢◌, ℕ, zero, suc, ◌+◌, ◌*◌, ◌/◌, ◌%◌, ◌^◌, ◌<◌, ◌≤◌, ◌&&◌, ◌||◌, not, nat_le, ⊎_elim, ◌∙◌, sym, ap, ap₂, refl, arith, subst, ℤ, pos, negsuc, ◌+ℤ◌, ◌-ℤ◌, ◌*ℤ◌, ◌≤ℤ◌, ◌<ℤ◌, neg_ℤ, unsigned_abs, int_div, nat_eq, Bool, true, false, cond, mul_comm, mul-pos, pow-add}
+use Rattle.std.proofs.Common.{◌≡◌, ◌≢◌, ℕ, zero, suc, ◌+◌, ◌*◌, ◌/◌, ◌%◌, ◌^◌, ◌<◌, ◌≤◌, ◌&&◌, not, ⊎_elim, ◌∙◌, sym, ap, ap₂, refl, arith, subst, ℤ, pos, negsuc, ◌+ℤ◌, ◌-ℤ◌, ◌*ℤ◌, ◌≤ℤ◌, ◌<ℤ◌, neg_ℤ, unsigned_abs, int_div, nat_eq, Bool, true, false, cond, mul_comm, mul-pos, pow-add}
 use Rattle.std.proofs.Math.Nat.{mul-mod_left, eq_of_mul-eq-mul_right, div-add-mod', mul-div_cancel, zero-div}
-use Rattle.std.proofs.lemmas.Bool.Decides.{nat_tests}
-use Rattle.std.proofs.lemmas.Bool.{cases_eq}
+use Rattle.std.proofs.lemmas.Bool.{cases_eq, or_right, ne_eqb, eq-eqb, eqb-true, le-leb}
 use Rattle.std.proofs.lemmas.Int.{ints, by_lt_z, unsigned_abs-mul}
 use borrow.Author.Differences.{up, down, same_in}
 use Rattle.fractions.specs.Rational.{ℚ, decimal_value}
@@ -20,12 +19,6 @@ use Rattle.fractions.proofs.Values.{own_value, same_value}
 use Rattle.fractions.proofs.Arithmetic.{zero_top, top_zero}
 use Rattle.exact_numbers.proofs.Signs.{dec_zero}
 
-eq_true : (a b : ℕ) → a ≡ b → nat_eq a b ≡ true
-eq_true a b e = grind (arith, nat_tests)
-
-eq_false : (a b : ℕ) → a ≢ b → nat_eq a b ≡ false
-eq_false a b n = grind (arith, nat_tests)
-
 whole_part : (n d : ℕ) → n % d ≡ 0 → n ≡ n / d * d
 whole_part n d z = sym (div-add-mod' n d) ∙ omega (arith, z)
 
@@ -35,28 +28,18 @@ crossing k m t b a c u v some e f =
     eq_of_mul-eq-mul_right b some _ _
     (ap (λ n. k * n * b) (pow-add 10 u c) ∙ omega arith ∙ ap (λ n. n * 10 ^ c) e ∙ omega arith ∙ ap (λ n. n * 10 ^ v) f ∙ omega arith ∙ ap (λ n. m * n * b) (sym (pow-add 10 a v)))
 
-eq_out : (a b : ℕ) → nat_eq a b ≡ true → a ≡ b
-eq_out a b e = grind (arith, nat_tests)
-
-le_true : (a b : ℕ) → a ≤ b → nat_le a b ≡ true
-le_true a b h = grind (arith, nat_tests)
-
-or_right : (a b : Bool) → b ≡ true → a || b ≡ true
-or_right true b h = refl
-or_right false b h = h
-
 -- ---- the exponent
 module _ (x : ℚ) (m e : ℤ) (h : Is x (scaled m e)) where
   sizes : unsigned_abs x.top * 10 ^ down e ≡ unsigned_abs m * (x.bottom * 10 ^ up e)
   sizes = sizes_of x.top (m *ℤ pos (10 ^ up e)) (10 ^ down e) x.bottom h.equal ∙ ap (λ n. n * x.bottom) (unsigned_abs-mul m (pos (10 ^ up e))) ∙ omega arith
 
   multiple_at : is_multiple x e ≡ true
-  multiple_at = eq_true _ _ (ap (λ n. n % (x.bottom * 10 ^ up e)) sizes ∙ mul-mod_left (unsigned_abs m) (x.bottom * 10 ^ up e))
+  multiple_at = eq-eqb _ _ (ap (λ n. n % (x.bottom * 10 ^ up e)) sizes ∙ mul-mod_left (unsigned_abs m) (x.bottom * 10 ^ up e))
 
   -- a larger exponent would leave a zero at the end of m
   not_above : (g : ℤ) → unsigned_abs m % 10 ≢ 0 → e <ℤ g → is_multiple x g ≡ false
   not_above g odd less =
-      eq_false _ _
+      ne_eqb _ _
       (λ z.
       let k = (unsigned_abs x.top * 10 ^ down g) / (x.bottom * 10 ^ up g) in
       let split : k * (x.bottom * 10 ^ up g) ≡ unsigned_abs x.top * 10 ^ down g = sym (whole_part _ _ z) in
@@ -96,7 +79,7 @@ decimal_of-decimal m e dec = ⊎_elim zero_case other (cases_eq (unsigned_abs m 
         let both = dec.shortest z in
         let top : unsigned_abs (decimal_value m e).top ≡ 0 = ap unsigned_abs (top_zero _ ((dec_zero m e).0 both.0)) in
         let none : Decimal = record { mantissa = pos 0; exponent = pos 0 } in
-        ap (λ b. cond b none (record { mantissa = mantissa_at (decimal_value m e) (exponent_below (decimal_value m e) 800 (pos 400)); exponent = exponent_below (decimal_value m e) 800 (pos 400) })) (eq_true _ _ top)
+        ap (λ b. cond b none (record { mantissa = mantissa_at (decimal_value m e) (exponent_below (decimal_value m e) 800 (pos 400)); exponent = exponent_below (decimal_value m e) 800 (pos 400) })) (eq-eqb _ _ top)
         ∙ ap₂ (λ a b. record { mantissa = a; exponent = b }) (sym both.0) (sym both.1)
 
     other : unsigned_abs m % 10 ≢ 0 → decimal_of (decimal_value m e) ≡ record { mantissa = m; exponent = e }
@@ -106,7 +89,7 @@ decimal_of-decimal m e dec = ⊎_elim zero_case other (cases_eq (unsigned_abs m 
         let some : unsigned_abs x.top ≢ 0 = λ z. odd (ap (λ n. unsigned_abs n % 10) ((dec_zero m e).1 (zero_top x (same_in x.top (pos 0) (omega (arith, abs_is x.top, z)))))) in
         let place : exponent_below x 800 (pos 400) ≡ e = exponent_is x m e (decimal_is m e) odd 800 (pos 400) (omega (arith, ints, dec.exponent)) (omega (arith, ints, dec.exponent)) in
         let none : Decimal = record { mantissa = pos 0; exponent = pos 0 } in
-        ap (λ b. cond b none (record { mantissa = mantissa_at x (exponent_below x 800 (pos 400)); exponent = exponent_below x 800 (pos 400) })) (eq_false _ _ some)
+        ap (λ b. cond b none (record { mantissa = mantissa_at x (exponent_below x 800 (pos 400)); exponent = exponent_below x 800 (pos 400) })) (ne_eqb _ _ some)
         ∙ ap (λ g. record { mantissa = mantissa_at x g; exponent = g }) place
         ∙ ap (λ n. record { mantissa = n; exponent = e }) (mantissa_is x m e (decimal_is m e))
 
@@ -129,7 +112,7 @@ spelled_value : (x : ℚ) (g : ℤ) → is_multiple x g ≡ true → decimal_val
 spelled_value x g e =
     let d = x.bottom * 10 ^ up g in
     let z = x.top *ℤ pos (10 ^ down g) in
-    let whole : unsigned_abs z % d ≡ 0 = ap (λ n. n % d) (unsigned_abs-mul x.top (pos (10 ^ down g))) ∙ eq_out _ _ e in
+    let whole : unsigned_abs z % d ≡ 0 = ap (λ n. n % d) (unsigned_abs-mul x.top (pos (10 ^ down g))) ∙ eqb-true _ _ e in
     same_value (decimal_is (mantissa_at x g) g) (own_value x)
     (times_twice (mantissa_at x g) (10 ^ up g) x.bottom ∙ ap (λ n. mantissa_at x g *ℤ pos n) (mul_comm (10 ^ up g) x.bottom) ∙ div_exact z d whole)
 
@@ -138,7 +121,7 @@ unfolding decimal_of
 value_of_spelling x = by (nat_eq (unsigned_abs x.top) 0) refl
   where
     by : (b : Bool) → nat_eq (unsigned_abs x.top) 0 ≡ b → let d = cond b none (spelled_by x (exponent_below x 800 (pos 400))) in is_multiple x d.exponent ≡ true → decimal_value d.mantissa d.exponent ≡ x
-    by true e h = zero_decimal (pos 0) ∙ sym (zero_top x (same_in x.top (pos 0) (omega (arith, abs_is x.top, eq_out _ _ e))))
+    by true e h = zero_decimal (pos 0) ∙ sym (zero_top x (same_in x.top (pos 0) (omega (arith, abs_is x.top, eqb-true _ _ e))))
     by false e h = spelled_value x (exponent_below x 800 (pos 400)) h
 
 spelled_in : (m e : ℤ) → IsDec m e → is_spelled m e ≡ true
@@ -150,7 +133,7 @@ spelled_in m e dec = ⊎_elim zero_case other (cases_eq (unsigned_abs m % 10) 0)
         ap₂ (λ a b. is_spelled a b) both.0 both.1
 
     other : unsigned_abs m % 10 ≢ 0 → is_spelled m e ≡ true
-    other odd = or_right _ _ (both_true _ _ (both_true _ _ (small_of _ dec.mantissa) (le_true _ _ dec.exponent)) (ap not (eq_false _ _ odd)))
+    other odd = or_right _ _ (both_true _ _ (both_true _ _ (small_of _ dec.mantissa) (le-leb _ _ dec.exponent)) (ap not (ne_eqb _ _ odd)))
 
 pub fits_dec_in : (x : ℚ) → FitsDec x → fits_dec x ≡ true
 unfolding fits_dec

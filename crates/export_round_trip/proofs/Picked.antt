@@ -1,11 +1,11 @@
 -- A whole program whose numbers are decimals is the program of the values of a whole decimal program.
 use Rattle.std.proofs.Common.{◌≡◌, ◌≢◌, ◌∙◌, ℕ, ◌+◌, ◌<◌, List, [], ◌∷◌, length, map, get_or, refl, sym, ap, ap₂, subst, arith}
 use Rattle.std.specs.Prelude.{All}
-use Rattle.std.specs.List.{AllPairs}
-use Rattle.std.proofs.lemmas.List.{length-map, get_or-map}
+use Rattle.std.proofs.lemmas.List.{length-map}
 use Rattle.std.proofs.lemmas.List.Elements.{All-head, All-tail, All-map, All-weaker}
 use Rattle.std.proofs.lemmas.List.Sums.{sum_by-cons}
 use Rattle.texts.specs.Names.{IsName}
+use Rattle.texts.proofs.AllLemmas.{pairs_mapped}
 use Rattle.fractions.specs.Rational.{ℚ, zero_ℚ}
 use Rattle.exact_numbers.specs.declared.dec.Dec.{Dec}
 use Rattle.exact_numbers.specs.Values.{FitsDec, dec_value}
@@ -50,14 +50,6 @@ values_back m h = λ i. record {
 }
 
 -- ---- it is whole
-
-pub pairs_mapped : {X Y : Type 0} (R : Y → Y → Type 0) (f : X → Y) (xs : List X) → AllPairs (λ x y. R (f x) (f y)) xs → AllPairs R (map f xs)
-pairs_mapped R f [] h i j d lt within = absurd (omega (arith, within))
-pairs_mapped R f (x ∷ xs) h i j d lt within =
-    let inside : j < length (x ∷ xs) = omega (arith, within, length-map (x ∷ xs) f) in
-    let first = get_or-map f (x ∷ xs) i x d (omega (arith, lt, inside)) in
-    let second = get_or-map f (x ∷ xs) j x d inside in
-    subst (λ u. R u (get_or (map f (x ∷ xs)) j d)) (sym first) (subst (λ u. R (f (get_or (x ∷ xs) i x)) u) (sym second) (h i j x lt inside))
 
 entries_picked : (n : ℕ) (es : List (Entry ℚ)) → AreEntries n es → AreEntries n (map (entry_with picked) es)
 entries_picked n es h = record {

@@ -6,6 +6,7 @@ use Rattle.std.proofs.lemmas.List.{length-map}
 use Rattle.std.proofs.lemmas.List.Elements.{All-nil, All-cons, All-head, All-tail, All-weaker, All-map}
 use Rattle.std.proofs.lemmas.List.Kept.{AllPairs-cons}
 use Rattle.texts.specs.Names.{IsName}
+use Rattle.texts.proofs.AllLemmas.{pairs_mapped}
 use Rattle.fractions.specs.Rational.{ℚ, zero_ℚ, neg_ℚ}
 use Rattle.exact_numbers.specs.Values.{FitsDec}
 use Rattle.program_meaning.specs.Linear.{Form, Variable}
@@ -19,7 +20,7 @@ use Rattle.export_round_trip.specs.Exportable.{HasDecimalBounds}
 use Rattle.export_round_trip.proofs.Names.{scaled_of}
 use Rattle.exported_program.proofs.Names.{nl_is_name, obj_is_name, obj_not_marker}
 use Rattle.exact_numbers.proofs.Fitting.{zero_fits}
-use Rattle.export_round_trip.proofs.Picked.{AreDecimal, IsDecimalProgram, pairs_mapped}
+use Rattle.export_round_trip.proofs.Picked.{AreDecimal, IsDecimalProgram}
 use Rattle.export_round_trip.proofs.ProgramNames.{AreNamedRows, AreNamedVariables}
 use Rattle.export_round_trip.proofs.ProgramParts.{columns_all, entries_from, are_entries, objective_first, column_from, some_entry, all_from, AreBoundsFrom, bounds_from}
 

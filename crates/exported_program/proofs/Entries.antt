@@ -9,9 +9,6 @@ use Rattle.mps_model.specs.Mps.{Entry, at_row, part_of_row, or_zero, no_column}
 use Rattle.scaled_program.specs.Program.{ScaledRow, nonzero}
 use Rattle.exported_program.specs.Program.{with_entry, entries_of, or_obj_zero, column_entries, columns_of}
 
-other_row : (i j : ℕ) → (i ≡ j → ⊥) → nat_eq i j ≡ false
-other_row i j h = ne_eqb i j h
-
 -- ---- zeros left out
 pub nonzero_back : (x : ℚ) → or_zero (nonzero x) ≡ x
 nonzero_back x = by (is_zero x) refl
@@ -30,7 +27,7 @@ module _ (p i : ℕ) where
   pub at_row_other : (o : Option ℚ) (es : List (Entry ℚ)) → (i ≡ p → ⊥) → at_row p (with_entry i o es) ≡ at_row p es
   unfolding at_row
   at_row_other None es e = refl
-  at_row_other (Some v) es e = ap (λ b. cond b (Some v) (at_row p es)) (other_row i p e)
+  at_row_other (Some v) es e = ap (λ b. cond b (Some v) (at_row p es)) (ne_eqb i p e)
 
   pub part_same : (o : Option ℚ) (es : List (Entry ℚ)) (x : ℚ) → i ≡ p → part_of_row p es x ≡ zero_ℚ → part_of_row p (with_entry i o es) x ≡ or_zero o *ℚ x
   unfolding part_of_row sum_over
@@ -40,7 +37,7 @@ module _ (p i : ℕ) where
   pub part_other : (o : Option ℚ) (es : List (Entry ℚ)) (x : ℚ) → (i ≡ p → ⊥) → part_of_row p (with_entry i o es) x ≡ part_of_row p es x
   unfolding part_of_row sum_over
   part_other None es x e = refl
-  part_other (Some v) es x e = ap (λ b. cond b (v *ℚ x) zero_ℚ +ℚ part_of_row p es x) (other_row i p e) ∙ zero-+ℚ (part_of_row p es x)
+  part_other (Some v) es x e = ap (λ b. cond b (v *ℚ x) zero_ℚ +ℚ part_of_row p es x) (ne_eqb i p e) ∙ zero-+ℚ (part_of_row p es x)
 
 -- ---- records for each row
 module _ (g : ScaledRow → Option ℚ) where

@@ -1,26 +1,18 @@
 -- The free form of a line: it is no longer than the line, and with a space behind it, it is one
 -- that a text can have.
-use Rattle.std.proofs.Common.{◌≡◌, ◌∙◌, ◌⊎◌, inl, inr, ℕ, zero, suc, ◌+◌, ◌-◌, ◌==◌, ◌≤◌, Bool, true, false, not, ◌||◌, cond, List, [], ◌∷◌, ◌++◌, length, take, drop, refl, ap, subst, arith, length-append, length-drop}
+use Rattle.std.proofs.Common.{◌≡◌, ◌∙◌, ◌⊎◌, inl, inr, ℕ, suc, ◌+◌, ◌-◌, ◌==◌, ◌≤◌, Bool, true, false, not, ◌||◌, cond, List, [], ◌∷◌, ◌++◌, length, take, drop, refl, ap, subst, arith, length-append, length-drop}
 use Rattle.std.specs.Prelude.{codes}
 use Rattle.std.specs.List.{AllByRecursion, slice_range, prefix_len, suffix_len}
 use Rattle.std.proofs.lemmas.List.{length-take, take_all, reverse-append}
-use Rattle.texts.proofs.WalkSteps.{no_end-take}
+use Rattle.texts.proofs.WalkSteps.{no_end-take, no_end-append}
 use Rattle.texts.specs.Cut.{HasNoEnd, IsTextLine}
 use Rattle.texts.specs.Lines.{trimmed}
 use Rattle.texts.specs.Words.{is_blank, ends_word, onto_word, words_of}
+use Rattle.texts.proofs.LineLemmas.{no_end-drop}
 use Rattle.mps_reader.specs.Sections.{is_left_out}
 use Rattle.fixed_mps.specs.Fields.{free, is_as_it_is, is_misplaced, spaced, has_no_number, kind_field, name_field, row_field, value_field, next_row_field, next_value_field, field_text, value_text, fields_text, columns_text, text_by, cut_text}
 
 -- ---- parts of a line
-
-no_end-append : (xs ys : List ℕ) → HasNoEnd xs → HasNoEnd ys → HasNoEnd (xs ++ ys)
-no_end-append [] ys h k = k
-no_end-append (x ∷ xs) ys h k = (h.0, no_end-append xs ys h.1 k)
-
-no_end-drop : (n : ℕ) (bytes : List ℕ) → HasNoEnd bytes → HasNoEnd (drop n bytes)
-no_end-drop zero bytes h = h
-no_end-drop (suc n) [] h = tt
-no_end-drop (suc n) (b ∷ bytes) h = no_end-drop n bytes h.1
 
 -- no LF, and at most k bytes
 record IsPart (k : ℕ) (text : List ℕ) : Type 0 where

@@ -1,7 +1,7 @@
 -- The numbers of an imported objective are decimals.
 use Rattle.std.proofs.Common.{◌≡◌, ◌≢◌, ◌∙◌, ℕ, zero, suc, Bool, true, false, ◌&&◌, not, cond, nat_eq, List, [], ◌∷◌, ◌++◌, get_or, All, AllPairs, refl, sym, ap, ap₂, subst, arith, Some, None, if◌then◌else◌}
 use Rattle.std.specs.List.{cons_option, filter_map}
-use Rattle.std.proofs.lemmas.Bool.{eq-eqb, eqb-true}
+use Rattle.std.proofs.lemmas.Bool.{eq-eqb, eqb-true, ne_eqb}
 use Rattle.std.proofs.lemmas.List.Elements.{All-append, All-cons, All-nil}
 use Rattle.fractions.specs.Rational.{ℚ, zero_ℚ, ◌+ℚ◌}
 use Rattle.fractions.specs.Sums.{sum_over}
@@ -29,19 +29,12 @@ use Rattle.mps_program.proofs.SideLemmas.{rhs_fits, spelled_value}
 use Rattle.exact_numbers.proofs.Fitting.{dec_fits, neg_fits, zero_fits}
 use Rattle.import_round_trip.proofs.Files.{all_terms_from, column_terms}
 
-differ : (a b : ℕ) → a ≢ b → nat_eq a b ≡ false
-differ a b other = by (nat_eq a b) refl
-  where
-    by : (c : Bool) → nat_eq a b ≡ c → c ≡ false
-    by true e = absurd (other (eqb-true a b e))
-    by false e = refl
-
 -- ---- the coefficients of variables
 
 none_there : (ts : List Term) (q : ℕ) → All (λ t. t.0 ≢ q) ts → coefficient_of ts q ≡ zero_ℚ
 unfolding coefficient_of sum_over
 none_there [] q h = refl
-none_there (t ∷ ts) q h = ap₂ (λ b s. cond b (dec_value t.1) zero_ℚ +ℚ s) (differ t.0 q (h 0 t (omega arith))) (none_there ts q (λ k d lt. h (suc k) d (omega (arith, lt)))) ∙ +ℚ_zero zero_ℚ
+none_there (t ∷ ts) q h = ap₂ (λ b s. cond b (dec_value t.1) zero_ℚ +ℚ s) (ne_eqb t.0 q (h 0 t (omega arith))) (none_there ts q (λ k d lt. h (suc k) d (omega (arith, lt)))) ∙ +ℚ_zero zero_ℚ
 
 both_parts : (xs ys : List Term) (q : ℕ) → coefficient_of (xs ++ ys) q ≡ coefficient_of xs q +ℚ coefficient_of ys q
 unfolding coefficient_of
@@ -62,7 +55,7 @@ AreApart es = AllPairs (λ e g. e.row ≢ g.row) es
 none_in_row : (i p : ℕ) (es : List (Entry Dec)) → All (λ e. e.row ≢ i) es → filter_map (term_of i p) es ≡ []
 none_in_row i p [] h = refl
 none_in_row i p (e ∷ es) h =
-    ap (λ b. cons_option (if b && not (is_zero_dec e.value) then Some (p, e.value) else None) (filter_map (term_of i p) es)) (differ e.row i (h 0 e (omega arith)))
+    ap (λ b. cons_option (if b && not (is_zero_dec e.value) then Some (p, e.value) else None) (filter_map (term_of i p) es)) (ne_eqb e.row i (h 0 e (omega arith)))
     ∙ none_in_row i p es (λ k d lt. h (suc k) d (omega (arith, lt)))
 
 column_fits : (i p : ℕ) (es : List (Entry Dec)) → AreApart es → FitsDec (coefficient_of (filter_map (term_of i p) es) p)

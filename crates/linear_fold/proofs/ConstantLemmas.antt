@@ -7,15 +7,16 @@ use Rattle.std.proofs.lemmas.Bool.{ltb-true, and_from, and_parts, false_from_ne_
 use Rattle.std.proofs.lemmas.Int.{ints, unsigned_abs-mul}
 use Rattle.exact_numbers.specs.declared.frac.Frac.{Frac}
 use Rattle.exact_numbers.specs.Values.{frac_value, order_of}
+use Rattle.exact_numbers.proofs.Bridge.{whole_fits}
 use Rattle.fractions.specs.Divisors.{AreCoprime}
 use Rattle.fractions.specs.LowestLemmas.{coprime-swap}
 use Rattle.fractions.specs.Fits.{fits}
 use Rattle.fractions.specs.Functions.{exponent_of, or_zero, power_of, is_smaller, lesser_of, greater_of, least_of, greatest_of, floor_of, ceiling_of, absolute_of}
 use lib.IntN.{*ℤ-one, zero-*ℤ}
-use Rattle.fractions.specs.Rational.{ℚ, whole, ◌<ℚ◌, over, zero_ℚ, one_ℚ, ◌*ℚ◌, neg_ℚ}
+use Rattle.fractions.specs.Rational.{ℚ, whole, ◌<ℚ◌, over, zero_ℚ, ◌*ℚ◌, neg_ℚ}
 use Rattle.fractions.proofs.Coprimes.{coprime-mul, coprime-pow}
-use Rattle.fractions.proofs.Extremes.{absolute_above, absolute_below, power_of-zero, power_of-suc}
-use Rattle.fractions.proofs.Arithmetic.{over_lowest, over_parts, zero_value}
+use Rattle.fractions.proofs.Extremes.{absolute_above, absolute_below, power_of-suc}
+use Rattle.fractions.proofs.Arithmetic.{over_lowest, zero_value, over_whole}
 use Rattle.fractions.proofs.Values.{own_value, value_le, value_lt}
 use Rattle.program_meaning.specs.Lines.{constant_line, Line, is_constant, are_constant, constants_of}
 use Rattle.nl_meaning.specs.Faults.{constants_line, operator_fault, operator_line, power_fault, too_wide_unless}
@@ -95,9 +96,6 @@ better_same true x = chosen_same (is_smaller x x) x
 better_same false x = chosen_same (is_smaller x x) x
 
 -- ---- powers
-pub power_first : (x : ℚ) → power_of x 0 ≡ one_ℚ
-power_first x = power_of-zero x
-
 pub power_next : (x : ℚ) (n : ℕ) → power_of x (n + 1) ≡ x *ℚ power_of x n
 power_next x n = ap (power_of x) (omega arith) ∙ power_of-suc x n
 
@@ -155,20 +153,12 @@ power_wide x m n y l e w =
     subst (λ k. fits (power_of x k) ≡ false) total (wide_more x (suc m) (n - suc m) next)
 
 -- ---- whole parts
-over_whole : (z : ℤ) → over z 1 ≡ whole z
-unfolding whole
-over_whole z = over_parts (whole z)
-
 pub whole_is : (num z : ℤ) (y : ℚ) → z ≡ num → y ≡ over z 1 → y ≡ whole num
 whole_is num z y e f = f ∙ over_whole z ∙ ap whole e
 
-whole_small : (n : ℤ) → unsigned_abs n < 2 ^ 127 → fits (whole n) ≡ true
-unfolding whole
-whole_small n h = and_from _ _ (lt-ltb (unsigned_abs n) (2 ^ 127) h) refl
-
 pub whole_fits : (num z : ℤ) → z ≡ num → unsigned_abs num < 2 ^ 127 → fits (over z 1) ≡ false → ⊥
 whole_fits num z e small wide =
-    let good : fits (over z 1) ≡ true = ap fits (over_whole z ∙ ap whole e) ∙ whole_small num small in
+    let good : fits (over z 1) ≡ true = ap fits (over_whole z ∙ ap whole e) ∙ whole_fits num small in
     (let clash : true ≡ false = sym good ∙ wide in cc)
 
 pub floor_above : (x y : ℚ) → pos 0 ≤ℤ x.top → y ≡ whole (pos (unsigned_abs x.top / x.bottom)) → y ≡ floor_of x

@@ -3,6 +3,7 @@ use Rattle.std.proofs.Common.{◌≡◌, ◌≢◌, ℕ, zero, suc, ◌+◌, ◌
 use Rattle.std.proofs.lemmas.Bool.{cases_eq, false_from_ne_true}
 use Rattle.exact_numbers.specs.Values.{frac_value}
 use Rattle.fractions.specs.Rational.{ℚ, zero_ℚ}
+use Rattle.fractions.proofs.Arithmetic.{zero-is_zero}
 use Rattle.program_meaning.specs.Lines.{Line, is_zero}
 use Rattle.program_meaning.proofs.LineLemmas.{is_zero-true}
 use Rattle.file_meaning.specs.FoldFaults.{coefficient_count}
@@ -11,14 +12,13 @@ use Rattle.linear_program.specs.Coefs.{Term, AreAscending, AreBelow, coef_in, va
 use Rattle.linear_program.specs.Forms.{IsWithin, form_line, form_terms, kept_constant}
 use Rattle.linear_program.specs.Programs.{IsFormOver}
 use Rattle.linear_program.proofs.CoefLemmas.{found_apart, found_before, found_same}
-use Rattle.linear_program.proofs.FracLemmas.{zero_test}
 use Rattle.linear_program.proofs.Scaled.{terms_below}
 
 abbrev one_where : ℚ → ℕ
 one_where x = if is_zero x then 0 else 1
 
 zero_is_none : (x : ℚ) → x ≡ zero_ℚ → one_where x ≡ 0
-zero_is_none x e = ap (λ b. if b then 0 else 1) (zero_test x e)
+zero_is_none x e = ap (λ b. if b then 0 else 1) (zero-is_zero x e)
 
 other_is_one : (x : ℚ) → x ≢ zero_ℚ → one_where x ≡ 1
 other_is_one x n = ap (λ b. if b then 0 else 1) (false_from_ne_true (is_zero x) (λ e. n (is_zero-true x e)))

@@ -8,8 +8,7 @@ use Rattle.code_tables.specs.Opcodes.{class_of}
 use Rattle.exact_numbers.specs.declared.dec.Dec.{Dec}
 use Rattle.exact_numbers.specs.declared.frac.Frac.{Frac}
 use Rattle.exact_numbers.specs.Values.{dec_value, frac_value}
-use Rattle.exact_numbers.proofs.Bridge.{frac_fits_lem}
-use Rattle.exact_numbers.proofs.Zeros.{fits_zero, sum_fits_zero, zero_sum_fits}
+use Rattle.exact_numbers.proofs.Zeros.{sum_fits_zero, zero_sum_fits}
 use Rattle.fractions.specs.Fits.{fits, sum_fits}
 use Rattle.fractions.specs.Functions.{is_zero}
 use Rattle.fractions.specs.Rational.{ℚ, whole, zero_ℚ, one_ℚ, ◌+ℚ◌, ◌*ℚ◌}
@@ -29,7 +28,7 @@ use Rattle.linear_program.specs.Forms.{IsWithin, IsZeroFrom, form_line}
 use Rattle.linear_program.proofs.Closing.{found_last, found_other}
 use Rattle.linear_program.proofs.CoefLemmas.{adds_at, below_append, below_from, found_beyond}
 use Rattle.linear_program.proofs.DecimalLemmas.{frac_of-value}
-use Rattle.linear_program.proofs.FracLemmas.{coef_fits}
+use Rattle.linear_program.proofs.FracLemmas.{coef_fits, fits_or_zero}
 use Rattle.linear_program.proofs.Scaled.{all_below-intro, same_line}
 use Rattle.linear_fold.specs.declared.entries.Entry.TheVariants.{Linear as Whole}
 use Rattle.linear_fold.specs.declared.leaf_sums.Leaf.{Leaf}
@@ -206,10 +205,6 @@ decimals_more n v (x ∷ ds) d low a b up live fit = (a.0, a.1, a.2, decimals_mo
 one_fraction : (ds : List DecimalTerm) (d : DecimalTerm) → fraction_terms (ds ++ d ∷ []) ≡ fraction_terms ds ++ (d.0, frac_of d.1) ∷ []
 one_fraction ds d = map-append fraction_term ds (d ∷ [])
 
-number_small : (o : Option Frac) → fits (value_or_zero o) ≡ true
-number_small None = fits_zero
-number_small (Some f) = frac_fits_lem f
-
 module _ (n : ℕ) (old : LeafSum) (held : AreLeaves n old) (j : ℕ) (d : Dec) (up : old.least ≤ j) (low : j < n) (live : dec_value d ≢ zero_ℚ) (fit : fits (dec_value d) ≡ true) where
   abbrev terms : List Term
   terms = fraction_terms old.terms
@@ -249,7 +244,7 @@ module _ (n : ℕ) (old : LeafSum) (held : AreLeaves n old) (j : ℕ) (d : Dec) 
             };
         fine = fit;
         inside = low;
-        fit = and_from _ _ (sum_fits_zero (value_or_zero old.number) (number_small old.number)) (all_below-intro (λ i. sum_fits (coef_in (fraction_terms old.terms) i) ((multiple_line j (dec_value d)).coef i)) n (λ i p. coef_fine i));
+        fit = and_from _ _ (sum_fits_zero (value_or_zero old.number) (fits_or_zero old.number)) (all_below-intro (λ i. sum_fits (coef_in (fraction_terms old.terms) i) ((multiple_line j (dec_value d)).coef i)) n (λ i p. coef_fine i));
         line = same_line (leaves_line new) (line_sum (leaves_line old) (multiple_line j (dec_value d))) (ap value_or_zero number_is ∙ sym (+ℚ_zero (value_or_zero old.number))) coefs;
         more = (let e = least_is in let f : number_count new.number ≡ number_count old.number = ap number_count number_is in omega arith);
       }

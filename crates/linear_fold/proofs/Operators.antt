@@ -11,7 +11,7 @@ use Rattle.exact_numbers.specs.Values.{frac_value}
 use Rattle.exact_numbers.proofs.Bridge.{frac_fits_lem}
 use Rattle.fractions.specs.Fits.{fits, sum_fits}
 use Rattle.fractions.specs.Rational.{ℚ, zero_ℚ, ◌+ℚ◌, ◌*ℚ◌, one_ℚ, neg_ℚ, inverse_of}
-use Rattle.fractions.proofs.Arithmetic.{*ℚ_one, *ℚ_zero, +ℚ_zero, zero-+ℚ, one-*ℚ, neg-*ℚ}
+use Rattle.fractions.proofs.Arithmetic.{*ℚ_one, *ℚ_zero, +ℚ_zero, zero-+ℚ, one-*ℚ, neg-*ℚ, zero-is_zero}
 use Rattle.program_meaning.specs.Lines.{constant_line, line_scaled, line_sum, products_fit, Line, is_zero, is_constant, one_if, line_neg, sums_fit, all_below}
 use Rattle.program_meaning.proofs.LineLemmas.{all_below-true, apart-eqb}
 use Rattle.linear_program.specs.declared.form.Form.{Form}
@@ -23,7 +23,7 @@ use Rattle.linear_program.specs.Forms.{form_line, AddsScaled, IsWithin, IsZeroFr
 use Rattle.linear_fold.specs.InsideOperates.{AreOperands, AreUnbroken, IsOperand, IsSound, IsUnbroken, multiple_line, part_line, zero_line, SumsTo, ComesTo, Operates}
 use Rattle.linear_program.proofs.CoefLemmas.{adds_at, found_apart, found_same}
 use Rattle.exact_numbers.proofs.Zeros.{fits_zero, sum_fits_zero, zero_sum_fits}
-use Rattle.linear_program.proofs.FracLemmas.{coef_fits, zero_test, fits_neg}
+use Rattle.linear_program.proofs.FracLemmas.{coef_fits, fits_neg}
 use Rattle.linear_program.proofs.Scaled.{all_below-false, all_below-intro, same_line, few_terms}
 use Rattle.std.proofs.Math.Nat.{mul-le-mul_left}
 use Rattle.code_tables.specs.declared.class.OpClass.{OpClass}
@@ -125,13 +125,13 @@ module _ (a : Line) (k x : ℚ) (j : ℕ) (small : FitsLine a) where
 
 -- ---- tests
 pub number_constant : (n : ℕ) (x : ℚ) → true ≡ is_constant n (constant_line x)
-number_constant n x = sym (all_below-intro (λ j. is_zero zero_ℚ) n (λ j l. zero_test zero_ℚ refl))
+number_constant n x = sym (all_below-intro (λ j. is_zero zero_ℚ) n (λ j l. zero-is_zero zero_ℚ refl))
 
 pub multiple_constant : (n j : ℕ) (x : ℚ) → j < n → is_zero x ≡ is_constant n (multiple_line j x)
 multiple_constant n j x l = by (is_zero x) refl
   where
     by : (b : Bool) → is_zero x ≡ b → b ≡ is_constant n (multiple_line j x)
-    by true e = sym (all_below-intro (λ i. is_zero ((multiple_line j x).coef i)) n (λ i p. each_of (λ y. is_zero y ≡ true) j x e (zero_test zero_ℚ refl) i))
+    by true e = sym (all_below-intro (λ i. is_zero ((multiple_line j x).coef i)) n (λ i p. each_of (λ y. is_zero y ≡ true) j x e (zero-is_zero zero_ℚ refl) i))
     by false e = sym (all_below-false (λ i. is_zero ((multiple_line j x).coef i)) n j l (ap is_zero (multiple_at j j x refl) ∙ e))
 
 -- ---- operands

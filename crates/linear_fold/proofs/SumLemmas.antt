@@ -1,5 +1,5 @@
 -- Sums of parts: the order of two, their signs, and running sums over the end of a stack.
-use Rattle.std.proofs.Common.{◌≡◌, ◌≢◌, ℕ, zero, suc, ◌+◌, ◌*◌, ◌-◌, ◌<◌, ◌≤◌, ◌/◌, ◌==◌, ◌∙◌, sym, ap, ap₂, refl, subst, subst₂, arith, Bool, true, false, ◌&&◌, ℤ, pos, negsuc, ◌+ℤ◌, ◌*ℤ◌, neg_ℤ, unsigned_abs, Result, Ok, Err, Some, List, [], ◌∷◌, ◌++◌, map, length, reverse, take, length-append, ⊎_elim}
+use Rattle.std.proofs.Common.{◌≡◌, ◌≢◌, ℕ, zero, suc, ◌+◌, ◌*◌, ◌-◌, ◌<◌, ◌≤◌, ◌/◌, ◌==◌, ◌∙◌, sym, ap, ap₂, refl, subst, subst₂, arith, Bool, true, false, ◌&&◌, ℤ, pos, ◌+ℤ◌, ◌*ℤ◌, neg_ℤ, unsigned_abs, Result, Ok, Err, Some, List, [], ◌∷◌, ◌++◌, map, length, reverse, take, length-append, ⊎_elim}
 use Rattle.std.proofs.lemmas.List.{reverse-append, take-take, take_all}
 use Rattle.std.proofs.Math.Bool.{and-true}
 use Rattle.std.proofs.Math.Seq.{take-append_seam}
@@ -10,11 +10,10 @@ use Rattle.texts.specs.declared.stop.Stop.{Stop}
 use Rattle.texts.specs.declared.stop.Stop.TheVariants.{Fault as Stopped, Memory}
 use Rattle.exact_numbers.proofs.Coprime.{same_lcm}
 use Rattle.exact_numbers.proofs.Zeros.{fits_zero}
-use Rattle.fractions.specs.Divisors.{AreCoprime}
 use Rattle.fractions.specs.Fits.{fits, is_small, least_multiple, parts_fit, sum_fits, sum_over_multiple}
 use Rattle.fractions.specs.LowestLemmas.{lcm_is}
 use Rattle.fractions.specs.Rational.{ℚ, whole, neg_ℚ, one_ℚ, zero_ℚ, ◌+ℚ◌, ◌*ℚ◌}
-use Rattle.fractions.proofs.Arithmetic.{*ℚ-neg, +ℚ_comm, +ℚ_zero, neg-*ℚ, neg-+ℚ, neg-neg, neg_zero, over_lowest, zero-*ℚ, zero-+ℚ}
+use Rattle.fractions.proofs.Arithmetic.{*ℚ-neg, +ℚ_comm, +ℚ_zero, neg-*ℚ, neg-+ℚ, neg-neg, neg_zero, zero-*ℚ, zero-+ℚ, neg_size, neg_parts}
 use Rattle.fractions.proofs.Signed.{neg-*ℤ}
 use Rattle.program_meaning.specs.Lines.{Line, constant_line, one_if, all_below, is_constant, is_zero, products_fit, line_neg, line_scaled, line_sum, running_line, running_sums_fit, sums_fit}
 use Rattle.nl_meaning.specs.Faults.{too_wide_unless}
@@ -52,15 +51,6 @@ sum_fits_swap x y =
     ∙ parts_swap (least_multiple y.bottom x.bottom) (x.top *ℤ pos (least_multiple y.bottom x.bottom / x.bottom)) (y.top *ℤ pos (least_multiple y.bottom x.bottom / y.bottom))
 
 -- ---- their signs
-neg_size : (z : ℤ) → unsigned_abs (neg_ℤ z) ≡ unsigned_abs z
-neg_size (pos zero) = refl
-neg_size (pos (suc n)) = refl
-neg_size (negsuc n) = refl
-
-neg_parts : (x : ℚ) → ((neg_ℚ x).top ≡ neg_ℤ x.top) × ((neg_ℚ x).bottom ≡ x.bottom)
-unfolding neg_ℚ
-neg_parts x = over_lowest (neg_ℤ x.top) x.bottom x.above (subst (λ n. AreCoprime n x.bottom) (sym (neg_size x.top)) x.lowest)
-
 parts_neg : (m : ℕ) (p q : ℤ) → parts_fit m (neg_ℤ p) (neg_ℤ q) ≡ parts_fit m p q
 parts_neg m p q =
     ap₂ (λ a b. is_small m && is_small a && is_small b && is_small (unsigned_abs (neg_ℤ p +ℤ neg_ℤ q))) (neg_size p) (neg_size q)

@@ -1,22 +1,17 @@
 -- Numbers that fit.
-use Rattle.std.proofs.Common.{◌≡◌, ℕ, zero, suc, ◌∙◌, sym, ap, ap₂, refl, subst, Bool, true, false, ◌&&◌, ℤ, pos, negsuc, neg_ℤ, unsigned_abs, Option, Some, None, List, [], ◌∷◌}
+use Rattle.std.proofs.Common.{◌≡◌, ℕ, zero, suc, ◌∙◌, sym, ap, ap₂, subst, Bool, true, false, ◌&&◌, neg_ℤ, unsigned_abs, Option, Some, None, List, [], ◌∷◌}
 use Rattle.std.proofs.lemmas.Bool.{false_from_ne_true}
 use Rattle.exact_numbers.specs.declared.frac.Frac.{Frac}
 use Rattle.exact_numbers.proofs.Bridge.{frac_fits_lem}
 use Rattle.exact_numbers.proofs.Zeros.{fits_zero}
 use Rattle.fractions.specs.Divisors.{AreCoprime}
 use Rattle.fractions.specs.Fits.{fits, is_small}
-use Rattle.fractions.specs.Rational.{ℚ, whole, neg_ℚ, zero_ℚ}
-use Rattle.fractions.proofs.Arithmetic.{over_lowest}
+use Rattle.fractions.specs.Rational.{ℚ, neg_ℚ, zero_ℚ}
+use Rattle.fractions.proofs.Arithmetic.{over_lowest, neg_size}
 use Rattle.linear_program.specs.Coefs.{Term, found, value_or_zero, coef_in}
 use Rattle.linear_program.specs.Places.{place_in}
 use Rattle.program_meaning.proofs.LineLemmas.{is_zero-true}
 use Rattle.program_meaning.specs.Lines.{is_zero}
-
-neg_size : (z : ℤ) → unsigned_abs (neg_ℤ z) ≡ unsigned_abs z
-neg_size (pos zero) = refl
-neg_size (pos (suc n)) = refl
-neg_size (negsuc n) = refl
 
 pub fits_neg : (x : ℚ) → fits (neg_ℚ x) ≡ fits x
 unfolding neg_ℚ
@@ -35,10 +30,6 @@ pub place_fits : (ps : List Frac) (j : ℕ) → fits (place_in ps j) ≡ true
 place_fits [] j = fits_zero
 place_fits (p ∷ ps) zero = frac_fits_lem p
 place_fits (p ∷ ps) (suc j) = place_fits ps j
-
-pub zero_test : (x : ℚ) → x ≡ zero_ℚ → is_zero x ≡ true
-unfolding whole
-zero_test x h = ap is_zero h
 
 pub nonzero_test : (x : ℚ) (r : Bool) → (x ≡ zero_ℚ → r ≡ true) → r ≡ false → is_zero x ≡ false
 nonzero_test x r f e = false_from_ne_true _ (λ y. (let clash : true ≡ false = sym (f (is_zero-true x y)) ∙ e in cc))

@@ -3,6 +3,7 @@ pub mod CoefLemmas
 pub mod DecimalLemmas
 pub mod FracLemmas
 pub mod HeldPlaces
+pub mod ListLemmas
 pub mod Merging
 pub mod PlaceLemmas
 pub mod PlaceTerms

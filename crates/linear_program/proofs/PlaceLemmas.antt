@@ -29,7 +29,7 @@ place_set_other (p ∷ ps) zero x (suc j) n = refl
 place_set_other (p ∷ ps) (suc i) x zero n = refl
 place_set_other (p ∷ ps) (suc i) x (suc j) n = place_set_other ps i x j (λ e. n (ap suc e))
 
-one_only : (i j : ℕ) → Contains (i ∷ []) j → j ≡ i
+pub one_only : (i j : ℕ) → Contains (i ∷ []) j → j ≡ i
 one_only i j c = let within = c.1 in let k : c.0 ≡ 0 = omega arith in sym c.2 ∙ ap (λ q. get_or (i ∷ []) q j) k
 
 module _ (ps : List Frac) (i : ℕ) (x : Frac) (within : i < length ps) where

@@ -4,6 +4,7 @@ use Rattle.std.proofs.lemmas.Bool.{cases_lt}
 use Rattle.exact_numbers.specs.declared.frac.Frac.{Frac}
 use Rattle.exact_numbers.specs.Values.{frac_value}
 use Rattle.fractions.specs.Rational.{zero_ℚ}
+use Rattle.fractions.proofs.Arithmetic.{zero-is_zero}
 use Rattle.program_meaning.specs.Lines.{Line, is_zero}
 use Rattle.program_meaning.proofs.LineLemmas.{is_zero-true, is_zero-false}
 use Rattle.linear_program.specs.Coefs.{Term, value_or_zero, coef_in, AreAscending}
@@ -13,11 +14,10 @@ use Rattle.linear_program.specs.declared.sum.Sum.{Sum}
 use Rattle.linear_program.proofs.Scaled.{same_line}
 use Rattle.linear_program.proofs.CoefLemmas.{ascending_from, found_same, found_apart, found_before}
 use Rattle.linear_program.proofs.DecimalLemmas.{same_frac}
-use Rattle.linear_program.proofs.FracLemmas.{zero_test}
 
 -- a place that holds 0 has no term, and any other has one
 pub no_term : (n : ℕ) (p : Frac) (ps : List Frac) → frac_value p ≡ zero_ℚ → terms_from n (p ∷ ps) ≡ terms_from (suc n) ps
-no_term n p ps z = ap (λ b. if b then terms_from (suc n) ps else (n, p) ∷ terms_from (suc n) ps) (zero_test (frac_value p) z)
+no_term n p ps z = ap (λ b. if b then terms_from (suc n) ps else (n, p) ∷ terms_from (suc n) ps) (zero-is_zero (frac_value p) z)
 
 pub one_term : (n : ℕ) (p : Frac) (ps : List Frac) → frac_value p ≢ zero_ℚ → terms_from n (p ∷ ps) ≡ (n, p) ∷ terms_from (suc n) ps
 one_term n p ps live = by (is_zero (frac_value p)) refl
@@ -53,7 +53,7 @@ pub terms_coef : (ps : List Frac) (j : ℕ) → coef_in (terms_from 0 ps) j ≡ 
 terms_coef ps j = places_from 0 ps j j (omega arith)
 
 -- ---- ascending lists of the same coefficients are one list
-coef_there : (t : Term) (ts : List Term) → coef_in (t ∷ ts) t.0 ≡ frac_value t.1
+pub coef_there : (t : Term) (ts : List Term) → coef_in (t ∷ ts) t.0 ≡ frac_value t.1
 coef_there t ts = ap value_or_zero (found_same t ts t.0 refl)
 
 pub same_terms : (n : ℕ) (xs ys : List Term) → AreAscending n xs → AreAscending n ys → ((j : ℕ) → coef_in xs j ≡ coef_in ys j) → xs ≡ ys

@@ -9,6 +9,7 @@ use Rattle.linear_program.specs.declared.kind.Kind.{Kind}
 use Rattle.linear_program.specs.Intervals.{IsOrdered, interval_of, is_whole_kind}
 use Rattle.program_meaning.specs.Lines.{form_of_line}
 use Rattle.linear_program.specs.declared.form.Form.{Form}
+use Rattle.linear_program.specs.declared.linear.LinearParts.{LinearParts}
 use Rattle.linear_program.specs.Coefs.{AreBelow}
 use Rattle.linear_program.specs.Forms.{form_line, form_terms}
 
@@ -21,6 +22,19 @@ pub record LinearValue : Type 0 where
   pub sides : List Interval
   pub bounds : List Interval
   pub kinds : List Kind
+
+-- what parts are together
+abbrev pub parts_value : LinearParts → LinearValue
+parts_value p =
+    record {
+      bodies = p.bodies.items;
+      objective = p.objective;
+      number = p.number;
+      maximise = p.maximise;
+      sides = p.sides.items;
+      bounds = p.bounds.items;
+      kinds = p.kinds.items;
+    }
 
 abbrev pub form_of : Form → LinearForm
 form_of f = form_of_line (form_line f)

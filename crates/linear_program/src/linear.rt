@@ -6,46 +6,6 @@ use crate::interval::Interval;
 use crate::kind::Kind;
 use std::marker::Model;
 
-/// The forms of the bodies and of an objective, with the sides of constraints and the bounds and
-/// kinds of variables.
-#[derive(Drop)]
-pub struct Linear {
-    bodies: Vec<Form>,
-    objective: Form,
-    number: u32,
-    maximise: bool,
-    sides: Vec<Interval>,
-    bounds: Vec<Interval>,
-    kinds: Vec<Kind>,
-}
-
-impl Model for Linear {
-    ghost use Rattle.linear_program.specs.Programs.{LinearValue, IsLinear};
-
-    ghost Value = { LinearValue };
-
-    ghost view = { λ l. record {
-      bodies = l.bodies.items;
-      objective = l.objective;
-      number = l.number;
-      maximise = l.maximise;
-      sides = l.sides.items;
-      bounds = l.bounds.items;
-      kinds = l.kinds.items;
-    } };
-
-    ghost invariant = { λ l. IsLinear
-        (record {
-          bodies = l.bodies.items;
-          objective = l.objective;
-          number = l.number;
-          maximise = l.maximise;
-          sides = l.sides.items;
-          bounds = l.bounds.items;
-          kinds = l.kinds.items;
-        }) };
-}
-
 /// The parts of a linear program.
 #[derive(Drop)]
 pub struct LinearParts {
@@ -58,8 +18,25 @@ pub struct LinearParts {
     pub kinds: Vec<Kind>,
 }
 
+/// The forms of the bodies and of an objective, with the sides of constraints and the bounds and
+/// kinds of variables.
+#[derive(Drop)]
+pub struct Linear {
+    parts: LinearParts,
+}
+
+impl Model for Linear {
+    ghost use Rattle.linear_program.specs.Programs.{LinearValue, IsLinear, parts_value};
+
+    ghost Value = { LinearValue };
+
+    ghost view = { λ l. parts_value l.parts };
+
+    ghost invariant = { λ l. IsLinear (parts_value l.parts) };
+}
+
 impl Linear {
-    ghost use Rattle.linear_program.specs.Programs.{IsLinear};
+    ghost use Rattle.linear_program.specs.Programs.{IsLinear, parts_value};
 
     /// The linear program of these parts.
     pub fn of_parts(
@@ -92,7 +69,7 @@ impl Linear {
               kinds = kinds.items;
             } }
     {
-        Linear {
+        let parts = LinearParts {
             bodies,
             objective,
             number,
@@ -100,32 +77,16 @@ impl Linear {
             sides,
             bounds,
             kinds,
-        }
+        };
+        Linear { parts }
     }
 
     /// The parts, which are not copied.
     pub fn into_parts(self) -> LinearParts
-        ensures value { self
-            ≡ record {
-              bodies = result.bodies.items;
-              objective = result.objective;
-              number = result.number;
-              maximise = result.maximise;
-              sides = result.sides.items;
-              bounds = result.bounds.items;
-              kinds = result.kinds.items;
-            } }
+        ensures value { self ≡ parts_value result }
         ensures linear { IsLinear self }
     {
-        LinearParts {
-            bodies: self.bodies,
-            objective: self.objective,
-            number: self.number,
-            maximise: self.maximise,
-            sides: self.sides,
-            bounds: self.bounds,
-            kinds: self.kinds,
-        }
+        self.parts
     }
 
     /// The form of the body of a constraint.
@@ -133,7 +94,7 @@ impl Linear {
         requires { con < length self.now.bodies }
         ensures { slice_get self.now.bodies con ≡ Some result.now }
     {
-        &self.bodies[con as usize]
+        &self.parts.bodies[con as usize]
     }
 
     /// The forms of all bodies, by constraint.
@@ -141,7 +102,7 @@ impl Linear {
         ensures bodies { result.now ≡ self.now.bodies }
         ensures folded { IsLinear self.now }
     {
-        &self.bodies
+        &self.parts.bodies
     }
 
     /// The interval of a constraint.
@@ -149,14 +110,14 @@ impl Linear {
         requires { con < length self.now.sides }
         ensures { slice_get self.now.sides con ≡ Some result }
     {
-        self.sides[con as usize]
+        self.parts.sides[con as usize]
     }
 
     /// The intervals of all constraints.
     pub fn sides(&self) -> &[Interval]
         ensures { result.now ≡ self.now.sides }
     {
-        &self.sides
+        &self.parts.sides
     }
 
     /// The interval of a variable.
@@ -164,14 +125,14 @@ impl Linear {
         requires { var < length self.now.bounds }
         ensures { slice_get self.now.bounds var ≡ Some result }
     {
-        self.bounds[var as usize]
+        self.parts.bounds[var as usize]
     }
 
     /// The intervals of all variables.
     pub fn bounds(&self) -> &[Interval]
         ensures { result.now ≡ self.now.bounds }
     {
-        &self.bounds
+        &self.parts.bounds
     }
 
     /// The form of the objective.
@@ -179,21 +140,21 @@ impl Linear {
         ensures objective { result.now ≡ self.now.objective }
         ensures folded { IsLinear self.now }
     {
-        &self.objective
+        &self.parts.objective
     }
 
     /// The number of the objective.
     pub fn objective_number(&self) -> u32
         ensures { result ≡ self.now.number }
     {
-        self.number
+        self.parts.number
     }
 
     /// Whether the objective is maximised.
     pub fn maximise(&self) -> bool
         ensures { result ≡ self.now.maximise }
     {
-        self.maximise
+        self.parts.maximise
     }
 
     /// The kind of a variable.
@@ -201,27 +162,27 @@ impl Linear {
         requires { var < length self.now.kinds }
         ensures { slice_get self.now.kinds var ≡ Some result }
     {
-        self.kinds[var as usize]
+        self.parts.kinds[var as usize]
     }
 
     /// The kinds of all variables.
     pub fn kinds(&self) -> &[Kind]
         ensures { result.now ≡ self.now.kinds }
     {
-        &self.kinds
+        &self.parts.kinds
     }
 
     /// The number of variables.
     pub fn n_var(&self) -> u32
         ensures { result ≡ length self.now.bounds }
     {
-        self.bounds.len() as u32
+        self.parts.bounds.len() as u32
     }
 
     /// The number of constraints.
     pub fn n_con(&self) -> u32
         ensures { result ≡ length self.now.bodies }
     {
-        self.bodies.len() as u32
+        self.parts.bodies.len() as u32
     }
 }

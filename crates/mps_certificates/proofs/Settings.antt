@@ -1,5 +1,5 @@
 -- The setting of an MPS program is that of its linear program.
-use Rattle.std.proofs.Common.{◌≡◌, ◌∙◌, ◌<◌, Bool, true, false, length, refl, sym, ap, subst}
+use Rattle.std.proofs.Common.{◌≡◌, ◌∙◌, ◌<◌, length, sym, ap, subst}
 use Rattle.std.proofs.lemmas.List.{length-map}
 use Rattle.program_meaning.specs.Linear.{Variable, row_count}
 use Rattle.linear_program.specs.Intervals.{is_whole_kind}
@@ -7,10 +7,11 @@ use Rattle.linear_program.specs.declared.kind.Kind.TheVariants.{Continuous}
 use Rattle.exact_numbers.specs.Values.{dec_value}
 use Rattle.exact_numbers.specs.declared.dec.Dec.{Dec}
 use Rattle.mps_model.specs.Mps.{Mps, column_with, with_values}
-use Rattle.mps_program.specs.Kinds.{column_kind, is_whole, is_zero_to_one, kind_by}
+use Rattle.mps_program.specs.Kinds.{column_kind, is_whole, is_zero_to_one}
 use Rattle.mps_program.specs.Program.{linear_of, values_of}
 use Rattle.mps_program.proofs.FirstLemmas.{listed_at, listed_length}
 use Rattle.mps_program.proofs.LawLemmas.{count_lem, variable_lem}
+use Rattle.mps_program.proofs.ProgramLemmas.{whole_kind}
 use Rattle.certificates.specs.Setting.{IsSettingOf}
 use Rattle.mps_certificates.specs.Setting.{mps_setting}
 use Rattle.mps_certificates.proofs.Meaning.{constraints_counted}
@@ -26,12 +27,6 @@ same_rows : (m : Mps Dec) → (mps_setting m).rows ≡ row_count (linear_of (val
 unfolding with_values
 same_rows m = constraints_counted (values_of m)
 
--- a kind is whole where the first test says so
-by_whole : (a b : Bool) → is_whole_kind (kind_by a b) ≡ a
-by_whole true true = refl
-by_whole true false = refl
-by_whole false b = refl
-
 pub program_setting : (m : Mps Dec) → IsSettingOf (linear_of (values_of m)) (mps_setting m)
 program_setting m = record {
   rows = same_rows m;
@@ -39,5 +34,5 @@ program_setting m = record {
   whole = λ j h.
       let here : j < length m.columns = subst (λ n. j < n) (same_kinds m) h in
       let there : j < length (values_of m).columns = subst (λ n. j < n) (same_columns m) here in
-      ap is_whole_kind (listed_at (column_kind m) (length m.columns) j Continuous here) ∙ by_whole (is_whole m j) (is_zero_to_one m j) ∙ sym (ap (λ (v : Variable). v.whole) (variable_lem (values_of m) j there));
+      ap is_whole_kind (listed_at (column_kind m) (length m.columns) j Continuous here) ∙ whole_kind (is_whole m j) (is_zero_to_one m j) ∙ sym (ap (λ (v : Variable). v.whole) (variable_lem (values_of m) j there));
 }

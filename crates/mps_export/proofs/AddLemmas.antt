@@ -33,9 +33,9 @@ use Rattle.linear_program.specs.declared.kind.Kind.{Kind}
 use Rattle.linear_program.specs.declared.kind.Kind.TheVariants.{Continuous}
 use Rattle.linear_program.specs.Programs.{variables_from}
 use Rattle.linear_program.specs.Intervals.{is_whole_kind, interval_of, no_sides}
+use Rattle.linear_program.proofs.ListLemmas.{rest_of}
 use Rattle.scaling.specs.declared.row.Tie.{Tie}
 use Rattle.mps_export.specs.InsideColumns.{column_in, entry_value, entries_in_column, total_of}
-use Rattle.scaling.proofs.SharedLemmas.{rest_of}
 use Rattle.scaling.proofs.TieLemmas.{no_difference}
 use Rattle.scaled_program.proofs.Sides.{nonzero_cases, difference_zero}
 use Rattle.std.proofs.lemmas.List.Kept.{AllPairs-cons}

@@ -19,7 +19,6 @@ use Rattle.mps_export.specs.InsideSections.{all_ranges, all_rows, all_sides, fir
 use Rattle.mps_export.specs.InsideFilling.{AreBoundsOf, KindOfBound, bound_at, bounds_at}
 use Rattle.mps_export.specs.InsideSides.{range_in, right_side_of}
 use Rattle.mps_export.proofs.AddLemmas.{column_rising, columns_more, column_sides, all_kinds, all_variables, bounds_left, bounds_more, bounds_none, variables_end, left_variables, variable_at, variable_of}
-use Rattle.term_batches.proofs.PickLemmas.{others_left}
 use Rattle.mps_export.proofs.ColumnLemmas.{entries_more, entries_none, Rows, left, left_some}
 use Rattle.std.proofs.Math.ListN.{get_or-append}
 use Rattle.program_meaning.specs.Names.{row_name}
@@ -31,9 +30,9 @@ use Rattle.linear_program.specs.Intervals.{is_whole_kind, no_sides}
 use Rattle.mps_export.specs.InsideHeads.{AreHeads}
 use Rattle.mps_export.specs.declared.heads.Heads.{Heads}
 use Rattle.linear_program.specs.Decimals.{DecimalTerm as TermOf}
+use Rattle.linear_program.proofs.ListLemmas.{rest_of, others_left}
 use Rattle.scaling.specs.Rows.{side_value}
 use Rattle.scaling.specs.Parts.{column_count, row_named, rows_in}
-use Rattle.scaling.proofs.SharedLemmas.{rest_of}
 use Rattle.mps_export.specs.InsideColumns.{AreColumns, column_in, entries_in_column, entry_value}
 use Rattle.term_batches.specs.Parts.{ArePart}
 use Rattle.scaling.specs.declared.row.FactoredRow.{FactoredRow}

@@ -17,6 +17,9 @@ use Rattle.mps_model.specs.Built.{CanAddRow, CanAddColumn, CanAddEntry, CanAddRh
 count_push : {A : Type 0} (xs : List A) (x : A) → length (xs ++ x ∷ []) ≡ length xs + 1
 count_push xs x = length-append xs (x ∷ [])
 
+pub entry_count-push : (cs : List (Column Dec)) (c : Column Dec) → entry_count (cs ++ c ∷ []) ≡ entry_count cs + length c.entries
+entry_count-push cs c = let sum = sum_by-append (λ (c : Column Dec). length c.entries) cs (c ∷ []) in omega (arith, sum)
+
 -- ---- rows
 more_rows : (n k : ℕ) (es : List (Entry Dec)) → n ≤ k → AreEntries n es → AreEntries k es
 more_rows n k es h a =

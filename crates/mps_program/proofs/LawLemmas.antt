@@ -29,7 +29,7 @@ part_times i (e ∷ es) x = +ℚ-*ℚ (cond (nat_eq e.row i) (e.value *ℚ one_�
     one false = zero-*ℚ x
 
 -- nothing stands past the last column
-no_part : (i : ℕ) → part_of_row i [] one_ℚ ≡ zero_ℚ
+pub no_part : (i : ℕ) → part_of_row i [] one_ℚ ≡ zero_ℚ
 unfolding part_of_row sum_over
 no_part i = refl
 

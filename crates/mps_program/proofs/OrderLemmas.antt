@@ -8,7 +8,7 @@ use Rattle.std.specs.Ordering.{MatchOrdering, is_gt}
 use Rattle.std.specs.declared.cmp.Ordering.{Ordering}
 use Rattle.std.specs.declared.cmp.Ordering.TheVariants.{Less, Equal, Greater}
 use Rattle.fractions.specs.Rational.{ℚ, zero_ℚ, ◌+ℚ◌, neg_ℚ, ◌≤ℚ◌, ◌<ℚ◌}
-use Rattle.fractions.proofs.Arithmetic.{≤ℚ_refl, ≤ℚ_by, ≤ℚ_of_<ℚ, le_or_lt, not_both, +ℚ-≤ℚ, +ℚ_comm, zero-+ℚ}
+use Rattle.fractions.proofs.Arithmetic.{≤ℚ_refl, ≤ℚ_by, ≤ℚ_of_<ℚ, le_or_lt, not_both, +ℚ-≤ℚ, +ℚ_comm, zero-+ℚ, -ℚ_lem}
 use Rattle.program_meaning.specs.Linear.{Interval}
 use Rattle.exact_numbers.specs.declared.dec.Dec.{Dec}
 use Rattle.exact_numbers.specs.Values.{dec_value, order_of}
@@ -20,7 +20,7 @@ use Rattle.mps_model.specs.Mps.{Mps, with_values, no_mps_row, at_row, rhs_at, ro
 use Rattle.mps_program.specs.Decimals.{sides_from}
 use Rattle.mps_program.specs.Faults.{both_sides, is_row_wide, is_column_empty, first_wide}
 use Rattle.mps_program.specs.Program.{values_of, is_constraint, constraints}
-use Rattle.mps_program.proofs.MinusLemmas.{minus_is, neg_above, neg_below}
+use Rattle.mps_program.proofs.MinusLemmas.{neg_above, neg_below}
 use Rattle.mps_program.proofs.PlaceLemmas.{all_places, none_passes}
 use Rattle.mps_program.proofs.ReachLemmas.{negative_in, negative_out}
 use Rattle.mps_program.proofs.SideLemmas.{sides_back, row_fits, rhs_fits, column_fits}
@@ -58,7 +58,7 @@ lowered b s h = subst (λ x. x ≤ℚ b) (+ℚ_comm s b) (subst (λ y. (s +ℚ b
 pub row_rising : (kind : RowKind) (b : ℚ) (range : Option ℚ) → IsRising (row_sides kind b range).lower (row_sides kind b range).upper
 row_rising N b range = tt
 row_rising L b None = tt
-row_rising L b (Some r) = subst (λ x. x ≤ℚ b) (sym (minus_is b (size_of r))) (lowered b (neg_ℚ (size_of r)) (neg_below (size_of r) (size_above r)))
+row_rising L b (Some r) = subst (λ x. x ≤ℚ b) (sym (-ℚ_lem b (size_of r))) (lowered b (neg_ℚ (size_of r)) (neg_below (size_of r) (size_above r)))
 row_rising G b None = tt
 row_rising G b (Some r) = raised b (size_of r) (size_above r)
 row_rising E b None = ≤ℚ_refl b

@@ -37,7 +37,7 @@ as_elements f n =
     (λ i lt. let below : i < n = omega (arith, lt, listed_length f n) in
     listed_at f n i (f 0) below ∙ ap f (omega arith) ∙ sym (elements_at f 0 n i (f 0) below))
 
-whole_kind : (w z : Bool) → is_whole_kind (kind_by w z) ≡ w
+pub whole_kind : (w z : Bool) → is_whole_kind (kind_by w z) ≡ w
 whole_kind true true = refl
 whole_kind true false = refl
 whole_kind false z = refl

@@ -2,14 +2,13 @@
 use Rattle.std.proofs.Common.{◌≡◌, ◌↔◌, ◌∙◌, sym, ap, ap₂, refl, subst, arith, pos, int_lt, ◌<ℤ◌, Bool, true, false, IsTrue, ◌&&◌, cond, Option, Some, None, MatchOption}
 use Rattle.fractions.specs.Rational.{ℚ, zero_ℚ, ◌+ℚ◌, ◌<ℚ◌}
 use Rattle.fractions.specs.Fits.{fits, sum_fits}
-use Rattle.fractions.proofs.Arithmetic.{zero_value}
+use Rattle.fractions.proofs.Arithmetic.{zero_value, -ℚ_lem}
 use Rattle.fractions.proofs.Values.{own_value, lt_value, value_lt}
 use Rattle.std.proofs.lemmas.Int.{ints}
-use Rattle.mps_program.proofs.MinusLemmas.{minus_is}
+use Rattle.std.proofs.lemmas.Bool.{false_from_ne_true}
 use Rattle.program_meaning.specs.Linear.{Interval}
 use Rattle.exact_numbers.specs.declared.dec.Dec.{Dec}
 use Rattle.exact_numbers.specs.Values.{dec_value, FitsDec, fits_dec}
-use Rattle.exact_numbers.proofs.Bridge.{not_true}
 use Rattle.exact_numbers.proofs.Spelling.{fits_dec_in, fits_dec_out}
 use Rattle.mps_model.specs.declared.kinds.RowKind.{RowKind}
 use Rattle.mps_model.specs.declared.kinds.RowKind.TheVariants.{L, E}
@@ -22,7 +21,7 @@ reach_is : (kind : RowKind) (b w : ℚ) → fits b ≡ true → fits w ≡ true 
 reach_is kind b w p q s = λ i. p i && q i && s i && fits_dec (b +ℚ range_step kind w)
 
 as_decimal : (r : Option Dec) (kind : RowKind) (b w z : ℚ) → is_in_reach kind b w ≡ fits_dec (b +ℚ range_step kind w) → z ≡ b +ℚ range_step kind w → MatchOption r (FitsDec z → ⊥) (λ d. dec_value d ≡ z) → MatchOption r (is_in_reach kind b w ≡ false) (λ d. (is_in_reach kind b w ≡ true) × (dec_value d ≡ b +ℚ range_step kind w))
-as_decimal None kind b w z e same h = e ∙ not_true (fits_dec (b +ℚ range_step kind w)) (λ t. h (subst FitsDec (sym same) (fits_dec_out (b +ℚ range_step kind w) t)))
+as_decimal None kind b w z e same h = e ∙ false_from_ne_true (fits_dec (b +ℚ range_step kind w)) (λ t. h (subst FitsDec (sym same) (fits_dec_out (b +ℚ range_step kind w) t)))
 as_decimal (Some d) kind b w z e same h = (e ∙ fits_dec_in (b +ℚ range_step kind w) (subst FitsDec (h ∙ same) (dec_fits d)), h ∙ same)
 
 pub reached : (r : Option Dec) (kind : RowKind) (b w side width step sum : ℚ) → ((fits b ≡ true) × (side ≡ b)) → ((fits w ≡ true) × (width ≡ w)) → step ≡ range_step kind width → ((sum_fits side step ≡ true) × (sum ≡ side +ℚ step)) → MatchOption r (FitsDec sum → ⊥) (λ d. dec_value d ≡ sum) → MatchOption r (is_in_reach kind b w ≡ false) (λ d. (is_in_reach kind b w ≡ true) × (dec_value d ≡ b +ℚ range_step kind w))
@@ -39,7 +38,7 @@ negative_in x h = by (is_negative x) refl (lt_value (own_value x) (zero_value x.
     by false e l = absurd (omega (arith, ints))
 
 pub negative_out : (x : ℚ) → (x <ℚ zero_ℚ → ⊥) → is_negative x ≡ false
-negative_out x h = not_true (is_negative x) (λ e. h (value_lt (own_value x) (zero_value x.bottom x.above) (omega (arith, ints))))
+negative_out x h = false_from_ne_true (is_negative x) (λ e. h (value_lt (own_value x) (zero_value x.bottom x.above) (omega (arith, ints))))
 
 pub sign_of : (b : Bool) (x : ℚ) → IsTrue b ↔ (x <ℚ zero_ℚ) → is_negative x ≡ b
 sign_of true x h = negative_in x (h.0 refl)
@@ -50,7 +49,7 @@ abbrev pub sides : ℚ → ℚ → Interval
 sides l u = record { lower = Some l; upper = Some u }
 
 pub lower_kind : (kind : RowKind) (b o r : ℚ) → kind ≡ L → o ≡ b +ℚ range_step kind r → sides o b ≡ row_sides kind b (Some r)
-lower_kind kind b o r k e = subst (λ t. o ≡ b +ℚ range_step t r → sides o b ≡ row_sides t b (Some r)) (sym k) (λ h. ap (λ l. sides l b) (h ∙ sym (minus_is b (size_of r)))) e
+lower_kind kind b o r k e = subst (λ t. o ≡ b +ℚ range_step t r → sides o b ≡ row_sides t b (Some r)) (sym k) (λ h. ap (λ l. sides l b) (h ∙ sym (-ℚ_lem b (size_of r)))) e
 
 pub equal_kind : (kind : RowKind) (b o r : ℚ) (n : Bool) → kind ≡ E → o ≡ b +ℚ range_step kind r → is_negative r ≡ n → cond n (sides o b) (sides b o) ≡ row_sides kind b (Some r)
 equal_kind kind b o r n k e s = subst (λ t. o ≡ b +ℚ range_step t r → cond n (sides o b) (sides b o) ≡ row_sides t b (Some r)) (sym k) (λ h i. cond (sym s i) (sides (h i) b) (sides b (h i))) e

@@ -5,7 +5,7 @@ use Rattle.std.specs.Option.{option_map}
 use Rattle.std.specs.Prelude.{option_and_then}
 use Rattle.fractions.specs.Rational.{ℚ, zero_ℚ, ◌+ℚ◌, decimal_value}
 use Rattle.fractions.specs.Fits.{fits, sum_fits}
-use Rattle.mps_program.proofs.MinusLemmas.{minus_is}
+use Rattle.fractions.proofs.Arithmetic.{ -ℚ_lem}
 use Rattle.program_meaning.specs.Linear.{Interval}
 use Rattle.exact_numbers.specs.Values.{dec_value, decimal_of, FitsDec, fits_dec}
 use Rattle.exact_numbers.specs.declared.dec.Dec.{Dec}
@@ -85,7 +85,7 @@ sum_in kind b r e = fits_dec_out (b +ℚ range_step kind r) (and_parts (fits b &
 pub row_fits : (kind : RowKind) (b : ℚ) (range : Option ℚ) → FitsDec b → is_range_wide kind b range ≡ false → AreDecimalSides (row_sides kind b range)
 row_fits N b range f e = record { lower = tt; upper = tt }
 row_fits L b None f e = record { lower = tt; upper = f }
-row_fits L b (Some r) f e = record { lower = subst FitsDec (sym (minus_is b (size_of r))) (sum_in L b r e); upper = f }
+row_fits L b (Some r) f e = record { lower = subst FitsDec (sym (-ℚ_lem b (size_of r))) (sum_in L b r e); upper = f }
 row_fits G b None f e = record { lower = f; upper = tt }
 row_fits G b (Some r) f e = record { lower = f; upper = sum_in G b r e }
 row_fits E b None f e = record { lower = f; upper = f }

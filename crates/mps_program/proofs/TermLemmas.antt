@@ -28,6 +28,7 @@ use Rattle.mps_program.proofs.OnceLemmas.{sum_more, sum_none, term_more, once_or
 use Rattle.mps_program.proofs.LoopLemmas.{drop_is, drop_all, fact_is, not_eq, objective_free}
 use Rattle.mps_program.proofs.PartLemmas.{zero_value}
 use Rattle.mps_program.proofs.PlaceLemmas.{not_both_ways}
+use Rattle.mps_program.proofs.LawLemmas.{no_part}
 
 -- ---- a coefficient without a fraction
 module _ (ts : List DecimalTerm) (k : ℕ) (t : DecimalTerm) (lt : k < length ts) (is : t ≡ get_or ts k t) where
@@ -71,10 +72,6 @@ first_part i j e es false h = ap (λ b. cond b (dec_value e.value *ℚ one_ℚ) 
 
 first_term : (i j : ℕ) (e : Entry Dec) (es : List (Entry Dec)) (b z : Bool) → nat_eq e.row i ≡ b → is_zero_dec e.value ≡ z → filter_map (term_of i j) (e ∷ es) ≡ cons_option (if b && not z then Some (j, e.value) else None) (filter_map (term_of i j) es)
 first_term i j e es b z h g = ap₂ (λ a c. cons_option (if a && not c then Some (j, e.value) else None) (filter_map (term_of i j) es)) h g
-
-no_part : (i : ℕ) → part_of_row i [] one_ℚ ≡ zero_ℚ
-unfolding part_of_row sum_over
-no_part i = refl
 
 -- no entry is in the row
 none_given : (i j : ℕ) (es : List (Entry Dec)) → All (λ (e : Entry Dec). e.row ≢ i) es → GivesNone i j es

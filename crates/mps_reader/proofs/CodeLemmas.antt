@@ -1,5 +1,5 @@
 -- Names by their codes.
-use Rattle.std.proofs.Common.{◌≡◌, ◌≢◌, ◌∙◌, ℕ, zero, suc, ◌+◌, ◌-◌, ◌*◌, ◌/◌, ◌%◌, ◌<◌, ◌≤◌, ◌^◌, List, [], ◌∷◌, ◌++◌, Bool, true, false, length, map, take, drop, set, get_or, nat_eq, Option, Some, None, refl, sym, ap, arith, subst, Fits, w8, not, ◌&&◌, ◌==◌, ◌⊎◌, inl, inr}
+use Rattle.std.proofs.Common.{◌≡◌, ◌≢◌, ◌∙◌, ℕ, zero, suc, ◌+◌, ◌-◌, ◌*◌, ◌/◌, ◌%◌, ◌<◌, ◌≤◌, ◌^◌, List, [], ◌∷◌, ◌++◌, Bool, true, false, length, map, take, drop, set, get_or, nat_eq, Option, Some, None, refl, sym, ap, arith, subst, Fits, w8, not, ◌==◌, ◌⊎◌, inl, inr}
 use Rattle.std.specs.Prelude.{All, AllPairs, IfSome, nat_le, fold, slice_get, option_map, unwrap_or}
 use Rattle.std.specs.List.{position, list_any}
 use Rattle.indexmap.specs.IndexSet.{insert_key}
@@ -14,13 +14,14 @@ use Rattle.std.proofs.lemmas.List.Sums.{fold_push, fails_before_first}
 use Rattle.std.proofs.lemmas.Option.{slice_get-map}
 use Rattle.std.proofs.lemmas.List.Folds.{list_any_none}
 use Rattle.std.proofs.Math.Seq.{get_or-append_seam}
-use Rattle.texts.specs.Names.{IsName, is_name, has_name_bytes}
+use Rattle.texts.specs.Names.{IsName, is_name}
 use Rattle.mps_reader.specs.InsideCodes.{with_byte, bytes_code, code_of, last_bytes, name_of, AreBytes, HaveCodes, NoneOrLong}
 use Rattle.mps_reader.specs.Saying.{place_of, last_name}
 use Rattle.mps_reader.proofs.LastLemmas.{last_name-slice}
 use Rattle.texts.proofs.NamePlaces.{past_all, place_at, place_none, place_some, bytes_differ, bytes_same}
+pub use Rattle.texts.proofs.NameTests.{tested_name as named}
 use Rattle.std.proofs.lemmas.List.Quantifiers.{all_pairs_push, position-Some}
-use Rattle.std.proofs.lemmas.Bool.{and_parts, leb-true, lt-leb, le-leb, eq-eqb, ne_eqb, cases_Bool}
+use Rattle.std.proofs.lemmas.Bool.{leb-true, lt-leb, le-leb, eq-eqb, ne_eqb, cases_Bool}
 
 -- ---- sizes
 
@@ -143,12 +144,6 @@ same_name xs ys hx hy e some =
 
 pub name_is : (name : List ℕ) → IsName name → is_name name ≡ true
 name_is name h = rw h.each (grind (arith, nat_tests, h.some, h.most))
-
-pub named : (n : List ℕ) → is_name n ≡ true → IsName n
-named n e =
-    let first = and_parts (not (length n == 0) && nat_le (length n) 255) (has_name_bytes n) e in
-    let size = and_parts (not (length n == 0)) (nat_le (length n) 255) first.0 in
-    record { some = grind (arith, nat_tests, size.0); most = leb-true (length n) 255 size.1; each = first.1 }
 
 pub last_is_name : (names : List (List ℕ)) (name : List ℕ) → All (λ n. is_name n ≡ true) names → bytes_eq name (last_name names) ≡ true → 0 < length name → is_name name ≡ true
 unfolding last_name

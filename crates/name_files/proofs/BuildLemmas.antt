@@ -5,7 +5,7 @@ use Rattle.std.proofs.lemmas.List.{length-map, get_or-map, get_or-take, get_or_d
 use Rattle.std.proofs.Math.ListN.{get_or-append}
 use Rattle.std.proofs.Math.Seq.{get_or-append_seam}
 use Rattle.std.proofs.lemmas.List.Elements.{All-take}
-use Rattle.std.proofs.lemmas.List.Sums.{sum_by-cons, sum_by-append, sum_by-take-le}
+use Rattle.std.proofs.lemmas.List.Sums.{sum_by-take-le}
 use Rattle.fractions.specs.Rational.{zero_ℚ}
 use Rattle.texts.specs.Names.{IsName}
 use Rattle.exact_numbers.specs.declared.dec.Dec.{Dec}
@@ -15,6 +15,7 @@ use Rattle.mps_model.specs.Mps.{MpsRow, Entry, Column, Bound, Mps}
 use Rattle.mps_model.specs.Valid.{AreRows, AreColumns, AreEntries, AreRanges, AreBounds, IsOtherRow, IsOtherColumn, IsOtherEntry, IsOtherBound, IsBounded, IsWithoutNumber, entry_count}
 use Rattle.name_files.specs.Renamed.{named_row, named_column, named}
 use Rattle.mps_model.specs.Built.{CanAddRow, CanAddColumn, CanAddEntries, CanAddRhs, CanAddRange, CanAddBound, entry_of}
+use Rattle.mps_model.proofs.Adding.{entry_count-push}
 
 -- ---- the first elements of a list
 
@@ -91,11 +92,6 @@ columns_taken n i columns a =
       entries = All-take (λ (c : Column Dec). AreEntries n c.entries) i columns a.entries;
     }
 
-count_last : (done : List (Column Dec)) (c : Column Dec) → entry_count (done ++ c ∷ []) ≡ entry_count done + length c.entries
-count_last done c =
-    let count = λ (c : Column Dec). length c.entries in
-    sum_by-append count done (c ∷ []) ∙ ap (λ n. entry_count done + n) (sum_by-cons count c [] ∙ omega arith)
-
 -- the last of the columns
 module _ (n : ℕ) (done : List (Column Dec)) (c : Column Dec) (a : AreColumns n (done ++ c ∷ [])) where
   pub can_add_column : (m : Mps Dec) → m.columns ≡ done → CanAddColumn m c.name
@@ -113,7 +109,7 @@ module _ (n : ℕ) (done : List (Column Dec)) (c : Column Dec) (a : AreColumns n
   can_add_entries m same rows ts is =
       let size : length ts ≡ length c.entries = sym (length-map ts entry_of) ∙ ap length is in
       record {
-        few = omega (arith, a.few_entries, ap entry_count same, count_last done c, size);
+        few = omega (arith, a.few_entries, ap entry_count same, entry_count-push done c, size);
         rows = subst (λ k. AreEntries k (map entry_of ts)) (sym rows) (subst (AreEntries n) (sym is) are_entries);
       }
 

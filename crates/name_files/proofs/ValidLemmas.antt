@@ -1,6 +1,5 @@
 -- A program with other names is a program.
 use Rattle.std.proofs.Common.{◌≡◌, ◌≢◌, ◌∙◌, ◌⊎◌, inl, inr, ℕ, ◌+◌, ◌<◌, ◌≤◌, ◌^◌, false, List, [], ◌∷◌, length, map, get_or, Option, Some, None, All, refl, sym, ap, subst, arith}
-use Rattle.std.specs.List.{AllPairs}
 use Rattle.std.specs.Fmt.{decimal}
 use Rattle.std.proofs.lemmas.Bool.{cases_order}
 use Rattle.std.proofs.lemmas.Fmt.{length-decimal-le}
@@ -8,6 +7,7 @@ use Rattle.std.proofs.lemmas.List.{length-map, get_or-map}
 use Rattle.std.proofs.lemmas.List.Elements.{All-map}
 use Rattle.std.proofs.lemmas.List.Sums.{sum_by-cons}
 use Rattle.texts.specs.Names.{IsName}
+use Rattle.texts.proofs.AllLemmas.{pairs_mapped}
 use Rattle.exact_numbers.specs.declared.dec.Dec.{Dec}
 use Rattle.exact_numbers.specs.Values.{dec_value}
 use Rattle.program_meaning.specs.Names.{row_name, variable_name}
@@ -20,14 +20,6 @@ use Rattle.name_lists.proofs.NumeralLemmas.{named_so}
 use Rattle.name_files.proofs.MeaningLemmas.{kept_at, same_objective_row}
 
 -- ---- lists that were mapped
-
-pairs_mapped : {X Y : Type 0} (R : Y → Y → Type 0) (f : X → Y) (xs : List X) → AllPairs (λ x y. R (f x) (f y)) xs → AllPairs R (map f xs)
-pairs_mapped R f [] h i j d lt within = absurd (omega (arith, within))
-pairs_mapped R f (x ∷ xs) h i j d lt within =
-    let inside : j < length (x ∷ xs) = omega (arith, within, length-map (x ∷ xs) f) in
-    let first = get_or-map f (x ∷ xs) i x d (omega (arith, lt, inside)) in
-    let second = get_or-map f (x ∷ xs) j x d inside in
-    subst (λ u. R u (get_or (map f (x ∷ xs)) j d)) (sym first) (subst (λ u. R (f (get_or (x ∷ xs) i x)) u) (sym second) (h i j x lt inside))
 
 all_unmapped : {X Y : Type 0} (P : Y → Type 0) (f : X → Y) (xs : List X) → All P (map f xs) → All (λ x. P (f x)) xs
 all_unmapped P f xs h i d lt = subst P (get_or-map f xs i d (f d) lt) (h i (f d) (omega (arith, lt, length-map xs f)))

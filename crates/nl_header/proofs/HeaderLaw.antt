@@ -4,7 +4,7 @@ use Rattle.std.specs.Prelude.{nat_lt, nat_le, is_none, max}
 use Rattle.std.specs.List.{list_all}
 use Rattle.std.specs.Option.{option_or}
 use Rattle.std.proofs.lemmas.List.{get_or-take, get_or_append_left, take-append-le, take_more, length-append, length-take}
-use Rattle.std.proofs.lemmas.Bool.{eqb-true, lt-ltb, ltb-true, ltb-false, le-ltb, le-leb, leb-true}
+use Rattle.std.proofs.lemmas.Bool.{eqb-true, lt-ltb, ltb-true, ltb-false, le-ltb, le-leb, leb-true, not-false}
 use Rattle.std.proofs.lemmas.Option.{none-some}
 use Rattle.texts.specs.Judged.{first_reason}
 use Rattle.texts.specs.Words.{word_at}
@@ -32,13 +32,9 @@ else-first : (a b : Option HeadFault) → option_or a b ≡ None → a ≡ None
 else-first None b e = refl
 else-first (Some f) b e = e
 
-else-second : (a b : Option HeadFault) → option_or a b ≡ None → b ≡ None
+pub else-second : (a b : Option HeadFault) → option_or a b ≡ None → b ≡ None
 else-second None b e = e
 else-second (Some f) b e = absurd (none-some f (sym e))
-
-not-false : (t : Bool) → not t ≡ false → t ≡ true
-not-false true e = refl
-not-false false e = sym e
 
 -- ---- Numbers.
 

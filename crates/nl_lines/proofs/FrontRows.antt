@@ -2,13 +2,12 @@
 use Rattle.std.proofs.Common.{◌≡◌, ◌∙◌, ℕ, suc, ◌+◌, ◌<◌, ◌≤◌, ◌==◌, take, drop, Bool, true, false, List, [], ◌∷◌, ◌++◌, length, refl, sym, ap, ap₂, subst, arith, append_assoc, length-append, length-take, take-append-drop, take_all, get_or, Some, Option}
 use Rattle.std.proofs.Math.Seq.{drop-append_seam}
 use Rattle.std.proofs.lemmas.List.{drop_more}
-use Rattle.std.proofs.lemmas.Bool.Decides.{nat_tests}
 use Rattle.exact_numbers.specs.Numbers.{whole_of}
 use Rattle.texts.specs.Cut.{HasNoEnd}
-use Rattle.texts.specs.Words.{IsUnmarked, is_blank, onto_word, row_of, up_to_comment, words_of, without_comment}
+use Rattle.texts.specs.Words.{IsUnmarked, onto_word, row_of, up_to_comment, words_of, without_comment}
 use Rattle.texts.proofs.CommentLemmas.{no_mark}
 use Rattle.texts.proofs.LineLemmas.{EndsFree, last-free, trimmed-free}
-use Rattle.texts.proofs.PairLemmas.{one_line-pair, without_comment-unmarked, words_of-one}
+use Rattle.texts.proofs.PairLemmas.{one_line-pair, without_comment-unmarked, words_of-one, no_blank, no_cr}
 use Rattle.texts.proofs.WalkSteps.{no_end-append}
 use Rattle.texts.proofs.WordLemmas.{begins}
 use Rattle.nl_lines.specs.FirstRows.{IsFirstRow}
@@ -54,12 +53,6 @@ lettered most byte letter rest len says whole_says above w then = record {
 }
 
 -- ---- the words of lines
-
-no_blank : (b : ℕ) → 35 < b → is_blank b ≡ false
-no_blank b h = grind (arith, nat_tests)
-
-no_cr : (b : ℕ) → 35 < b → (b == 13) ≡ false
-no_cr b h = grind (arith, nat_tests)
 
 -- its last byte
 record Ends (line : List ℕ) : Type 0 where

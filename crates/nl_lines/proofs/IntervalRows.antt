@@ -3,7 +3,7 @@ use Rattle.std.proofs.Common.{◌≡◌, ◌∙◌, ℕ, suc, ◌+◌, ◌≤◌
 use Rattle.std.specs.Prelude.{codes, drop, slice_index}
 use Rattle.std.specs.Option.{option_map_or}
 use Rattle.std.specs.Str.{bytes_eq}
-use Rattle.std.proofs.lemmas.Bool.{eqb-true}
+use Rattle.std.proofs.lemmas.Bool.{eqb-true, or_parts}
 use Rattle.std.proofs.lemmas.Bool.Decides.{nat_tests}
 use Rattle.exact_numbers.specs.declared.dec.Dec.{Dec}
 use Rattle.exact_numbers.specs.Numbers.{dec_of}
@@ -73,16 +73,11 @@ not_five d h = grind (arith, nat_tests)
 abbrev pub is_refused : Interval → Bool → Bool
 is_refused i unit = is_empty i || (unit && not (is_within_unit i))
 
-both_fine : (a b : Bool) → (a || b) ≡ false → (a ≡ false) × (b ≡ false)
-both_fine false false e = (refl, refl)
-both_fine true b e = absurd cc
-both_fine false true e = absurd cc
-
 pub interval_fine : (words : List (List ℕ)) (i : Interval) (of_constraint unit : Bool) → IsIntervalRow words i → is_refused i unit ≡ false → first_reason (interval_form_tests of_constraint unit words) ≡ None
 unfolding interval_form_tests
 interval_fine words i of_constraint unit w fine =
     let s = sided_row words i w in
-    let parts = both_fine (is_empty i) (unit && not (is_within_unit i)) fine in
+    let parts = or_parts (is_empty i) (unit && not (is_within_unit i)) fine in
     let five : (of_constraint && bytes_eq (word_at words 0) (codes "5")) ≡ false = rw (s.is, not_five s.digit s.high) (no_more of_constraint) in
     rw (five, w.sides, w.says, parts.0, parts.1) refl
   where

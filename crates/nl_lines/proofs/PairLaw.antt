@@ -10,7 +10,6 @@ use Rattle.nl_model.specs.Draft.{Draft, empty_draft}
 use Rattle.nl_model.specs.File.{Term}
 use Rattle.nl_model.specs.Rules.{term_count}
 use Rattle.nl_model.specs.UseCounts.{use_count, uses_in}
-use Rattle.nl_model.proofs.UseLemmas.{uses_in-most}
 use Rattle.nl_lines.specs.declared.head.Head.{Head}
 use Rattle.nl_lines.specs.declared.head.Head.TheVariants.{Body, Objective, Definition, Terms, Slopes, Suffix}
 use Rattle.nl_lines.specs.Pieces.{Piece, is_complete, piece_pairs}
@@ -30,15 +29,6 @@ sum_set f (r ∷ rows) (suc i) x lt =
     omega arith
 
 -- ---- uses of variables
-
-pub uses_few : (rows : List (List Term)) (j : ℕ) → use_count rows j ≤ term_count rows
-uses_few [] j = omega arith
-uses_few (ts ∷ rows) j =
-    let a = sum_by-cons (λ ts. uses_in ts j) ts rows in
-    let b = sum_by-cons {X = List Term} length ts rows in
-    let fewer = uses_in-most ts j in
-    let rest = uses_few rows j in
-    omega arith
 
 pub use_more : (rows : List (List Term)) (i j : ℕ) (t : Term) → i < length rows
     → use_count (slice_set rows i (get_or rows i [] ++ t ∷ [])) j ≡ (if t.0 == j then use_count rows j + 1 else use_count rows j)

@@ -67,7 +67,7 @@ use_count-more rows i j row at =
     let split : take (i + 1) rows ≡ take i rows ++ row ∷ [] = take_more rows i row inside ∙ ap (λ r. take i rows ++ r ∷ []) (get_or_from_slice_get rows i row row at) in
     ap (λ rs. use_count rs j) split ∙ sum_by-append (λ terms. uses_in terms j) (take i rows) (row ∷ []) ∙ omega arith
 
-use_count-most : (rows : List (List Term)) (j : ℕ) → use_count rows j ≤ term_count rows
+pub use_count-most : (rows : List (List Term)) (j : ℕ) → use_count rows j ≤ term_count rows
 use_count-most [] j = omega arith
 use_count-most (ts ∷ rows) j =
     let a = uses_in-most ts j in

@@ -43,6 +43,7 @@ use Rattle.nl_lines.proofs.PieceLemmas.{longer}
 use Rattle.exact_numbers.specs.Values.{text_of}
 use Rattle.texts.specs.WordLines.{WordLine}
 use Rattle.nl_writer.specs.Trees.{operator_lines, node_lines}
+use Rattle.nl_writer.proofs.Writing.{known}
 use Rattle.written_texts.specs.Words.{IsWritten}
 use Rattle.written_texts.proofs.WordLemmas.{row-written}
 use Rattle.written_texts.proofs.WrittenWords.{word-lettered, word-number, word-decimal, written-one}
@@ -66,9 +67,6 @@ operands_of-class : (c : OpClass) (k : ℕ) → Takes (rule_of c) k → FitsOper
 unfolding operands_of
 operands_of-class Refused k h = absurd h
 operands_of-class c k h = (h, omega arith)
-
-known : (o k : ℕ) → Takes (rule_of (class_of o)) k → class_of o ≡ Refused → ⊥
-known o k h e = subst (λ c. Takes (rule_of c) k) e h
 
 operands_known : (o k : ℕ) → Takes (rule_of (class_of o)) k → FitsOperands (operands_of o) k × (o ≤ 54)
 operands_known o k h = subst (λ p. FitsOperands (operands_of p) k × (p ≤ 54)) (opcode_of-known o (known o k h)) (operands_of-class (class_of o) k h)

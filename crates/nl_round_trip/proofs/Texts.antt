@@ -2,7 +2,6 @@
 use Rattle.std.proofs.Common.{◌≡◌, ◌∙◌, ℕ, ◌+◌, ◌<◌, ◌≤◌, ◌^◌, Bool, true, false, ℤ, List, [], ◌∷◌, ◌++◌, length, get_or, take, drop, refl, sym, ap, subst, arith, Option, Some, None, All, append_assoc, length-append}
 use Rattle.std.specs.Prelude.{IsSome, IsTrue, option_map, filter, sum_by}
 use Rattle.std.specs.List.{list_all, list_any}
-use Rattle.std.specs.Option.{option_or}
 use Rattle.std.proofs.lemmas.Bool.{ltb-true, ltb-false, eqb-true, not-false}
 use Rattle.std.proofs.lemmas.List.{take_all, take_more, length-take, get_or_append_left}
 use Rattle.std.proofs.Math.Seq.{get_or-append_seam}
@@ -19,7 +18,7 @@ use Rattle.code_tables.specs.Header.{header_rows}
 use Rattle.nl_header.specs.declared.fault.HeadFault.TheVariants.{BadHeaderNumber}
 use Rattle.nl_header.specs.declared.fault.HeadFault.{HeadFault}
 use Rattle.nl_header.specs.Reading.{AreClean as IsCleanHeader}
-use Rattle.nl_header.proofs.HeaderLaw.{AreNineClean, header-rule}
+use Rattle.nl_header.proofs.HeaderLaw.{AreNineClean, header-rule, else-second}
 use Rattle.nl_header.proofs.ReaderLemmas.{clean-more}
 use Rattle.nl_model.specs.declared.header_counts.Counts.{Counts}
 use Rattle.nl_model.specs.Draft.{Draft}
@@ -87,16 +86,12 @@ step s n line h fine = by (holds_words line) (is_in_header s) refl refl
 
 -- ---- the header
 
-second_none : (a b : Option HeadFault) → option_or a b ≡ None → b ≡ None
-second_none None b e = e
-second_none (Some f) b e = absurd cc
-
 last_rule : (before : List (List (List ℕ))) (words : List (List ℕ)) → length before ≡ 9 → header_line_fault before words ≡ None → are_definitions_within (counts_in (before ++ words ∷ [])) ≡ true
 unfolding header_line_fault number_line_fault rule_tests
 last_rule before words nine fine =
     let counts = counts_in (before ++ words ∷ []) in
     let tests : List (Bool × HeadFault) = (lacks_number header_rows 10 (length words), BadHeaderNumber) ∷ rule_tests 10 counts in
-    let none = none_each tests (second_none (words_fault 10 1 words) (first_reason tests) (rw nine at fine)) in
+    let none = none_each tests (else-second (words_fault 10 1 words) (first_reason tests) (rw nine at fine)) in
     not-false (are_definitions_within counts) none.1.1.1.0
 
 header_ruled : (lines : List (List (List ℕ))) → IsCleanHeader lines → length lines ≡ 10 → is_header (options_in lines) (counts_in lines) ≡ true

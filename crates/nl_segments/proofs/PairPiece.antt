@@ -31,9 +31,10 @@ use Rattle.nl_lines.specs.Saying.{node_lines, draft_of, said_by, with_piece, pla
 use Rattle.nl_segments.specs.InsidePlaceSteps.{with_term_line, HasBegun, HasOwner}
 use Rattle.nl_lines.specs.Heads.{is_in_range, is_head}
 use Rattle.nl_model.specs.UseCounts.{use_count}
+use Rattle.nl_model.proofs.UseLemmas.{use_count-most}
 use Rattle.nl_lines.proofs.DraftLemmas.{draft_before, with_dual, with_primal, with_term, with_slope, with_suffix as suffix_said, says_whole, draft_counts}
 use Rattle.nl_lines.proofs.FreshLaw.{either, none_before, gave_none}
-use Rattle.nl_lines.proofs.PairLaw.{use_more, terms_few, slopes_few, uses_few}
+use Rattle.nl_lines.proofs.PairLaw.{use_more, terms_few, slopes_few}
 use Rattle.nl_segments.proofs.PairLines.{place_term, owner_there, at, Opened, opened, awaits_as, last_sound, has_owner, has_begun, judged_by, pairs_longer, awaiting, last_taken, fold_keeps}
 use Rattle.nl_header.specs.Head.{options_in}
 use Rattle.nl_segments.specs.Grammar.{Standing, counts_of}
@@ -428,7 +429,7 @@ can_use_by s b cur row t n (Terms i k) e =
     let below : t.0 < c.n_var = subst (λ x. t.0 < index_limit c x) e n.next.below in
     let users = n.held.users in
     let used = n.held.uses t.0 below in
-    let few = uses_few b.draft.terms t.0 in
+    let few = use_count-most b.draft.terms t.0 in
     let room = terms_room s b cur row t n (ap is_linear e) in
     (omega arith, omega arith)
 can_use_by s b cur row t n head e = tt

@@ -1,6 +1,6 @@
 -- What a line more does to what lines mean and to the whole reader, and what it answers; runs of lines, and terms that are taken at once.
-use Rattle.std.proofs.Common.{◌≡◌, ◌∙◌, ℕ, ◌+◌, ◌<◌, ◌≤◌, Bool, true, false, if◌then◌else◌, List, [], ◌∷◌, ◌++◌, length, take, drop, map, refl, sym, ap, ap₂, arith, nat_lt, not, ◌==◌, Bor, subst, suc, Some, None, Option, append-nil, length-append, ◌-◌, get_or, zero, append_assoc, ◌&&◌, slice_set, nat_le}
-use Rattle.std.proofs.lemmas.Bool.{ltb-true, ltb-false, lt-ltb, eqb-true}
+use Rattle.std.proofs.Common.{◌≡◌, ◌∙◌, ℕ, ◌+◌, ◌<◌, ◌≤◌, Bool, true, false, if◌then◌else◌, List, [], ◌∷◌, ◌++◌, length, take, drop, map, refl, sym, ap, ap₂, arith, nat_lt, not, ◌==◌, Bor, subst, suc, Some, None, Option, append-nil, length-append, ◌-◌, get_or, zero, append_assoc, ◌&&◌, slice_set}
+use Rattle.std.proofs.lemmas.Bool.{ltb-true, ltb-false, lt-ltb, eqb-true, lt-leb}
 use Rattle.std.proofs.lemmas.List.{length-map, length-take-le, map-append, take-append-le, take_all, drop_all, drop-append-le}
 use Rattle.std.proofs.lemmas.List.Sums.{fold-append}
 use Rattle.texts.specs.Words.{words_of, without_comment, row_of, texts}
@@ -470,11 +470,8 @@ still_below d new h t limit e given = e ∙ sym (ap (λ c. c.n_var) (ap (λ x. x
 
 -- ---- after so many terms
 
-few_leb : (a b : ℕ) → b < a → nat_le a b ≡ false
-few_leb a b lt = grind arith
-
 not_full : (h : Head) (l v : ℕ) → is_linear h ≡ true → is_suffix h ≡ false → l < most_terms → is_full_at h l v ≡ false
-not_full h l v e f lt = rw (e, f, few_leb most_terms l lt) refl
+not_full h l v e f lt = rw (e, f, lt-leb most_terms l lt) refl
 
 fine_known : (c : Counts) (h : Head) (marks : List Bool) (t : Term) → is_linear h ≡ true → t.0 < c.n_var → first_reason (known_pair_tests c h marks false t) ≡ None
 fine_known c h marks t e lt =

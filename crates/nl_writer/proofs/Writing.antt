@@ -44,7 +44,7 @@ objective_of (Some x) m t e f = ap₂ (λ a b. Some (record { maximise = a; tree
 
 -- ---- the lines of a tree are those of its nodes
 
-known : (o k : ℕ) → Takes (rule_of (class_of o)) k → class_of o ≡ Refused → ⊥
+pub known : (o k : ℕ) → Takes (rule_of (class_of o)) k → class_of o ≡ Refused → ⊥
 known o k h e = subst (λ c. Takes (rule_of c) k) e h
 
 mutual

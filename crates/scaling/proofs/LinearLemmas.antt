@@ -23,7 +23,7 @@ use Rattle.scaling.specs.declared.scale_fault.ScaleFault.TheVariants.{RowTooWide
 use Rattle.scaling.specs.Factored.{AreScaledRows, IsFactored, IsScaledAt, body_term_count, factor_for, row_for, term_count_of, AreTiedFit, IsObjectiveTimes, IsTooWide, numbers_of, IsTiedOrPlain, IsTiedTo}
 use Rattle.scaling.specs.Scaled.{row_term_count, ScaledValue, IsRowOver, IsScaled, IsTie}
 use Rattle.scaling.specs.Scaling.{HasScaleFault, HasLeastFactors, HasNoScaleFault, IsScaledOf}
-use Rattle.scaling.proofs.SharedLemmas.{rest_of, zero_decimal, zero_fits, one_not_zero}
+use Rattle.scaling.proofs.SharedLemmas.{zero_decimal, zero_fits, one_not_zero}
 use Rattle.std.proofs.lemmas.List.Elements.{All-nil, All-cons, All-head, All-tail}
 use Rattle.fractions.specs.Fits.{fits}
 use Rattle.fractions.specs.Rational.{ℚ, zero_ℚ, one_ℚ, whole, neg_ℚ, ◌*ℚ◌, ◌-ℚ◌}
@@ -41,6 +41,7 @@ use Rattle.fractions.proofs.Ring.{ring, v, num, ◌⊖◌, ◌⊗◌, opp}
 use Rattle.scaling.specs.Exported.{scaled_as, exported_from, form_of, tied_row, tied_rows, tied_variables, written_form, scaled_row_of}
 use Rattle.std.specs.Option.{option_map}
 use Rattle.linear_program.specs.Decimals.{coefficient_of}
+use Rattle.linear_program.proofs.ListLemmas.{rest_of}
 use Rattle.scaling.specs.declared.row.Tie.{Tie}
 
 -- The linear program of a linear program, row by row.

@@ -1,20 +1,15 @@
 -- The rows of a linear program that is let go, one by one.
-use Rattle.std.proofs.Common.{◌≡◌, ℕ, ◌+◌, ◌<◌, ◌≤◌, ◌∙◌, sym, ap, subst, arith, List, [], ◌∷◌, ◌++◌, length, get_or, drop, Option}
-use Rattle.std.proofs.lemmas.List.{drop-drop, get_or-drop, get_or_default}
+use Rattle.std.proofs.Common.{◌≡◌, ℕ, ◌+◌, ◌<◌, ◌≤◌, ◌∙◌, ap, subst, List, [], ◌∷◌, ◌++◌, length, get_or, drop, Option}
+use Rattle.std.proofs.lemmas.List.{get_or_default}
 use Rattle.linear_program.specs.declared.form.Form.{Form}
 use Rattle.linear_program.specs.declared.interval.Interval.{Interval}
 use Rattle.linear_program.specs.Forms.{form_terms}
 use Rattle.linear_program.specs.Programs.{LinearValue, linear_value}
+use Rattle.linear_program.proofs.ListLemmas.{first_left}
 use Rattle.scaling.specs.declared.row.FactoredRow.{FactoredRow}
 use Rattle.scaling.specs.Factored.{AreScaledRows, IsScaledAt, term_count_of}
 use Rattle.scaling.specs.InsideMoves.{HasRows, IsRow}
 use Rattle.scaling.proofs.LinearLemmas.{AreFirstRows, all_rows, one_row_more}
-
-pub first_left : {A : Type 0} (xs : List A) (j : ℕ) (x : A) (rest : List A) → drop j xs ≡ x ∷ rest → x ≡ get_or xs j x
-first_left xs j x rest e = sym (ap (λ ys. get_or ys 0 x) e) ∙ get_or-drop j xs 0 x ∙ ap (λ k. get_or xs k x) (omega arith)
-
-pub others_left : {A : Type 0} (xs : List A) (j : ℕ) (x : A) (rest : List A) → drop j xs ≡ x ∷ rest → rest ≡ drop (j + 1) xs
-others_left xs j x rest e = ap (drop 1) (sym e) ∙ drop-drop 1 j xs
 
 module _ (p : LinearValue) (bodies : List Form) (sides : List Interval) (h : HasRows p bodies sides) (i : ℕ) (b : Form) (rest : List Form) (s : Interval) (left : drop i bodies ≡ b ∷ rest) (within : i < length bodies) (at : s ≡ get_or sides i s) where
   pub row_there : IsRow p i b s

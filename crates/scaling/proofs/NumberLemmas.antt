@@ -2,7 +2,7 @@ use Rattle.std.proofs.Common.{◌≡◌, ◌<◌, ◌⊎◌, unsigned_abs, ◌^�
 use Rattle.std.proofs.lemmas.Int.{ints}
 use Rattle.fractions.specs.Fits.{fits, is_small, least_multiple}
 use Rattle.fractions.specs.Rational.{ℚ, whole, over, one_ℚ, ◌*ℚ◌, above_zero, below_zero, decimal_value}
-use Rattle.fractions.proofs.Arithmetic.{over_parts, decimal_value_lem, one-*ℚ}
+use Rattle.fractions.proofs.Arithmetic.{decimal_value_lem, one-*ℚ, over_whole}
 use Rattle.std.proofs.lemmas.Bool.{ltb-true, and_from}
 use Prim.Native.Nat.{◌∣◌}
 use Rattle.std.proofs.Math.Nat.{dvd-mul_right, eq-one_of_dvd-one}
@@ -28,16 +28,12 @@ use Rattle.scaling.specs.Rows.{TermOf}
 use Rattle.exact_numbers.proofs.Fitting.{whole_fits as whole_fits_dec}
 
 -- ---- whole numbers
-over_one : (z : ℤ) → over z 1 ≡ whole z
-unfolding whole
-over_one z = over_parts (whole z)
-
 pub whole_fits : (z : ℤ) → unsigned_abs z < 2 ^ 127 → fits (over z 1) ≡ true
 unfolding whole
-whole_fits z h = ap fits (over_one z) ∙ and_from (is_small (unsigned_abs z)) (is_small 1) (grind (arith, ltb-true)) refl
+whole_fits z h = ap fits (over_whole z) ∙ and_from (is_small (unsigned_abs z)) (is_small 1) (grind (arith, ltb-true)) refl
 
 pub over_one_is : (x : ℚ) (z : ℤ) → x ≡ over z 1 → x ≡ whole z
-over_one_is x z e = e ∙ over_one z
+over_one_is x z e = e ∙ over_whole z
 
 pub one_not_none : (z : ℤ) → (pos 1 ≡ pos 0) ⊎ (fits (over z 1) ≡ false) → unsigned_abs z < 2 ^ 127 → ⊥
 one_not_none z h small =

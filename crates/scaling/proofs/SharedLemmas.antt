@@ -1,4 +1,4 @@
-use Rattle.std.proofs.Common.{◌≡◌, ◌<◌, ◌∙◌, sym, ap, refl, arith, ℤ, pos, ◌*ℤ◌, Bool, true, false, ◌↔◌, IsTrue, None, Some, ⊎_elim, ◌<ℤ◌, int_lt, nat_eq, ℕ, suc, ◌+◌, cond, List, [], ◌∷◌, length, get_or, add-one, drop, drop-cons, ◌≢◌, subst}
+use Rattle.std.proofs.Common.{◌≡◌, ◌<◌, ◌∙◌, sym, ap, refl, arith, ℤ, pos, ◌*ℤ◌, Bool, true, false, ◌↔◌, IsTrue, None, Some, ⊎_elim, ◌<ℤ◌, int_lt, nat_eq, ℕ, ◌+◌, cond, List, [], ◌∷◌, ◌≢◌, subst}
 use Rattle.std.proofs.lemmas.Int.{ints}
 use Rattle.std.specs.Ordering.{int_cmp, ordering_index}
 use Rattle.std.specs.declared.cmp.Ordering.{Ordering}
@@ -18,10 +18,6 @@ use Rattle.scaled_program.specs.Fits.{IfSide, IfBoth, RangeFits}
 use Rattle.exact_numbers.specs.declared.dec.Dec.{Dec}
 
 -- What the export of a scaled program needs, too: lists, coefficients, 0 and 1, comparison.
-
--- the elements from i on
-pub rest_of : {A : Type 0} (xs : List A) (i : ℕ) (x : A) → i < length xs → x ≡ get_or xs i x → drop i xs ≡ x ∷ drop (i + 1) xs
-rest_of xs i x h is = drop-cons xs i x h ∙ ap (λ y. y ∷ drop (suc i) xs) (sym is) ∙ ap (λ n. x ∷ drop n xs) (sym (add-one i))
 
 -- ---- a coefficient of terms
 pub nothing_in : (j : ℕ) → coefficient_of [] j ≡ zero_ℚ

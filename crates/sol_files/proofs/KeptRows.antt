@@ -1,11 +1,11 @@
 -- What is kept by rows of numbers.
-use Rattle.std.proofs.Common.{◌≡◌, ℕ, ◌+◌, ◌-◌, ◌<◌, ◌≤◌, ◌^◌, ℤ, pos, Bool, true, false, not, ◌&&◌, ◌||◌, cond, List, [], ◌∷◌, ◌++◌, length, Option, Some, None, inl, inr, refl, subst, arith, ◌==◌, nat_lt}
+use Rattle.std.proofs.Common.{◌≡◌, ℕ, ◌+◌, ◌-◌, ◌<◌, ◌≤◌, ◌^◌, ℤ, pos, Bool, true, false, not, ◌&&◌, ◌||◌, cond, List, [], ◌∷◌, ◌++◌, length, Option, Some, None, inl, inr, refl, arith, ◌==◌, nat_lt}
 use Rattle.std.specs.Prelude.{IfSome, is_none}
 use Rattle.std.specs.Ordering.{int_eq}
 use Rattle.std.proofs.lemmas.Bool.{ltb-true, ltb-false, eqb-true, not-false}
 use Rattle.std.proofs.lemmas.List.{length_push}
 use Rattle.exact_numbers.specs.Numbers.{are_digits, dec_of, has_31_bits, signed_of, whole_of}
-use Rattle.std.specs.Str.Parse.{signed_digits_value, without_leading_sign}
+use Rattle.exact_numbers.proofs.NumberLemmas.{signed_of-fits}
 use Rattle.shared_parts.specs.Options.{has_second_three}
 use Rattle.sol_files.specs.declared.fault.Refusal.{Refusal}
 use Rattle.sol_files.specs.declared.awaited.Awaited.TheVariants.{OptionCount, Options, Constraints, DualCount, Variables, PrimalCount, Duals, Primals}
@@ -43,15 +43,6 @@ is_there (Some x) e = record { value = x; is = refl }
 -- a signed number that was read fits
 some_is : {A : Type 0} (x y : A) → Some x ≡ Some y → x ≡ y
 some_is x y g = cc
-
-pub signed_of-fits : (word : List ℕ) (z : ℤ) → signed_of word ≡ Some z → has_31_bits z ≡ true
-unfolding signed_of
-signed_of-fits word z e = by (are_digits (without_leading_sign word)) (has_31_bits (signed_digits_value 10 word)) refl e
-  where
-    by : (a b : Bool) → has_31_bits (signed_digits_value 10 word) ≡ b → (cond (a && b) (Some (signed_digits_value 10 word)) None) ≡ Some z → has_31_bits z ≡ true
-    by true true f g = subst (λ x. has_31_bits x ≡ true) (some_is (signed_digits_value 10 word) z g) f
-    by true false f g = absurd cc
-    by false b f g = absurd cc
 
 -- ---- options
 

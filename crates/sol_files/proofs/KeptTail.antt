@@ -10,6 +10,7 @@ use Rattle.std.proofs.lemmas.List.{length_push, length-append, append-nil}
 use Rattle.std.proofs.lemmas.List.Sums.{sum_by-cons, sum_by_push}
 use Rattle.exact_numbers.specs.declared.dec.Dec.{Dec}
 use Rattle.exact_numbers.specs.Numbers.{are_digits, dec_of, is_whole, signed_of, whole_of}
+use Rattle.exact_numbers.proofs.NumberLemmas.{signed_of-fits}
 use Rattle.shared_parts.specs.SuffixKinds.{object_limit, wants_whole}
 use Rattle.texts.specs.Cut.{IsTextLine}
 use Rattle.texts.specs.Judged.{first_reason}
@@ -31,7 +32,7 @@ use Rattle.sol_files.specs.Steps.{after_message, after_row, after_name, after_ta
 use Rattle.sol_files.specs.Written.{IsSaidLine, IsSignedPair, IsWritableSuffix, are_values}
 use Rattle.sol_files.proofs.ShortWords.{row-line}
 use Rattle.sol_files.proofs.Kept.{Speaks, HasOptions, Late, KeptAt, KeepsAt, Keeps}
-use Rattle.sol_files.proofs.KeptRows.{IsThere, fine_next, is_there, signed_of-fits}
+use Rattle.sol_files.proofs.KeptRows.{IsThere, fine_next, is_there}
 use Rattle.sol_files.proofs.JudgingLemmas.{is_number}
 use Rattle.sol_files.proofs.LastLemmas.{length_changed}
 use Rattle.texts.proofs.AllLemmas.{all_push}
@@ -267,7 +268,7 @@ kept_table s tables values line text h =
 
 -- ---- a value
 
-values_push : (limit : ℕ) (w : Bool) (before xs : List (ℕ × Dec)) (t : ℕ × Dec) → are_values limit w before xs ≡ true → nat_lt t.0 limit ≡ true → has_index (before ++ xs) t.0 ≡ false → (not w || is_whole t.1) ≡ true → are_values limit w before (xs ++ t ∷ []) ≡ true
+pub values_push : (limit : ℕ) (w : Bool) (before xs : List (ℕ × Dec)) (t : ℕ × Dec) → are_values limit w before xs ≡ true → nat_lt t.0 limit ≡ true → has_index (before ++ xs) t.0 ≡ false → (not w || is_whole t.1) ≡ true → are_values limit w before (xs ++ t ∷ []) ≡ true
 unfolding are_values
 values_push limit w before [] t all below fresh whole =
     let new : has_index before t.0 ≡ false = ap (λ l. has_index l t.0) (sym (append-nil before)) ∙ fresh in

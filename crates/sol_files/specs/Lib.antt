@@ -14,5 +14,6 @@ pub mod Reader
 pub mod Built
 pub mod Written
 pub mod InsideFields
+pub mod InsideParts
 pub mod InsideJudging
 pub mod Reasons

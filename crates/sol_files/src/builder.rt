@@ -6,6 +6,7 @@ ghost use Rattle.sol_files.specs.Built.{AreGiven, IsMessageLine, empty_sol, with
 ghost use Rattle.texts.specs.Cut.{IsOneLine};
 ghost use Rattle.sol_files.specs.Steps.{held_lines, lines_with};
 
+use crate::parts::SolParts;
 use crate::sol::Sol;
 use crate::suffix::SolSuffix;
 use exact_numbers::Dec;
@@ -17,14 +18,7 @@ use texts::TextLines;
 /// A value of a .sol file that is being built.
 #[derive(Drop)]
 pub struct SolBuilder {
-    message: TextLines,
-    options: Options,
-    n_con: u32,
-    duals: Decs,
-    n_var: u32,
-    primals: Decs,
-    objno: Option<(i32, i32)>,
-    suffixes: Vec<SolSuffix>,
+    parts: SolParts,
 }
 
 impl Model for SolBuilder {
@@ -32,16 +26,9 @@ impl Model for SolBuilder {
 
     ghost Value = { SolValue };
 
-    ghost view = { λ s. record {
-      message = s.message;
-      options = s.options;
-      n_con = s.n_con;
-      duals = s.duals;
-      n_var = s.n_var;
-      primals = s.primals;
-      objno = s.objno;
-      suffixes = s.suffixes.items;
-    } };
+    ghost use Rattle.sol_files.specs.InsideParts.{sol_of};
+
+    ghost view = { λ s. sol_of s.parts };
 }
 
 impl SolBuilder {
@@ -49,7 +36,7 @@ impl SolBuilder {
     pub fn new(alloc: Global, options: Options, n_con: u32, n_var: u32) -> SolBuilder
         ensures { result ≡ empty_sol options n_con n_var }
     {
-        SolBuilder {
+        let parts = SolParts {
             message: TextLines::new(alloc),
             options,
             n_con,
@@ -58,7 +45,8 @@ impl SolBuilder {
             primals: Decs::new(alloc),
             objno: None,
             suffixes: Vec::new(alloc),
-        }
+        };
+        SolBuilder { parts }
     }
 
     /// Adds a line to the message.
@@ -67,7 +55,7 @@ impl SolBuilder {
         ensures ok { OnOk result (self.new ≡ with_message self.old line.now) }
         ensures err { OnErr result (self.new ≡ self.old) }
     {
-        self.message.push(line)?;
+        self.parts.message.push(line)?;
         Ok(())
     }
 
@@ -76,7 +64,7 @@ impl SolBuilder {
         ensures ok { OnOk result (self.new ≡ with_dual self.old value) }
         ensures err { OnErr result (self.new ≡ self.old) }
     {
-        self.duals.push(value)?;
+        self.parts.duals.push(value)?;
         Ok(())
     }
 
@@ -85,7 +73,7 @@ impl SolBuilder {
         ensures ok { OnOk result (self.new ≡ with_primal self.old value) }
         ensures err { OnErr result (self.new ≡ self.old) }
     {
-        self.primals.push(value)?;
+        self.parts.primals.push(value)?;
         Ok(())
     }
 
@@ -95,7 +83,7 @@ impl SolBuilder {
         ensures ok { OnOk result (self.new ≡ with_suffix self.old suffix) }
         ensures err { OnErr result (self.new ≡ self.old) }
     {
-        self.suffixes.push(suffix)?;
+        self.parts.suffixes.push(suffix)?;
         Ok(())
     }
 
@@ -103,7 +91,7 @@ impl SolBuilder {
     pub fn set_objno(&mut self, number: i32, code: i32)
         ensures { self.new ≡ record self.old { objno = Some (number, code) } }
     {
-        self.objno = Some((number, code));
+        self.parts.objno = Some((number, code));
     }
 
     /// The value, where duals and primals are empty or full.
@@ -111,16 +99,7 @@ impl SolBuilder {
         requires { AreGiven self }
         ensures { result ≡ self }
     {
-        Sol {
-            message: self.message,
-            options: self.options,
-            n_con: self.n_con,
-            duals: self.duals,
-            n_var: self.n_var,
-            primals: self.primals,
-            objno: self.objno,
-            suffixes: self.suffixes,
-        }
+        Sol { parts: self.parts }
     }
 }
 
@@ -171,21 +150,21 @@ impl SolBuilder {
         requires { length self.old.options < 9 }
         ensures { self.new ≡ record self.old { options = self.old.options ++ value ∷ [] } }
     {
-        self.options.push(value);
+        self.parts.options.push(value);
     }
 
     /// Sets the number of constraints.
     pub(crate) fn set_n_con(&mut self, n_con: u32)
         ensures { self.new ≡ record self.old { n_con = n_con } }
     {
-        self.n_con = n_con;
+        self.parts.n_con = n_con;
     }
 
     /// Sets the number of variables.
     pub(crate) fn set_n_var(&mut self, n_var: u32)
         ensures { self.new ≡ record self.old { n_var = n_var } }
     {
-        self.n_var = n_var;
+        self.parts.n_var = n_var;
     }
 
     /// Adds a line to the table of the last suffix.
@@ -197,8 +176,8 @@ impl SolBuilder {
             }) }
         ensures err { OnErr result (self.new ≡ self.old) }
     {
-        let last = self.suffixes.len() - 1;
-        let suffix = &mut self.suffixes[last];
+        let last = self.parts.suffixes.len() - 1;
+        let suffix = &mut self.parts.suffixes[last];
         suffix.table.push(line)?;
         Ok(())
     }
@@ -210,8 +189,8 @@ impl SolBuilder {
             ≡ record self.old { suffixes = change_last (with_value pair) self.old.suffixes }) }
         ensures err { OnErr result (self.new ≡ self.old) }
     {
-        let last = self.suffixes.len() - 1;
-        let suffix = &mut self.suffixes[last];
+        let last = self.parts.suffixes.len() - 1;
+        let suffix = &mut self.parts.suffixes[last];
         suffix.values.push(pair)?;
         Ok(())
     }
@@ -220,41 +199,41 @@ impl SolBuilder {
     pub(crate) fn option_count(&self) -> usize
         ensures { result ≡ length self.now.options }
     {
-        self.options.len()
+        self.parts.options.len()
     }
 
     /// How many constraints there are.
     pub(crate) fn n_con(&self) -> u32
         ensures { result ≡ self.now.n_con }
     {
-        self.n_con
+        self.parts.n_con
     }
 
     /// How many variables there are.
     pub(crate) fn n_var(&self) -> u32
         ensures { result ≡ self.now.n_var }
     {
-        self.n_var
+        self.parts.n_var
     }
 
     /// How many lines the message has.
     pub(crate) fn line_count(&self) -> usize
         ensures { result ≡ length self.now.message }
     {
-        self.message.len()
+        self.parts.message.len()
     }
 
     /// Whether the number of the objective was set.
     pub(crate) fn objno(&self) -> Option<(i32, i32)>
         ensures { result ≡ self.now.objno }
     {
-        self.objno
+        self.parts.objno
     }
 
     /// The suffixes.
     pub(crate) fn suffixes(&self) -> &[SolSuffix]
         ensures { result.now ≡ self.now.suffixes }
     {
-        &self.suffixes
+        &self.parts.suffixes
     }
 }

@@ -7,6 +7,7 @@ mod fault;
 mod grammar;
 pub mod laws;
 mod number_lines;
+mod parts;
 mod reader;
 mod rows;
 mod sol;

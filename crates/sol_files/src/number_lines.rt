@@ -6,9 +6,9 @@ ghost use Rattle.sol_files.specs.Tests.{count_tests, dec_tests, given_tests, opt
 ghost use Rattle.sol_files.specs.Steps.{after_constraints, after_dual, after_dual_count, after_option, after_option_count, after_primal, after_primal_count, after_variables, options_await, values_await};
 
 use crate::awaited::Awaited;
-use crate::fault::Refusal;
+use crate::fault::{Refusal, SolReason};
 use crate::grammar::{SolGrammar, here};
-use crate::rows::{read_given, read_option, read_option_count, read_size, read_value};
+use crate::rows::{MOST_OPTIONS, MOST_VALUES, read_given, read_number, read_option, read_value};
 use texts::Stop;
 
 // The line that is awaited where so many options are left.
@@ -41,7 +41,7 @@ impl SolGrammar {
         ensures { Takes (count_tests (texts words.now))
             (after_option_count self.old (texts words.now)) result self.new }
     {
-        let count = match read_option_count(words) {
+        let count = match read_number(words, MOST_OPTIONS, SolReason::Options) {
             Ok(count) => count,
             Err(reason) => return Err(here(reason)),
         };
@@ -70,7 +70,7 @@ impl SolGrammar {
         ensures { Takes (size_tests (texts words.now))
             (after_constraints self.old (texts words.now)) result self.new }
     {
-        let count = match read_size(words) {
+        let count = match read_number(words, MOST_VALUES, SolReason::TooLarge) {
             Ok(count) => count,
             Err(reason) => return Err(here(reason)),
         };
@@ -100,7 +100,7 @@ impl SolGrammar {
         ensures { Takes (size_tests (texts words.now))
             (after_variables self.old (texts words.now)) result self.new }
     {
-        let count = match read_size(words) {
+        let count = match read_number(words, MOST_VALUES, SolReason::TooLarge) {
             Ok(count) => count,
             Err(reason) => return Err(here(reason)),
         };

@@ -1,29 +1,30 @@
 // Rows of numbers, judged by their words.
-ghost use Rattle.std.specs.Prelude.{◌≡◌, ◌<◌, ◌≤◌, ◌^◌, not, ◌&&◌, Some, None, IfOk, IfErr, OnOk};
+ghost use Rattle.std.specs.Prelude.{◌≡◌, ◌+◌, ◌<◌, ◌≤◌, ◌^◌, not, ◌&&◌, Some, None, IfOk, IfErr, OnOk};
 ghost use Rattle.texts.specs.Judged.{first_reason};
 ghost use Rattle.texts.specs.Words.{texts, word_at};
 ghost use Rattle.sol_files.specs.declared.fault.Refusal.TheVariants.{Here};
 ghost use Rattle.sol_files.specs.Rows.{number_in, option_in, value_in, both};
 ghost use Rattle.exact_numbers.specs.Numbers.{signed_of};
 ghost use Rattle.sol_files.specs.Built.{IsEmptyOrFull};
-ghost use Rattle.sol_files.specs.Tests.{count_tests, option_tests, size_tests, given_tests, dec_tests, objno_tests};
+ghost use Rattle.sol_files.specs.Tests.{number_tests, option_tests, given_tests, dec_tests, objno_tests};
 
 use crate::fault::SolReason;
 use exact_numbers::{Dec, are_digits, dec_of, signed_of, whole_of};
 use texts::word_at;
 
 // There are at most so many options.
-const MOST_OPTIONS: u32 = 9;
+pub(crate) const MOST_OPTIONS: u32 = 9;
 
 // There are at most so many constraints, variables and values.
-const MOST_VALUES: u32 = 1_048_576;
+pub(crate) const MOST_VALUES: u32 = 1_048_576;
 
-/// The number of options.
-pub(crate) fn read_option_count(words: &[&[u8]]) -> Result<u32, SolReason>
+/// A number of at most so many, where one above them has this reason.
+pub(crate) fn read_number(words: &[&[u8]], most: u32, wide: SolReason) -> Result<u32, SolReason>
     ensures value { IfOk result (λ n. n ≡ number_in (texts words.now) 0) }
-    ensures most { IfOk result (λ n. n ≤ 9) }
-    ensures fine { OnOk result (first_reason (count_tests (texts words.now)) ≡ None) }
-    ensures fault { IfErr result (λ r. first_reason (count_tests (texts words.now))
+    ensures most { IfOk result (λ n. n ≤ most) }
+    ensures fine { OnOk result (first_reason (number_tests (most + 1) wide (texts words.now))
+        ≡ None) }
+    ensures fault { IfErr result (λ r. first_reason (number_tests (most + 1) wide (texts words.now))
         ≡ Some (Here r)) }
 {
     let word = word_at(words, 0);
@@ -33,13 +34,10 @@ pub(crate) fn read_option_count(words: &[&[u8]]) -> Result<u32, SolReason>
     if !are_digits(word) {
         return Err(SolReason::BadNumber);
     }
-    let Some(count) = whole_of(word) else {
-        return Err(SolReason::Options);
-    };
-    if count > MOST_OPTIONS {
-        return Err(SolReason::Options);
+    match whole_of(word) {
+        Some(count) if count <= most => Ok(count),
+        _ => Err(wide),
     }
-    Ok(count)
 }
 
 /// An option after so many.
@@ -61,29 +59,6 @@ pub(crate) fn read_option(words: &[&[u8]], before: usize) -> Result<i32, SolReas
     Ok(value)
 }
 
-/// A number of constraints, variables or values.
-pub(crate) fn read_size(words: &[&[u8]]) -> Result<u32, SolReason>
-    ensures value { IfOk result (λ n. n ≡ number_in (texts words.now) 0) }
-    ensures fine { OnOk result (first_reason (size_tests (texts words.now)) ≡ None) }
-    ensures fault { IfErr result (λ r. first_reason (size_tests (texts words.now))
-        ≡ Some (Here r)) }
-{
-    let word = word_at(words, 0);
-    if words.len() != 1 {
-        return Err(SolReason::BadLine);
-    }
-    if !are_digits(word) {
-        return Err(SolReason::BadNumber);
-    }
-    let Some(count) = whole_of(word) else {
-        return Err(SolReason::TooLarge);
-    };
-    if count > MOST_VALUES {
-        return Err(SolReason::TooLarge);
-    }
-    Ok(count)
-}
-
 /// How many values are given: none or all.
 pub(crate) fn read_given(words: &[&[u8]], full: u32) -> Result<u32, SolReason>
     ensures value { IfOk result (λ n. n ≡ number_in (texts words.now) 0) }
@@ -92,7 +67,7 @@ pub(crate) fn read_given(words: &[&[u8]], full: u32) -> Result<u32, SolReason>
     ensures fault { IfErr result (λ r. first_reason (given_tests full (texts words.now))
         ≡ Some (Here r)) }
 {
-    let count = match read_size(words) {
+    let count = match read_number(words, MOST_VALUES, SolReason::TooLarge) {
         Ok(count) => count,
         Err(reason) => return Err(reason),
     };

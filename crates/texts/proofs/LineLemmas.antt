@@ -16,7 +16,7 @@ use Rattle.texts.proofs.CutLemmas.{scan_cut}
 
 -- ---- no LF
 
-no_end-drop : (n : ℕ) (bytes : List ℕ) → HasNoEnd bytes → HasNoEnd (drop n bytes)
+pub no_end-drop : (n : ℕ) (bytes : List ℕ) → HasNoEnd bytes → HasNoEnd (drop n bytes)
 no_end-drop zero bytes h = h
 no_end-drop (suc n) [] h = tt
 no_end-drop (suc n) (b ∷ bytes) h = no_end-drop n bytes h.1

@@ -8,7 +8,7 @@ use Rattle.texts.proofs.WordLemmas.{begins}
 use Rattle.texts.specs.Cut.{HasNoEnd, IsOneLine}
 use Rattle.texts.specs.Words.{is_blank, onto_word, ends_word, words_of, up_to_comment, without_comment, IsUnmarked}
 
-no_blank : (b : ℕ) → 35 < b → is_blank b ≡ false
+pub no_blank : (b : ℕ) → 35 < b → is_blank b ≡ false
 no_blank b h = grind (arith, nat_tests)
 
 unmarked : (m : Bool) (b : ℕ) → 35 < b → (m && (b == 35)) ≡ false
@@ -56,7 +56,7 @@ words_of-pair (b ∷ index) word first i some w =
 no_lf : (b : ℕ) → 35 < b → (b == 10) ≡ false
 no_lf b h = grind (arith, nat_tests)
 
-no_cr : (b : ℕ) → 35 < b → (b == 13) ≡ false
+pub no_cr : (b : ℕ) → 35 < b → (b == 13) ≡ false
 no_cr b h = grind (arith, nat_tests)
 
 no_end-unmarked : (word : List ℕ) → IsUnmarked word → HasNoEnd word

@@ -2,7 +2,7 @@
 use Rattle.std.proofs.Common.{◌≡◌, ◌∙◌, ℕ, zero, suc, ◌+◌, ◌-◌, ◌<◌, ◌≤◌, ◌^◌, List, [], ◌∷◌, ◌++◌, length, map, take, Bool, true, false, leb, refl, sym, ap, ap₂, arith, append_assoc}
 use Rattle.std.specs.Prelude.{◌==◌, nat_le, get_or, take_while}
 use Rattle.std.specs.List.{slice_split}
-use Rattle.std.proofs.lemmas.Bool.{leb-true, leb-false}
+use Rattle.std.proofs.lemmas.Bool.{leb-true, leb-false, le-leb, lt-leb}
 use Rattle.std.proofs.lemmas.List.{append-nil, length-append, take-append-le, take_all}
 use Rattle.std.proofs.lemmas.List.Sums.{take_while-cons}
 use Rattle.std.specs.declared.option.Option.{Option}
@@ -11,7 +11,7 @@ use Rattle.texts.specs.declared.lines.LineFault.{LineFault}
 use Rattle.texts.specs.declared.lines.LineFault.TheVariants.{LineTooLong, InputTooLong}
 use Rattle.texts.specs.Lines.{trimmed, is_short, parts_of, ended_parts, line_fault, Scan, scan_of, scan}
 use Rattle.texts.proofs.Walk.{Walk, no_lines, steps, walk, seen}
-use Rattle.texts.proofs.WalkSteps.{leb_of, leb_not, next-input, next-line, next-long, next-more, steps-fault}
+use Rattle.texts.proofs.WalkSteps.{next-input, next-line, next-long, next-more, steps-fault}
 
 abbrev parts : List ℕ → List (List ℕ)
 parts bytes = slice_split (λ b. b == 10) bytes
@@ -45,12 +45,12 @@ ended-first part next more =
 
 ended-short : (part next : List ℕ) (more : List (List ℕ)) → length part ≤ 65536 → ended_parts (part ∷ next ∷ more) ≡ part ∷ ended_parts (next ∷ more)
 ended-short part next more short =
-    ap (take_while is_short) (ended-first part next more) ∙ take_while-cons is_short part (take (length (next ∷ more) - 1) (next ∷ more)) ∙ rw (leb_of (length part) 65536 short) refl
+    ap (take_while is_short) (ended-first part next more) ∙ take_while-cons is_short part (take (length (next ∷ more) - 1) (next ∷ more)) ∙ rw (le-leb (length part) 65536 short) refl
 
 ended-long : (part : List ℕ) (more : List (List ℕ)) → 65536 < length part → ended_parts (part ∷ more) ≡ []
 ended-long part [] long = refl
 ended-long part (next ∷ more) long =
-    ap (take_while is_short) (ended-first part next more) ∙ take_while-cons is_short part (take (length (next ∷ more) - 1) (next ∷ more)) ∙ rw (leb_not (length part) 65536 long) refl
+    ap (take_while is_short) (ended-first part next more) ∙ take_while-cons is_short part (take (length (next ∷ more) - 1) (next ∷ more)) ∙ rw (lt-leb (length part) 65536 long) refl
 
 -- what is said of a text, by the parts that have ended
 abbrev scan_by : List (List ℕ) → List (List ℕ) → Option LineFault → List (List ℕ) → Scan
@@ -61,7 +61,7 @@ one-line : (lines : List (List ℕ)) (part next : List ℕ) (more : List (List �
     → lines_then lines (scan_of (part ∷ next ∷ more) fits) ≡ lines_then (lines ++ trimmed part ∷ []) (scan_of (next ∷ more) fits)
 one-line lines part next more fits short =
     let parts : List (List ℕ) = part ∷ next ∷ more in
-    let fault : line_fault parts fits ≡ line_fault (next ∷ more) fits = rw (leb_of (length part) 65536 short) refl in
+    let fault : line_fault parts fits ≡ line_fault (next ∷ more) fits = rw (le-leb (length part) 65536 short) refl in
     ap₂ (λ ended fault. scan_by lines ended fault parts) (ended-short part next more short) fault
     ∙ ap (λ (ls : List (List ℕ)). record { lines = ls; rest = (scan_of (next ∷ more) fits).rest; fault = line_fault (next ∷ more) fits })
     (sym (append_assoc lines (trimmed part ∷ []) (map trimmed (ended_parts (next ∷ more)))))
@@ -70,14 +70,14 @@ one-line lines part next more fits short =
 too_long : (lines : List (List ℕ)) (part : List ℕ) (more : List (List ℕ)) (fits : Bool) → 65536 < length part
     → lines_then lines (scan_of (part ∷ more) fits) ≡ record { lines = lines; rest = take 65536 part; fault = Some LineTooLong }
 too_long lines part more fits long =
-    let fault : line_fault (part ∷ more) fits ≡ Some LineTooLong = rw (leb_not (length part) 65536 long) refl in
+    let fault : line_fault (part ∷ more) fits ≡ Some LineTooLong = rw (lt-leb (length part) 65536 long) refl in
     ap₂ (λ ended fault. scan_by lines ended fault (part ∷ more)) (ended-long part more long) fault
     ∙ ap (λ (ls : List (List ℕ)). record { lines = ls; rest = take 65536 part; fault = Some LineTooLong }) (append-nil lines)
 
 -- one part alone
 the_last : (lines : List (List ℕ)) (part : List ℕ) (fits : Bool) (fault : Option LineFault) → length part ≤ 65536 → line_fault [] fits ≡ fault
     → lines_then lines (scan_of (part ∷ []) fits) ≡ record { lines = lines; rest = part; fault = fault }
-the_last lines part fits fault short e = rw (leb_of (length part) 65536 short, append-nil lines, take_all 65536 part short, e) refl
+the_last lines part fits fault short e = rw (le-leb (length part) 65536 short, append-nil lines, take_all 65536 part short, e) refl
 
 -- the parts behind a line that was begun, where a byte comes that is no LF
 grown : (rest first : List ℕ) (b : ℕ) → (rest ++ b ∷ []) ++ first ≡ rest ++ b ∷ first
@@ -103,7 +103,7 @@ ends c room none short le =
     let empty : take room [] ≡ [] = take_all room [] none_left in
     let plain : behind c.rest (parts (take room [])) ≡ c.rest ∷ [] = ap (λ (bytes : List ℕ). behind c.rest (parts bytes)) empty ∙ ap (λ (r : List ℕ). r ∷ []) (append-nil c.rest) in
     let within : c.total + 0 ≤ 2 ^ 31 = omega (arith, le) in
-    let fits : fits_in c [] ≡ true = leb_of (c.total + 0) (2 ^ 31) within in
+    let fits : fits_in c [] ≡ true = le-leb (c.total + 0) (2 ^ 31) within in
     let last : lines_then c.lines (scan_of (c.rest ∷ []) (fits_in c [])) ≡ record { lines = c.lines; rest = c.rest; fault = None } = the_last c.lines c.rest (fits_in c []) None short (rw fits refl) in
     record {
       lines = rw plain (same_scan c None none ∙ sym last);
@@ -116,7 +116,7 @@ ends c room none short le =
 -- a byte comes for which the text has no room
 full : (c : Walk) (b : ℕ) (bytes : List ℕ) → c.fault ≡ None → length c.rest ≤ 65536 → c.total ≡ 2 ^ 31 → Comes c (b ∷ bytes) 0
 full c b bytes none short is =
-    let over : fits_in c (b ∷ bytes) ≡ false = leb_not (c.total + length (b ∷ bytes)) (2 ^ 31) (omega (arith, is)) in
+    let over : fits_in c (b ∷ bytes) ≡ false = lt-leb (c.total + length (b ∷ bytes)) (2 ^ 31) (omega (arith, is)) in
     let stops : steps c (b ∷ bytes) ≡ record c { fault = Some InputTooLong } = rw (next-input c b none (omega (arith, is))) (steps-fault (record c { fault = Some InputTooLong }) InputTooLong bytes refl) in
     let last : lines_then c.lines (scan_of (c.rest ∷ []) (fits_in c (b ∷ bytes))) ≡ record { lines = c.lines; rest = c.rest; fault = Some InputTooLong } = the_last c.lines c.rest (fits_in c (b ∷ bytes)) (Some InputTooLong) short (rw over refl) in
     record {

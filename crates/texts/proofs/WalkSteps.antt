@@ -6,6 +6,7 @@ use Rattle.std.proofs.Math.Seq.{take-append_seam}
 use Rattle.std.proofs.lemmas.List.Sums.{fold-append, take_while-cons}
 use Rattle.std.specs.declared.option.Option.{Option}
 use Rattle.std.specs.declared.option.Option.TheVariants.{None, Some}
+use Rattle.std.proofs.lemmas.Bool.{le-leb, lt-leb}
 use Rattle.texts.specs.declared.lines.LineFault.{LineFault}
 use Rattle.texts.specs.declared.lines.LineFault.TheVariants.{LineTooLong, InputTooLong}
 use Rattle.texts.specs.Cut.{HasNoEnd}
@@ -18,31 +19,25 @@ walk-append text more = fold-append next_byte no_lines text more
 
 -- ---- one byte
 
-pub leb_of : (a b : ℕ) → a ≤ b → leb a b ≡ true
-leb_of a b h = grind arith
-
-pub leb_not : (a b : ℕ) → b < a → leb a b ≡ false
-leb_not a b h = grind arith
-
 pub next-fault : (c : Walk) (f : LineFault) (b : ℕ) → c.fault ≡ Some f → next_byte c b ≡ c
 unfolding next_byte
 next-fault c f b e = rw e refl
 
 pub next-input : (c : Walk) (b : ℕ) → c.fault ≡ None → 2 ^ 31 ≤ c.total → next_byte c b ≡ record c { fault = Some InputTooLong }
 unfolding next_byte
-next-input c b e h = rw (e, leb_of (2 ^ 31) c.total h) refl
+next-input c b e h = rw (e, le-leb (2 ^ 31) c.total h) refl
 
 pub next-line : (c : Walk) (b : ℕ) → c.fault ≡ None → c.total < 2 ^ 31 → (b == 10) ≡ true → next_byte c b ≡ record { lines = c.lines ++ trimmed c.rest ∷ []; rest = []; total = c.total + 1; fault = None }
 unfolding next_byte
-next-line c b e h n = rw (e, leb_not (2 ^ 31) c.total h, n) refl
+next-line c b e h n = rw (e, lt-leb (2 ^ 31) c.total h, n) refl
 
 pub next-long : (c : Walk) (b : ℕ) → c.fault ≡ None → c.total < 2 ^ 31 → (b == 10) ≡ false → 65536 ≤ length c.rest → next_byte c b ≡ record c { fault = Some LineTooLong }
 unfolding next_byte
-next-long c b e h n l = rw (e, leb_not (2 ^ 31) c.total h, n, leb_of 65536 (length c.rest) l) refl
+next-long c b e h n l = rw (e, lt-leb (2 ^ 31) c.total h, n, le-leb 65536 (length c.rest) l) refl
 
 pub next-more : (c : Walk) (b : ℕ) → c.fault ≡ None → c.total < 2 ^ 31 → (b == 10) ≡ false → length c.rest < 65536 → next_byte c b ≡ record { lines = c.lines; rest = c.rest ++ b ∷ []; total = c.total + 1; fault = None }
 unfolding next_byte
-next-more c b e h n l = rw (e, leb_not (2 ^ 31) c.total h, n, leb_not 65536 (length c.rest) l) refl
+next-more c b e h n l = rw (e, lt-leb (2 ^ 31) c.total h, n, lt-leb 65536 (length c.rest) l) refl
 
 -- ---- several bytes
 

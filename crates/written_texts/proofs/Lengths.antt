@@ -1,5 +1,5 @@
 -- How long written numbers are.
-use Rattle.std.proofs.Common.{◌≡◌, ℕ, zero, suc, ◌+◌, ◌-◌, ◌<◌, ◌≤◌, ◌^◌, Bool, true, false, cond, List, [], ◌∷◌, ◌++◌, length, take, drop, ℤ, pos, negsuc, refl, ap, arith, length-append, lit<, lt_trans, lt_of_le_of_lt, nat_le, int_lt, unsigned_abs}
+use Rattle.std.proofs.Common.{◌≡◌, ℕ, suc, ◌+◌, ◌-◌, ◌<◌, ◌≤◌, ◌^◌, Bool, true, false, cond, List, [], ◌∷◌, ◌++◌, length, take, drop, ℤ, pos, negsuc, refl, ap, arith, length-append, lit<, lt_trans, lt_of_le_of_lt, nat_le, int_lt, unsigned_abs}
 use Rattle.std.specs.Fmt.{decimal, signed_decimal}
 use Rattle.std.proofs.lemmas.Bool.{leb-true, ltb-true}
 use Rattle.std.proofs.lemmas.Fmt.{length-decimal-le_wide}
@@ -8,6 +8,7 @@ use Rattle.exact_numbers.specs.Numbers.{has_31_bits}
 use Rattle.exact_numbers.specs.Written.{zeros, with_point, padded, scaled_text}
 use Rattle.exact_numbers.specs.declared.dec.Dec.{Dec}
 use Rattle.exact_numbers.specs.Values.{text_of}
+use Rattle.exact_numbers.proofs.Reading.{zeros-length}
 
 -- ---- whole numbers
 
@@ -25,10 +26,6 @@ signed_31-length (negsuc n) e =
     omega (arith, decimal-length (suc n) (lt_of_le_of_lt near (lit< tt)))
 
 -- ---- decimals
-
-zeros-length : (n : ℕ) → length (zeros n) ≡ n
-zeros-length zero = refl
-zeros-length (suc n) = ap suc (zeros-length n)
 
 pub pointed-length : (k : ℕ) (ds : List ℕ) → length (with_point k ds) ≤ length ds + 1
 pointed-length k ds =

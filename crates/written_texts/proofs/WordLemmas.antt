@@ -7,12 +7,13 @@ use Rattle.std.specs.List.{AllByRecursion}
 use Rattle.texts.specs.Names.{has_name_bytes}
 use Rattle.texts.specs.Words.{is_blank, onto_word, ends_word, words_of, row_of, up_to_comment, without_comment}
 use Rattle.texts.specs.WordLines.{WordLine, indented, spaced}
+use Rattle.texts.proofs.WordLemmas.{begins}
 use Rattle.written_texts.specs.Words.{IsWord, IsKeptWord, IsWritten}
 
 -- ---- bytes of words
 
 -- a byte of a name is no blank, no LF and no CR
-not_blank : (b : ℕ) → nat_le 33 b ≡ true → is_blank b ≡ false
+pub not_blank : (b : ℕ) → nat_le 33 b ≡ true → is_blank b ≡ false
 not_blank b h = grind (arith, nat_tests)
 
 -- the first byte, and those after it
@@ -25,14 +26,10 @@ bytes-cons b word h = and_parts _ _ h
 abbrev EndsWord : List ℕ → Type 0
 EndsWord rest = ends_word rest ≡ true
 
-onto_next : (b : ℕ) (words : List (List ℕ)) → onto_word b true words ≡ (b ∷ []) ∷ words
-onto_next b [] = refl
-onto_next b (word ∷ words) = refl
-
 words-word : (b : ℕ) (word rest : List ℕ) → has_name_bytes (b ∷ word) ≡ true → EndsWord rest → words_of ((b ∷ word) ++ rest) ≡ (b ∷ word) ∷ words_of rest
 words-word b [] rest h ends =
     let two = bytes-cons b [] h in
-    rw (not_blank b two.0, ends) (onto_next b (words_of rest))
+    rw (not_blank b two.0, ends) (begins b (words_of rest))
 words-word b (c ∷ word) rest h ends =
     let two = bytes-cons b (c ∷ word) h in
     let after = bytes-cons c word two.1 in

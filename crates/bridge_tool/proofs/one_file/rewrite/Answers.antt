@@ -2,7 +2,8 @@ use Rattle.nl_segments.specs.Reader.{value_of}
 use Rattle.command_parts.specs.SeveralFiles.{itself}
 use Rattle.command_parts.proofs.SeveralFiles.{meant_always, meant_anyway}
 use Rattle.bridge_tool.specs.declared.one_file.OneFile.TheVariants.{Import, Mps, Nl, Sol}
-use Rattle.bridge_tool.proofs.OneFile.{ended, meant_so, nl_meant, sol_meant, stopped}
+use Rattle.bridge_tool.proofs.OneFile.{ended, meant_so, sol_meant, stopped}
+use Rattle.nl_round_trip.proofs.Rewriting.{written_again}
 use Rattle.bridge_tool.proofs.one_file.rewrite.Goals as goal
 
 pub returns-in-Err : goal.returns-in-Err
@@ -20,7 +21,7 @@ returns-in-Err-open_mps g c = rw c.in-Import.is (stopped Import c.args.file.now 
 pub returns-in-Ok : goal.returns-in-Ok
 returns-in-Ok g c =
     let h = c.in-Ok.ensures.reads in
-    rw c.in-Nl.is (ended Nl c.args.file.now value_of _ _ _ c.in-Ok.read c.nl_output-judged.result _ h c.nl_output-judged.ensures (meant_anyway _ _ (nl_meant h.judged.bytes (value_of c.in-Ok.read) h.judged.says)) c.end.ensures)
+    rw c.in-Nl.is (ended Nl c.args.file.now value_of _ _ _ c.in-Ok.read c.nl_output-judged.result _ h c.nl_output-judged.ensures (meant_anyway _ _ (written_again h.judged.bytes (value_of c.in-Ok.read) h.judged.says)) c.end.ensures)
 
 pub returns-in-Ok-open_text : goal.returns-in-Ok-open_text
 returns-in-Ok-open_text g c =

@@ -1,8 +1,9 @@
 use Rattle.std.proofs.Common.{◌∙◌, ap, sym}
 use Rattle.exact_numbers.specs.Values.{frac_value}
 use Rattle.fractions.specs.Rational.{inverse_of}
+use Rattle.fractions.proofs.Arithmetic.{zero-is_zero}
 use Rattle.linear_fold.specs.InsideOperates.{part_line}
-use Rattle.linear_program.proofs.FracLemmas.{zero_test, nonzero_test}
+use Rattle.linear_program.proofs.FracLemmas.{nonzero_test}
 use Rattle.linear_fold.proofs.Operators.{if_ok, quotient_zero, quotient_comes}
 use Rattle.linear_fold.proofs.operate.quotient.Goals as goal
 
@@ -10,7 +11,7 @@ pub returns-then-is_zero-clause-outcome : goal.returns-then-is_zero-clause-outco
 returns-then-is_zero-clause-outcome g c =
     quotient_zero c.args.variables (part_line c.args.a.now) (part_line c.args.b.now)
     (sym (c.in-Some.ensures.test c.args.variables c.requires.second))
-    (zero_test _ (sym c.in-Some.ensures.value ∙ c.is_zero.ensures.0 c.if-is_zero.true))
+    (zero-is_zero _ (sym c.in-Some.ensures.value ∙ c.is_zero.ensures.0 c.if-is_zero.true))
 
 pub returns-clause-outcome : goal.returns-clause-outcome
 returns-clause-outcome g c =

@@ -2,10 +2,10 @@ use Rattle.std.proofs.Common.{◌≡◌, ◌<◌, ◌∙◌, ◌∷◌, length, 
 use Rattle.std.specs.Vec.Iter.{into_iter_items}
 use Rattle.linear_program.specs.Intervals.{is_whole_kind}
 use Rattle.linear_program.specs.declared.kind.Kind.TheVariants.{Continuous}
+use Rattle.linear_program.proofs.ListLemmas.{first_left, others_left}
 use Rattle.scaling.specs.Parts.{column_count}
 use Rattle.mps_export.specs.InsideColumns.{column_in, entry_value, entries_in_column}
 use Rattle.mps_export.proofs.AddLemmas.{variable_left, column_put, rising_enough}
-use Rattle.term_batches.proofs.PickLemmas.{first_left, others_left}
 use Rattle.mps_export.proofs.program_columns.add_columns.Goals as goal
 
 pub add_column-requires-clause-rising : goal.add_column-requires-clause-rising

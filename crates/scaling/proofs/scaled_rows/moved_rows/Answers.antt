@@ -1,8 +1,9 @@
 use Rattle.std.proofs.Common.{◌≡◌, ◌<◌, ◌∙◌, ◌∷◌, ap, sym, arith, length, drop}
 use Rattle.std.specs.Vec.Iter.{into_iter_items}
 use Rattle.linear_program.specs.Programs.{linear_value}
+use Rattle.linear_program.proofs.ListLemmas.{others_left}
 use Rattle.scaling.proofs.LinearLemmas.{before_fit, row_fault}
-use Rattle.scaling.proofs.MovedRows.{all_moved, others_left, row_moved, row_there}
+use Rattle.scaling.proofs.MovedRows.{all_moved, row_moved, row_there}
 use Rattle.scaling.proofs.scaled_rows.moved_rows.Goals as goal
 
 pub returns-in-Err-clause-wide : goal.returns-in-Err-clause-wide

@@ -2,33 +2,37 @@ use Rattle.std.proofs.Common.{rules, ◌≡◌, ◌/◌, ◌*◌, SFits, to_z-of
 use mir.Syntax.{w128}
 use Rattle.exact_numbers.proofs.Pairs.{SameValue, pair, sum_of}
 use Rattle.exact_numbers.specs.Decimal.{signed}
-use Rattle.exact_numbers.proofs.Fractions.{added, frac_fits, in_range_fits, sized_fits, signed_self}
+use Rattle.exact_numbers.proofs.Fractions.{Added, added, frac_fits, in_range_fits, sized_fits, signed_self}
 use Rattle.exact_numbers.specs.Values.{frac_value}
 use Rattle.exact_numbers.proofs.Bridge.{not_sum, summed, sum_is, pair_is, in_range}
 use Rattle.fractions.specs.Rational.{over, ◌+ℚ◌}
 use Rattle.fractions.proofs.Values.{same_value}
 use Rattle.exact_numbers.proofs.frac.Frac.add_parts.Goals as goal
+use Rattle.exact_numbers.proofs.frac.Frac.add_parts.Goals.{After-gcd-common}
+
+over_least : (c : After-gcd-common) → Added c.args.self.num c.args.self.den c.args.other.num c.args.other.den c.gcd-common.result
+over_least c = added c.args.self.num c.args.self.den c.args.other.num c.args.other.den _ c.args.self.spelled c.args.other.spelled c.gcd-common.ensures.greatest
 
 pub returns-in_default : goal.returns-in_default
 returns-in_default c = not_sum (frac_value c.args.self) (frac_value c.args.other) (λ fits.
-    let w = added c.args.self.num c.args.self.den c.args.other.num c.args.other.den _ c.args.self.spelled c.args.other.spelled c.gcd-common.ensures.greatest in
+    let w = over_least (goal.at.returns-in_default c).After-gcd-common in
     c.in_default.ensures (w.only fits).0)
 
 pub returns-in_default-scaled_up : goal.returns-in_default-scaled_up
 returns-in_default-scaled_up c = not_sum (frac_value c.args.self) (frac_value c.args.other) (λ fits.
-    let w = added c.args.self.num c.args.self.den c.args.other.num c.args.other.den _ c.args.self.spelled c.args.other.spelled c.gcd-common.ensures.greatest in
+    let w = over_least (goal.at.returns-in_default-scaled_up c).After-gcd-common in
     let f : SFits w128 c.args.self.num = frac_fits _ _ c.args.self.spelled in
     (simp to_z-of_z at c.in_default-scaled_up.ensures) (w.only fits).1)
 
 pub returns-in_default-scaled_up-2 : goal.returns-in_default-scaled_up-2
 returns-in_default-scaled_up-2 c = not_sum (frac_value c.args.self) (frac_value c.args.other) (λ fits.
-    let w = added c.args.self.num c.args.self.den c.args.other.num c.args.other.den _ c.args.self.spelled c.args.other.spelled c.gcd-common.ensures.greatest in
+    let w = over_least (goal.at.returns-in_default-scaled_up-2 c).After-gcd-common in
     let f : SFits w128 c.args.other.num = frac_fits _ _ c.args.other.spelled in
     (simp to_z-of_z at c.in_default-scaled_up-2.ensures) (w.only fits).2)
 
 pub returns-in_default-bounded_sum : goal.returns-in_default-bounded_sum
 returns-in_default-bounded_sum c = not_sum (frac_value c.args.self) (frac_value c.args.other) (λ fits.
-    let w = added c.args.self.num c.args.self.den c.args.other.num c.args.other.den _ c.args.self.spelled c.args.other.spelled c.gcd-common.ensures.greatest in
+    let w = over_least (goal.at.returns-in_default-bounded_sum c).After-gcd-common in
     let f : SFits w128 c.args.self.num = frac_fits _ _ c.args.self.spelled in
     let g : SFits w128 c.args.other.num = frac_fits _ _ c.args.other.spelled in
     let first = simp to_z-of_z at c.in-Some-scaled_up.ensures in
@@ -40,13 +44,13 @@ returns-in_default-bounded_sum c = not_sum (frac_value c.args.self) (frac_value 
 
 pub reduced-requires : goal.reduced-requires
 reduced-requires c =
-    let w = added c.args.self.num c.args.self.den c.args.other.num c.args.other.den _ c.args.self.spelled c.args.other.spelled c.gcd-common.ensures.greatest in
+    let w = over_least (goal.at.reduced-requires c).After-gcd-common in
     let den = c.in-Some.ensures in
     rw den.1 w.above
 
 pub returns : goal.returns
 returns c =
-    let w = added c.args.self.num c.args.self.den c.args.other.num c.args.other.den _ c.args.self.spelled c.args.other.spelled c.gcd-common.ensures.greatest in
+    let w = over_least (goal.at.returns c).After-gcd-common in
     let den = c.in-Some.ensures in
     let f : SFits w128 c.args.self.num = frac_fits _ _ c.args.self.spelled in
     let g : SFits w128 c.args.other.num = frac_fits _ _ c.args.other.spelled in
