@@ -50,15 +50,15 @@ abbrev pub is_below : ℕ → Option ℕ → Bool
 is_below limit number = option_map_or (λ n. nat_lt n limit) number Bool.false
 
 -- a number below a limit, where one that is not has this reason
-abbrev pub number_tests : ℕ → SolReason → Row → Tests
-number_tests limit wide words =
+abbrev pub limited_tests : ℕ → SolReason → Row → Tests
+limited_tests limit wide words =
     (not (length words == 1), Here BadLine)
     ∷ (not (are_digits (word_at words 0)), Here BadNumber)
     ∷ (not (is_below limit (whole_of (word_at words 0))), Here wide) ∷ []
 
 -- the number of options is from 0 to 9
 abbrev pub count_tests : Row → Tests
-count_tests words = number_tests 10 BadOptions words
+count_tests words = limited_tests 10 BadOptions words
 
 -- the second option is not 3, which announces a further line
 abbrev pub is_three : Option ℤ → Bool
@@ -73,7 +73,7 @@ option_tests before words =
 
 -- at most 2^20 constraints, variables and values
 abbrev pub size_tests : Row → Tests
-size_tests words = number_tests (2 ^ 20 + 1) TooLarge words
+size_tests words = limited_tests (2 ^ 20 + 1) TooLarge words
 
 -- so many values are given: none or all
 abbrev pub is_given_count : ℕ → ℕ → Bool

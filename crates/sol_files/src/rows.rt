@@ -6,7 +6,7 @@ ghost use Rattle.sol_files.specs.declared.fault.Refusal.TheVariants.{Here};
 ghost use Rattle.sol_files.specs.Rows.{number_in, option_in, value_in, both};
 ghost use Rattle.exact_numbers.specs.Numbers.{signed_of};
 ghost use Rattle.sol_files.specs.Built.{IsEmptyOrFull};
-ghost use Rattle.sol_files.specs.Tests.{number_tests, option_tests, given_tests, dec_tests, objno_tests};
+ghost use Rattle.sol_files.specs.Tests.{limited_tests, option_tests, given_tests, dec_tests, objno_tests};
 
 use crate::fault::SolReason;
 use exact_numbers::{Dec, are_digits, dec_of, signed_of, whole_of};
@@ -22,9 +22,9 @@ pub(crate) const MOST_VALUES: u32 = 1_048_576;
 pub(crate) fn read_number(words: &[&[u8]], most: u32, wide: SolReason) -> Result<u32, SolReason>
     ensures value { IfOk result (λ n. n ≡ number_in (texts words.now) 0) }
     ensures most { IfOk result (λ n. n ≤ most) }
-    ensures fine { OnOk result (first_reason (number_tests (most + 1) wide (texts words.now))
+    ensures fine { OnOk result (first_reason (limited_tests (most + 1) wide (texts words.now))
         ≡ None) }
-    ensures fault { IfErr result (λ r. first_reason (number_tests (most + 1) wide (texts words.now))
+    ensures fault { IfErr result (λ r. first_reason (limited_tests (most + 1) wide (texts words.now))
         ≡ Some (Here r)) }
 {
     let word = word_at(words, 0);
