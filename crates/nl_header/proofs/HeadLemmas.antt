@@ -1,6 +1,6 @@
 -- What header lines say, and what is wrong with one, step by step.
 use Rattle.std.proofs.Common.{◌≡◌, ◌∙◌, ℕ, ◌+◌, ◌-◌, ◌<◌, ◌≤◌, Bool, true, false, List, [], ◌∷◌, ◌++◌, length, get_or, take, Option, Some, None, refl, sym, ap, arith, min, unwrap_or, Bor, ◌==◌, ◌&&◌, ℤ, cond, filter_map, set, ◌≢◌, get_or-set_other, get_or-set_same, below_more, suc}
-use Rattle.std.proofs.lemmas.List.{get_or_past, length-map, map_more, length-append, length-set}
+use Rattle.std.proofs.lemmas.List.{get_or_past, length-map, map_more, length-append}
 use Rattle.std.proofs.lemmas.List.Elements.{filter_map-append}
 use Rattle.std.proofs.lemmas.Bool.{eqb-true, ltb-true, ltb-false}
 use Rattle.std.specs.Prelude.{option_to_list, find, option_map, nat_lt}
@@ -116,9 +116,6 @@ unfolding words_fault
 words_fault-end line place words all same none = sym same ∙ ap (words_fault line place) none
 
 -- ---- Numbers that are set one after the other.
-
-pub set-size : (numbers : List ℕ) (i v : ℕ) → length (set numbers i v) ≡ length numbers
-set-size numbers i v = length-set numbers i v
 
 pub set-done : (i : ℕ) (numbers old : List ℕ) (v : ℕ) (f : ℕ → ℕ → ℕ) → i < length numbers → ((k : ℕ) → k < i → get_or numbers k 0 ≡ f k (get_or old k 0)) → ((k : ℕ) → i ≤ k → get_or numbers k 0 ≡ get_or old k 0) → v ≡ f i (get_or numbers i 0) → (k : ℕ) → k < i + 1 → get_or (set numbers i v) k 0 ≡ f k (get_or old k 0)
 set-done i numbers old v f lt done rest this =

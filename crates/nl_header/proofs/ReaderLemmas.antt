@@ -136,9 +136,6 @@ counts_from-in lines = refl
 
 -- ---- The first line.
 
-pub take-all : {A : Type 0} (n : ℕ) (xs : List A) → length xs ≤ n → take n xs ≡ xs
-take-all n xs small = take_all n xs small
-
 too-many : (c n : ℕ) → 5 ≤ n → (nat_le c 4 && (n == c)) ≡ false
 too-many c n many = by (nat_le c 4) refl (n == c) refl
   where
@@ -164,7 +161,7 @@ unfolding first_line_tests
 first_reason-row ws = by (nat_le (length ws) 12) refl
   where
     by : (t : Bool) → nat_le (length ws) 12 ≡ t → first_reason (first_line_tests (take 12 ws)) ≡ first_reason (first_line_tests ws)
-    by true e = ap (λ w. first_reason (first_line_tests w)) (take-all 12 ws (leb-true _ _ e))
+    by true e = ap (λ w. first_reason (first_line_tests w)) (take_all 12 ws (leb-true _ _ e))
     by false e =
         let many : 13 ≤ length ws = omega (arith, leb-false _ _ e) in
         ap (λ w. first_reason ((begins_with 98 w, BinaryFile) ∷ (is_none (option_count (take 12 ws)), BadFirstLine) ∷ (not (has_options (take 12 ws) (unwrap_or (option_count (take 12 ws)) 0)), Options) ∷ [])) (word_at-row ws 0 (omega arith))
@@ -177,7 +174,7 @@ unfolding first_line_tests
 first_row-whole ws clean = by (nat_le (length ws) 12) refl
   where
     by : (t : Bool) → nat_le (length ws) 12 ≡ t → take 12 ws ≡ ws
-    by true e = take-all 12 ws (leb-true _ _ e)
+    by true e = take_all 12 ws (leb-true _ _ e)
     by false e =
         let many : 6 ≤ length ws = omega (arith, leb-false _ _ e) in
         absurd (never (begins_with 98 (word_at ws 0)) (is_none (option_count ws)) BinaryFile BadFirstLine Options
@@ -198,7 +195,7 @@ clean-more before ws clean this = record {
     at i le false e =
         let same : i ≡ length before = omega (arith, ltb-false _ _ e, le) in
         ap (λ j. header_line_fault (take j (before ++ ws ∷ [])) (get_or (before ++ ws ∷ []) j [])) same
-        ∙ ap (λ b. header_line_fault b (get_or (before ++ ws ∷ []) (length before) [])) (take-append-le (length before) before (ws ∷ []) (omega arith) ∙ take-all (length before) before (omega arith))
+        ∙ ap (λ b. header_line_fault b (get_or (before ++ ws ∷ []) (length before) [])) (take-append-le (length before) before (ws ∷ []) (omega arith) ∙ take_all (length before) before (omega arith))
         ∙ ap (header_line_fault before) (get_or-append_seam before ws [] []) ∙ this
 
 no_lines : (before : List (List (List ℕ))) → length before ≡ 0 → before ≡ []
