@@ -2,7 +2,7 @@
 use Rattle.std.proofs.Common.{◌≡◌, ℕ, zero, suc, ◌*◌, ◌<◌, ◌≤◌, ◌^◌, ◌⊎◌, inl, inr, ◌∙◌, sym, ap, subst, refl, arith, ⊎_elim, one-mul, mul-one, Bool, true, false, ℤ, pos, negsuc, ◌*ℤ◌, ◌≤ℤ◌, neg_ℤ, unsigned_abs}
 use Rattle.std.specs.Prelude.{if◌then◌else◌, Option, Some, None, IsTrue, ◌↔◌, ◌||◌, ◌&&◌, not}
 use Rattle.std.proofs.lemmas.Int.{ints, unsigned_abs-mul}
-use Rattle.std.proofs.lemmas.Bool.{cases_lt, false_from_ne_true, or_right}
+use Rattle.std.proofs.lemmas.Bool.{cases_lt, false_from_ne_true, or_right, or_left}
 use Rattle.fractions.specs.Fits.{fits, is_small}
 use Rattle.fractions.specs.Rational.{ℚ, IsWhole, decimal_value, whole, zero_ℚ, neg_ℚ, ◌<ℚ◌}
 use Rattle.fractions.proofs.Arithmetic.{decimal_value_lem, not_both, whole-neg, whole-≤ℚ, whole_of, ≤ℚ_of_<ℚ}
@@ -23,9 +23,6 @@ use Rattle.exact_checks.specs.Terms.{side_value}
 or_cases : (a b : Bool) → a || b ≡ true → (a ≡ true) ⊎ (b ≡ true)
 or_cases true b h = inl refl
 or_cases false b h = inr h
-
-or_first : (a b : Bool) → a ≡ true → a || b ≡ true
-or_first a b h = ap (λ x. x || b) h
 
 neither : (a b : Bool) → (a ≡ true → ⊥) → (b ≡ true → ⊥) → a || b ≡ false
 neither true b h k = absurd (h refl)
@@ -86,7 +83,7 @@ whole_large z h = ⊎_elim (λ (l : unsigned_abs z < 2 ^ 127). absurd (small l))
 
     by : (y : ℤ) → 2 ^ 127 ≤ unsigned_abs y → is_large (whole y) ≡ true
     by (pos n) l =
-        or_first (is_at_most large (whole (pos n))) (is_at_most (whole (pos n)) (neg_ℚ large))
+        or_left (is_at_most large (whole (pos n))) (is_at_most (whole (pos n)) (neg_ℚ large))
         (at_most_of large (whole (pos n)) ((whole-≤ℚ (pos (2 ^ 127)) (pos n)).1 (omega (arith, ints, l))))
     by (negsuc n) l =
         or_right (is_at_most large (whole (negsuc n))) (is_at_most (whole (negsuc n)) (neg_ℚ large))

@@ -7,6 +7,7 @@ use Rattle.std.specs.Prelude.{if◌then◌else◌, option_and_then}
 use Rattle.std.proofs.Math.Nat.{mul-le-mul_right}
 use Rattle.std.proofs.lemmas.Nat.{mul-lt}
 use Rattle.std.proofs.lemmas.Int.{ints, unsigned_abs-mul}
+use Rattle.std.proofs.lemmas.Bool.{and_from}
 use Rattle.fractions.specs.Fits.{fits, sum_fits}
 use Rattle.fractions.specs.LowestLemmas.{gcd_of, is_gcd, size-div}
 use Rattle.fractions.specs.Rational.{ℚ, over, whole, zero_ℚ, ◌-ℚ◌, ◌*ℚ◌, neg_ℚ}
@@ -17,7 +18,7 @@ use Rattle.duality.specs.Checked.{fitting_difference, less_product}
 use Rattle.exact_numbers.specs.declared.frac.Frac.{Frac}
 use Rattle.exact_numbers.specs.Values.{IsQuotientOf, quotient}
 use Rattle.exact_checks.specs.Terms.{value_found}
-use Rattle.exact_numbers.proofs.Bridge.{both_true, frac_of_fits, small_of, sum_fits_in}
+use Rattle.exact_numbers.proofs.Bridge.{frac_of_fits, small_of, sum_fits_in}
 use Rattle.exact_numbers.proofs.Decimals.{abs_is}
 use Rattle.exact_numbers.proofs.Fractions.{added}
 
@@ -42,7 +43,7 @@ unfolding neg_ℚ
 short_neg x h = short_over (neg_ℤ x.top) x.bottom (subst (λ n. n ≤ 2 ^ 63) (sym (neg_size x.top)) h.top) h.bottom
 
 pub short_fits : (x : ℚ) → IsShort x → fits x ≡ true
-short_fits x h = both_true _ _ (small_of _ (lt_of_le_of_lt h.top (lit≤ tt))) (small_of _ (lt_of_lt_of_le h.bottom (lit≤ tt)))
+short_fits x h = and_from _ _ (small_of _ (lt_of_le_of_lt h.top (lit≤ tt))) (small_of _ (lt_of_lt_of_le h.bottom (lit≤ tt)))
 
 part_size : (z : ℤ) (k : ℕ) → unsigned_abs z ≤ 2 ^ 63 → k < 2 ^ 63 → unsigned_abs (z *ℤ pos k) < 2 ^ 126
 part_size z k h l =

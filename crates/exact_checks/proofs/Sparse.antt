@@ -1,7 +1,7 @@
 -- A run over the terms of a list is a run over every index.
-use Rattle.std.proofs.Common.{◌≡◌, ◌≢◌, ℕ, zero, suc, ◌+◌, ◌<◌, ◌≤◌, ◌-◌, ◌==◌, ◌∙◌, ap, subst, refl, arith, Bool, true, false, List, [], ◌∷◌, drop, length, get_or, Option, Some, None}
+use Rattle.std.proofs.Common.{◌≡◌, ◌≢◌, ℕ, zero, suc, ◌+◌, ◌<◌, ◌≤◌, ◌-◌, ◌∙◌, ap, subst, refl, arith, List, [], ◌∷◌, drop, length, get_or, Option, Some, None}
 use Rattle.std.specs.Prelude.{if◌then◌else◌, option_and_then}
-use Rattle.std.proofs.lemmas.Bool.{eqb-true}
+use Rattle.std.proofs.lemmas.Bool.{ne_eqb}
 use Rattle.std.proofs.lemmas.List.{drop_all}
 use Rattle.fractions.specs.Rational.{ℚ, zero_ℚ}
 use Rattle.fractions.proofs.Arithmetic.{zero-is_zero, not-is_zero}
@@ -26,16 +26,8 @@ abbrev pub run_terms : (ℚ → ℕ → ℚ → Option ℚ) → Option ℚ → L
 run_terms step o [] = o
 run_terms step o (t ∷ ts) = run_terms step (option_and_then (λ s. step s t.0 (frac_value t.1)) o) ts
 
--- the tests
-pub unequal : (i j : ℕ) → i ≢ j → (i == j) ≡ false
-unequal i j h = by (i == j) refl
-  where
-    by : (b : Bool) → (i == j) ≡ b → b ≡ false
-    by true e = absurd (h (eqb-true i j e))
-    by false e = refl
-
 pub elsewhere : (t : Term) (ts : List Term) (j : ℕ) → j ≢ t.0 → coef_in (t ∷ ts) j ≡ coef_in ts j
-elsewhere t ts j h = ap (λ b. value_or_zero (if b then Some t.1 else found ts j)) (unequal j t.0 h)
+elsewhere t ts j h = ap (λ b. value_or_zero (if b then Some t.1 else found ts j)) (ne_eqb j t.0 h)
 
 pub before : (from n : ℕ) (ts : List Term) (j : ℕ) → AreTerms from n ts → j < from → coef_in ts j ≡ zero_ℚ
 unfolding AreTerms

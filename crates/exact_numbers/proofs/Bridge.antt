@@ -1,5 +1,5 @@
 -- From pairs of one value to equal numbers, and back.
-use Rattle.std.proofs.Common.{◌≡◌, ◌≢◌, ◌⊎◌, inr, ℕ, zero, suc, ◌*◌, ◌/◌, ◌<◌, ◌^◌, ◌∙◌, sym, ap, ap₂, refl, subst, arith, mul-pos, mul_comm, Bool, true, false, ◌&&◌, ℤ, pos, negsuc, ◌+ℤ◌, ◌*ℤ◌, ◌<ℤ◌, neg_ℤ, unsigned_abs, int_lt, Option, Some, None, MatchOption, ◌↔◌, Less, Equal, Greater, int_cmp, mul-one}
+use Rattle.std.proofs.Common.{◌≡◌, ◌≢◌, ◌⊎◌, inr, ℕ, zero, suc, ◌*◌, ◌/◌, ◌<◌, ◌^◌, ◌∙◌, sym, ap, ap₂, refl, subst, arith, mul-pos, mul_comm, true, false, ℤ, pos, negsuc, ◌+ℤ◌, ◌*ℤ◌, ◌<ℤ◌, neg_ℤ, unsigned_abs, int_lt, Option, Some, None, MatchOption, ◌↔◌, Less, Equal, Greater, int_cmp, mul-one}
 use Prim.Native.Nat.{◌∣◌}
 use Rattle.std.proofs.Math.Nat.{dvd-mul_left, div-mul_cancel, eq_of_mul-eq-mul_right}
 use Rattle.std.specs.Int.{int_signum}
@@ -7,7 +7,7 @@ use Rattle.exact_numbers.proofs.Signed.{sizes_of}
 use Rattle.std.specs.declared.cmp.Ordering.{Ordering}
 use Rattle.std.specs.Ordering.{MatchOrdering}
 use Rattle.std.specs.Cmp.{int_ranks}
-use Rattle.std.proofs.lemmas.Bool.{ltb-true, lt-ltb, false_from_ne_true}
+use Rattle.std.proofs.lemmas.Bool.{ltb-true, lt-ltb, false_from_ne_true, and_from, and_parts}
 use lib.IntN.{*ℤ_comm, zero-*ℤ}
 use borrow.Author.Differences.{up, down}
 use Rattle.fractions.specs.Divisors.{AreCoprime}
@@ -37,25 +37,17 @@ small_of k h = lt-ltb k (2 ^ 127) h
 pub small_out : (k : ℕ) → is_small k ≡ true → k < 2 ^ 127
 small_out k e = ltb-true k (2 ^ 127) e
 
-pub both_true : (a b : Bool) → a ≡ true → b ≡ true → a && b ≡ true
-both_true true b p q = q
-both_true false b p q = absurd (cc)
-
-pub and_true : (a b : Bool) → a && b ≡ true → (a ≡ true) × (b ≡ true)
-and_true true b e = (refl, e)
-and_true false b e = absurd (cc)
-
 -- ---- fractions
 -- the two numbers of a Frac fit
 pub frac_fits_lem : (f : Frac) → fits (frac_value f) ≡ true
-frac_fits_lem f = both_true _ _ (small_of _ f.spelled.size) (small_of _ f.spelled.small)
+frac_fits_lem f = and_from _ _ (small_of _ f.spelled.size) (small_of _ f.spelled.small)
 
 pub frac_of_fits : (x : ℚ) → fits x ≡ true → IsFrac x.top x.bottom
-frac_of_fits x e = let both = and_true _ _ e in record { size = small_out _ both.0; above = x.above; small = small_out _ both.1; reduced = x.lowest }
+frac_of_fits x e = let both = and_parts _ _ e in record { size = small_out _ both.0; above = x.above; small = small_out _ both.1; reduced = x.lowest }
 
 pub whole_fits : (z : ℤ) → unsigned_abs z < 2 ^ 127 → fits (whole z) ≡ true
 unfolding whole
-whole_fits z h = both_true _ _ (small_of (unsigned_abs z) h) refl
+whole_fits z h = and_from _ _ (small_of (unsigned_abs z) h) refl
 
 fits_out : (x : ℚ) (y : Fraction) → Is x y → fits x ≡ true → HasFrac y
 fits_out x y h e = record { num = x.top; den = x.bottom; frac = frac_of_fits x e; same = record { equal = h.equal } }
@@ -75,7 +67,7 @@ pub in_range : (x : ℚ) (y : Fraction) → Is x y → HasFrac y → fits x ≡ 
 in_range x y h f =
     let z : ℚ = record { top = f.num; bottom = f.den; above = f.frac.above; lowest = f.frac.reduced } in
     let k : HasValue z y.top y.bottom = record { above = h.above; equal = f.same.equal } in
-    subst (λ w. fits w ≡ true) (same_over k h refl) (both_true _ _ (small_of _ f.frac.size) (small_of _ f.frac.small))
+    subst (λ w. fits w ≡ true) (same_over k h refl) (and_from _ _ (small_of _ f.frac.size) (small_of _ f.frac.small))
 
 -- a Frac that has the value of a pair
 pub fitting : (f : Frac) (x : ℚ) (y : Fraction) → Is x y → SameValue (pair f.num f.den) y → (fits x ≡ true) × (frac_value f ≡ x)
@@ -87,7 +79,7 @@ fitting_parts n d above lowest frac x y h e =
     let z : ℚ = record { top = n; bottom = d; above = above; lowest = lowest } in
     let k : HasValue z y.top y.bottom = record { above = h.above; equal = e.equal } in
     let same : z ≡ x = same_over k h refl in
-    (subst (λ w. fits w ≡ true) same (both_true _ _ (small_of _ frac.size) (small_of _ frac.small)), same)
+    (subst (λ w. fits w ≡ true) same (and_from _ _ (small_of _ frac.size) (small_of _ frac.small)), same)
 
 pub frac_is : (f : Frac) (p : ℤ) (q : ℕ) → f.num ≡ p → f.den ≡ q → frac_value f ≡ over p q
 frac_is f p q e d = sym (over_parts (frac_value f)) ∙ ap₂ over e d
@@ -108,13 +100,13 @@ pub sum_fits_in : (x y : ℚ) → SumFits x.top x.bottom y.top y.bottom → sum_
 sum_fits_in x y f =
     let same : f.m ≡ least_multiple x.bottom y.bottom = same_lcm x.bottom y.bottom f.m _ f.least (lcm_is x.bottom y.bottom) in
     subst (λ m. sum_over_multiple m x y ≡ true) same
-    (both_true _ _ (both_true _ _ (both_true _ _ (small_of _ f.denominator) (small_of _ f.first)) (small_of _ f.second)) (small_of _ f.sum))
+    (and_from _ _ (and_from _ _ (and_from _ _ (small_of _ f.denominator) (small_of _ f.first)) (small_of _ f.second)) (small_of _ f.sum))
 
 pub sum_fits_out : (x y : ℚ) → sum_fits x y ≡ true → SumFits x.top x.bottom y.top y.bottom
 sum_fits_out x y e =
-    let last = and_true _ _ e in
-    let third = and_true _ _ last.0 in
-    let two = and_true _ _ third.0 in
+    let last = and_parts _ _ e in
+    let third = and_parts _ _ last.0 in
+    let two = and_parts _ _ third.0 in
     record {
       m = least_multiple x.bottom y.bottom;
       least = lcm_is x.bottom y.bottom;

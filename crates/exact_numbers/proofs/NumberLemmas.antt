@@ -24,7 +24,7 @@ use Rattle.exact_numbers.specs.declared.read.NumFault.{NumFault}
 use Rattle.exact_numbers.specs.declared.read.NumFault.TheVariants.{NotNumber, TooWide}
 use Rattle.exact_numbers.proofs.Spelling.{decimal_of-decimal, fits_dec_in, fits_dec_out, fits_dec-value}
 pub use Rattle.exact_numbers.specs.SpelledLemmas.{first_of_both, second_of_both}
-pub use Rattle.exact_numbers.proofs.Bridge.{both_true as both}
+pub use Rattle.std.proofs.lemmas.Bool.{and_from as both}
 use Rattle.exact_numbers.specs.Numbers.{are_digits, are_any_digits, is_exponent, is_dec_text, dec_where, dec_from, dec_of, whole_of, signed_of, has_31_bits}
 
 pub any_digits : (word : List ℕ) → AllDigits 10 word → are_any_digits word ≡ true

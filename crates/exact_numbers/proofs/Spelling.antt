@@ -1,7 +1,7 @@
 -- The one spelling of the value of a Dec.
 use Rattle.std.proofs.Common.{◌≡◌, ◌≢◌, ℕ, zero, suc, ◌+◌, ◌*◌, ◌/◌, ◌%◌, ◌^◌, ◌<◌, ◌≤◌, ◌&&◌, not, ⊎_elim, ◌∙◌, sym, ap, ap₂, refl, arith, subst, ℤ, pos, negsuc, ◌+ℤ◌, ◌-ℤ◌, ◌*ℤ◌, ◌≤ℤ◌, ◌<ℤ◌, neg_ℤ, unsigned_abs, int_div, nat_eq, Bool, true, false, cond, mul_comm, mul-pos, pow-add}
 use Rattle.std.proofs.Math.Nat.{mul-mod_left, eq_of_mul-eq-mul_right, div-add-mod', mul-div_cancel, zero-div}
-use Rattle.std.proofs.lemmas.Bool.{cases_eq, or_right, ne_eqb, eq-eqb, eqb-true, le-leb}
+use Rattle.std.proofs.lemmas.Bool.{cases_eq, or_right, ne_eqb, eq-eqb, eqb-true, le-leb, and_from}
 use Rattle.std.proofs.lemmas.Int.{ints, by_lt_z, unsigned_abs-mul}
 use borrow.Author.Differences.{up, down, same_in}
 use Rattle.fractions.specs.Rational.{ℚ, decimal_value}
@@ -13,7 +13,7 @@ use Rattle.exact_numbers.proofs.Pairs.{scaled}
 use Rattle.exact_numbers.proofs.Tens.{ten-pos, zeros-le}
 use Rattle.exact_numbers.proofs.Signed.{sizes_of, times_twice}
 use Rattle.exact_numbers.proofs.Decimals.{abs_is}
-use Rattle.exact_numbers.proofs.Bridge.{Is, decimal_is, zero_decimal, small_of, both_true}
+use Rattle.exact_numbers.proofs.Bridge.{Is, decimal_is, zero_decimal, small_of}
 use Rattle.exact_numbers.proofs.Fractions.{signed_times}
 use Rattle.fractions.proofs.Values.{own_value, same_value}
 use Rattle.fractions.proofs.Arithmetic.{zero_top, top_zero}
@@ -133,13 +133,13 @@ spelled_in m e dec = ⊎_elim zero_case other (cases_eq (unsigned_abs m % 10) 0)
         ap₂ (λ a b. is_spelled a b) both.0 both.1
 
     other : unsigned_abs m % 10 ≢ 0 → is_spelled m e ≡ true
-    other odd = or_right _ _ (both_true _ _ (both_true _ _ (small_of _ dec.mantissa) (le-leb _ _ dec.exponent)) (ap not (ne_eqb _ _ odd)))
+    other odd = or_right _ _ (and_from _ _ (and_from _ _ (small_of _ dec.mantissa) (le-leb _ _ dec.exponent)) (ap not (ne_eqb _ _ odd)))
 
 pub fits_dec_in : (x : ℚ) → FitsDec x → fits_dec x ≡ true
 unfolding fits_dec
 fits_dec_in x f = subst (λ y. (is_spelled (decimal_of y).mantissa (decimal_of y).exponent && is_multiple y (decimal_of y).exponent) ≡ true) f.same
     (subst (λ d. (is_spelled d.mantissa d.exponent && is_multiple (decimal_value f.m f.e) d.exponent) ≡ true) (sym (decimal_of-decimal f.m f.e f.dec))
-    (both_true _ _ (spelled_in f.m f.e f.dec) (multiple_at (decimal_value f.m f.e) f.m f.e (decimal_is f.m f.e))))
+    (and_from _ _ (spelled_in f.m f.e f.dec) (multiple_at (decimal_value f.m f.e) f.m f.e (decimal_is f.m f.e))))
 
 pub fits_dec-value : (x : ℚ) → fits_dec x ≡ true → decimal_value (decimal_of x).mantissa (decimal_of x).exponent ≡ x
 unfolding fits_dec

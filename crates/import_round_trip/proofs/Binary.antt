@@ -8,12 +8,11 @@ use Rattle.std.specs.declared.cmp.Ordering.{Ordering}
 use Rattle.std.specs.declared.cmp.Ordering.TheVariants.{Less, Equal, Greater}
 use Rattle.std.specs.Cmp.{int_ranks}
 use Rattle.std.proofs.lemmas.Int.{ints}
-use Rattle.std.proofs.lemmas.Bool.{ltb-true, ltb-false}
+use Rattle.std.proofs.lemmas.Bool.{ltb-true, ltb-false, and_parts}
 use Rattle.std.proofs.lemmas.List.{get_or-map, get_or_append_left, get_or-append_right}
 use Rattle.std.proofs.lemmas.List.Sums.{sum_by-cons}
 use Rattle.exact_numbers.specs.declared.dec.Dec.{Dec}
 use Rattle.exact_numbers.specs.Values.{dec_value, order_of}
-use Rattle.exact_numbers.proofs.Bridge.{and_true}
 use Rattle.fractions.specs.Rational.{ℚ, zero_ℚ, one_ℚ, whole}
 use Rattle.program_meaning.specs.Linear.{Interval}
 use Rattle.linear_program.specs.Intervals.{interval_of}
@@ -88,7 +87,7 @@ module _ (m : Mps Dec) (j : ℕ) where
       let from : length firsts ≤ j = omega (arith, place.0, size) in
       let below : j - length firsts < length seconds = omega (arith, place.0, place.1, size) in
       let here = get_or-append_right firsts (seconds ++ thirds) (length firsts) j 0 refl from ∙ get_or_append_left seconds thirds 0 (j - length firsts) below in
-      subst (λ k. z k ≡ true) (sym here) (and_true (w (get_or seconds (j - length firsts) 0)) (z (get_or seconds (j - length firsts) 0)) (all_places (λ k. w k && z k ≡ true) (λ k. w k && z k) n (λ k h e. e) (j - length firsts) 0 below)).1
+      subst (λ k. z k ≡ true) (sym here) (and_parts (w (get_or seconds (j - length firsts) 0)) (z (get_or seconds (j - length firsts) 0)) (all_places (λ k. w k && z k ≡ true) (λ k. w k && z k) n (λ k h e. e) (j - length firsts) 0 below)).1
 
 -- ---- its sides
 
@@ -118,7 +117,7 @@ within_unit s e = by s.lo s.hi e
     by None hi e = absurd (let r = e in cc)
     by (Some lo) None e = absurd (let r = e in cc)
     by (Some lo) (Some hi) e =
-        let both = and_true (is_ge (order_of (dec_value lo) zero_ℚ)) (is_le (order_of (dec_value hi) one_ℚ)) e in
+        let both = and_parts (is_ge (order_of (dec_value lo) zero_ℚ)) (is_le (order_of (dec_value hi) one_ℚ)) e in
         let low = at_least (dec_value lo) both.0 in
         let high = turned ((dec_value hi).top *ℤ pos one_ℚ.bottom) (one_ℚ.top *ℤ pos (dec_value hi).bottom) both.1 in
         ap₂ ◌&&◌ low high

@@ -1,7 +1,7 @@
 -- What the fold of one owner finds in its file, and where its fault is.
 use Rattle.std.proofs.Common.{◌≡◌, ◌⊎◌, inl, inr, ℕ, zero, suc, ◌+◌, ◌-◌, ◌^◌, ◌<◌, ◌≤◌, ◌∙◌, sym, ap, refl, subst, subst₂, arith, ⊎_elim, Bool, true, false, nat_lt, ◌==◌, not, ◌&&◌, ◌||◌, IsTrue, is_some, pos, if◌then◌else◌, Option, Some, None, IfSome, option_map, option_and_then, List, [], ◌∷◌, ◌++◌, length, take, get_or, slice_get, All, append_assoc, append-nil}
 use Rattle.std.specs.Option.{option_or, option_map_or}
-use Rattle.std.proofs.lemmas.Bool.{lt-ltb, le-ltb}
+use Rattle.std.proofs.lemmas.Bool.{lt-ltb, le-ltb, ne_eqb}
 use Rattle.std.proofs.lemmas.Option.{get_or_from_slice_get, slice_get_within}
 use Rattle.std.proofs.lemmas.List.Sums.{get_or-le-sum_by}
 use Rattle.fractions.specs.Rational.{decimal_value}
@@ -34,7 +34,6 @@ use Rattle.linear_program.specs.Coefs.{AreAscending}
 use Rattle.linear_program.specs.Forms.{IsWithin, form_line, form_terms}
 use Rattle.linear_fold.specs.InsideFolds.{AreKnown, AreSlotsWithin, AreTreesGiven, HasLineOf, IsExpressionFolded, IsGiven, IsTreeGiven}
 use Rattle.linear_fold.specs.InsideOwnerFolds.{AreSlotsOf, HasOwner, IsFormOf, definitions_before, expression_at, known_by, owned_at}
-use Rattle.linear_program.proofs.CoefLemmas.{apart_test}
 use Rattle.linear_fold.proofs.CountLemmas.{count_zero, form_count_is}
 use Rattle.linear_fold.proofs.Folding.{constant_lined, is_line_of}
 use Rattle.exact_numbers.proofs.Zeros.{fits_zero}
@@ -223,7 +222,7 @@ module _ (f : File) (o : Owner) (before : ℕ) where
 -- ---- the head of an owner with a coefficient
 head_of : (t : Option Tree) (ts : List Term) → (t ≡ None → ts ≡ [] → ⊥) → IsTrue (is_some t || not (length ts == 0))
 head_of None [] h = absurd (h refl refl)
-head_of None (t ∷ ts) h = ap not (apart_test (length (t ∷ ts)) 0 (λ e. omega arith))
+head_of None (t ∷ ts) h = ap not (ne_eqb (length (t ∷ ts)) 0 (λ e. omega arith))
 head_of (Some t) ts h = refl
 
 -- a missing tree without terms has no coefficients

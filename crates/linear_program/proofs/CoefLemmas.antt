@@ -1,6 +1,6 @@
 -- The coefficients that lists of terms give.
 use Rattle.std.proofs.Common.{◌≡◌, ◌≢◌, ℕ, zero, suc, ◌<◌, ◌≤◌, ◌∙◌, sym, ap, ap₂, refl, subst, arith, ⊎_elim, Bool, true, false, ◌==◌, if◌then◌else◌, Some, None, List, [], ◌∷◌, ◌++◌, length, get_or}
-use Rattle.std.proofs.lemmas.Bool.{cases_eq, eq-eqb, eqb-true}
+use Rattle.std.proofs.lemmas.Bool.{cases_eq, eq-eqb, ne_eqb}
 use Rattle.exact_numbers.specs.declared.frac.Frac.{Frac}
 use Rattle.exact_numbers.specs.Values.{frac_value}
 use Rattle.fractions.specs.Rational.{ℚ, zero_ℚ, ◌+ℚ◌, ◌*ℚ◌}
@@ -9,18 +9,11 @@ use Rattle.program_meaning.specs.Lines.{one_if}
 use Rattle.program_meaning.proofs.LineLemmas.{same-eqb, apart-eqb}
 use Rattle.linear_program.specs.Coefs.{Term, found, AreAscending, AreBelow}
 
-pub apart_test : (i j : ℕ) → i ≢ j → i == j ≡ false
-apart_test i j n = by (i == j) refl
-  where
-    by : (b : Bool) → i == j ≡ b → b ≡ false
-    by true e = absurd (n (eqb-true i j e))
-    by false e = refl
-
 pub found_same : (t : Term) (ts : List Term) (j : ℕ) → j ≡ t.0 → found (t ∷ ts) j ≡ Some t.1
 found_same t ts j e = ap (λ b. if b then Some t.1 else found ts j) (eq-eqb j t.0 e)
 
 pub found_apart : (t : Term) (ts : List Term) (j : ℕ) → j ≢ t.0 → found (t ∷ ts) j ≡ found ts j
-found_apart t ts j n = ap (λ b. if b then Some t.1 else found ts j) (apart_test j t.0 n)
+found_apart t ts j n = ap (λ b. if b then Some t.1 else found ts j) (ne_eqb j t.0 n)
 
 -- nothing stands below the first, and nothing from the bound on
 pub found_before : (n : ℕ) (ts : List Term) (j : ℕ) → AreAscending n ts → j < n → found ts j ≡ None

@@ -4,14 +4,13 @@ use Rattle.std.specs.Prelude.{IsTrue, slice_index_or, unwrap_or}
 use Rattle.std.specs.List.{AllByRecursion, list_all, filter_map, flat_map}
 use Rattle.std.specs.Fmt.{decimal, signed_decimal}
 use Rattle.std.proofs.Math.Bool.{and-false}
-use Rattle.std.proofs.lemmas.Bool.{ltb-true, leb-true, le-leb, le-ltb, eqb-true, eq-eqb, not-true}
+use Rattle.std.proofs.lemmas.Bool.{ltb-true, leb-true, le-leb, le-ltb, eqb-true, eq-eqb, not-true, and_parts}
 use Rattle.std.proofs.lemmas.Bool.Decides.{nat_tests}
 use Rattle.std.proofs.lemmas.List.{length-map, map-append}
 use Rattle.texts.specs.Judged.{first_reason}
 use Rattle.texts.specs.Words.{word_at}
 use Rattle.code_tables.specs.declared.field.Field.{Field}
 use Rattle.code_tables.specs.Header.{header_rows, field_at}
-use Rattle.exact_numbers.proofs.Bridge.{and_true}
 use Rattle.nl_header.specs.Head.{header_line_fault, number_line_fault, words_fault, word_tests, field_tests, must_be_zero, limit_of, lacks_number, rule_tests, first_line_tests, counts_in, counts_by, options_in, number_in}
 use Rattle.exact_numbers.specs.Numbers.{has_31_bits, signed_of, whole_of}
 use Rattle.exact_numbers.proofs.NumberLemmas.{signed_of-signed_decimal}
@@ -37,7 +36,7 @@ IsSmall z = has_31_bits z ≡ true
 
 pub all_from : {X : Type 0} (p : X → Bool) (xs : List X) → list_all p xs ≡ true → AllByRecursion (λ x. p x ≡ true) xs
 all_from p [] e = tt
-all_from p (x ∷ xs) e = let two = and_true (p x) (list_all p xs) e in (two.0, all_from p xs two.1)
+all_from p (x ∷ xs) e = let two = and_parts (p x) (list_all p xs) e in (two.0, all_from p xs two.1)
 
 options_read : (options : List ℤ) → AllByRecursion IsSmall options → filter_map signed_of (map signed_decimal options) ≡ options
 options_read [] all = refl
@@ -102,8 +101,8 @@ open_fields : (line place : ℕ) (ns : List ℕ) → are_open line place ns ≡ 
 open_fields line place [] e small = tt
 open_fields line place (n ∷ ns) e small =
     let f = field_at line place in
-    let both = and_true (not (must_be_zero f) && (limit_of f == 2 ^ 31)) (are_open line (place + 1) ns) e in
-    let this = and_true (not (must_be_zero f)) (limit_of f == 2 ^ 31) both.0 in
+    let both = and_parts (not (must_be_zero f) && (limit_of f == 2 ^ 31)) (are_open line (place + 1) ns) e in
+    let this = and_parts (not (must_be_zero f)) (limit_of f == 2 ^ 31) both.0 in
     let lt : n < 2 ^ 31 = small.0 in
     (free_field f n (2 ^ 31) (not-true (must_be_zero f) this.0) (eqb-true (limit_of f) (2 ^ 31) this.1) (omega (arith, lt)), open_fields line (place + 1) ns both.1 small.1)
 
@@ -218,13 +217,13 @@ pub record IsHeaderReady (options : List ℤ) (c : Counts) : Type 0 where
 pub header_ready : (options : List ℤ) (c : Counts) → IsTrue (is_header options c) → list_all has_31_bits options ≡ true → IsHeaderReady options c
 unfolding is_header
 header_ready options c h small =
-    let two = and_true (are_options options) (are_counts c) h in
-    let front = and_true (nat_le (length options) 4) (not (has_second_three options)) two.0 in
-    let p5 = and_true (are_numbers c && has_no_refused c && are_sizes_within c && are_shared_within c && are_whole_within c) (are_definitions_within c) two.1 in
-    let p4 = and_true (are_numbers c && has_no_refused c && are_sizes_within c && are_shared_within c) (are_whole_within c) p5.0 in
-    let p3 = and_true (are_numbers c && has_no_refused c && are_sizes_within c) (are_shared_within c) p4.0 in
-    let p2 = and_true (are_numbers c && has_no_refused c) (are_sizes_within c) p3.0 in
-    let p1 = and_true (are_numbers c) (has_no_refused c) p2.0 in
+    let two = and_parts (are_options options) (are_counts c) h in
+    let front = and_parts (nat_le (length options) 4) (not (has_second_three options)) two.0 in
+    let p5 = and_parts (are_numbers c && has_no_refused c && are_sizes_within c && are_shared_within c && are_whole_within c) (are_definitions_within c) two.1 in
+    let p4 = and_parts (are_numbers c && has_no_refused c && are_sizes_within c && are_shared_within c) (are_whole_within c) p5.0 in
+    let p3 = and_parts (are_numbers c && has_no_refused c && are_sizes_within c) (are_shared_within c) p4.0 in
+    let p2 = and_parts (are_numbers c && has_no_refused c) (are_sizes_within c) p3.0 in
+    let p1 = and_parts (are_numbers c) (has_no_refused c) p2.0 in
     let rows = rows_of c in
     let all = small_rows (get_or rows 0 [] ∷ (c.n_lcon ∷ []) ∷ drop 1 rows) (all_from (λ n. nat_lt n (2 ^ 31)) (numbers_of c) p1.0) in
     record {

@@ -3,10 +3,9 @@ use Rattle.std.proofs.Common.{◌≡◌, ℕ, zero, suc, ◌^◌, ◌<◌, ◌==
 use Rattle.std.specs.Prelude.{IfSome, slice_index, codes, option_map, option_and_then}
 use Rattle.std.specs.List.{AllByRecursion, list_all, filter_map, cons_option}
 use Rattle.std.specs.Str.Parse.{digits_value, signed_digits_value, without_leading_sign}
-use Rattle.std.proofs.lemmas.Bool.{cond_both, ltb-true}
+use Rattle.std.proofs.lemmas.Bool.{cond_both, ltb-true, and_parts}
 use Rattle.texts.specs.Words.{is_blank, ends_word, onto_word, words_of, row_of, word_at, up_to_comment, without_comment}
 use Rattle.exact_numbers.specs.Numbers.{are_digits, has_31_bits, whole_of, signed_of}
-use Rattle.exact_numbers.proofs.Bridge.{and_true}
 use Rattle.std.specs.Str.{bytes_eq}
 use Rattle.texts.specs.Names.{is_name}
 use Rattle.nl_model.specs.declared.header_counts.Counts.{Counts}
@@ -72,14 +71,14 @@ whole_small : (word : List ℕ) → IfSome (whole_of word) (λ n. n < 2 ^ 31)
 unfolding whole_of
 whole_small word =
     let n = digits_value 10 word in
-    cond_both (are_digits word && nat_lt n (2 ^ 31)) (Some n) None (λ o. IfSome o (λ n. n < 2 ^ 31)) (λ t. ltb-true n (2 ^ 31) (and_true (are_digits word) _ t).1) (λ f. tt)
+    cond_both (are_digits word && nat_lt n (2 ^ 31)) (Some n) None (λ o. IfSome o (λ n. n < 2 ^ 31)) (λ t. ltb-true n (2 ^ 31) (and_parts (are_digits word) _ t).1) (λ f. tt)
 
 signed_small : (word : List ℕ) → IfSome (signed_of word) (λ z. has_31_bits z ≡ true)
 unfolding signed_of
 signed_small word =
     let digits = are_digits (without_leading_sign word) in
     let z = signed_digits_value 10 word in
-    cond_both (digits && has_31_bits z) (Some z) None (λ o. IfSome o (λ z. has_31_bits z ≡ true)) (λ t. (and_true digits _ t).1) (λ f. tt)
+    cond_both (digits && has_31_bits z) (Some z) None (λ o. IfSome o (λ z. has_31_bits z ≡ true)) (λ t. (and_parts digits _ t).1) (λ f. tt)
 
 -- the options of a first line are small
 pub options_small : (words : List (List ℕ)) → list_all has_31_bits (filter_map signed_of words) ≡ true
@@ -164,7 +163,7 @@ module _ (c : Counts) (words : List (List ℕ)) (no_comment : HasNoMark (name_in
   suffix =
       branch (length words == 3 && is_name (word_at words 2)) _ None
       (λ e. two of_kind (λ kind n small. branch (nat_lt kind 256) _ None
-      (λ few no. record { kind_small = ltb-true kind 256 few; count = small; is = (and_true (length words == 3) _ e).1; no_comment = no_comment; no_sets = no }) tt)) tt
+      (λ few no. record { kind_small = ltb-true kind 256 few; count = small; is = (and_parts (length words == 3) _ e).1; no_comment = no_comment; no_sets = no }) tt)) tt
 
   pub good_head : Good (head_of c words)
   unfolding head_of

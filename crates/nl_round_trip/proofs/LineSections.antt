@@ -5,7 +5,6 @@ use Rattle.std.specs.Ordering.{int_eq}
 use Rattle.std.proofs.lemmas.Bool.Decides.{Decides-int_eq}
 use Rattle.std.specs.Str.{bytes_eq}
 use Rattle.texts.specs.Judged.{first_reason}
-use Rattle.exact_numbers.proofs.Bridge.{and_true}
 use Rattle.exact_numbers.specs.declared.dec.Dec.{Dec}
 use Rattle.fractions.specs.Rational.{decimal_value}
 use Rattle.nl_model.specs.declared.header_counts.Counts.{Counts}
@@ -39,7 +38,7 @@ use Rattle.nl_round_trip.specs.InsideStandings.{rank, IsStanding, Reaches}
 use Rattle.nl_round_trip.proofs.StandingMore.{added_reaches, not_repeated, standing_as, piece_added, reaches_none, standing_more, standing_up, same_standing}
 use Rattle.nl_round_trip.proofs.PairPieces.{uncounted, decimal_no_head}
 use Rattle.nl_segments.proofs.PairHeld.{columns-append as columns_more}
-use Rattle.std.proofs.lemmas.Bool.{eq-eqb}
+use Rattle.std.proofs.lemmas.Bool.{eq-eqb, and_parts}
 use Rattle.std.proofs.lemmas.List.Sums.{sum_by-cons, length-filter, count_by-le-length}
 use Rattle.std.specs.Fmt.{decimal}
 use Rattle.nl_model.specs.File.{Term}
@@ -60,7 +59,7 @@ digit_word b low = plain-word (b ∷ []) (omega arith) (omega arith, tt)
 -- numbers that are written with the same mantissa and exponent are the same
 same_some : (a b : Dec) → is_same a b ≡ true → Some a ≡ Some b
 same_some a b e =
-    let parts = and_true (int_eq a.m b.m) (int_eq a.e b.e) e in
+    let parts = and_parts (int_eq a.m b.m) (int_eq a.e b.e) e in
     sym (dec_from-some a) ∙ ap₂ (λ m e. dec_from (decimal_value m e)) (same_int a.m b.m parts.0) (same_int a.e b.e parts.1) ∙ dec_from-some b
   where
     same_int : (x y : ℤ) → int_eq x y ≡ true → x ≡ y

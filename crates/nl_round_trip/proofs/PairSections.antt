@@ -30,13 +30,12 @@ use Rattle.nl_round_trip.proofs.PairPieces.{IsTermBelow, each_small, pairs_more,
 use Rattle.nl_round_trip.proofs.StandingMore.{Adds, added_reaches, added_then, not_repeated, suffixes_more, same_standing, standing_as, piece_added, reaches_none, same_reach, reaches_then, said_whole}
 use Rattle.std.proofs.lemmas.List.Sums.{sum_by-cons}
 use Rattle.std.proofs.lemmas.Option.{slice_get_within, get_or_from_slice_get, slice_get-get_or}
-use Rattle.std.proofs.lemmas.Bool.{lt-ltb, eqb-true, false_from_ne_true, lt-leb}
+use Rattle.std.proofs.lemmas.Bool.{lt-ltb, eqb-true, false_from_ne_true, lt-leb, and_parts}
 use Rattle.std.specs.Fmt.{decimal}
 use Rattle.std.proofs.lemmas.List.Folds.{list_any_none, list_any-append}
 use Rattle.std.specs.Str.{bytes_eq}
 use Rattle.std.proofs.lemmas.Bool.Decides.{nat_tests}
 use Rattle.texts.specs.Names.{is_name}
-use Rattle.exact_numbers.proofs.Bridge.{and_true}
 use Rattle.written_texts.specs.Words.{IsKeptWord}
 use Rattle.nl_round_trip.specs.Writable.{IsWritableSuffix}
 use Rattle.std.proofs.lemmas.List.Elements.{recursion_from_All}
@@ -290,8 +289,8 @@ suffix_at n s = pair_piece n (suffix_words s) (suffix_head_of s) s.values
 -- a name is a word
 name_parts : (name : List ℕ) → is_name name ≡ true → (slice_index name 0 == 35) ≡ false → IsKeptWord name
 name_parts name e front =
-    let two = and_true (not (length name == 0) && nat_le (length name) 255) _ e in
-    let some = and_true (not (length name == 0)) (nat_le (length name) 255) two.0 in
+    let two = and_parts (not (length name == 0) && nat_le (length name) 255) _ e in
+    let some = and_parts (not (length name == 0)) (nat_le (length name) 255) two.0 in
     record { is = record { some = not_none (length name) some.0; bytes = two.1 }; front = front }
   where
     not_none : (k : ℕ) → not (k == 0) ≡ true → 0 < k

@@ -1,7 +1,6 @@
 -- What complete pieces say, one after the other: options, terms, intervals, guesses, suffixes and expressions.
 use Rattle.std.proofs.Common.{◌≡◌, ◌∙◌, ℕ, ◌+◌, ◌<◌, ◌≤◌, true, ℤ, List, [], ◌∷◌, ◌++◌, refl, sym, subst, nat_le, nat_lt, slice_set, Some, append_assoc, append-nil, zero, suc, ◌^◌, length, get_or, arith, All, length-append, Option, None}
-use Rattle.std.proofs.lemmas.Bool.{ltb-true, leb-true}
-use Rattle.exact_numbers.proofs.Bridge.{and_true}
+use Rattle.std.proofs.lemmas.Bool.{ltb-true, leb-true, and_parts}
 use Rattle.nl_model.specs.declared.header_counts.Counts.{Counts}
 use Rattle.nl_model.specs.Draft.{Draft}
 use Rattle.nl_model.specs.HeaderRules.{defined_count}
@@ -342,7 +341,7 @@ trees_step o c before p (DefinitionHead i j u) s k =
     let q = at p (DefinitionHead i j u) in
     let t = good_tree o c before q s refl in
     let x : Definition = record { index = i; terms = piece_pairs q; usage = u; tree = piece_tree c q } in
-    let within = and_true (nat_le c.n_var i) (nat_lt i (c.n_var + defined_count c)) s.sound.range in
+    let within = and_parts (nat_le c.n_var i) (nat_lt i (c.n_var + defined_count c)) s.sound.range in
     let sum = sum_by_push (λ (d : Definition). tree_size d.tree) d.definitions x in
     let few_terms : length (piece_pairs q) ≤ most_terms = omega (arith, s.few, pairs-append is_linear before q refl) in
     let is : IsDefinition c.n_var (defined_count c) d.definitions x = record {

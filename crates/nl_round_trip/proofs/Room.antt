@@ -4,7 +4,7 @@ use Rattle.std.specs.Prelude.{IfSome, IsTrue, codes, sum_by}
 use Rattle.std.specs.List.{AllByRecursion, list_all, flat_map}
 use Rattle.std.specs.Fmt.{decimal, signed_decimal}
 use Rattle.std.specs.Option.{option_map_or}
-use Rattle.std.proofs.lemmas.Bool.{eqb-true, leb-true}
+use Rattle.std.proofs.lemmas.Bool.{eqb-true, leb-true, and_parts}
 use Rattle.std.proofs.lemmas.Bool.Decides.{Decides-eqb}
 use Rattle.std.proofs.lemmas.Grind.{flat_map-append}
 use Rattle.std.proofs.lemmas.List.{get_or-map, length-map}
@@ -16,7 +16,6 @@ use Rattle.std.proofs.lemmas.Map.Steps.{length-le_from_distinct_below}
 use Rattle.texts.specs.Names.{is_name, has_name_bytes}
 use Rattle.exact_numbers.specs.declared.dec.Dec.{Dec}
 use Rattle.exact_numbers.specs.Numbers.{has_31_bits}
-use Rattle.exact_numbers.proofs.Bridge.{and_true}
 use Rattle.code_tables.specs.Opcodes.{operands_of}
 use Rattle.nl_meaning.specs.Trees.{Tree, number, variable, defined, operator, tree_size}
 use Rattle.nl_model.specs.declared.header_counts.Counts.{Counts}
@@ -241,8 +240,8 @@ definitions_fit c known (d ∷ ds) k are plain =
 
 name_brief : (name : List ℕ) → is_name name ≡ true → length name ≤ 255
 name_brief name e =
-    let front = and_true (not (length name == 0) && nat_le (length name) 255) (has_name_bytes name) e in
-    leb-true (length name) 255 (and_true (not (length name == 0)) (nat_le (length name) 255) front.0).1
+    let front = and_parts (not (length name == 0) && nat_le (length name) 255) (has_name_bytes name) e in
+    leb-true (length name) 255 (and_parts (not (length name == 0)) (nat_le (length name) 255) front.0).1
 
 suffix_fits : (c : Counts) (s : Suffix) → AreCounts c → IsWritableSuffix s × IsSuffix c s → Fits (340 + 72 * length s.values) (suffix_piece s)
 suffix_fits c s k h =

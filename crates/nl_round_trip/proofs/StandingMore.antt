@@ -1,9 +1,8 @@
 -- What pieces mean for the next one, piece by piece in the written order.
 use Rattle.std.proofs.Common.{◌≡◌, ◌∙◌, ℕ, ◌+◌, ◌*◌, ◌^◌, ◌<◌, ◌≤◌, Bool, true, false, cond, ℤ, List, [], ◌∷◌, ◌++◌, length, refl, ap, ap₂, ◌==◌, arith}
-use Rattle.std.proofs.lemmas.Bool.{eqb-true}
+use Rattle.std.proofs.lemmas.Bool.{eqb-true, and_parts}
 use Rattle.std.proofs.lemmas.List.{append-nil}
 use Rattle.std.specs.List.{AllByRecursion}
-use Rattle.exact_numbers.proofs.Bridge.{and_true}
 use Rattle.nl_model.specs.declared.header_counts.Counts.{Counts}
 use Rattle.nl_model.specs.Draft.{Draft}
 use Rattle.nl_lines.specs.declared.awaited.Awaited.TheVariants.{Nothing}
@@ -27,7 +26,7 @@ use Rattle.nl_round_trip.proofs.PairPieces.{pairs_more, pair_total-append}
 
 same_rank : (a b : Head) → is_same_head a b ≡ true → rank a ≡ rank b
 same_rank a b e =
-    let same = and_true ((segment_of a).letter == (segment_of b).letter) _ e in
+    let same = and_parts ((segment_of a).letter == (segment_of b).letter) _ e in
     ap₂ (λ l i. l * 2 ^ 32 + i) (eqb-true (segment_of a).letter (segment_of b).letter same.0) (eqb-true (index_of (segment_of a).subject) (index_of (segment_of b).subject) same.1)
 
 -- a piece of a later rank was not there before
