@@ -7,7 +7,7 @@ use Rattle.std.proofs.lemmas.Bool.{ltb-true, and_from, and_parts, false_from_ne_
 use Rattle.std.proofs.lemmas.Int.{ints, unsigned_abs-mul}
 use Rattle.exact_numbers.specs.declared.frac.Frac.{Frac}
 use Rattle.exact_numbers.specs.Values.{frac_value, order_of}
-use Rattle.exact_numbers.proofs.Bridge.{whole_fits}
+use Rattle.exact_numbers.proofs.Bridge.{whole_fits as whole_small}
 use Rattle.fractions.specs.Divisors.{AreCoprime}
 use Rattle.fractions.specs.LowestLemmas.{coprime-swap}
 use Rattle.fractions.specs.Fits.{fits}
@@ -158,7 +158,7 @@ whole_is num z y e f = f ∙ over_whole z ∙ ap whole e
 
 pub whole_fits : (num z : ℤ) → z ≡ num → unsigned_abs num < 2 ^ 127 → fits (over z 1) ≡ false → ⊥
 whole_fits num z e small wide =
-    let good : fits (over z 1) ≡ true = ap fits (over_whole z ∙ ap whole e) ∙ whole_fits num small in
+    let good : fits (over z 1) ≡ true = ap fits (over_whole z ∙ ap whole e) ∙ whole_small num small in
     (let clash : true ≡ false = sym good ∙ wide in cc)
 
 pub floor_above : (x y : ℚ) → pos 0 ≤ℤ x.top → y ≡ whole (pos (unsigned_abs x.top / x.bottom)) → y ≡ floor_of x
