@@ -7,7 +7,7 @@ use Rattle.mps_export.specs.InsideColumns.{entry_value}
 use Rattle.mps_export.specs.InsideHeads.{AreNumbers}
 use Rattle.mps_export.specs.InsideSections.{all_rows}
 use Rattle.scaling.specs.Scaled.{ScaledValue}
-use Rattle.mps_export.proofs.entry_lines.put_entries.Given as goal
+use Rattle.mps_export.proofs.entry_lines.put_column.Given as goal
 
 abbrev pub invariant-parts : goal.invariant-parts
 invariant-parts l = record {

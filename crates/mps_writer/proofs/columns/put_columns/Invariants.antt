@@ -2,7 +2,7 @@ use Rattle.std.proofs.Common.{◌≡◌, ◌≤◌, ◌++◌, drop, false}
 use Rattle.exact_numbers.specs.Values.{text_of}
 use Rattle.texts.specs.WordLines.{lines_text}
 use Rattle.mps_model.specs.Text.{column_lines}
-use Rattle.mps_writer.proofs.columns.put_column_lines.Given as goal
+use Rattle.mps_writer.proofs.columns.put_columns.Given as goal
 
 abbrev pub invariant-loop-column : goal.invariant-loop-column
 invariant-loop-column l = record {
