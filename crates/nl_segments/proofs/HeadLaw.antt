@@ -23,12 +23,13 @@ use Rattle.nl_segments.specs.InsideTaking.{body_awaits}
 use Rattle.nl_segments.proofs.EndLemmas.{last_awaits}
 use Rattle.std.specs.List.{list_any}
 use Rattle.std.proofs.lemmas.List.Folds.{list_any-append, list_any_at}
-use Rattle.texts.specs.Names.{IsName, is_name, has_name_bytes}
+use Rattle.texts.specs.Names.{IsName, is_name}
 use Rattle.nl_lines.specs.declared.head.Head.TheVariants.{Body as BodyHead, Objective, Definition, DualGuesses, PrimalGuesses, Sides, Bounds, ColumnCounts, Terms, Slopes, Suffix}
 use Rattle.texts.specs.Words.{word_at}
 use Rattle.nl_segments.proofs.HeadBegun.{new_piece, no_pairs, whole_at_once, draft_begun, terms_begun, nodes_begun, pairs_begun, count_begun, columns_begun, always}
 use Rattle.std.proofs.lemmas.Bool.{and_parts, not-false, leb-false, cond_both, false_from_ne_true, both_ways}
 use Rattle.texts.proofs.FirstReasons.{none_head, none_first, reason_before, reason_after, none_each, same_reasons}
+use Rattle.texts.proofs.NameTests.{tested_name}
 use Rattle.nl_model.specs.declared.suffix.Suffix.{Suffix as SuffixValue}
 use Rattle.nl_lines.specs.declared.fault.NlReason.{NlReason}
 use Rattle.nl_segments.specs.InsideHeadSteps.{has_come, held_head_tests, formed_tests, new_head_tests, has_come_suffix, begun_current, begun_name, begun_count, begun_draft, with_begun_head}
@@ -45,7 +46,6 @@ use Rattle.nl_lines.proofs.DraftLemmas.{draft_counts}
 use Rattle.nl_segments.proofs.PairLines.{owner_there, place_begun, front, front-append}
 use Rattle.nl_segments.proofs.CurrentLemmas.{begun}
 use Rattle.nl_lines.proofs.HeadSuffixes.{suffixes_come}
-use Rattle.std.proofs.lemmas.Bool.Decides.{nat_tests}
 
 -- ---- no rows
 
@@ -173,12 +173,6 @@ named_by : (c : Counts) (words : List (List ℕ)) (head : Head) (b : Bool) → (
 named_by c words head true f e = suffix_name words head e
 named_by c words head false f e = absurd cc
 
-is_named : (text : List ℕ) → is_name text ≡ true → IsName text
-is_named text e =
-    let parts = and_parts (not (length text == 0) && nat_le (length text) 255) (has_name_bytes text) e in
-    let sizes = and_parts (not (length text == 0)) (nat_le (length text) 255) parts.0 in
-    record { some = grind (arith, nat_tests, sizes.0); most = grind (arith, nat_tests, sizes.1); each = parts.1 }
-
 -- ---- the name of a head
 
 other_letter : (b : Bool) (o p : Option Head) (head : Head) → is_plain o ≡ true → is_suffix head ≡ true → (if b then o else p) ≡ Some head → p ≡ Some head
@@ -222,7 +216,7 @@ suffix_named c words head e s =
     let e8 = other_letter (l == 107) _ _ head (plain_column c words) s e7 in
     let e9 = other_letter (l == 74) _ _ head (plain_counted (λ i n. Some (Terms i n)) words (λ i n. refl)) s e8 in
     let e10 = other_letter (l == 71) _ _ head (plain_counted (λ k n. Some (Slopes k n)) words (λ i n. refl)) s e9 in
-    is_named (name_in words) (named_by c words head (l == 83) refl e10)
+    tested_name (name_in words) (named_by c words head (l == 83) refl e10)
 
 -- ---- the head of words
 
