@@ -3,7 +3,7 @@ use Rattle.std.specs.Prelude.{ℕ, ◌==◌, Bool, not, ◌||◌, nat_lt, List, 
 use Rattle.std.specs.List.{list_any, list_all, flat_map}
 use Rattle.std.specs.Str.{bytes_eq}
 use Rattle.texts.specs.Words.{words_of}
-use Rattle.mps_reader.specs.Sections.{is_left_out, is_data}
+use Rattle.mps_words.specs.Sections.{is_left_out, is_data}
 
 -- ---- Columns, counted from 0: the first one, and the one after the last.
 

@@ -10,7 +10,7 @@ use Rattle.written_texts.proofs.Writing.{lines_after, rest_written}
 use Rattle.mps_model.specs.Mps.{MpsRow, Entry, no_mps_row, Bound, Column, no_column}
 use Rattle.mps_model.specs.declared.kinds.RowKind.TheVariants.{N}
 use Rattle.mps_model.specs.Text.{mps_lines, mps_text_by, entry_line, entry_lines, row_line, section, name_of_row as name_at, bound_line, bound_text, change_lines, column_lines, markers_after, value_words}
-use Rattle.mps_writer.proofs.Writing.{unless_map, column_written, last_change}
+use Rattle.mps_writer.proofs.Writing.{unless_map, column_written, last_change, section_written}
 use Rattle.scaled_program.specs.Program.{ScaledRow, nonzero, z_variable}
 use Rattle.exported_program.specs.Program.{mps_of, entries_of, mps_row, obj_name, with_entry, bounds_of, column_bounds, column_entries, columns_of, fixed_or_both, or_obj_zero}
 use Rattle.scaling.specs.Scaled.{ScaledValue, IsScaled}
@@ -40,11 +40,6 @@ use Rattle.scaling.specs.declared.row.FactoredRow.{FactoredRow}
 pub same_text : (d : Dec) → text_of d ≡ value_text (dec_value d)
 same_text d = sym (value_text-decimal d.m d.e d.spelled)
 
--- a section's word, and after it its lines
-pub section_written : (word : List ℕ) (lines : List WordLine) (out0 out1 out2 : List ℕ) → out1 ≡ out0 ++ line_text (word ∷ []) → out2 ≡ out1 ++ lines_text lines → out2 ≡ out0 ++ lines_text (section word ∷ lines)
-section_written word lines out0 out1 out2 first second =
-    lines_after out0 out1 out2 (section word ∷ []) lines (first ∙ ap (λ x. out0 ++ x) (sym (append-nil (line_text (section word))))) second
-
 -- ---- the rows
 rows_of_lines : (rs : List ScaledRow) → flat_map row_lines rs ≡ map row_line (map mps_row rs)
 rows_of_lines [] = refl
@@ -53,12 +48,12 @@ rows_of_lines (r ∷ rs) = ap (λ ls. row_line (mps_row r) ∷ ls) (rows_of_line
 abbrev obj_row : MpsRow
 obj_row = record { name = obj_name; kind = N }
 
-pub rows_written : (s : ScaledValue) (rs : List ScaledRow) (out0 out1 out2 out3 : List ℕ) → rs ≡ program_rows s → out1 ≡ out0 ++ line_text (codes "ROWS" ∷ []) → out2 ≡ out1 ++ line_text (row_line obj_row) →
-    out3 ≡ out2 ++ lines_text (flat_map row_lines rs) → out3 ≡ out0 ++ lines_text (section (codes "ROWS") ∷ map row_line (all_rows s))
-rows_written s rs out0 out1 out2 out3 same first second third =
-    section_written (codes "ROWS") (row_line obj_row ∷ flat_map row_lines rs) out0 out1 out3 first
-    (lines_after out1 out2 out3 (row_line obj_row ∷ []) (flat_map row_lines rs) (second ∙ ap (λ x. out1 ++ x) (sym (append-nil (line_text (row_line obj_row))))) third)
-    ∙ ap (λ ls. out0 ++ lines_text (section (codes "ROWS") ∷ row_line obj_row ∷ ls)) (ap (flat_map row_lines) same ∙ rows_of_lines (program_rows s))
+pub rows_written : (s : ScaledValue) (out0 out1 out2 out3 : List ℕ) → out1 ≡ out0 ++ line_text (codes "ROWS" ∷ []) → out2 ≡ out1 ++ line_text (row_line obj_row) → out3 ≡ out2 ++ lines_text (flat_map row_lines (program_rows s)) →
+    out3 ≡ out0 ++ lines_text (section (codes "ROWS") ∷ map row_line (all_rows s))
+rows_written s out0 out1 out2 out3 first second third =
+    section_written (codes "ROWS") (row_line obj_row ∷ flat_map row_lines (program_rows s)) out0 out1 out3 first
+    (lines_after out1 out2 out3 (row_line obj_row ∷ []) (flat_map row_lines (program_rows s)) (second ∙ ap (λ x. out1 ++ x) (sym (append-nil (line_text (row_line obj_row))))) third)
+    ∙ ap (λ ls. out0 ++ lines_text (section (codes "ROWS") ∷ row_line obj_row ∷ ls)) (rows_of_lines (program_rows s))
 
 -- ---- values by row
 with_line : (all : List MpsRow) (word name : List ℕ) (p : ℕ) (o : Option ℚ) (es : List (Entry ℚ)) → name_at all p ≡ name →
@@ -75,13 +70,13 @@ lines_by_row all word g p (r ∷ rs) e =
     ∙ ap (λ ls. value_lines word r.name (g r) ++ ls) (lines_by_row all word g (p + 1) rs (sym (others_left all p (mps_row r) (map mps_row rs) e)))
 
 -- ---- right sides
-pub sides_written : (s : ScaledValue) (v : Option ℚ) (rs : List ScaledRow) (out0 out1 out2 out3 : List ℕ) → v ≡ nonzero (neg_ℚ (program_objective s).constant) → rs ≡ program_rows s → out1 ≡ out0 ++ line_text (codes "RHS" ∷ []) →
-    out2 ≡ out1 ++ lines_text (value_lines (codes "RHS") obj_name v) → out3 ≡ out2 ++ lines_text (flat_map side_lines rs) → out3 ≡ out0 ++ lines_text (section (codes "RHS") ∷ entry_lines value_text (all_rows s) (codes "RHS") (all_sides s))
-sides_written s v rs out0 out1 out2 out3 constant same first second third =
+pub sides_written : (s : ScaledValue) (v : Option ℚ) (out0 out1 out2 out3 : List ℕ) → v ≡ nonzero (neg_ℚ (program_objective s).constant) → out1 ≡ out0 ++ line_text (codes "RHS" ∷ []) →
+    out2 ≡ out1 ++ lines_text (value_lines (codes "RHS") obj_name v) → out3 ≡ out2 ++ lines_text (flat_map side_lines (program_rows s)) → out3 ≡ out0 ++ lines_text (section (codes "RHS") ∷ entry_lines value_text (all_rows s) (codes "RHS") (all_sides s))
+sides_written s v out0 out1 out2 out3 constant first second third =
     let o = nonzero (neg_ℚ (program_objective s).constant) in
-    section_written (codes "RHS") (value_lines (codes "RHS") obj_name v ++ flat_map side_lines rs) out0 out1 out3 first
-    (lines_after out1 out2 out3 (value_lines (codes "RHS") obj_name v) (flat_map side_lines rs) second third)
-    ∙ ap₂ (λ v rs. out0 ++ lines_text (section (codes "RHS") ∷ value_lines (codes "RHS") obj_name v ++ flat_map side_lines rs)) constant same
+    let lines = flat_map side_lines (program_rows s) in
+    section_written (codes "RHS") (value_lines (codes "RHS") obj_name v ++ lines) out0 out1 out3 first (lines_after out1 out2 out3 (value_lines (codes "RHS") obj_name v) lines second third)
+    ∙ ap (λ v. out0 ++ lines_text (section (codes "RHS") ∷ value_lines (codes "RHS") obj_name v ++ lines)) constant
     ∙ ap (λ ls. out0 ++ lines_text (section (codes "RHS") ∷ value_lines (codes "RHS") obj_name o ++ ls)) (sym (lines_by_row (all_rows s) (codes "RHS") right_side_of 1 (program_rows s) refl))
     ∙ ap (λ ls. out0 ++ lines_text (section (codes "RHS") ∷ ls)) (sym (with_line (all_rows s) (codes "RHS") obj_name 0 o (entries_of right_side_of 1 (program_rows s)) refl))
 
@@ -112,15 +107,12 @@ value_written word name value number out0 out1 is now =
     ∙ ap (λ x. out0 ++ x) (sym (append-nil (line_text (indented (word ∷ name ∷ value_text (dec_value number) ∷ [])))))
     ∙ ap (λ o. out0 ++ lines_text (value_lines word name (side_value o))) (sym is)
 
--- the line of a row's value is written, row i being the next of a list
-pub row_line_written : (g : ScaledRow → Option ℚ) (word : List ℕ) (name : ℕ → List ℕ) (rows : Rows) (i : ℕ) (o : Option FactoredRow) (r : FactoredRow) (v : Option ℚ) (n out0 out1 total : List ℕ) →
-    i < length rows → o ≡ get_or rows i o → o ≡ Some r → v ≡ g (row_named (name i) r.row) → n ≡ name i → out0 ++ lines_text (flat_map (λ r. value_lines word r.name (g r)) (left name rows i)) ≡ total →
-    out1 ≡ out0 ++ lines_text (value_lines word n v) → out1 ++ lines_text (flat_map (λ r. value_lines word r.name (g r)) (left name rows (i + 1))) ≡ total
-row_line_written g word name rows i o r v n out0 out1 total h is some same named start now =
-    let lines = λ (r : ScaledRow). value_lines word r.name (g r) in
-    rest_written out0 out1 total (value_lines word (name i) v) (flat_map lines (left name rows (i + 1)))
-    (ap (λ o. out0 ++ lines_text (value_lines word (name i) o ++ flat_map lines (left name rows (i + 1)))) same ∙ ap (λ rs. out0 ++ lines_text (flat_map lines rs)) (sym (left_some name rows i o r h is some)) ∙ start)
-    (now ∙ ap (λ n. out0 ++ lines_text (value_lines word n v)) named)
+-- the lines of a row are written, row i being the next of a list
+pub next_written : (lines : ScaledRow → List WordLine) (name : ℕ → List ℕ) (rows : Rows) (i : ℕ) (o : Option FactoredRow) (r : FactoredRow) (n out0 out1 total : List ℕ) → i < length rows → o ≡ get_or rows i o → o ≡ Some r → n ≡ name i →
+    out0 ++ lines_text (flat_map lines (left name rows i)) ≡ total → out1 ≡ out0 ++ lines_text (lines (row_named n r.row)) → out1 ++ lines_text (flat_map lines (left name rows (i + 1))) ≡ total
+next_written lines name rows i o r n out0 out1 total h is some named start now =
+    rest_written out0 out1 total (lines (row_named (name i) r.row)) (flat_map lines (left name rows (i + 1))) (ap (λ rs. out0 ++ lines_text (flat_map lines rs)) (sym (left_some name rows i o r h is some)) ∙ start)
+    (now ∙ ap (λ n. out0 ++ lines_text (lines (row_named n r.row))) named)
 
 -- ---- the columns in order
 column_is : (o : Form) (rows : List ScaledRow) (i : ℕ) (vs : List Variable) (k : ℕ) (d : Column ℚ) → k < length vs →

@@ -12,6 +12,8 @@ use Rattle.scaled_program.specs.Program.{ScaledRow, nonzero}
 use Rattle.exported_program.specs.Program.{bounds_of, columns_of, entries_of, mps_row, nl_name, obj_name, with_entry}
 use Rattle.scaling.specs.Scaled.{ScaledValue}
 use Rattle.scaling.specs.Exported.{program_objective, program_rows, program_variables}
+use Rattle.mps_export.specs.declared.listed_rows.RowSection.{RowSection}
+use Rattle.mps_export.specs.declared.listed_rows.RowSection.TheVariants.{Ranges, Rows, Sides}
 use Rattle.mps_export.specs.InsideSides.{range_in, right_side_of}
 
 -- the rows, the objective first
@@ -70,6 +72,12 @@ side_lines r = value_lines (codes "RHS") r.name (right_side_of r)
 -- the line of a row's range, where it has one
 abbrev pub range_lines : ScaledRow → List WordLine
 range_lines r = value_lines (codes "RNG") r.name (range_in r)
+
+-- what a section says of a row
+abbrev pub lines_in : RowSection → ScaledRow → List WordLine
+lines_in Rows = row_lines
+lines_in Sides = side_lines
+lines_in Ranges = range_lines
 
 -- the line of a bound of this kind and value, of the column of this name
 abbrev pub bound_by : List ℕ → BoundKind → Dec → WordLine

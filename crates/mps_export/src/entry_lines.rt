@@ -55,33 +55,8 @@ fn put_few(lines: &mut LineText<2048>, numbers: &[u32], column: &MpsName, entrie
     }
 }
 
-// The entries of a column.
-#[tactic(auto, using(crate::proofs::LineLemmas::entries_end, crate::proofs::LineLemmas::part_of_entries_written))]
-fn put_entries(
-    out: &mut Pieces,
-    lines: &mut LineText<2048>,
-    numbers: &[u32],
-    column: &MpsName,
-    entries: &[(u32, Dec)],
-) -> Result<(), AllocError>
-    requires { length (name_bytes column.now) ≤ 11 }
-    ensures { (s : ScaledValue) → AreNumbers s numbers.now
-        → All (λ t. t.0 < length (all_rows s)) entries.now
-        → OnOk result (out.new ≡ out.old ++ lines_text (entry_lines value_text (all_rows s)
-        (name_bytes column.now) (map entry_value entries.now))) }
-{
-    let mut done = 0usize;
-    'parts: while done < entries.len() {
-        let size = (entries.len() - done).min(FEW);
-        let rest = entries.split_at(done).1;
-        put_few(lines, numbers, column, rest.split_at(size).0);
-        put(out, lines.bytes())?;
-        done += size;
-    }
-    Ok(())
-}
-
 /// The entries of a column, with a 0 in the objective where there are none.
+#[tactic(auto, using(crate::proofs::LineLemmas::entries_end, crate::proofs::LineLemmas::part_of_entries_written))]
 pub(crate) fn put_column(
     out: &mut Pieces,
     lines: &mut LineText<2048>,
@@ -100,5 +75,13 @@ pub(crate) fn put_column(
         put_entry(out, lines, column, &MpsName::Word(b"obj"), zero())?;
         return Ok(());
     }
-    put_entries(out, lines, numbers, column, entries)
+    let mut done = 0usize;
+    'parts: while done < entries.len() {
+        let size = (entries.len() - done).min(FEW);
+        let rest = entries.split_at(done).1;
+        put_few(lines, numbers, column, rest.split_at(size).0);
+        put(out, lines.bytes())?;
+        done += size;
+    }
+    Ok(())
 }

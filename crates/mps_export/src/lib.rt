@@ -9,6 +9,7 @@ mod entry_lines;
 mod export;
 mod heads;
 mod heads_of;
+mod listed_rows;
 mod names;
 mod numbers;
 mod pieces;

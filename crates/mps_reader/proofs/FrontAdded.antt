@@ -1,5 +1,6 @@
 -- Rows, and columns with their first entries, that are taken at once.
 use Rattle.std.proofs.Common.{◌≡◌, ◌∙◌, ℕ, ◌+◌, ◌<◌, ◌^◌, Bool, true, false, List, [], ◌∷◌, ◌++◌, length, replicate, Some, None, Ok, refl, sym, ap, subst, arith, append_assoc}
+use Rattle.std.proofs.Math.Bool.{and-false}
 use Rattle.std.specs.Prelude.{All, nat_le, slice_set}
 use Rattle.std.specs.Str.{bytes_eq}
 use Rattle.std.proofs.lemmas.Bool.Decides.{nat_tests}
@@ -16,16 +17,16 @@ use Rattle.mps_model.specs.declared.kinds.RowKind.{RowKind}
 use Rattle.mps_model.specs.Built.{CanAddColumn, CanAddEntries, CanAddRow, with_entry_last}
 use Rattle.mps_model.specs.Mps.{Column, Entry, Mps, MpsRow}
 use Rattle.mps_model.specs.Valid.{entry_count, marker_word}
-use Rattle.mps_reader.specs.declared.keyword.Keyword.TheVariants.{Columns, Rows}
+use Rattle.mps_words.specs.declared.keyword.Keyword.TheVariants.{Columns, Rows}
 use Rattle.mps_reader.specs.declared.sides.Sides.{Sides}
 use Rattle.mps_reader.specs.InsideHeld.{Held, IsKept, MayPair, no_sides, program}
 use Rattle.mps_reader.specs.InsideHeldSteps.{if_row, with_first_entry, with_held_column, with_held_column_line, with_held_entries, with_new_column, with_row}
 use Rattle.mps_reader.specs.InsideLines.{GoesOn, IsFreeRow, IsNext, IsRowPair, IsRowText, MayBegin, TakesLines}
 use Rattle.mps_reader.specs.Saying.{Draft, column_names, is_current, is_row_name, last_name, place_of, row_in, row_kind_of, row_names}
-use Rattle.mps_reader.specs.Sections.{last_of}
+use Rattle.mps_words.specs.Sections.{last_of}
 use Rattle.mps_reader.specs.Tests.{Standing, column_name_tests, column_tests, entry_line_tests, most_entries, row_tests}
-use Rattle.mps_reader.proofs.CodeLemmas.{name_is}
-use Rattle.mps_reader.proofs.FrontLines.{MayGive, and_false, below, may_give, pair_taken, row_there}
+use Rattle.mps_words.proofs.CodeLemmas.{name_is}
+use Rattle.mps_reader.proofs.FrontLines.{MayGive, below, may_give, pair_taken, row_there}
 use Rattle.mps_reader.proofs.KeptLemmas.{can_add_column, can_add_row, entry_may, row_kept}
 use Rattle.mps_reader.proofs.SideLemmas.{entries_taken, new_column_may}
 
@@ -83,7 +84,7 @@ not_last (n ∷ o ∷ ns) name all some = not_last (o ∷ ns) name (All-tail (λ
 not_current : (h : Held) (name : List ℕ) → IsKept h → IsName name → place_of h.columns name ≡ None → is_current h.standing.draft name ≡ false
 not_current h name kept named new =
     let none : place_of (column_names (program h)) name ≡ None = ap (λ (ns : List (List ℕ)). place_of ns name) (sym kept.columns) ∙ new in
-    rw (not_last (column_names (program h)) name (place_none (column_names (program h)) name none) named.some) (and_false h.standing.draft.current)
+    rw (not_last (column_names (program h)) name (place_none (column_names (program h)) name none) named.some) (and-false h.standing.draft.current)
 
 column_fine : (d : Draft) (name : List ℕ) → IsName name → is_current d name ≡ false → place_of (column_names d.mps) name ≡ None → length d.mps.columns < 2 ^ 21 → first_reason (column_name_tests d name) ≡ None
 unfolding column_name_tests

@@ -3,9 +3,9 @@ use Rattle.std.proofs.Common.{◌≡◌, ◌∙◌, ℕ, ◌+◌, ◌<◌, ◌�
 use Rattle.std.proofs.lemmas.List.{drop_at}
 use Rattle.exact_numbers.specs.declared.dec.Dec.{Dec}
 use Rattle.mps_model.specs.declared.kinds.BoundKind.{BoundKind}
-use Rattle.mps_reader.specs.declared.keyword.Keyword.{Keyword}
-use Rattle.mps_reader.specs.InsideCodes.{IsFound}
-use Rattle.mps_reader.specs.InsideFronts.{IsNumberText}
+use Rattle.mps_words.specs.declared.keyword.Keyword.{Keyword}
+use Rattle.mps_words.specs.InsideCodes.{IsFound}
+use Rattle.mps_words.specs.InsideFronts.{IsNumberText}
 use Rattle.mps_reader.specs.InsideHeld.{Held, IsKept, IsSound, program}
 use Rattle.mps_reader.specs.InsideLines.{IsColumnBound, IsNext, IsRowPair, TakesLines}
 use Rattle.mps_reader.specs.Saying.{needs_number}

@@ -1,18 +1,18 @@
 -- Lines at the front of a piece that are taken at once.
-use Rattle.std.proofs.Common.{◌≡◌, ◌∙◌, ℕ, ◌+◌, ◌-◌, ◌<◌, ◌≤◌, ◌^◌, ◌&&◌, ◌==◌, not, Bool, true, false, inl, inr, List, [], ◌∷◌, ◌++◌, length, take, drop, get_or, Option, Some, None, Ok, refl, sym, ap, ap₂, subst, arith, append_assoc, length-append, length-take, take-append-drop}
+use Rattle.std.proofs.Common.{◌≡◌, ◌∙◌, ℕ, ◌+◌, ◌-◌, ◌<◌, ◌≤◌, ◌^◌, ◌&&◌, ◌==◌, not, true, false, inl, inr, List, [], ◌∷◌, ◌++◌, length, take, drop, get_or, Option, Some, None, Ok, refl, sym, ap, ap₂, subst, arith, append_assoc, length-append}
 use Rattle.std.specs.Prelude.{All, IfSome, nat_le}
+use Rattle.std.proofs.Math.Bool.{and-false}
 use Rattle.std.proofs.Math.Seq.{take-append_seam}
-use Rattle.std.proofs.lemmas.List.{append-nil, drop_more, length-map}
+use Rattle.std.proofs.lemmas.List.{append-nil, length-map}
 use Rattle.std.proofs.lemmas.List.Elements.{All-cons}
-use Rattle.std.proofs.lemmas.Bool.{le-leb}
 use Rattle.std.proofs.lemmas.Bool.Decides.{eqb_tells, nat_tests}
 use Rattle.std.specs.Str.{bytes_eq}
 use Rattle.texts.specs.declared.grammar.Front.{Front}
 use Rattle.texts.specs.Cut.{IsTextLine}
 use Rattle.texts.specs.Fronts.{IsFront, TakesFront}
 use Rattle.texts.specs.Judged.{Open, IsClean, first_reason, Takes}
-use Rattle.texts.specs.Names.{IsName, has_name_bytes}
-use Rattle.texts.specs.Words.{IsUnmarked, row_of, word_at}
+use Rattle.texts.specs.Names.{IsName}
+use Rattle.texts.specs.Words.{row_of, word_at}
 use Rattle.texts.proofs.FirstReasons.{takes_after}
 use Rattle.texts.proofs.FrontLemmas.{front_joined}
 use Rattle.texts.proofs.JudgedLemmas.{clean_more}
@@ -25,20 +25,20 @@ use Rattle.mps_model.specs.declared.kinds.BoundKind.{BoundKind}
 use Rattle.mps_model.specs.Built.{CanAddBound, last_entries}
 use Rattle.mps_model.specs.Mps.{Column, Entry, Mps, MpsRow, no_mps_row}
 use Rattle.mps_model.specs.Valid.{IsBounded, IsOtherEntry, entry_count, marker_word}
-use Rattle.mps_reader.specs.declared.keyword.Keyword.{Keyword}
-use Rattle.mps_reader.specs.declared.keyword.Keyword.TheVariants.{Name, Sense, Rows, Columns, Rhs, Ranges, Bounds, End}
+use Rattle.mps_words.specs.declared.keyword.Keyword.{Keyword}
+use Rattle.mps_words.specs.declared.keyword.Keyword.TheVariants.{Name, Sense, Rows, Columns, Rhs, Ranges, Bounds, End}
 use Rattle.mps_reader.specs.Grammar.{line_tests, mps_rules, standing}
-use Rattle.mps_reader.specs.InsideFronts.{IsNumberText, IsPairText, joined}
+use Rattle.mps_words.specs.InsideFronts.{IsPairText, joined}
 use Rattle.mps_reader.specs.InsideLines.{GoesOn, IsAfterHead, IsBoundText, IsColumnBound, IsFreeRow, IsHeadWord, IsKindText, IsNext, IsRowPair, SaysBound, TakesLines, held_after}
 use Rattle.mps_reader.specs.InsideHeld.{HasPairs, Held, IsKept, IsSound, MayPair, TakesSoundly, program}
 use Rattle.mps_reader.specs.InsideHeldSteps.{if_held_entry, with_bound, with_held_bound_line, with_held_column, with_held_column_line, with_held_entries, with_held_entry, with_held_pairs, with_held_sides, with_set}
 use Rattle.mps_reader.specs.InsidePairs.{CanGive}
 use Rattle.mps_reader.specs.Saying.{Draft, bound_in, bound_kind_of, bound_value, column_names, entry_in, is_current, last_name, needs_number, place_of, row_names}
-use Rattle.mps_reader.specs.Sections.{is_data, is_left_out, last_of}
+use Rattle.mps_words.specs.Sections.{is_data, is_left_out, last_of}
 use Rattle.mps_reader.specs.Steps.{after, after_data_in, after_words, set_after}
 use Rattle.mps_reader.specs.Tests.{Standing, Tests, bound_tests, column_name_tests, column_tests, data_tests, data_tests_in, entry_line_tests, has_entry, is_bad_set, is_free, is_full, is_refused_row, is_second_set, pair_tests, pairs_so_far, pairs_tests, set_tests, sets_again, side_tests}
 use Rattle.mps_reader.proofs.BoundLemmas.{can_add_bound}
-use Rattle.mps_reader.proofs.CodeLemmas.{name_is}
+use Rattle.mps_words.proofs.CodeLemmas.{name_is}
 use Rattle.mps_reader.proofs.DataLemmas.{Done, done_bound, done_columns, done_row, done_sense, done_sides, standing-sides, taken_in}
 use Rattle.mps_reader.proofs.GrammarLemmas.{judged, taken_after}
 use Rattle.mps_reader.proofs.KeptLemmas.{entry_may}
@@ -47,25 +47,6 @@ use Rattle.mps_reader.proofs.LineTexts.{IsPlain, line_data, line_kept, line_row,
 use Rattle.mps_reader.proofs.PairLemmas.{one_pair}
 use Rattle.mps_reader.proofs.SideLemmas.{column_may, entries_taken}
 use Rattle.mps_reader.proofs.StandingLemmas.{standing-more}
-
--- ---- words at the front of a text
-
-pub first_parts : (text : List ℕ) (n byte : ℕ) → n < length text → get_or text n 0 ≡ byte → text ≡ take n text ++ byte ∷ drop (n + 1) text
-first_parts text n byte within is = sym (take-append-drop n text) ∙ ap (λ bs. take n text ++ bs) (drop_more text n 0 within ∙ ap (λ b. b ∷ drop (n + 1) text) is)
-
-unmarked_bytes : (word : List ℕ) → IsUnmarked word → has_name_bytes word ≡ true
-unmarked_bytes [] all = refl
-unmarked_bytes (b ∷ word) all = let high : 35 < b = all.0 in rw (le-leb 33 b (omega (arith, high))) (unmarked_bytes word all.1)
-
-pub number_text : (text : List ℕ) (n : ℕ) (d : Dec) → n < length text → get_or text n 0 ≡ 10 → 0 < n → n ≤ 40 → dec_of (take n text) ≡ Some d → IsUnmarked (take n text) → IsNumberText text d (drop (n + 1) text)
-number_text text n d within ends some few says unmarked =
-    let taken : length (take n text) ≡ n = omega (arith, within, length-take n text) in
-    record {
-      word = take n text;
-      parts = first_parts text n 10 within ends;
-      is_word = record { some = omega (arith, taken, some); most = omega (arith, taken, few); each = unmarked_bytes (take n text) unmarked };
-      says = says;
-    }
 
 -- ---- the line of some words
 
@@ -226,12 +207,8 @@ may_next k h text rest s last pairs o = absurd pairs
 
 -- ---- the name of a set
 
-pub and_false : (b : Bool) → (b && false) ≡ false
-and_false true = refl
-and_false false = refl
-
 good_set : (set : List ℕ) → IsName set → is_bad_set set ≡ false
-good_set set named = rw (name_is set named) (and_false (not (length set == 0)))
+good_set set named = rw (name_is set named) (and-false (not (length set == 0)))
 
 first_set : (first : Option (List ℕ)) (set : List ℕ) → first ≡ Some set → is_second_set first set ≡ false
 first_set first set e = rw (e, bytes_self set) refl

@@ -12,14 +12,14 @@ use Rattle.exact_numbers.specs.declared.dec.Dec.{Dec}
 use Rattle.mps_model.specs.declared.kinds.BoundKind.{BoundKind}
 use Rattle.mps_model.specs.declared.kinds.RowKind.{RowKind}
 use Rattle.mps_model.specs.Valid.{marker_word}
-use Rattle.mps_reader.specs.declared.keyword.Keyword.{Keyword}
-use Rattle.mps_reader.specs.declared.keyword.Keyword.TheVariants.{Name, Sense, Rows, Columns, Rhs, Ranges, Bounds, End}
+use Rattle.mps_words.specs.declared.keyword.Keyword.{Keyword}
+use Rattle.mps_words.specs.declared.keyword.Keyword.TheVariants.{Name, Sense, Rows, Columns, Rhs, Ranges, Bounds, End}
 use Rattle.mps_reader.specs.Grammar.{line_reason}
-use Rattle.mps_reader.specs.InsideFronts.{IsLineOf, IsPairText, joined}
+use Rattle.mps_words.specs.InsideFronts.{IsLineOf, IsPairText, joined}
 use Rattle.mps_reader.specs.InsideHeld.{Held, program}
 use Rattle.mps_reader.specs.InsideHeldSteps.{with_sense_word, with_sensed, if_row, with_held_sides, with_held_column_line, with_held_bound_line}
 use Rattle.mps_reader.specs.Saying.{bound_kind_of, is_current, needs_number, no_number, place_of, row_in, row_kind_of}
-use Rattle.mps_reader.specs.Sections.{last_of}
+use Rattle.mps_words.specs.Sections.{last_of}
 use Rattle.mps_reader.specs.Steps.{after}
 use Rattle.mps_reader.specs.Tests.{Standing, data_tests_in, is_full, is_refused_row}
 

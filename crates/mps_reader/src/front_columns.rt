@@ -6,14 +6,13 @@ ghost use Rattle.mps_reader.specs.InsideHeld.{IsKept, IsSound, program};
 ghost use Rattle.mps_reader.specs.InsideHeldSteps.{with_first_entry};
 ghost use Rattle.mps_reader.specs.InsideLines.{IsNext, MayBegin, TakesLines};
 ghost use Rattle.mps_reader.specs.Saying.{place_of};
-ghost use Rattle.mps_reader.specs.Sections.{last_of};
+ghost use Rattle.mps_words.specs.Sections.{last_of};
 
 use crate::front_lines::FrontTaken;
-use crate::front_words::{after_space, first_name};
-use crate::keyword::Keyword;
 use crate::sides::Sides;
 use crate::state::State;
 use exact_numbers::Dec;
+use mps_words::{Keyword, after_space, first_name};
 use std::alloc::AllocError;
 use texts::{Front, Name};
 

@@ -4,13 +4,11 @@ ghost use Rattle.mps_reader.specs.InsideHeld.{HasPairs, IsKept, IsSound, MayPair
 ghost use Rattle.mps_reader.specs.InsideHeldSteps.{with_held_entry};
 ghost use Rattle.mps_reader.specs.InsideLines.{IsAfterHead, IsNext, TakesLines};
 ghost use Rattle.mps_reader.specs.InsidePairs.{CanGive};
-ghost use Rattle.mps_reader.specs.Sections.{last_of};
+ghost use Rattle.mps_words.specs.Sections.{last_of};
 
 use crate::front_pairs::NextPair;
-use crate::front_words::after_space;
-use crate::keyword::{Keyword, last_of};
-use crate::name_sets::after_bytes;
 use crate::state::State;
+use mps_words::{Keyword, after_bytes, after_space, last_of};
 use texts::Front;
 
 // Whether the lines of a section are pairs behind a name.

@@ -3,10 +3,9 @@ ghost use Rattle.std.specs.Prelude.{◌≡◌, ◌<◌, true, IfSome, length};
 ghost use Rattle.mps_reader.specs.InsideHeld.{MayPair, program};
 ghost use Rattle.mps_reader.specs.InsideLines.{IsFreeRow, IsRowPair};
 
-use crate::front_words::{first_number, first_pair, is_marker_word};
-use crate::keyword::Keyword;
 use crate::state::State;
 use exact_numbers::Dec;
+use mps_words::{Keyword, first_number, first_pair, is_marker_word};
 
 /// A pair, and what follows its line.
 #[derive(Clone, Copy)]

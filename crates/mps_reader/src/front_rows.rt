@@ -6,14 +6,13 @@ ghost use Rattle.mps_reader.specs.InsideHeld.{IsSound, program};
 ghost use Rattle.mps_reader.specs.InsideHeldSteps.{with_row};
 ghost use Rattle.mps_reader.specs.InsideLines.{IsNext, IsRowText, TakesLines};
 ghost use Rattle.mps_reader.specs.Saying.{place_of};
-ghost use Rattle.mps_reader.specs.Sections.{last_of};
+ghost use Rattle.mps_words.specs.Sections.{last_of};
 
 use crate::front_lines::FrontTaken;
-use crate::front_words::{first_name, is_marker_word};
-use crate::keyword::Keyword;
 use crate::rows::row_kind_of_one;
 use crate::state::State;
 use mps_model::RowKind;
+use mps_words::{Keyword, first_name, is_marker_word};
 use texts::Front;
 
 /// A row, and what follows its line.

@@ -7,8 +7,8 @@ ghost use Rattle.mps_reader.specs.Steps.{after_words};
 
 use crate::fault::MpsReason;
 use crate::state::State;
-use crate::words::{is_data, is_left_out, three_words};
 use mps_model::Mps;
+use mps_words::{is_data, is_left_out, three_words};
 use std::alloc::{AllocError, Global};
 use std::marker::Model;
 use texts::{Front, Grammar, LineFault, Row, Stop};

@@ -2,7 +2,6 @@
 #![tactic(auto)]
 
 mod bounds;
-mod codes;
 mod columns;
 mod fault;
 mod front_bounds;
@@ -10,23 +9,16 @@ mod front_columns;
 mod front_lines;
 mod front_pairs;
 mod front_rows;
-mod front_words;
 mod grammar;
-mod keyword;
 pub mod laws;
-mod name_sets;
-mod names;
 mod pairs;
 mod reader;
-mod row_marks;
 mod rows;
-mod runs;
 mod sections;
 mod set_name;
 mod side_lines;
 mod sides;
 mod state;
-mod words;
 
 pub use fault::{MpsFault, MpsReason};
 pub use grammar::MpsGrammar;

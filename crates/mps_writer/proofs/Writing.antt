@@ -1,10 +1,10 @@
-use Rattle.std.proofs.Common.{[], ◌≡◌, ℕ, suc, ◌+◌, ◌<◌, ◌≤◌, ◌∙◌, sym, ap, ap₂, subst, arith, Bool, true, false, List, ◌∷◌, ◌++◌, length, get_or, drop, take, map, All, Some, add-one, drop-cons}
+use Rattle.std.proofs.Common.{[], ◌≡◌, ℕ, suc, ◌+◌, ◌<◌, ◌≤◌, ◌∙◌, sym, ap, ap₂, subst, arith, Bool, true, false, List, ◌∷◌, ◌++◌, length, get_or, drop, take, map, All, Some, add-one, append-nil, drop-cons}
 use Rattle.std.proofs.lemmas.List.{length-map, get_or-map, drop_all, take_more, map-append}
 use Rattle.std.proofs.lemmas.Option.{slice_get_within, get_or_from_slice_get}
 use Rattle.std.specs.List.{slice_get}
 use Rattle.mps_model.specs.Mps.{Bound, Entry, Column, MpsRow, Mps, no_mps_row, with_values}
 use Rattle.mps_model.specs.declared.kinds.BoundKind.{BoundKind}
-use Rattle.mps_model.specs.Text.{entry_line, entry_lines, change_lines, markers_after, column_lines, mps_text_by}
+use Rattle.mps_model.specs.Text.{entry_line, entry_lines, change_lines, markers_after, column_lines, mps_text_by, section}
 use Rattle.mps_model.proofs.Texts.{text_by_values}
 use Rattle.exact_numbers.specs.Values.{dec_value, text_of, value_text}
 use Rattle.exact_numbers.proofs.Spelling.{value_text-decimal}
@@ -57,6 +57,11 @@ entry_written rows names word row ts i t out0 out1 out2 h is same found first se
     ∙ ap (map line) (map-append entry_of (take i ts) (t ∷ []))
     ∙ map-append line (map entry_of (take i ts)) (entry_of t ∷ []) in
     line_after out0 out1 out2 (map line (map entry_of (take i ts))) (line (entry_of t)) first now ∙ ap (λ ls. out0 ++ lines_text ls) (sym more)
+
+-- a section's word, and after it its lines
+pub section_written : (word : List ℕ) (lines : List WordLine) (out0 out1 out2 : List ℕ) → out1 ≡ out0 ++ line_text (word ∷ []) → out2 ≡ out1 ++ lines_text lines → out2 ≡ out0 ++ lines_text (section word ∷ lines)
+section_written word lines out0 out1 out2 first second =
+    lines_after out0 out1 out2 (section word ∷ []) lines (first ∙ ap (λ x. out0 ++ x) (sym (append-nil (line_text (section word))))) second
 
 module _ {V : Type 0} (text : V → List ℕ) (rows : List MpsRow) (cols : List (Column V)) (before : Bool) (i index : ℕ) where
   pub column_written : (c : Column V) (out0 out1 out2 total word : List ℕ) (ts : List (Entry V)) (marked next : Bool) (n : ℕ) → index < length cols → c ≡ get_or cols index c →

@@ -47,31 +47,6 @@ pub fn put_change(
     }
 }
 
-fn put_column_lines(
-    out: &mut Vec<u8>,
-    line: &mut LineText<1024>,
-    rows: &[MpsRow],
-    names: &TextLines,
-    columns: &[MpsColumn],
-) -> Result<(), AllocError>
-    requires rows { All (λ r. IsName r.name) rows.now }
-    requires named { names.now ≡ map (λ r. r.name) rows.now }
-    requires columns { AreColumns (length rows.now) columns.now }
-    ensures { OnOk result (out.new.items
-        ≡ out.old.items ++ lines_text (column_lines text_of rows.now false 0 columns.now)) }
-{
-    let mut before = false;
-    let mut markers = 0;
-    for column in columns {
-        markers = put_change(out, before, column.marked(), markers)?;
-        before = column.marked();
-        let name = column.name();
-        put_entries(out, line, rows, names, name.bytes(), column.entries())?;
-    }
-    put_change(out, before, false, markers)?;
-    Ok(())
-}
-
 pub(crate) fn put_columns(
     out: &mut Vec<u8>,
     line: &mut LineText<1024>,
@@ -86,5 +61,14 @@ pub(crate) fn put_columns(
         (section (codes "COLUMNS") ∷ column_lines text_of rows.now false 0 columns.now)) }
 {
     put_line(out, b"COLUMNS")?;
-    put_column_lines(out, line, rows, names, columns)
+    let mut before = false;
+    let mut markers = 0;
+    for column in columns {
+        markers = put_change(out, before, column.marked(), markers)?;
+        before = column.marked();
+        let name = column.name();
+        put_entries(out, line, rows, names, name.bytes(), column.entries())?;
+    }
+    put_change(out, before, false, markers)?;
+    Ok(())
 }

@@ -10,7 +10,6 @@ pub mod NodeFronts
 pub mod NodeRuns
 pub mod PairHeld
 pub mod LeafFronts
-pub mod RunLemmas
 pub mod LineFronts
 pub mod PairPiece
 pub mod HeadBegun

@@ -28,7 +28,8 @@ use Rattle.nl_segments.specs.InsideTreeSteps.{CanSettle, CanTakeRow, IsNextRow, 
 use Rattle.nl_segments.proofs.NodeFronts.{IsReadNext, leaf_can, leaf_first}
 use Rattle.nl_segments.proofs.NodeSteps.{beyond, fresh_tree, in_tree, wanted_here}
 use Rattle.nl_segments.proofs.PairLines.{awaits_as, opened}
-use Rattle.nl_segments.proofs.StandingLemmas.{changed_same, changed_twice, goes_on, none_taken, range_parts, still_some}
+use Rattle.line_places.proofs.RunLemmas.{range_parts}
+use Rattle.nl_segments.proofs.StandingLemmas.{changed_same, changed_twice, goes_on, none_taken, still_some}
 
 -- ---- the lines of nodes
 

@@ -1,11 +1,11 @@
 -- What a head, a node and a term more do to the lines of places.
 use Rattle.std.specs.Prelude.{ℕ, ◌-◌, ◌<◌, Bool, false, [], ◌∷◌, ◌++◌, length, get_or, Some}
-use Rattle.std.specs.List.{range_with_len}
 use Rattle.std.specs.Option.{option_or}
 use Rattle.nl_lines.specs.declared.head.Head.{Head}
 use Rattle.nl_lines.specs.declared.head.Head.TheVariants.{Body, Objective, Definition, Terms, Slopes}
 use Rattle.nl_lines.specs.Saying.{OwnerLines, PlaceLines, changed, no_lines}
-use Rattle.nl_segments.specs.InsideLineRuns.{follows}
+use Rattle.line_places.specs.InsideLineRuns.{follows}
+pub use Rattle.line_places.specs.Owners.{more_node_run, more_term_run}
 
 -- a head in this line
 abbrev pub with_begun : PlaceLines → ℕ → Head → PlaceLines
@@ -59,11 +59,7 @@ with_term_line l line (Slopes k n) =
     record l { objectives = changed (more_terms line) l.objectives k }
 with_term_line l line head = l
 
--- so many terms in lines that follow one another, from this one on
-abbrev pub more_term_run : ℕ → ℕ → OwnerLines → OwnerLines
-more_term_run first n o = record o { terms = o.terms ++ range_with_len first n }
-
--- such terms of the last piece, which has this head
+-- so many terms of the last piece, which has this head, in lines that follow one another
 abbrev pub with_term_run : PlaceLines → ℕ → ℕ → Head → PlaceLines
 with_term_run l first n (Terms i k) =
     record l { constraints = changed (more_term_run first n) l.constraints i }
@@ -71,11 +67,7 @@ with_term_run l first n (Slopes k j) =
     record l { objectives = changed (more_term_run first n) l.objectives k }
 with_term_run l first n head = l
 
--- so many nodes in lines that follow one another, from this one on
-abbrev pub more_node_run : ℕ → ℕ → OwnerLines → OwnerLines
-more_node_run first n o = record o { nodes = o.nodes ++ range_with_len first n }
-
--- such nodes of the last piece, which has this head
+-- so many nodes of the last piece, which has this head, in lines that follow one another
 abbrev pub with_node_run : PlaceLines → ℕ → ℕ → Head → PlaceLines
 with_node_run l first n (Body i) =
     record l { constraints = changed (more_node_run first n) l.constraints i }

@@ -14,7 +14,5 @@ pub mod InsideTreeSteps
 pub mod InsideKnownPairs
 pub mod InsideKnownNodes
 pub mod InsideLineFronts
-pub mod InsideEarlierRuns
-pub mod InsideLineRuns
 pub mod InsideNodeRuns
 pub mod InsideTermRuns

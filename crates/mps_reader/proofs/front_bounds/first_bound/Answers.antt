@@ -1,5 +1,5 @@
 use Rattle.std.proofs.Common.{sym}
-use Rattle.mps_reader.specs.InsideFronts.{IsPairText}
+use Rattle.mps_words.specs.InsideFronts.{IsPairText}
 use Rattle.mps_reader.specs.InsideLines.{IsBoundText}
 use Rattle.mps_reader.proofs.FrontLines.{some_more, with_number}
 use Rattle.mps_reader.proofs.front_bounds.first_bound.Goals as goal

@@ -1,5 +1,5 @@
 use Rattle.std.proofs.Common.{◌≡◌, ◌∙◌, ◌∷◌, ap, sym}
-use Rattle.mps_reader.specs.declared.keyword.Keyword.TheVariants.{Columns}
+use Rattle.mps_words.specs.declared.keyword.Keyword.TheVariants.{Columns}
 use Rattle.mps_reader.specs.InsideHeld.{Held}
 use Rattle.mps_reader.specs.InsideLines.{IsAfterHead}
 use Rattle.mps_reader.proofs.FrontLines.{of_column, some_more}

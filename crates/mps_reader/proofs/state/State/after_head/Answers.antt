@@ -1,7 +1,7 @@
 use Rattle.std.proofs.Common.{subst, sym}
 use Rattle.std.specs.Prelude.{IfSome}
-use Rattle.mps_reader.specs.declared.keyword.Keyword.{Keyword}
-use Rattle.mps_reader.specs.declared.keyword.Keyword.TheVariants.{Bounds, Ranges, Rhs}
+use Rattle.mps_words.specs.declared.keyword.Keyword.{Keyword}
+use Rattle.mps_words.specs.declared.keyword.Keyword.TheVariants.{Bounds, Ranges, Rhs}
 use Rattle.mps_reader.specs.InsideLines.{IsAfterHead}
 use Rattle.mps_reader.proofs.FrontLines.{set_of_sides, some_more}
 use Rattle.mps_reader.proofs.state.State.after_head.Goals as goal

@@ -1,7 +1,7 @@
 use Rattle.std.proofs.Common.{ap, refl}
 use Rattle.mps_reader.specs.InsideHeld.{Held, MayPair}
 use Rattle.mps_reader.specs.InsideLines.{IsAfterHead}
-use Rattle.mps_reader.specs.declared.keyword.Keyword.TheVariants.{Columns}
+use Rattle.mps_words.specs.declared.keyword.Keyword.TheVariants.{Columns}
 use Rattle.mps_reader.proofs.FrontEntries.{pair_there}
 use Rattle.mps_reader.proofs.FrontLines.{next_is_pair, of_column, pair_can}
 use Rattle.mps_reader.proofs.SideLemmas.{column_may}

@@ -1,6 +1,6 @@
 use Rattle.std.proofs.Common.{◌∙◌, ap}
 use Rattle.mps_reader.specs.InsideHeld.{Held}
-use Rattle.mps_reader.specs.declared.keyword.Keyword.TheVariants.{Bounds}
+use Rattle.mps_words.specs.declared.keyword.Keyword.TheVariants.{Bounds}
 use Rattle.mps_reader.proofs.FrontEntries.{less, one_before}
 use Rattle.mps_reader.proofs.state.State.take_bounds_front.Goals as goal
 

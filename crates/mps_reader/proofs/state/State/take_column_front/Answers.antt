@@ -1,6 +1,6 @@
 use Rattle.std.proofs.Common.{refl, subst, sym}
 use Rattle.mps_reader.specs.InsideHeld.{IsKept}
-use Rattle.mps_reader.specs.declared.keyword.Keyword.TheVariants.{Columns}
+use Rattle.mps_words.specs.declared.keyword.Keyword.TheVariants.{Columns}
 use Rattle.mps_reader.proofs.FrontLines.{next_fits, next_taken, none_taken}
 use Rattle.mps_reader.proofs.state.State.take_column_front.Goals as goal
 

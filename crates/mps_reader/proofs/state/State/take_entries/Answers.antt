@@ -1,6 +1,6 @@
 use Rattle.std.proofs.Common.{◌∙◌, ap}
 use Rattle.mps_reader.specs.InsideHeld.{Held}
-use Rattle.mps_reader.specs.declared.keyword.Keyword.TheVariants.{Columns}
+use Rattle.mps_words.specs.declared.keyword.Keyword.TheVariants.{Columns}
 use Rattle.mps_reader.proofs.FrontEntries.{less, one_before}
 use Rattle.mps_reader.proofs.FrontLines.{pair_may}
 use Rattle.mps_reader.proofs.state.State.take_entries.Goals as goal

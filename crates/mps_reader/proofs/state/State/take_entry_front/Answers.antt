@@ -1,6 +1,6 @@
 use Rattle.std.proofs.Common.{◌≡◌, Some, arith, subst, sym}
-use Rattle.mps_reader.specs.declared.keyword.Keyword.TheVariants.{Columns}
-use Rattle.mps_reader.specs.Sections.{last_of}
+use Rattle.mps_words.specs.declared.keyword.Keyword.TheVariants.{Columns}
+use Rattle.mps_words.specs.Sections.{last_of}
 use Rattle.mps_reader.specs.Tests.{Standing}
 use Rattle.mps_reader.proofs.FrontAdded.{after_none, none_standing}
 use Rattle.mps_reader.proofs.state.State.take_entry_front.Goals as goal

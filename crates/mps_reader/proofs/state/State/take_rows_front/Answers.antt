@@ -1,7 +1,7 @@
 use Rattle.std.proofs.Common.{◌∙◌, ap}
 use Rattle.mps_reader.specs.InsideHeld.{Held}
-use Rattle.mps_reader.specs.declared.keyword.Keyword.TheVariants.{Rows}
-use Rattle.mps_reader.specs.Sections.{last_of}
+use Rattle.mps_words.specs.declared.keyword.Keyword.TheVariants.{Rows}
+use Rattle.mps_words.specs.Sections.{last_of}
 use Rattle.mps_reader.proofs.FrontEntries.{less, one_before}
 use Rattle.mps_reader.proofs.FrontAdded.{row_added}
 use Rattle.mps_reader.proofs.state.State.take_rows_front.Goals as goal

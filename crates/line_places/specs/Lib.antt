@@ -1,0 +1,3 @@
+pub mod InsideEarlierRuns
+pub mod InsideLineRuns
+pub mod Owners

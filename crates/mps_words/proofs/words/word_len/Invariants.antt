@@ -1,0 +1,14 @@
+use Rattle.std.proofs.Common.{◌≡◌, ◌+◌, length}
+use Rattle.std.specs.List.{position_or_len}
+use Rattle.texts.specs.Words.{is_blank}
+use Rattle.mps_words.proofs.words.word_len.Given as goal
+
+-- the first blank is the first of what is left
+abbrev pub invariant-bytes : goal.invariant-bytes
+invariant-bytes l = record {
+  place : position_or_len is_blank l.bytes ≡ l.passed + position_or_len is_blank l.rest;
+  len : length l.bytes ≡ l.passed + length l.rest;
+}
+
+abbrev pub decreases-bytes : goal.decreases-bytes
+decreases-bytes l = length l.rest

@@ -1,0 +1,305 @@
+// Short names as numbers, so that a name is found without its hash or a look at other names' bytes.
+ghost use Rattle.std.specs.Prelude.{◌≡◌, ◌≢◌, ◌-◌, ◌<◌, ◌≤◌, ◌^◌, ◌++◌, ◌∷◌, [], None, All, OnOk, OnErr, IfOk, IfSome, fold, length, take, get_or, slice_get};
+ghost use Rattle.mps_words.specs.InsideCodes.{IsShort, bytes_code, code_of, name_of, with_byte};
+
+use crate::runs::Run;
+use indexmap::IndexSet;
+use std::alloc::{AllocError, Global};
+use std::marker::Model;
+
+/// A name of at most so many bytes is short.
+const SHORT: usize = 7;
+
+/// Each byte is 1.
+pub(crate) const ONES: u64 = 0x0101_0101_0101_0101;
+
+// Every other byte, the last one too.
+const EVEN_BYTES: u64 = 0x00ff_00ff_00ff_00ff;
+
+/// What a name is found by.
+#[derive(Clone, Copy)]
+pub struct Key {
+    pub code: u64,
+    // the number at the end of a short name; any is right
+    number: usize,
+}
+
+/// The codes of names, in the order of the names.
+#[derive(Drop)]
+pub struct Codes {
+    // those before the first long name
+    short: IndexSet<u64>,
+    // those from it on
+    behind: Vec<u64>,
+    // how far places lie above the numbers at the ends of names, modulo 2^64; any is right
+    shift: usize,
+    // some of them, which are found without a look at them
+    run: Run,
+}
+
+impl Model for Codes {
+    ghost use Rattle.std.specs.Prelude.{List, ℕ, ◌++◌};
+    ghost use Rattle.mps_words.specs.InsideRuns.{AreKept};
+
+    ghost Value = { List ℕ };
+
+    ghost view = { λ c. c.short.keys ++ c.behind.items };
+
+    ghost invariant = { λ c.
+        AreKept c.run c.behind.items (c.short.keys ++ c.behind.items) };
+}
+
+// The number that the digits at the end of a short name spell; any is right.
+#[inline(always)]
+fn number_of(code: u64) -> usize {
+    let others = (code >> 6 | !(code >> 4)) & ONES;
+    let behind = (others & others.wrapping_neg()).wrapping_sub(1);
+    let digits = code & behind & (15 * ONES);
+    let pairs = (digits & EVEN_BYTES).wrapping_add((digits >> 8 & EVEN_BYTES).wrapping_mul(10));
+    let fours = (pairs & 0xffff_0000_ffff).wrapping_add(
+        (pairs >> 16 & 0xffff_0000_ffff).wrapping_mul(100),
+    );
+    (fours & 0xffff_ffff).wrapping_add((fours >> 32).wrapping_mul(10_000)) as usize
+}
+
+// The key of a short name.
+fn short_key(name: &[u8]) -> Key
+    requires { length name.now ≤ 7 }
+    ensures { result.code ≡ bytes_code name.now }
+{
+    let mut code = 1;
+    'bytes: for byte in name {
+        code = code * 256 + *byte as u64;
+    }
+    Key {
+        code,
+        number: number_of(code),
+    }
+}
+
+impl Key {
+    /// The key of a name. The code is 0 where it is not short.
+    #[tactic(auto, unfolding(crate::specs::InsideCodes::code_of))]
+    pub(crate) fn of(name: &[u8]) -> Key
+        ensures { result.code ≡ code_of name.now }
+    {
+        if name.len() > SHORT {
+            return Key { code: 0, number: 0 };
+        }
+        short_key(name)
+    }
+}
+
+/// The short name of a code.
+pub(crate) fn name_of(alloc: Global, code: u64) -> Result<Vec<u8>, AllocError>
+    ensures { IfOk result (λ n. n.items ≡ name_of code) }
+{
+    let mut bytes = [0; SHORT];
+    let mut place = SHORT;
+    let mut left = code;
+    'bytes: while place > 0 && left > 255 {
+        place -= 1;
+        bytes[place] = (left % 256) as u8;
+        left /= 256;
+    }
+    Vec::from_slice(alloc, bytes.split_at(place).1)
+}
+
+/// What follows a short name of this code, where a text begins with that.
+pub(crate) fn after_code(text: &[u8], code: u64) -> Option<&[u8]>
+    ensures { IfSome result (λ rest. text.now ≡ name_of code ++ rest.now) }
+{
+    let mut found = 1;
+    let mut passed = 0;
+    'bytes: while found < code && passed < SHORT && passed < text.len() {
+        found = found * 256 + text[passed] as u64;
+        passed += 1;
+    }
+    if found != code {
+        return None;
+    }
+    Some(text.split_at(passed).1)
+}
+
+// The first eight bytes of a text, the first one highest.
+#[inline(always)]
+fn head_of(text: &[u8]) -> Option<u64>
+    ensures value { IfSome result (λ h. h ≡ fold with_byte 0 (take 8 text.now)) }
+    ensures long { IfSome result (λ h. 8 ≤ length text.now) }
+{
+    match text {
+        [a, b, c, d, e, f, g, h, ..] => {
+            let high = ((*a as u64 * 256 + *b as u64) * 256 + *c as u64) * 256 + *d as u64;
+            let low = ((*e as u64 * 256 + *f as u64) * 256 + *g as u64) * 256 + *h as u64;
+            Some((high << 32) + low)
+        }
+        _ => None,
+    }
+}
+
+// How many of eight bytes come before the first that is this one; any number is right.
+#[inline(always)]
+fn size_before(head: u64, end: u8) -> usize {
+    let others = head ^ (end as u64).wrapping_mul(ONES);
+    let low = (others & (127 * ONES)).wrapping_add(127 * ONES);
+    (!(others | low) & (128 * ONES)).leading_zeros() as usize / 8
+}
+
+/// The key of the short name that a text begins with, before this byte, and what follows that.
+/// None of some texts.
+#[inline(always)]
+pub(crate) fn first_short(text: &[u8], end: u8) -> Option<(Key, &[u8])>
+    ensures { IfSome result (λ p. IsShort text.now end p.0.code p.1.now) }
+{
+    let Some(head) = head_of(text) else {
+        return None;
+    };
+    let size = size_before(head, end);
+    if size > SHORT {
+        return None;
+    }
+    let both = head >> (56 - 8 * size);
+    if both % 256 != end as u64 {
+        return None;
+    }
+    let code = (1 << (8 * size)) + both / 256;
+    let number = number_of(code);
+    Some((Key { code, number }, text.split_at(size + 1).1))
+}
+
+/// What follows a short name of this code and a space, where a text begins with them. None of some
+/// texts.
+#[inline(always)]
+pub(crate) fn after_code_word(text: &[u8], code: u64) -> Option<&[u8]>
+    ensures { IfSome result (λ rest. IsShort text.now 32 code rest.now) }
+{
+    let Some((key, rest)) = first_short(text, b' ') else {
+        return None;
+    };
+    if key.code != code {
+        return None;
+    }
+    Some(rest)
+}
+
+impl Codes {
+    /// No codes.
+    pub(crate) fn new(alloc: Global) -> Codes
+        ensures { result ≡ [] }
+    {
+        Codes {
+            short: IndexSet::new(alloc),
+            behind: Vec::new(alloc),
+            shift: 0,
+            run: Run::none(),
+        }
+    }
+
+    /// How many codes there are.
+    #[inline]
+    pub(crate) fn len(&self) -> usize
+        ensures { result ≡ length self.now }
+    {
+        self.short.len() + self.behind.len()
+    }
+
+    // The code at a place.
+    #[inline(always)]
+    fn get(&self, place: usize) -> Option<u64>
+        ensures { result ≡ slice_get self.now place }
+    {
+        let short = self.short.as_slice();
+        if place < short.len() {
+            return Some(short[place]);
+        }
+        self.behind.get(place - short.len()).copied()
+    }
+
+    /// All codes, where each is that of a short name.
+    pub(crate) fn all_short(&self) -> &[u64]
+        requires { All (λ c. 0 < c) self.now }
+        ensures { result.now ≡ self.now }
+    {
+        self.short.as_slice()
+    }
+
+    /// The last code.
+    #[inline]
+    pub(crate) fn last(&self) -> Option<u64>
+        ensures { result ≡ slice_get self.now (length self.now - 1) }
+    {
+        self.get(self.len().saturating_sub(1))
+    }
+
+    // The place of a code, where the number at the end of the name leads to it.
+    #[inline(always)]
+    fn at_number(&self, key: Key) -> Option<usize>
+        ensures within { IfSome result (λ p. p < length self.now) }
+        ensures code { IfSome result (λ p. get_or self.now p 0 ≡ key.code) }
+    {
+        let place = key.number.wrapping_add(self.shift);
+        let code = self.get(place)?;
+        if code != key.code {
+            return None;
+        }
+        Some(place)
+    }
+
+    /// The place of a short name's code, where the number at the end of the name leads to it.
+    #[inline(always)]
+    pub(crate) fn guess(&self, key: Key) -> Option<usize>
+        ensures within { IfSome result (λ p. p < length self.now) }
+        ensures code { IfSome result (λ p. get_or self.now p 0 ≡ key.code) }
+        ensures short { IfSome result (λ p. 0 < key.code) }
+    {
+        if key.code == 0 {
+            return None;
+        }
+        // the codes are few enough for the places of the run
+        let _len = self.len();
+        match self.run.find(key.code, key.number) {
+            Some(place) => Some(place),
+            None => self.at_number(key),
+        }
+    }
+
+    /// The place of a code, where each is that of a short name.
+    pub(crate) fn look_up(&self, code: u64) -> Option<usize>
+        requires { All (λ c. 0 < c) self.now }
+        ensures within { IfSome result (λ p. p < length self.now) }
+        ensures found { IfSome result (λ p. get_or self.now p 0 ≡ code) }
+        ensures absent { result ≡ None → All (λ c. c ≢ code) self.now }
+    {
+        self.short.get_index_of(&code)
+    }
+
+    // Puts a code behind the others. Want of memory changes no code.
+    fn push(&mut self, code: u64) -> Result<(), AllocError>
+        requires { 0 < code → All (λ c. c ≢ code) self.old }
+        ensures more { OnOk result (self.new ≡ self.old ++ code ∷ []) }
+        ensures same { OnErr result (self.new ≡ self.old) }
+    {
+        if code > 0 && self.behind.is_empty() {
+            self.short.insert(code)?;
+            return Ok(());
+        }
+        self.behind.push(code)?;
+        Ok(())
+    }
+
+    /// Adds the code of a new name. Want of memory changes no code.
+    pub(crate) fn add(&mut self, key: Key) -> Result<(), AllocError>
+        requires { 0 < key.code → All (λ c. c ≢ key.code) self.old }
+        ensures more { OnOk result (self.new ≡ self.old ++ key.code ∷ []) }
+        ensures same { OnErr result (self.new ≡ self.old) }
+    {
+        let place = self.len();
+        let run = self.run.with_name(key.code, key.number, place);
+        self.push(key.code)?;
+        self.run = run;
+        if key.number > 0 {
+            self.shift = place.wrapping_sub(key.number);
+        }
+        Ok(())
+    }
+}
