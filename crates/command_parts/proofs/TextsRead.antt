@@ -11,7 +11,7 @@ use Rattle.nl_model.specs.Draft.{file_of}
 use Rattle.nl_segments.specs.Reader.{IsNl, HasNlFault, fault_of}
 use Rattle.nl_lines.specs.declared.fault.NlFault.{NlFault}
 use Rattle.command_parts.specs.Refusal.{HasTextRefusal, IsFixedRefused, IsMpsRefused, IsSolRefused, IsAnswerRefused, IsProofRefused, IsCertificateRefused}
-use Rattle.command_parts.proofs.SeveralFiles.{AreRead, read_so, read_by}
+use Rattle.command_core.proofs.SeveralFiles.{AreRead, read_so, read_by}
 use Rattle.mps_reader.specs.Grammar.{SaysMps, mps_rules, standing as mps_standing}
 use Rattle.mps_reader.specs.Reader.{IsMpsText}
 use Rattle.fixed_mps.specs.Fields.{free}

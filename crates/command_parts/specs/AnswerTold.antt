@@ -6,7 +6,7 @@ use Rattle.dual_return.specs.declared.fault.ReturnFault.{ReturnFault}
 use Rattle.dual_return.specs.declared.fault.ReturnFault.TheVariants.{DualTooWide}
 use Rattle.answer_file.specs.Reasons.{answer_reason_text}
 use Rattle.dual_return.specs.Reasons.{return_fault_text}
-use Rattle.command_parts.specs.Told.{refusal}
+use Rattle.command_core.specs.Told.{refusal}
 
 -- the line of a fault of an answer, which is this file of its command
 abbrev pub answer_line : ℕ → TextFault AnswerReason → List ℕ

@@ -14,7 +14,7 @@ use Rattle.certificates.specs.declared.certificate.Claim.TheVariants.{Optimal, W
 use Rattle.certificate_text.specs.declared.fault.CertificateReason.{CertificateReason}
 use Rattle.certificate_text.specs.Reasons.{certificate_reason_text}
 use Rattle.certificate_judge.specs.Reasons.{failed_text}
-use Rattle.command_parts.specs.Told.{number_text, refusal}
+use Rattle.command_core.specs.Told.{number_text, refusal}
 
 -- the line of a fault of a certificate's text, which is this file of its command
 abbrev pub certificate_line : ℕ → TextFault CertificateReason → List ℕ

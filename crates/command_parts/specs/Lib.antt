@@ -1,7 +1,3 @@
-pub mod Told
-pub mod Transfer
-pub mod Outcome
-pub mod Promise
 pub mod VerdictTold
 pub mod AnswerTold
 pub mod CertificateTold
@@ -11,10 +7,7 @@ pub mod NamesTold
 pub mod NlTold
 pub mod ProofTold
 pub mod SolTold
-pub mod InsideRefusal
 pub mod Refusal
-pub mod InsideAnswer
-pub mod SeveralFiles
 pub mod NameLists
 pub mod Stages
 pub mod ToldLines

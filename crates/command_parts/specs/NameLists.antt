@@ -6,9 +6,9 @@ use Rattle.texts.specs.Reading.{HasFault, IsRead}
 use Rattle.name_files.specs.Names.{Counts, SaysNames, name_rules}
 use Rattle.nl_model.specs.File.{File}
 use Rattle.command_parts.specs.NamesTold.{name_line}
-use Rattle.command_parts.specs.Promise.{Promise}
-use Rattle.command_parts.specs.SeveralFiles.{after_file}
-use Rattle.command_parts.specs.Told.{TellsFault}
+use Rattle.command_core.specs.Promise.{Promise}
+use Rattle.command_core.specs.SeveralFiles.{after_file}
+use Rattle.command_core.specs.Told.{TellsFault}
 
 -- a name for each constraint, and then none or one for each objective
 abbrev pub row_counts : File → Counts

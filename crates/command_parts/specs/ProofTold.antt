@@ -5,7 +5,7 @@ use Rattle.texts.specs.declared.fault.TextFault.{TextFault}
 use Rattle.proof_text.specs.declared.fault.ProofReason.{ProofReason}
 use Rattle.certificate_judge.specs.Reasons.{leaf_fault_text}
 use Rattle.proof_text.specs.Reasons.{proof_reason_text}
-use Rattle.command_parts.specs.Told.{refusal}
+use Rattle.command_core.specs.Told.{refusal}
 
 -- the line of a fault of a proof text, which is this file of its command
 abbrev pub proof_line : ℕ → TextFault ProofReason → List ℕ

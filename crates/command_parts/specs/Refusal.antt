@@ -16,7 +16,7 @@ use Rattle.command_parts.specs.MpsTold.{mps_line}
 use Rattle.command_parts.specs.NlTold.{nl_line}
 use Rattle.command_parts.specs.ProofTold.{proof_line}
 use Rattle.command_parts.specs.SolTold.{sol_line}
-use Rattle.command_parts.specs.Told.{TellsFault}
+use Rattle.command_core.specs.Told.{TellsFault}
 
 -- the text is no .nl text, and this line tells its first fault
 abbrev pub HasTextRefusal : List ℕ → List ℕ → Type 0

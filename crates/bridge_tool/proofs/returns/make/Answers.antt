@@ -1,6 +1,6 @@
-use Rattle.std.proofs.Common.{◌∙◌}
+use Rattle.std.proofs.Common.{◌∙◌, inr}
 use Rattle.nl_segments.specs.Reader.{value_of}
-use Rattle.bridge_tool.proofs.Returning.{answered, staged_by, wide_so}
+use Rattle.bridge_tool.proofs.Returning.{answered, staged_by}
 use Rattle.bridge_tool.proofs.returns.make.Goals as goal
 
 pub solution_by_header-requires : goal.solution_by_header-requires
@@ -16,9 +16,11 @@ returns-in-Ok-clause-makes g c =
     (c.counts-counts.ensures.value ∙ c.header-header.ensures.counts) c.options_of-options.ensures c.requires.made c.in_ok-linear.ensures.folds c.in_ok-scaled.ensures in
     (staged_by (value_of c.args.read) c.args.given.now c.objective-objective.result c.objective-objective.ensures c.in_ok-linear.linear c.in_ok-scaled.scaled c.in_ok-linear.ensures.folds c.in_ok-scaled.ensures, c.in-Ok.ensures.sol c.args.read.file is_one)
 
-pub returns-clause-makes : goal.returns-clause-makes
-returns-clause-makes g c =
+pub returns-in-Err-Fault-clause-makes : goal.returns-in-Err-Fault-clause-makes
+returns-in-Err-Fault-clause-makes g c =
     let is_one = answered (value_of c.args.read) c.args.given.now c.objective-objective.result c.objective-objective.ensures c.counts-counts.result.now c.options_of-options.result c.in_ok-linear.linear c.in_ok-scaled.scaled
     (c.counts-counts.ensures.value ∙ c.header-header.ensures.counts) c.options_of-options.ensures c.requires.made c.in_ok-linear.ensures.folds c.in_ok-scaled.ensures in
-    wide_so (value_of c.args.read) c.args.given.now c.objective-objective.result c.objective-objective.ensures c.counts-counts.result.now c.options_of-options.result c.in_ok-linear.linear c.in_ok-scaled.scaled c.in-Err.stop c.refused.result
-    c.in_ok-linear.ensures.folds c.in_ok-scaled.ensures is_one c.in-Err.ensures.fault c.refused.ensures
+    inr (record {
+      staged = staged_by (value_of c.args.read) c.args.given.now c.objective-objective.result c.objective-objective.ensures c.in_ok-linear.linear c.in_ok-scaled.scaled c.in_ok-linear.ensures.folds c.in_ok-scaled.ensures;
+      first = record { fault = c.in-Err-Fault.fault; first = c.in-Err-Fault.ensures.fault c.args.read.file is_one; told = c.return_refusal.ensures };
+    })

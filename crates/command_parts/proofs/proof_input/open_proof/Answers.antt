@@ -3,7 +3,7 @@ use Rattle.file_certificates.specs.Files.{IsProofIn}
 use Rattle.file_certificates.specs.Setting.{setting_of}
 use Rattle.proof_text.specs.Reader.{IsProofText}
 use Rattle.command_parts.specs.Refusal.{IsProofRefused}
-use Rattle.command_parts.specs.SeveralFiles.{itself}
+use Rattle.command_core.specs.SeveralFiles.{itself}
 use Rattle.command_parts.proofs.Opened.{known_of, proof_known, setting_in}
 use Rattle.command_parts.proofs.proof_input.open_proof.Goals as goal
 
