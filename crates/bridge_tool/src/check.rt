@@ -14,7 +14,9 @@ ghost use Rattle.command_core.specs.SeveralFiles.{Comes};
 ghost use Rattle.command_parts.specs.VerdictTold.{is_yes, verdict_line};
 
 use command_core::{Answer, Refusal, end};
-use command_parts::{fit_refusal, fold_read, is_yes, negative_refusal, open_nl, open_sol, verdict_line};
+use command_parts::{
+    fit_refusal, fold_read, is_yes, negative_refusal, open_nl, open_sol, verdict_line,
+};
 use desk::Desk;
 use exact_checks::{Columns, Verdict, certify};
 use exact_numbers::Dec;

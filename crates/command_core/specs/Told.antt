@@ -20,9 +20,12 @@ IsRefusalLine line = (text : List ℕ) × (line ≡ codes "refused " ++ text ++ 
 pub IsRefusalLine-prop : (line : List ℕ) → IsProp (IsRefusalLine line)
 IsRefusalLine-prop line h k =
     let same : h.0 ≡ k.0 = append_cancel_left (codes "refused ") h.0 k.0
-        (append_cancel_right _ _ (codes "\n") (sym h.1 ∙ k.1)) in
-    λ i. (same i, is_prop→PathP (λ j. line ≡ codes "refused " ++ same j ++ codes "\n")
-    (λ j. hlevel props) h.1 k.1 i)
+    (append_cancel_right _ _ (codes "\n") (sym h.1 ∙ k.1)) in
+    λ i. (
+      same i,
+      is_prop→PathP (λ j. line ≡ codes "refused " ++ same j ++ codes "\n")
+          (λ j. hlevel props) h.1 k.1 i,
+    )
 
 -- The file of a fault, by its number among the files of the words; the first file is not named.
 abbrev pub file_text : ℕ → List ℕ
