@@ -5,6 +5,7 @@ use Rattle.std.proofs.Props.{props}
 use Rattle.std.proofs.lemmas.List.{append_cancel_left, append_cancel_right}
 use mathlib.Core.HLevel.{is_prop→PathP}
 use Rattle.std.specs.Fmt.{decimal}
+use Rattle.texts.specs.declared.fault.TextFault.{TextFault}
 use Rattle.fractions.specs.Rational.{ℚ}
 use Rattle.exact_numbers.specs.Written.{frac_text}
 
@@ -38,6 +39,10 @@ refused_at file what number =
 
 abbrev pub refusal : ℕ → List ℕ → ℕ → List ℕ → List ℕ
 refusal file what number text = refused_at file what number ++ text ++ codes "\n"
+
+-- the line of a fault of a text, which is this file of its command, by the words of its reason
+abbrev pub fault_line : {R : Type 0} → (R → List ℕ) → ℕ → TextFault R → List ℕ
+fault_line why file f = refusal file (codes "line") f.line (why f.reason)
 
 -- a fault of this kind, and the line that tells it
 pub record TellsFault {F : Type 0} (has : F → Type 0) (line_of : F → List ℕ)

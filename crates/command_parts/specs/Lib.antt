@@ -2,8 +2,6 @@ pub mod VerdictTold
 pub mod AnswerTold
 pub mod CertificateTold
 pub mod ImportTold
-pub mod MpsTold
-pub mod NamesTold
 pub mod NlTold
 pub mod ProofTold
 pub mod SolTold

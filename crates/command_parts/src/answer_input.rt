@@ -2,7 +2,8 @@
 ghost use Rattle.std.specs.Prelude.{◌≡◌, ◌≢◌, IfErr, length};
 ghost use Rattle.answer_file.specs.Names.{named_setting, setting_of};
 ghost use Rattle.answer_file.specs.Reading.{IsAnswer};
-ghost use Rattle.command_parts.specs.AnswerTold.{answer_line};
+ghost use Rattle.answer_file.specs.Reasons.{answer_reason_text};
+ghost use Rattle.command_core.specs.Told.{fault_line};
 ghost use Rattle.command_core.specs.InsideAnswer.{status_of};
 ghost use Rattle.command_parts.specs.Refusal.{IsAnswerRefused};
 ghost use Rattle.command_core.specs.SeveralFiles.{ReadsFile, itself};
@@ -16,10 +17,10 @@ use nl_model::NlFile;
 use std::alloc::Global;
 
 impl Source for AnswerGrammar {
-    ghost told = { λ _. answer_line 2 };
+    ghost told = { λ _. fault_line answer_reason_text 2 };
 
     fn told(_number: u32, fault: AnswerFault) -> Refusal
-        ensures { result.line ≡ answer_line 2 fault }
+        ensures { result.line ≡ fault_line answer_reason_text 2 fault }
     {
         refusal(2, b"line", fault.line, fault.reason.text())
     }

@@ -4,7 +4,8 @@ ghost use Rattle.certificates.specs.Setting.{IsCertificateFor};
 ghost use Rattle.file_certificates.specs.Files.{IsCertificateIn};
 ghost use Rattle.certificate_text.specs.Reader.{IsCertificateText};
 ghost use Rattle.file_certificates.specs.Setting.{setting_of};
-ghost use Rattle.command_parts.specs.CertificateTold.{certificate_line};
+ghost use Rattle.certificate_text.specs.Reasons.{certificate_reason_text};
+ghost use Rattle.command_core.specs.Told.{fault_line};
 ghost use Rattle.command_core.specs.InsideAnswer.{status_of};
 ghost use Rattle.command_parts.specs.Refusal.{IsCertificateRefused};
 ghost use Rattle.command_core.specs.SeveralFiles.{ReadsFile, itself};
@@ -19,10 +20,10 @@ use nl_model::{NlFile, all_kinds};
 use std::alloc::Global;
 
 impl Source for CertificateGrammar {
-    ghost told = { certificate_line };
+    ghost told = { fault_line certificate_reason_text };
 
     fn told(number: u32, fault: CertificateFault) -> Refusal
-        ensures { result.line ≡ certificate_line number fault }
+        ensures { result.line ≡ fault_line certificate_reason_text number fault }
     {
         refusal(number, b"line", fault.line, fault.reason.text())
     }

@@ -1,5 +1,5 @@
-// What the commands of the bridge are made of, by formats: files opened through the desk, the stages,
-// and the lines that tell refusals and verdicts.
+// What the commands of the bridge are made of, by formats: files opened through the desk, the
+// stages, and the lines that tell refusals and verdicts.
 #![tactic(auto)]
 
 mod answer_input;

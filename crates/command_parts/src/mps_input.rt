@@ -2,7 +2,8 @@
 ghost use Rattle.std.specs.Prelude.{◌≡◌, ◌≢◌, IfErr};
 ghost use Rattle.fixed_mps.specs.Reader.{IsFixedText};
 ghost use Rattle.mps_reader.specs.Reader.{IsMpsText};
-ghost use Rattle.command_parts.specs.MpsTold.{mps_line};
+ghost use Rattle.mps_reader.specs.Reasons.{mps_reason_text};
+ghost use Rattle.command_core.specs.Told.{fault_line};
 ghost use Rattle.command_core.specs.InsideAnswer.{status_of};
 ghost use Rattle.command_parts.specs.Refusal.{IsFixedRefused, IsMpsRefused};
 ghost use Rattle.command_core.specs.SeveralFiles.{ReadsFile, itself};
@@ -16,20 +17,20 @@ use mps_reader::{MpsFault, MpsGrammar};
 use std::alloc::Global;
 
 impl Source for MpsGrammar {
-    ghost told = { λ _. mps_line 1 };
+    ghost told = { λ _. fault_line mps_reason_text 1 };
 
     fn told(_number: u32, fault: MpsFault) -> Refusal
-        ensures { result.line ≡ mps_line 1 fault }
+        ensures { result.line ≡ fault_line mps_reason_text 1 fault }
     {
         refusal(1, b"line", fault.line, fault.reason.text())
     }
 }
 
 impl Source for FixedGrammar {
-    ghost told = { λ _. mps_line 1 };
+    ghost told = { λ _. fault_line mps_reason_text 1 };
 
     fn told(_number: u32, fault: MpsFault) -> Refusal
-        ensures { result.line ≡ mps_line 1 fault }
+        ensures { result.line ≡ fault_line mps_reason_text 1 fault }
     {
         refusal(1, b"line", fault.line, fault.reason.text())
     }

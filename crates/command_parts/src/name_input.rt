@@ -1,7 +1,8 @@
 // Reading and judging lists of names.
 ghost use Rattle.std.specs.Prelude.{◌≡◌, ◌≢◌, IfErr, IfOk, length};
 ghost use Rattle.name_files.specs.Names.{Counts};
-ghost use Rattle.command_parts.specs.NamesTold.{name_line};
+ghost use Rattle.name_files.specs.Reasons.{name_reason_text};
+ghost use Rattle.command_core.specs.Told.{fault_line};
 ghost use Rattle.command_core.specs.InsideAnswer.{status_of};
 ghost use Rattle.command_parts.specs.NameLists.{AreListed, IsListRefused, column_counts, row_counts};
 ghost use Rattle.command_core.specs.SeveralFiles.{ReadsFile, itself};
@@ -15,10 +16,10 @@ use nl_model::NlFile;
 use std::alloc::Global;
 
 impl Source for NameGrammar {
-    ghost told = { name_line };
+    ghost told = { fault_line name_reason_text };
 
     fn told(number: u32, fault: NameFault) -> Refusal
-        ensures { result.line ≡ name_line number fault }
+        ensures { result.line ≡ fault_line name_reason_text number fault }
     {
         refusal(number, b"line", fault.line, fault.reason.text())
     }

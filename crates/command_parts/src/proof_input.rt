@@ -3,7 +3,8 @@ ghost use Rattle.std.specs.Prelude.{◌≡◌, ◌≢◌, IfErr, IfOk};
 ghost use Rattle.file_certificates.specs.Files.{IsProofIn};
 ghost use Rattle.proof_text.specs.Reader.{IsProofText};
 ghost use Rattle.file_certificates.specs.Setting.{setting_of};
-ghost use Rattle.command_parts.specs.ProofTold.{proof_line};
+ghost use Rattle.proof_text.specs.Reasons.{proof_reason_text};
+ghost use Rattle.command_core.specs.Told.{fault_line};
 ghost use Rattle.command_core.specs.InsideAnswer.{status_of};
 ghost use Rattle.command_parts.specs.Refusal.{IsProofRefused};
 ghost use Rattle.command_core.specs.SeveralFiles.{ReadsFile, itself};
@@ -17,10 +18,10 @@ use proof_text::{ProofFault, ProofGrammar};
 use std::alloc::Global;
 
 impl Source for ProofGrammar {
-    ghost told = { proof_line };
+    ghost told = { fault_line proof_reason_text };
 
     fn told(number: u32, fault: ProofFault) -> Refusal
-        ensures { result.line ≡ proof_line number fault }
+        ensures { result.line ≡ fault_line proof_reason_text number fault }
     {
         refusal(number, b"line", fault.line, fault.reason.text())
     }

@@ -22,5 +22,5 @@ returns-in-Err-Fault-clause-makes g c =
     (c.counts-counts.ensures.value ∙ c.header-header.ensures.counts) c.options_of-options.ensures c.requires.made c.in_ok-linear.ensures.folds c.in_ok-scaled.ensures in
     inr (record {
       staged = staged_by (value_of c.args.read) c.args.given.now c.objective-objective.result c.objective-objective.ensures c.in_ok-linear.linear c.in_ok-scaled.scaled c.in_ok-linear.ensures.folds c.in_ok-scaled.ensures;
-      first = record { fault = c.in-Err-Fault.fault; first = c.in-Err-Fault.ensures.fault c.args.read.file is_one; told = c.return_refusal.ensures };
+      first = record { fault = c.in-Err-Fault.fault; first = (rw c.in-Err-Fault.field-0-is at c.in-Err-Fault.ensures.fault) c.args.read.file is_one; told = c.return_refusal.ensures };
     })
