@@ -14,7 +14,7 @@ class Theorem:
     two_senses: int = 0         # names that stand for two things in it: never more
 
 
-HEADLINE = "command_parts/Promise:Answers"
+HEADLINE = "command_core/Promise:Answers"
 ROW = "bridge_tool/OneFile:row_promise"
 CLAIM = "bridge_tool/Verify:verify_promise"
 YES = "bridge_tool/Verify:SaysVerified"
@@ -91,7 +91,7 @@ OPENING = (
     "# What to read to believe each theorem",
     "",
     "Written by `dev/statement.py --write`. A proof is checked by the machine; what it says is for people to read. Each",
-    "theorem rests on definitions, the closure of those that its row names (headline: `command_parts/Promise:Answers`):",
+    "theorem rests on definitions, the closure of those that its row names (headline: `command_core/Promise:Answers`):",
     "`dev/statement.py CRATE/FILE:NAME ..` prints their texts from the ground up, arithmetic last (what rational numbers are,",
     "their sums, products and order), and `dev/statement.py --lists` their names by file. In a package both stand in",
     "`definitions.txt` beside this page. Who finds that they say what the words mean, and trusts the toolchain, believes the",

@@ -19,7 +19,7 @@ use Rattle.mps_model.specs.Text.{mps_text_by}
 use Rattle.nl_segments.specs.Reader.{IsNl}
 use Rattle.bridge_tool.specs.Export.{ExportsAs, IsExported, IsExportMeant, IsSameProgram, IsTiedProgram, MeansTheFile}
 use Rattle.command_parts.specs.Refusal.{HasTextRefusal}
-use Rattle.command_parts.proofs.SeveralFiles.{IsEither, IsLast, either_last}
+use Rattle.command_core.proofs.SeveralFiles.{IsEither, IsLast, either_last}
 use Rattle.export_round_trip.specs.ReadAs.{IsReadAs}
 use Rattle.export_round_trip.proofs.ReadBack.{exported_back}
 use Rattle.bridge_tool.proofs.FileLimits.{file_exportable}

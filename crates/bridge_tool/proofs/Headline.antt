@@ -8,7 +8,7 @@ use Rattle.bridge_tool.specs.Commands.{promise_of, promise_by, ComesTo}
 use Rattle.bridge_tool.specs.Export.{IsExportMeant}
 use Rattle.bridge_tool.specs.Make.{make_promise}
 use Rattle.bridge_tool.specs.OneFile.{row_of}
-use Rattle.command_parts.specs.Outcome.{Outcome, BadWords, Untold, Status, Written, IsQuiet, Told, told_line, NoText, Refused, Done, verdict_status}
+use Rattle.command_core.specs.Outcome.{Outcome, BadWords, Untold, Status, Written, IsQuiet, Told, told_line, NoText, Refused, Done, verdict_status}
 use Rattle.bridge_tool.specs.Prove.{IsLeftOpen, IsProvedOf}
 use Rattle.bridge_tool.specs.Return.{IsReturnMeant}
 use Rattle.bridge_tool.specs.Verify.{IsDenied, IsVerified, claim_row_of}
@@ -20,17 +20,17 @@ use Rattle.bridge_tool.proofs.OneFile.{last_of}
 use Rattle.bridge_tool.proofs.Making.{make_one}
 use Rattle.command_parts.proofs.NameLists.{listed_sound}
 use Rattle.bridge_tool.proofs.NamedExporting.{after_names as named_next, names_sound as named_next_sound}
-use Rattle.command_parts.proofs.SeveralFiles.{HasOne, IsPlain, NoVerdict, both_sound, last_sound}
+use Rattle.command_core.proofs.SeveralFiles.{HasOne, IsPlain, NoVerdict, both_sound, last_sound}
 use Rattle.bridge_tool.proofs.Returning.{after_names as return_next, names_sound as return_next_sound, return_last}
 use Rattle.std.proofs.lemmas.Bool.{cases_lt}
 use Rattle.std.proofs.lemmas.Option.{IfSome_then}
-use Rattle.command_parts.specs.InsideAnswer.{IsWorked, status_of, told_by}
-use Rattle.command_parts.specs.Promise.{Answers, Promise, Tells}
-use Rattle.command_parts.specs.Told.{IsRefusalLine}
-use Rattle.command_parts.specs.Transfer.{TellsFront}
-use Rattle.command_parts.specs.declared.answer.Answer.{Answer}
-use Rattle.command_parts.proofs.Ending.{line_none, low}
-use Rattle.command_parts.proofs.FaultLines.{refusal_told}
+use Rattle.command_core.specs.InsideAnswer.{IsWorked, status_of, told_by}
+use Rattle.command_core.specs.Promise.{Answers, Promise, Tells}
+use Rattle.command_core.specs.Told.{IsRefusalLine}
+use Rattle.command_core.specs.Transfer.{TellsFront}
+use Rattle.command_core.specs.declared.answer.Answer.{Answer}
+use Rattle.command_core.proofs.Ending.{line_none, low}
+use Rattle.command_core.proofs.RefusalLines.{refusal_told}
 use Rattle.std.specs.Io.KnownBytes.{Appends}
 
 -- ---- commands

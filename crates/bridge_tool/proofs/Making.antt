@@ -31,22 +31,21 @@ use Rattle.scaling.specs.Scaled.{ScaledValue}
 use Rattle.desk.specs.Desk.{Meaning, OnlyMessages}
 use Rattle.texts.specs.declared.stop.Stop.{Stop}
 use Rattle.texts.specs.declared.stop.Stop.TheVariants.{Fault as IsFault, Memory as IsMemory}
-use Rattle.command_parts.specs.InsideAnswer.{Ends, IsWorked, status_of}
+use Rattle.command_core.specs.InsideAnswer.{Ends, IsWorked, status_of}
 use Rattle.bridge_tool.specs.Command.{Command, Make}
 use Rattle.bridge_tool.specs.Commands.{Leaves}
-use Rattle.command_parts.specs.declared.refusal.Refusal.{Refusal}
-use Rattle.command_parts.specs.InsideRefusal.{refusal_line}
-use Rattle.command_parts.specs.Outcome.{Outcome, Refused, Done}
+use Rattle.command_core.specs.declared.refused.Refusal.{Refusal}
+use Rattle.command_core.specs.Outcome.{Outcome, Refused, Done}
 use Rattle.command_parts.specs.Refusal.{HasTextRefusal}
-use Rattle.command_parts.specs.SeveralFiles.{Comes}
+use Rattle.command_core.specs.SeveralFiles.{Comes}
 use Rattle.command_parts.specs.Stages.{HasFolded, HasScaled, CannotBeExported, fold_steps}
-use Rattle.command_parts.specs.declared.answer.Answer.{Answer}
-use Rattle.command_parts.proofs.Ending.{HasComeTo, ends_status, memory_worked, refused_worked, wrote_worked}
+use Rattle.command_core.specs.declared.answer.Answer.{Answer}
+use Rattle.command_core.proofs.Ending.{HasComeTo, ends_status, memory_worked, refused_worked, wrote_worked}
 use Rattle.command_parts.proofs.TextsRead.{nl_read, same_file}
 use Rattle.command_parts.proofs.ExportStages.{exports_so, one_program, staged_so}
 use Rattle.bridge_tool.proofs.Exporting.{an_export, one_text, staged_either}
-use Rattle.command_parts.proofs.Known.{OnlyInput-same}
-use Rattle.command_parts.proofs.SeveralFiles.{HasOne, IsPlain, done_so, of_yes, one_of_both, plain_known}
+use Rattle.command_core.proofs.Known.{OnlyInput-same}
+use Rattle.command_core.proofs.SeveralFiles.{HasOne, IsPlain, done_so, of_yes, one_of_both, plain_known}
 
 -- ---- coefficients
 
@@ -200,7 +199,7 @@ module _ (seed size : ℕ) where
   make_worked few old new (Ok t) answer comes ends =
       wrote_worked (make_promise seed size) false old old new t.0 t.1.items answer (come old (Done t.0 t.1.items) comes) (inl (holds_so t.0 t.1.items comes)) (of_yes t.0 (IsInstanceSummedUp seed size) (λ e. instance_summed_up seed size few)) ends
   make_worked few old new (Err (IsFault refusal)) answer comes ends =
-      rw (ends.0, ends.1) (refused_worked (make_promise seed size) false old old refusal (come old (Refused (refusal_line refusal)) comes))
+      rw (ends.0, ends.1) (refused_worked (make_promise seed size) false old old refusal (come old (Refused refusal.line) comes))
   make_worked few old new (Err IsMemory) answer comes ends =
       rw (ends.0, ends.1) (memory_worked (make_promise seed size) false old old (λ o h. plain_known o (subst IsPlain (sym (make_one.one o h)) make_one.is)) refl (OnlyInput-same old))
 

@@ -15,10 +15,10 @@ use Rattle.bridge_tool.specs.Export.{IsExported, IsSameProgram, IsTiedProgram, M
 use Rattle.command_parts.specs.NameLists.{AreListed, IsListRefused, column_counts, row_counts}
 use Rattle.bridge_tool.specs.NamedExport.{AreNamedMeant, IsNamedExport, Named, NamedComesTo, named_end}
 use Rattle.bridge_tool.specs.InsideExport.{IsNamedTextOf}
-use Rattle.command_parts.specs.Promise.{Promise}
+use Rattle.command_core.specs.Promise.{Promise}
 use Rattle.command_parts.specs.Stages.{HasFolded, HasScaled, CannotBeExported, fold_steps}
 use Rattle.command_parts.proofs.NameLists.{list_read, listed_count}
-use Rattle.command_parts.proofs.SeveralFiles.{IsEither, IsLast, IsSound, either_last, one_of_both, sound_end}
+use Rattle.command_core.proofs.SeveralFiles.{IsEither, IsLast, IsSound, either_last, one_of_both, sound_end}
 use Rattle.command_parts.proofs.ExportStages.{a_program, exports_so, one_program, staged_so, decimal_decided}
 use Rattle.bridge_tool.proofs.Exporting.{staged_either, file_program, text_file}
 use Rattle.program_meaning.specs.Linear.{Linear, Row, Variable}

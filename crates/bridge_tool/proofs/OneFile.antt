@@ -13,9 +13,9 @@ use Rattle.bridge_tool.specs.OneFile.{IsMpsMeant, IsSolMeant, import_row, mps_ro
 use Rattle.bridge_tool.specs.declared.one_file.OneFile.{OneFile}
 use Rattle.bridge_tool.specs.declared.one_file.OneFile.TheVariants.{Import, Mps, Nl, Sol}
 use Rattle.bridge_tool.specs.declared.verify_mps.Layout.TheVariants.{Fixed, Free}
-use Rattle.command_parts.specs.Outcome.{Done, Outcome, Refused}
-use Rattle.command_parts.specs.Promise.{Promise}
-use Rattle.command_parts.proofs.SeveralFiles.{AreRead, same_one, IsLast, IsPlain, NoVerdict, at_rest, of_that, of_yes, one_met, only_ended, only_stopped, writes_last}
+use Rattle.command_core.specs.Outcome.{Done, Outcome, Refused}
+use Rattle.command_core.specs.Promise.{Promise}
+use Rattle.command_core.proofs.SeveralFiles.{AreRead, same_one, IsLast, IsPlain, NoVerdict, at_rest, of_that, of_yes, one_met, only_ended, only_stopped, writes_last}
 use Rattle.sol_files.specs.Reader.{IsSol}
 use Rattle.sol_files.specs.Sol.{Sol as SolValue}
 use Rattle.sol_files.specs.Written.{sol_text}
@@ -28,22 +28,22 @@ use Rattle.command_parts.specs.Refusal.{HasTextRefusal, IsFixedRefused, IsMpsRef
 use Rattle.command_parts.proofs.TextsRead.{fixed_read, mps_read, nl_read, sol_read}
 use Rattle.std.specs.Global.{Vec}
 use Rattle.mps_import.proofs.LawLemmas.{feasible_lem, objective_lem, sense_lem}
-use Rattle.mps_import.specs.declared.import_fault.ImportFault.{ImportFault}
+use Rattle.mps_program.specs.declared.mps_fault.MpsFault.{MpsFault}
 use Rattle.mps_import.specs.Faults.{import_fault}
 use Rattle.texts.specs.declared.stop.Stop.{Stop}
 use Rattle.bridge_tool.specs.Import.{MeansTheProgram, by_fault, import_outcome, CannotBeImported, IsImportedAs}
-use Rattle.command_parts.specs.SeveralFiles.{ByVerdict, Comes, Reached, Meets, ReadsFile, after_file, by_reached, ends, has_said, no_text, refused_with, writes}
-use Rattle.command_parts.specs.declared.refusal.Refusal.{Refusal}
+use Rattle.command_core.specs.SeveralFiles.{ByVerdict, Comes, Reached, Meets, ReadsFile, after_file, by_reached, ends, has_said, no_text, refused_with, writes}
+use Rattle.command_core.specs.declared.refused.Refusal.{Refusal}
 use Rattle.desk.specs.Desk.{Meaning, Texts}
-use Rattle.command_parts.specs.InsideAnswer.{Ends, IsAtRest}
-use Rattle.command_parts.specs.declared.answer.Answer.{Answer}
+use Rattle.command_core.specs.InsideAnswer.{Ends, IsAtRest}
+use Rattle.command_core.specs.declared.answer.Answer.{Answer}
 use Rattle.bridge_tool.proofs.Programs.{text_read}
 use Rattle.mps_import.specs.Import.{import_of}
 use Rattle.bridge_tool.specs.ByText.{IsByText, IsWritingByText}
 use Rattle.bridge_tool.specs.Export.{ExportsAs, IsExportMeant, IsExported, export_told}
 use Rattle.command_parts.specs.ImportTold.{import_line}
 use Rattle.command_parts.specs.Stages.{CannotBeExported, fold_steps}
-use Rattle.command_parts.specs.declared.transfer.TheConstants.{LIMIT}
+use Rattle.command_core.specs.declared.transfer.TheConstants.{LIMIT}
 
 -- ---- writing
 
@@ -56,15 +56,15 @@ pub sol_meant : (text : List ℕ) (sol : SolValue) → IsSol text sol → IsSolM
 sol_meant text sol read = λ le. is_read_back sol (record { rules = read_keeps text sol read; text = le })
 
 module _ (m : Program Dec) where
-  plain : (o : Option ImportFault) → IsPlain (by_fault m o)
+  plain : (o : Option MpsFault) → IsPlain (by_fault m o)
   plain None = tt
   plain (Some fault) = tt
 
-  yes_by : (o : Option ImportFault) (holds : Bool) (bytes : List ℕ) → Done holds bytes ≡ by_fault m o → holds ≡ true
+  yes_by : (o : Option MpsFault) (holds : Bool) (bytes : List ℕ) → Done holds bytes ≡ by_fault m o → holds ≡ true
   yes_by None holds bytes e = cc
   yes_by (Some fault) holds bytes e = absurd cc
 
-  clean_by : (o : Option ImportFault) (holds : Bool) (bytes : List ℕ) → Done holds bytes ≡ by_fault m o → o ≡ None
+  clean_by : (o : Option MpsFault) (holds : Bool) (bytes : List ℕ) → Done holds bytes ≡ by_fault m o → o ≡ None
   clean_by None holds bytes e = refl
   clean_by (Some fault) holds bytes e = absurd cc
 
@@ -187,11 +187,11 @@ module _ (texts : Texts) (file text : List ℕ) (is : texts file ≡ Some text) 
 -- ---- import
 
 module _ (m : Program Dec) where
-  imported_by : (o : Option ImportFault) (bytes : List ℕ) → Done true bytes ≡ by_fault m o ↔ ((o ≡ None) × (bytes ≡ nl_text (import_of m)))
+  imported_by : (o : Option MpsFault) (bytes : List ℕ) → Done true bytes ≡ by_fault m o ↔ ((o ≡ None) × (bytes ≡ nl_text (import_of m)))
   imported_by None bytes = (λ e. (refl, done_same bytes (nl_text (import_of m)) e), λ h. (let e = h.1 in cc))
   imported_by (Some fault) bytes = (λ e. absurd cc, λ h. (let e = h.0 in absurd cc))
 
-  denied_by : (o : Option ImportFault) (line : List ℕ) → Refused line ≡ by_fault m o ↔ ((fault : ImportFault) × (o ≡ Some fault) × (line ≡ import_line fault))
+  denied_by : (o : Option MpsFault) (line : List ℕ) → Refused line ≡ by_fault m o ↔ ((fault : MpsFault) × (o ≡ Some fault) × (line ≡ import_line fault))
   denied_by None line = (λ e. absurd cc, λ h. (let e = h.1 in absurd cc))
   denied_by (Some fault) line = (λ e. (fault, refl, refused_same line (import_line fault) e), λ h. (let e = h.1 in let told = h.2 in cc))
 

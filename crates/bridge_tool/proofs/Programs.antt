@@ -51,22 +51,21 @@ use Rattle.mps_certificates.proofs.Meaning.{mps_means}
 use Rattle.mps_certificates.proofs.Settings.{program_setting as setting_so}
 use Rattle.command_parts.specs.CertificateTold.{HasFittingBound, is_held, objective_text, outcome_line, told_text}
 use Rattle.command_parts.specs.ImportTold.{import_line}
-use Rattle.command_parts.specs.InsideAnswer.{IsCounted}
-use Rattle.command_parts.specs.InsideRefusal.{refusal_line}
+use Rattle.command_core.specs.InsideAnswer.{IsCounted}
 use Rattle.command_parts.specs.NlTold.{fold_line}
-use Rattle.command_parts.specs.Outcome.{Outcome, Refused as IsRefusal, Done}
+use Rattle.command_core.specs.Outcome.{Outcome, Refused as IsRefusal, Done}
 use Rattle.command_parts.specs.Refusal.{IsCertificateRefused}
-use Rattle.command_parts.specs.SeveralFiles.{Answered, ByVerdict, Comes, HasEnded, ReadsFile, desk_promise, itself}
+use Rattle.command_core.specs.SeveralFiles.{Answered, ByVerdict, Comes, HasEnded, ReadsFile, desk_promise, itself}
 use Rattle.command_parts.specs.Stages.{HasFolded}
-use Rattle.command_parts.specs.Told.{refusal}
-use Rattle.command_parts.specs.declared.answer.Answer.{Answer}
-use Rattle.command_parts.specs.declared.answer.Answer.TheVariants.{Refused, InputFault, NoMemory}
-use Rattle.command_parts.specs.declared.refusal.Refusal.{Refusal}
-use Rattle.command_parts.proofs.SeveralFiles.{AreRead, IsLast, IsPlain, meant_as, same_one, text_so, value_said}
+use Rattle.command_core.specs.Told.{refusal}
+use Rattle.command_core.specs.declared.answer.Answer.{Answer}
+use Rattle.command_core.specs.declared.answer.Answer.TheVariants.{Refused, InputFault, NoMemory}
+use Rattle.command_core.specs.declared.refused.Refusal.{Refusal}
+use Rattle.command_core.proofs.SeveralFiles.{AreRead, IsLast, IsPlain, meant_as, same_one, text_so, value_said}
 use Rattle.command_parts.proofs.TextsRead.{certificate_read, fixed_read, mps_read, nl_read}
 use Rattle.bridge_tool.specs.Claims.{IsClaimDenied, IsClaimTrue}
 use Rattle.bridge_tool.specs.InsideVerify.{GivesProgram, IsProgramOf}
-use Rattle.bridge_tool.specs.Verify.{ClaimRow, HasNoLinear, HasProgram, IsDenied, IsProgramRefused, IsSaidIn, IsTextIn, IsTextRefused, IsVerified, SaysVerified, as_import, by_linear, claim_row_of, claim_shown, mps_claim_row, nl_claim_row, no_objective, verify_outcome, verify_promise, verify_read}
+use Rattle.bridge_tool.specs.Verify.{ClaimRow, HasNoLinear, HasProgram, IsDenied, IsProgramRefused, IsSaidIn, IsTextIn, IsTextRefused, IsVerified, SaysVerified, by_linear, claim_row_of, claim_shown, mps_claim_row, nl_claim_row, no_objective, verify_outcome, verify_promise, verify_read}
 use Rattle.bridge_tool.specs.declared.verify.ProblemText.{ProblemText}
 use Rattle.bridge_tool.specs.declared.verify.ProblemText.TheVariants.{Mps as MpsIn, Nl}
 use Rattle.bridge_tool.specs.declared.verify_mps.Layout.{Layout}
@@ -82,7 +81,7 @@ text_read Fixed = fixed_read
 -- one program has one first fault, and one line that tells it
 one_line : (m n : Mps Dec) (a b : List ℕ) → m ≡ n → HasNoLinear m a → HasNoLinear n b → a ≡ b
 one_line m n a b same h k =
-    h.told ∙ ap (λ (fault : MpsFault). import_line (as_import fault)) (same_Some h.fault k.fault (sym h.first ∙ ap mps_fault same ∙ k.first)) ∙ sym k.told
+    h.told ∙ ap import_line (same_Some h.fault k.fault (sym h.first ∙ ap mps_fault same ∙ k.first)) ∙ sym k.told
 
 no_both : (m n : Mps Dec) (line : List ℕ) → m ≡ n → mps_fault m ≡ None → HasNoLinear n line → ⊥
 no_both m n line same clean h = (let first = ap mps_fault same ∙ h.first in cc)
@@ -107,7 +106,7 @@ program_read layout = record {
 
     by : (text : List ℕ) (m : Mps Dec) → IsTextIn layout text m → (o : Option MpsFault) → mps_fault m ≡ o → ((n : Mps Dec) × HasProgram layout text n) ⊎ ((line : List ℕ) × IsProgramRefused layout text line)
     by text m says None e = inl (m, record { says = says; clean = e })
-    by text m says (Some fault) e = inr (import_line (as_import fault), inr (m, (says, record { fault = fault; first = e; told = refl })))
+    by text m says (Some fault) e = inr (import_line fault, inr (m, (says, record { fault = fault; first = e; told = refl })))
 
 -- ---- reading it
 
@@ -132,7 +131,7 @@ module _ (layout : Layout) (file : List ℕ) (old new : Meaning) where
   text_ended answer h = record { rest = h.rest; later = h.later; judged = ended_by answer h.judged }
 
   module _ (m : Mps Dec) (h : ReadsFile {R = Mps Dec} itself (IsTextIn layout) (IsTextRefused layout) file old new (Ok m)) where
-    no_linear : (answer : Answer) (refusal : Refusal) → answer ≡ Refused refusal → HasNoLinear m (refusal_line refusal) → HasEnded (IsProgramRefused layout) file old new answer
+    no_linear : (answer : Answer) (refusal : Refusal) → answer ≡ Refused refusal → HasNoLinear m refusal.line → HasEnded (IsProgramRefused layout) file old new answer
     no_linear answer refusal e none = rw e (record { bytes = h.judged.bytes; read = h.judged.read; says = inr (m, (h.judged.says, none)); same = h.judged.same })
 
     no_memory : (answer : Answer) → answer ≡ NoMemory → HasEnded (IsProgramRefused layout) file old new answer

@@ -1,15 +1,11 @@
 -- What an answer for a file comes to: one outcome, and what the duals mean.
-use Rattle.std.proofs.Common.{[], ◌≡◌, ◌∙◌, inl, inr, ◌⊎◌, ℕ, ℤ, ◌+◌, ◌≤◌, List, Bool, true, false, None, is_some, refl, sym, ap, subst, Err}
+use Rattle.std.proofs.Common.{[], ◌≡◌, ◌∙◌, inl, inr, ◌⊎◌, ℕ, ℤ, ◌+◌, ◌≤◌, List, Bool, true, false, None, is_some, refl, sym, ap, subst}
 use Rattle.std.specs.List.{list_any}
 use Rattle.desk.specs.Desk.{Texts}
-use Rattle.texts.specs.Stopped.{IfFault}
-use Rattle.texts.specs.declared.stop.Stop.{Stop}
-use Rattle.texts.specs.declared.stop.Stop.TheVariants.{Fault, Memory}
 use Rattle.exact_numbers.specs.declared.dec.Dec.{Dec}
 use Rattle.file_meaning.specs.FoldFaults.{fold_fault}
 use Rattle.linear_program.specs.Programs.{LinearValue, linear_value}
 use Rattle.nl_model.specs.declared.header_counts.Counts.{Counts}
-use Rattle.nl_model.specs.File.{File}
 use Rattle.nl_model.specs.Rules.{IsFile}
 use Rattle.nl_segments.specs.Grammar.{NlValue}
 use Rattle.scaling.specs.Scaled.{ScaledValue}
@@ -24,14 +20,11 @@ use Rattle.dual_return.specs.declared.fault.ReturnFault.{ReturnFault}
 use Rattle.dual_return.proofs.LawOfReturn.{duals_mean}
 use Rattle.dual_return.proofs.OneReturn.{one-return}
 use Rattle.command_parts.specs.AnswerTold.{return_line}
-use Rattle.command_parts.specs.InsideRefusal.{refused_by}
-use Rattle.command_parts.specs.Promise.{Promise}
-use Rattle.command_parts.specs.declared.refusal.Refusal.{Refusal}
-use Rattle.command_parts.specs.declared.refusal.Refusal.TheVariants.{Return}
+use Rattle.command_core.specs.Promise.{Promise}
 use Rattle.command_parts.specs.Refusal.{IsAnswerRefused}
-use Rattle.bridge_tool.specs.Return.{IsReturnMeant, IsReturned, IsReturnRefused, Makes, ReturnsAs, after_answer}
+use Rattle.bridge_tool.specs.Return.{IsReturnMeant, IsReturned, IsReturnRefused, ReturnsAs, after_answer}
 use Rattle.command_parts.specs.Stages.{HasFolded, HasScaled, CanBeExported, CannotBeExported, fold_steps}
-use Rattle.command_parts.proofs.SeveralFiles.{IsEither, IsLast, IsSound, NoVerdict, either_last, last_sound}
+use Rattle.command_core.proofs.SeveralFiles.{IsEither, IsLast, IsSound, NoVerdict, either_last, last_sound}
 use Rattle.command_parts.proofs.ExportStages.{folded_at, one_reason, staged, staged_or_not, staged_so}
 use Rattle.command_parts.proofs.TextsRead.{answer_read}
 
@@ -74,12 +67,6 @@ module _ (nl : NlValue) (a : AnswerValue) (n : ℕ) (same : n ≡ a.objective) w
   pub answered : (counts : Counts) (options : List ℤ) (l : LinearValue) (s : ScaledValue) → counts ≡ nl.file.counts → options ≡ nl.file.options → IsAnswerFor nl.file a → HasFolded nl n l → HasScaled (linear_value l) s → IsAnswered counts options s a nl.file
   answered counts options l s head first made folds scales =
       record { counts_are = head; options_are = first; answer = made; scaled = subst (λ f. IsScaledOf f s) (folded_at nl n a.objective l same folds).linear scales.scaled }
-
-  -- a dual is too wide
-  pub wide_so : (counts : Counts) (options : List ℤ) (l : LinearValue) (s : ScaledValue) (stop : Stop ReturnFault) (told : Stop Refusal) → HasFolded nl n l → HasScaled (linear_value l) s → IsAnswered counts options s a nl.file → IfFault stop (λ fault. (f : File) → IsAnswered counts options s a f → HasReturnFault f a fault) → told ≡ refused_by Return stop
-      → Makes nl a (Err told)
-  wide_so counts options l s (Fault fault) told folds scales is_one first is = rw is (inr (record { staged = staged_by l s folds scales; first = record { fault = fault; first = first nl.file is_one; told = refl } }))
-  wide_so counts options l s Memory told folds scales is_one first is = rw is tt
 
 -- the duals mean what the law of return says; where there are none, of each that is there
 mean_if : (nl : NlValue) (a : AnswerValue) (b : Bool) (duals : List Dec) → IsFile nl.file → fold_fault nl.file a.objective ≡ None → AreDualsIf b nl.file a duals → MeanTheProgram nl.file a duals

@@ -26,14 +26,14 @@ use Rattle.sol_files.specs.Built.{IsEmptyOrFull}
 use Rattle.sol_files.specs.Reader.{IsSol}
 use Rattle.sol_files.specs.Sol.{Sol}
 use Rattle.bridge_tool.specs.Check.{IsCertified, IsNotCertified, by_fit, by_fold, by_number, by_verdict, check_outcome, most_steps, objective_number, shown, unfit}
-use Rattle.command_parts.specs.Outcome.{Done}
+use Rattle.command_core.specs.Outcome.{Done}
 use Rattle.command_parts.specs.Refusal.{IsSolRefused, IsProofRefused}
-use Rattle.command_parts.specs.SeveralFiles.{ByVerdict, Comes}
+use Rattle.command_core.specs.SeveralFiles.{ByVerdict, Comes}
 use Rattle.command_parts.specs.Stages.{HasFolded, fold_steps}
 use Rattle.command_parts.specs.VerdictTold.{is_yes, verdict_line}
-use Rattle.command_parts.proofs.SeveralFiles.{IsPlain, IsLast, verdict_last}
+use Rattle.command_core.proofs.SeveralFiles.{IsPlain, IsLast, verdict_last}
 use Rattle.command_parts.proofs.TextsRead.{proof_read, sol_read}
-use Rattle.command_parts.specs.declared.refusal.Refusal.{Refusal}
+use Rattle.command_core.specs.declared.refused.Refusal.{Refusal}
 use Rattle.duality.specs.Branch.{LeafFault, proof_fault}
 use Rattle.branch_check.specs.declared.verdict.ProofVerdict.{ProofVerdict}
 use Rattle.branch_check.specs.declared.verdict.ProofVerdict.TheVariants.{Yes}

@@ -1,7 +1,7 @@
 -- Commands of one file, by the text of that file alone.
 use Rattle.std.specs.Prelude.{◌≡◌, ◌⊎◌, ◌↔◌, ℕ, true, List}
-use Rattle.command_parts.specs.Outcome.{Done, Refused}
-use Rattle.command_parts.specs.Promise.{Promise}
+use Rattle.command_core.specs.Outcome.{Done, Refused}
+use Rattle.command_core.specs.Promise.{Promise}
 
 -- A command that reads this text comes to the bytes with which what the text says is accepted.
 -- It is refused with the line of the text's fault, or with one with which what the text says is

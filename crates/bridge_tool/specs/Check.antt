@@ -20,10 +20,10 @@ use Rattle.solution_fit.specs.Fits.{fit_fault, given_by}
 use Rattle.exact_checks.specs.Terms.{values_of}
 use Rattle.solution_fit.specs.declared.fitting.FitFault.{FitFault}
 use Rattle.command_parts.specs.NlTold.{fold_line}
-use Rattle.command_parts.specs.Outcome.{Outcome, Refused, Done}
-use Rattle.command_parts.specs.Promise.{Promise}
+use Rattle.command_core.specs.Outcome.{Outcome, Refused, Done}
+use Rattle.command_core.specs.Promise.{Promise}
 use Rattle.command_parts.specs.Refusal.{HasTextRefusal, IsSolRefused}
-use Rattle.command_parts.specs.SeveralFiles.{after_file, desk_promise, judges_last}
+use Rattle.command_core.specs.SeveralFiles.{after_file, desk_promise, judges_last}
 use Rattle.command_parts.specs.Stages.{fold_steps}
 use Rattle.command_parts.specs.VerdictTold.{fit_line, is_yes, negative_line, verdict_line}
 

@@ -10,7 +10,7 @@ use Rattle.certificates.specs.Certificates.{CertificateValue, Given, certificate
 use Rattle.certificates.specs.Reading.{given_in}
 use Rattle.certificates.specs.declared.certificate.Claim.{Claim}
 use Rattle.command_parts.specs.CertificateTold.{outcome_line, told_line}
-use Rattle.command_parts.specs.Outcome.{Outcome, Done}
+use Rattle.command_core.specs.Outcome.{Outcome, Done}
 
 -- What a yes means: what the line that is written tells is true of the problem, for the point that
 -- is given.

@@ -9,8 +9,8 @@ use Rattle.bridge_tool.specs.Export.{export_promise}
 use Rattle.bridge_tool.specs.Make.{LeavesInput, make_promise}
 use Rattle.bridge_tool.specs.NamedExport.{named_promise}
 use Rattle.bridge_tool.specs.OneFile.{row_of, row_promise}
-use Rattle.command_parts.specs.Outcome.{Outcome, BadWords}
-use Rattle.command_parts.specs.Promise.{Promise}
+use Rattle.command_core.specs.Outcome.{Outcome, BadWords}
+use Rattle.command_core.specs.Promise.{Promise}
 use Rattle.bridge_tool.specs.Prove.{prove_promise}
 use Rattle.bridge_tool.specs.Return.{named_return_promise, return_promise}
 use Rattle.bridge_tool.specs.Verify.{claim_row_of, verify_promise}

@@ -15,10 +15,10 @@ use Rattle.nl_model.specs.File.{File}
 use Rattle.nl_segments.specs.Grammar.{NlValue}
 use Rattle.nl_segments.specs.Reader.{IsNl}
 use Rattle.desk.specs.Desk.{Texts}
-use Rattle.command_parts.specs.Outcome.{DoneOrRefused, Outcome}
-use Rattle.command_parts.specs.Promise.{Promise}
+use Rattle.command_core.specs.Outcome.{DoneOrRefused, Outcome}
+use Rattle.command_core.specs.Promise.{Promise}
 use Rattle.command_parts.specs.Refusal.{HasTextRefusal}
-use Rattle.command_parts.specs.SeveralFiles.{after_file, desk_promise, ends}
+use Rattle.command_core.specs.SeveralFiles.{after_file, desk_promise, ends}
 use Rattle.command_parts.specs.Stages.{CanBeExported, CannotBeExported, fold_steps}
 
 -- the file folds and scales with objective k, and these bytes are the text of its scaled program as

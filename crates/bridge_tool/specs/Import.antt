@@ -7,17 +7,17 @@ use Rattle.exact_numbers.specs.declared.dec.Dec.{Dec}
 use Rattle.file_meaning.specs.Expressions.{maximises}
 use Rattle.file_meaning.specs.Meaning.{IsFeasible, file_objective}
 use Rattle.mps_model.specs.Mps.{IsMpsFeasible, Mps, mps_objective}
-use Rattle.mps_import.specs.declared.import_fault.ImportFault.{ImportFault}
+use Rattle.mps_program.specs.declared.mps_fault.MpsFault.{MpsFault}
 use Rattle.mps_import.specs.Faults.{import_fault}
 use Rattle.mps_import.specs.Import.{import_of}
 use Rattle.mps_import.specs.Variables.{in_order}
 use Rattle.mps_program.specs.Program.{values_of}
 use Rattle.nl_writer.specs.Written.{nl_text}
 use Rattle.command_parts.specs.ImportTold.{import_line}
-use Rattle.command_parts.specs.Outcome.{Done, Outcome, Refused}
+use Rattle.command_core.specs.Outcome.{Done, Outcome, Refused}
 
 -- a program with a first fault is refused; else the text of its file is written
-abbrev pub by_fault : Mps Dec → Option ImportFault → Outcome
+abbrev pub by_fault : Mps Dec → Option MpsFault → Outcome
 by_fault m (Some fault) = Refused (import_line fault)
 by_fault m None = Done true (nl_text (import_of m))
 
@@ -32,7 +32,7 @@ IsImportedAs m bytes = (import_fault m ≡ None) × (bytes ≡ nl_text (import_o
 -- this line tells the first fault of a program
 abbrev pub CannotBeImported : Mps Dec → List ℕ → Type 0
 CannotBeImported m line =
-    (fault : ImportFault) × (import_fault m ≡ Some fault) × (line ≡ import_line fault)
+    (fault : MpsFault) × (import_fault m ≡ Some fault) × (line ≡ import_line fault)
 
 -- at every point of the columns the file is satisfied exactly where the program is, by the point in
 -- the order of the variables, with the same value of the objective; the sense is the same

@@ -7,9 +7,9 @@ use Rattle.mps_model.specs.Mps.{Mps}
 use Rattle.mps_program.specs.Faults.{mps_fault}
 use Rattle.mps_program.specs.Kinds.{kinds_of}
 use Rattle.mps_program.specs.Program.{constraints, linear_of, values_of}
-use Rattle.command_parts.specs.InsideRefusal.{Gives}
+use Rattle.command_core.specs.InsideRefusal.{Gives}
 use Rattle.bridge_tool.specs.Verify.{HasNoLinear}
-use Rattle.command_parts.specs.declared.refusal.Refusal.{Refusal}
+use Rattle.command_core.specs.declared.refused.Refusal.{Refusal}
 
 pub record IsProgramOf (m : Mps Dec) (l : LinearValue) : Type 0 where
   pub linear : linear_value l ≡ linear_of (values_of m)

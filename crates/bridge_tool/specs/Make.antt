@@ -19,8 +19,8 @@ use Rattle.nl_segments.specs.Reader.{IsNl}
 use Rattle.nl_writer.specs.Written.{nl_text}
 use Rattle.desk.specs.Desk.{Meaning}
 use Rattle.bridge_tool.specs.Export.{IsExported}
-use Rattle.command_parts.specs.Outcome.{DoneOrRefused, Outcome, Refused}
-use Rattle.command_parts.specs.Promise.{Promise}
+use Rattle.command_core.specs.Outcome.{DoneOrRefused, Outcome, Refused}
+use Rattle.command_core.specs.Promise.{Promise}
 use Rattle.command_parts.specs.Refusal.{HasTextRefusal}
 use Rattle.command_parts.specs.Stages.{CannotBeExported}
 

@@ -15,10 +15,10 @@ use Rattle.exported_program.specs.Program.{mps_of}
 use Rattle.desk.specs.Desk.{Texts}
 use Rattle.bridge_tool.specs.Export.{MeansTheFile}
 use Rattle.command_parts.specs.NameLists.{after_lists}
-use Rattle.command_parts.specs.Outcome.{DoneOrRefused, Outcome}
-use Rattle.command_parts.specs.Promise.{Promise}
+use Rattle.command_core.specs.Outcome.{DoneOrRefused, Outcome}
+use Rattle.command_core.specs.Promise.{Promise}
 use Rattle.command_parts.specs.Refusal.{HasTextRefusal}
-use Rattle.command_parts.specs.SeveralFiles.{after_file, desk_promise, ends}
+use Rattle.command_core.specs.SeveralFiles.{after_file, desk_promise, ends}
 use Rattle.command_parts.specs.Stages.{CanBeExported, CannotBeExported, fold_steps}
 
 -- a file, the number of its objective, and the names of its rows and columns

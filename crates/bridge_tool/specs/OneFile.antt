@@ -14,10 +14,10 @@ use Rattle.nl_writer.specs.Written.{nl_text}
 use Rattle.sol_files.specs.Reader.{IsSol}
 use Rattle.sol_files.specs.Sol.{Sol as SolValue}
 use Rattle.sol_files.specs.Written.{sol_text}
-use Rattle.command_parts.specs.Outcome.{Done, Outcome}
-use Rattle.command_parts.specs.Promise.{Promise}
+use Rattle.command_core.specs.Outcome.{Done, Outcome}
+use Rattle.command_core.specs.Promise.{Promise}
 use Rattle.command_parts.specs.Refusal.{HasTextRefusal, IsMpsRefused, IsSolRefused}
-use Rattle.command_parts.specs.SeveralFiles.{after_file, desk_promise, ends}
+use Rattle.command_core.specs.SeveralFiles.{after_file, desk_promise, ends}
 use Rattle.bridge_tool.specs.Import.{MeansTheProgram, import_outcome}
 use Rattle.bridge_tool.specs.Verify.{IsTextIn, IsTextRefused}
 use Rattle.bridge_tool.specs.declared.verify_mps.Layout.{Layout}

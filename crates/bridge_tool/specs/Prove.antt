@@ -20,11 +20,11 @@ use Rattle.certificates.specs.ProofReading.{tree_in}
 use Rattle.proof_text.specs.Reader.{IsProofText}
 use Rattle.file_certificates.specs.Setting.{setting_of}
 use Rattle.command_parts.specs.NlTold.{fold_line}
-use Rattle.command_parts.specs.Outcome.{Outcome, Refused, Done}
-use Rattle.command_parts.specs.Promise.{Promise}
+use Rattle.command_core.specs.Outcome.{Outcome, Refused, Done}
+use Rattle.command_core.specs.Promise.{Promise}
 use Rattle.command_parts.specs.ProofTold.{leaf_line}
 use Rattle.command_parts.specs.Refusal.{HasTextRefusal, IsProofRefused}
-use Rattle.command_parts.specs.SeveralFiles.{after_file, desk_promise, judges_last}
+use Rattle.command_core.specs.SeveralFiles.{after_file, desk_promise, judges_last}
 use Rattle.command_parts.specs.Stages.{fold_steps}
 
 -- ---- what the values of both files come to

@@ -13,15 +13,15 @@ use Rattle.answer_file.specs.Names.{Setting, named_setting, setting_of}
 use Rattle.answer_file.specs.Reading.{IsAnswer}
 use Rattle.dual_return.specs.Return.{HasReturnFault, IsReturn, MeanTheProgram}
 use Rattle.command_parts.specs.AnswerTold.{return_line}
-use Rattle.command_parts.specs.InsideRefusal.{Gives}
-use Rattle.command_parts.specs.declared.refusal.Refusal.{Refusal}
+use Rattle.command_core.specs.InsideRefusal.{Gives}
+use Rattle.command_core.specs.declared.refused.Refusal.{Refusal}
 use Rattle.command_parts.specs.NameLists.{after_lists}
-use Rattle.command_parts.specs.Outcome.{DoneOrRefused, Outcome}
-use Rattle.command_parts.specs.Promise.{Promise}
+use Rattle.command_core.specs.Outcome.{DoneOrRefused, Outcome}
+use Rattle.command_core.specs.Promise.{Promise}
 use Rattle.command_parts.specs.Refusal.{HasTextRefusal, IsAnswerRefused}
-use Rattle.command_parts.specs.SeveralFiles.{after_file, desk_promise, ends}
+use Rattle.command_core.specs.SeveralFiles.{after_file, desk_promise, ends}
 use Rattle.command_parts.specs.Stages.{CanBeExported, CannotBeExported, fold_steps}
-use Rattle.command_parts.specs.Told.{TellsFault}
+use Rattle.command_core.specs.Told.{TellsFault}
 
 -- ---- what both values come to
 

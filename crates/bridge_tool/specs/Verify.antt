@@ -21,10 +21,6 @@ use Rattle.fixed_mps.specs.Grammar.{SaysFixed}
 use Rattle.fixed_mps.specs.Reader.{IsFixedText}
 use Rattle.mps_program.specs.Faults.{mps_fault}
 use Rattle.mps_program.specs.Program.{linear_of as mps_linear_of, values_of}
-use Rattle.mps_program.specs.declared.mps_fault.MpsFault.{MpsFault}
-use Rattle.mps_program.specs.declared.mps_fault.MpsFault.TheVariants.{TooLarge as ProgramTooLarge, TooWide as ProgramTooWide, EmptyInterval as ProgramEmptyInterval}
-use Rattle.mps_import.specs.declared.import_fault.ImportFault.{ImportFault}
-use Rattle.mps_import.specs.declared.import_fault.ImportFault.TheVariants.{EmptyInterval, TooWide, TooLarge}
 use Rattle.certificates.specs.Certificates.{CertificateValue, Given, claim_outcome, claim_objective}
 use Rattle.certificates.specs.Reading.{given_in}
 use Rattle.certificates.specs.Setting.{Setting}
@@ -39,12 +35,12 @@ use Rattle.mps_certificates.specs.Setting.{mps_setting}
 use Rattle.command_parts.specs.CertificateTold.{is_held, outcome_line}
 use Rattle.command_parts.specs.ImportTold.{import_line}
 use Rattle.command_parts.specs.NlTold.{fold_line}
-use Rattle.command_parts.specs.Outcome.{Outcome, Refused, Done}
-use Rattle.command_parts.specs.Promise.{Promise}
+use Rattle.command_core.specs.Outcome.{Outcome, Refused, Done}
+use Rattle.command_core.specs.Promise.{Promise}
 use Rattle.command_parts.specs.Refusal.{HasTextRefusal, IsFixedRefused, IsMpsRefused, IsCertificateRefused}
-use Rattle.command_parts.specs.SeveralFiles.{IsTextOf, after_file, desk_promise, judges_last, saying}
+use Rattle.command_core.specs.SeveralFiles.{IsTextOf, after_file, desk_promise, judges_last, saying}
 use Rattle.command_parts.specs.Stages.{fold_steps}
-use Rattle.command_parts.specs.Told.{TellsFault, refusal}
+use Rattle.command_core.specs.Told.{TellsFault, refusal}
 use Rattle.bridge_tool.specs.Claims.{IsClaimDenied, IsClaimTrue}
 use Rattle.bridge_tool.specs.declared.verify.ProblemText.{ProblemText}
 use Rattle.bridge_tool.specs.declared.verify.ProblemText.TheVariants.{Nl, Mps as MpsIn}
@@ -107,16 +103,9 @@ pub record HasProgram (layout : Layout) (text : List ℕ) (m : Mps Dec) : Type 0
   pub says : IsTextIn layout text m
   pub clean : mps_fault m ≡ None
 
--- a fault of a program as import has it, which tells it so
-abbrev pub as_import : MpsFault → ImportFault
-as_import ProgramTooLarge = TooLarge
-as_import (ProgramTooWide row) = TooWide row
-as_import (ProgramEmptyInterval column) = EmptyInterval column
-
 -- this line tells the first fault of a program
 abbrev pub HasNoLinear : Mps Dec → List ℕ → Type 0
-HasNoLinear m =
-    TellsFault (λ fault. mps_fault m ≡ Some fault) (λ fault. import_line (as_import fault))
+HasNoLinear m = TellsFault (λ fault. mps_fault m ≡ Some fault) import_line
 
 -- the text has a first fault, or its program has
 abbrev pub IsProgramRefused : Layout → List ℕ → List ℕ → Type 0

@@ -8,12 +8,15 @@ ghost use Rattle.linear_program.specs.Programs.{linear_value};
 ghost use Rattle.nl_segments.specs.Reader.{HasLines, value_of};
 ghost use Rattle.exact_checks.specs.Answers.{answer_of};
 ghost use Rattle.exact_checks.specs.Terms.{values_of};
-ghost use Rattle.command_parts.specs.InsideAnswer.{IsCounted};
+ghost use Rattle.command_core.specs.InsideAnswer.{IsCounted};
 ghost use Rattle.bridge_tool.specs.Check.{by_fold, check_outcome, check_promise, most_steps, objective_number, steps_by_number, unfit};
-ghost use Rattle.command_parts.specs.SeveralFiles.{Comes};
+ghost use Rattle.command_core.specs.SeveralFiles.{Comes};
 ghost use Rattle.command_parts.specs.VerdictTold.{is_yes, verdict_line};
 
-use command_parts::{Answer, Refusal, end, fold_read, is_yes, open_nl, open_sol, verdict_line};
+use command_core::{Answer, Refusal, end};
+use command_parts::{
+    fit_refusal, fold_read, is_yes, negative_refusal, open_nl, open_sol, verdict_line,
+};
 use desk::Desk;
 use exact_checks::{Columns, Verdict, certify};
 use exact_numbers::Dec;
@@ -112,11 +115,11 @@ fn to_verdict<L: Ledger>(
     ensures counts { steps.new ≤ steps.old + most_steps (value_of read) sol.now }
 {
     if let Err(fault) = fit(&read.file, sol) {
-        return Err(Stop::Fault(Refusal::Fit(fault)));
+        return Err(Stop::Fault(fit_refusal(fault)));
     }
     let number = objective_number(sol);
     let Some(objective) = plain_objective(number) else {
-        return Err(Stop::Fault(Refusal::Negative(number)));
+        return Err(Stop::Fault(negative_refusal(number)));
     };
     certified(alloc, read, sol, objective, steps)
 }

@@ -6,12 +6,13 @@ ghost use Rattle.mps_model.specs.Text.{mps_text_by};
 ghost use Rattle.nl_segments.specs.Reader.{HasLines, value_of};
 ghost use Rattle.exported_program.specs.Program.{mps_of};
 ghost use Rattle.scaling.specs.Exported.{scaled_as};
-ghost use Rattle.command_parts.specs.InsideAnswer.{IsCounted};
+ghost use Rattle.command_core.specs.InsideAnswer.{IsCounted};
 ghost use Rattle.bridge_tool.specs.Export.{ExportsAs, IsExportMeant, export_promise};
-ghost use Rattle.command_parts.specs.SeveralFiles.{ComesInPieces};
+ghost use Rattle.command_core.specs.SeveralFiles.{ComesInPieces};
 ghost use Rattle.command_parts.specs.Stages.{fold_steps};
 
-use command_parts::{Answer, Refusal, end_in_pieces, fold_read, open_nl, scale};
+use command_core::{Answer, Refusal, end_in_pieces};
+use command_parts::{fold_read, open_nl, scale};
 use desk::Desk;
 use mps_export::text_in_pieces;
 use nl_segments::NlRead;

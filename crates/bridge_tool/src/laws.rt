@@ -32,10 +32,10 @@ ghost use Rattle.bridge_tool.specs.declared.verify_mps.Layout.TheVariants.{Fixed
 ghost use Rattle.command_parts.specs.NameLists.{AreListed, column_counts, row_counts};
 ghost use Rattle.bridge_tool.specs.Instances.{InstancesAreSaid, InstancesAreWritable};
 ghost use Rattle.bridge_tool.specs.NamedExport.{IsNamedExport, Named};
-ghost use Rattle.command_parts.specs.Outcome.{Outcome};
+ghost use Rattle.command_core.specs.Outcome.{Outcome};
 ghost use Rattle.command_parts.specs.Refusal.{HasTextRefusal, IsFixedRefused, IsMpsRefused, IsSolRefused};
 ghost use Rattle.command_parts.specs.Stages.{CannotBeExported, fold_steps};
-ghost use Rattle.command_parts.specs.declared.transfer.TheConstants.{LIMIT};
+ghost use Rattle.command_core.specs.declared.transfer.TheConstants.{LIMIT};
 
 /// Words come to exactly one outcome, whatever texts a desk has.
 #[tactic(auto, using(crate::proofs::Headline::some_outcome, crate::proofs::Headline::one_outcome))]

@@ -6,13 +6,14 @@ ghost use Rattle.linear_fold.specs.FoldedFaults.{step_bound};
 ghost use Rattle.nl_segments.specs.Reader.{HasLines, value_of};
 ghost use Rattle.exported_program.specs.Program.{mps_of};
 ghost use Rattle.scaling.specs.Exported.{scaled_as};
-ghost use Rattle.command_parts.specs.InsideAnswer.{IsWorked, status_of};
+ghost use Rattle.command_core.specs.InsideAnswer.{IsWorked, status_of};
 ghost use Rattle.bridge_tool.specs.Make.{IsSummedUp, LeavesInput, MakesAs, make_promise, made_text};
-ghost use Rattle.command_parts.specs.SeveralFiles.{Comes};
+ghost use Rattle.command_core.specs.SeveralFiles.{Comes};
 ghost use Rattle.command_parts.specs.Stages.{fold_steps};
 
 use crate::summary::{coefficient_count, exported_count, summary_line};
-use command_parts::{Answer, Refusal, end, exported, fold_read, scale};
+use command_core::{Answer, Refusal, end};
+use command_parts::{exported, fold_read, nl_refusal, scale};
 use desk::Desk;
 use instances::make_instance;
 use mps_writer::write_mps;
@@ -79,7 +80,7 @@ fn to_output<L: Ledger>(
     let text = instance_text(alloc, seed, size)?;
     match read_nl(alloc, &text) {
         Ok(read) => judge_read(alloc, read, steps),
-        Err(stop) => Err(stop.map_fault(|fault| Refusal::Nl(fault))),
+        Err(stop) => Err(stop.map_fault(|fault| nl_refusal(fault))),
     }
 }
 

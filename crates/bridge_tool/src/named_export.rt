@@ -5,15 +5,14 @@ ghost use Rattle.name_files.specs.Renamed.{HasExportedNames, named};
 ghost use Rattle.nl_segments.specs.Reader.{HasLines, value_of};
 ghost use Rattle.exported_program.specs.Program.{mps_of};
 ghost use Rattle.scaling.specs.Exported.{scaled_as};
-ghost use Rattle.command_parts.specs.InsideAnswer.{IsCounted};
+ghost use Rattle.command_core.specs.InsideAnswer.{IsCounted};
 ghost use Rattle.bridge_tool.specs.NamedExport.{AreNamedMeant, Named, NamedComesTo, named_promise};
 ghost use Rattle.bridge_tool.specs.InsideExport.{IsNamedTextOf};
-ghost use Rattle.command_parts.specs.SeveralFiles.{Comes};
+ghost use Rattle.command_core.specs.SeveralFiles.{Comes};
 ghost use Rattle.command_parts.specs.Stages.{fold_steps};
 
-use command_parts::{
-    Answer, Refusal, end, exported, fold_read, open_columns, open_nl, open_rows, scale,
-};
+use command_core::{Answer, Refusal, end};
+use command_parts::{exported, fold_read, open_columns, open_nl, open_rows, scale};
 use desk::Desk;
 use mps_model::Mps;
 use mps_writer::write_mps;

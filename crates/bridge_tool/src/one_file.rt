@@ -3,14 +3,15 @@ ghost use Rattle.std.specs.Prelude.{◌≡◌, true, IfOk};
 ghost use Rattle.mps_reader.specs.Written.{mps_text};
 ghost use Rattle.nl_writer.specs.Written.{nl_text};
 ghost use Rattle.sol_files.specs.Written.{sol_text};
-ghost use Rattle.command_parts.specs.InsideAnswer.{IsAtRest};
-ghost use Rattle.command_parts.specs.Outcome.{Done};
-ghost use Rattle.command_parts.specs.SeveralFiles.{Comes};
+ghost use Rattle.command_core.specs.InsideAnswer.{IsAtRest};
+ghost use Rattle.command_core.specs.Outcome.{Done};
+ghost use Rattle.command_core.specs.SeveralFiles.{Comes};
 ghost use Rattle.bridge_tool.specs.Import.{import_outcome};
 ghost use Rattle.bridge_tool.specs.OneFile.{IsMpsMeant, row_of, row_promise};
 
 use crate::verify_mps::{Layout, open_text};
-use command_parts::{Answer, Refusal, end, open_mps, open_nl, open_sol};
+use command_core::{Answer, Refusal, end};
+use command_parts::{import_refusal, open_mps, open_nl, open_sol};
 use desk::Desk;
 use mps_import::import;
 use mps_model::Mps;
@@ -70,7 +71,7 @@ fn import_output(alloc: Global, mps: &Mps) -> Result<(bool, Vec<u8>), Stop<Refus
             let out = write_nl(alloc, &imported.file)?;
             Ok((true, out))
         }
-        Err(stop) => Err(stop.map_fault(|fault| Refusal::Import(fault))),
+        Err(stop) => Err(stop.map_fault(|fault| import_refusal(fault))),
     }
 }
 

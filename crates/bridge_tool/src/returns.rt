@@ -3,30 +3,22 @@
 ghost use Rattle.std.specs.Prelude.{◌≡◌, ◌+◌, ◌≤◌};
 ghost use Rattle.nl_segments.specs.Reader.{HasLines, value_of};
 ghost use Rattle.dual_return.specs.Return.{IsAnswerFor};
-ghost use Rattle.command_parts.specs.InsideAnswer.{IsCounted};
-ghost use Rattle.command_parts.specs.InsideRefusal.{refused_by};
-ghost use Rattle.command_parts.specs.declared.refusal.Refusal.TheVariants.{Return as IsWideDual};
+ghost use Rattle.command_core.specs.InsideAnswer.{IsCounted};
 ghost use Rattle.bridge_tool.specs.Return.{Makes, ReturnsAs, named_return_promise, return_promise};
-ghost use Rattle.command_parts.specs.SeveralFiles.{Comes};
+ghost use Rattle.command_core.specs.SeveralFiles.{Comes};
 ghost use Rattle.command_parts.specs.Stages.{fold_steps};
 
 use answer_file::Answer as Given;
+use command_core::{Answer, Refusal, end};
 use command_parts::{
-    Answer, Refusal, end, fold_read, open_answer, open_columns, open_named, open_nl, open_rows,
-    scale,
+    fold_read, open_answer, open_columns, open_named, open_nl, open_rows, return_refusal, scale,
 };
 use desk::Desk;
-use dual_return::{ReturnFault, options_of, solution_by_header};
+use dual_return::{options_of, solution_by_header};
 use nl_segments::NlRead;
 use sol_files::{Sol, write_sol};
 use std::alloc::Global;
 use texts::{Ledger, Steps, Stop};
-
-fn refused(stop: Stop<ReturnFault>) -> Stop<Refusal>
-    ensures { result ≡ refused_by IsWideDual stop }
-{
-    stop.map_fault(|fault| Refusal::Return(fault))
-}
 
 // The .sol value of an answer for a file, which is let go with the fold, or the first fault of
 // the fold, of scaling or of a dual.
@@ -51,7 +43,8 @@ fn make<L: Ledger>(
     let scaled = scale(alloc, linear, objective)?;
     match solution_by_header(alloc, counts, options, &scaled, given) {
         Ok(sol) => Ok(sol),
-        Err(stop) => Err(refused(stop)),
+        Err(Stop::Fault(fault)) => Err(Stop::Fault(return_refusal(fault))),
+        Err(Stop::Memory) => Err(Stop::Memory),
     }
 }
 

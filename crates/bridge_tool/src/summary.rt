@@ -8,7 +8,7 @@ ghost use Rattle.mps_model.specs.Built.{entry_of};
 ghost use Rattle.mps_model.specs.Valid.{entry_count};
 ghost use Rattle.bridge_tool.specs.Make.{coefficient_count, exported_count, is_coefficient, of_column, summary_line};
 
-use command_parts::put;
+use command_core::put;
 use exact_numbers::Dec;
 use itoa::Buffer;
 use linear_program::{Interval, Linear};

@@ -6,19 +6,17 @@ ghost use Rattle.nl_model.specs.Rules.{IsFile};
 ghost use Rattle.nl_segments.specs.Reader.{HasLines, value_of};
 ghost use Rattle.certificates.specs.Certificates.{IsCertificateOf, claim_objective};
 ghost use Rattle.file_certificates.specs.Files.{IsCertificateIn};
-ghost use Rattle.command_parts.specs.InsideAnswer.{IsCounted};
-ghost use Rattle.command_parts.specs.Outcome.{Done};
-ghost use Rattle.command_parts.specs.SeveralFiles.{Comes};
+ghost use Rattle.command_core.specs.InsideAnswer.{IsCounted};
+ghost use Rattle.command_core.specs.Outcome.{Done};
+ghost use Rattle.command_core.specs.SeveralFiles.{Comes};
 ghost use Rattle.command_parts.specs.Stages.{fold_steps};
 ghost use Rattle.bridge_tool.specs.Verify.{by_linear, claim_shown, nl_claim_row, verify_outcome, verify_promise};
 
 use crate::verify_mps::Layout;
 use certificate_judge::check_certificate;
 use certificates::Certificate;
-use command_parts::{
-    Answer, Refusal, claim_objective, end, fold_read, is_held, open_certificate, open_nl,
-    outcome_line,
-};
+use command_core::{Answer, Refusal, end};
+use command_parts::{claim_objective, fold_read, is_held, open_certificate, open_nl, outcome_line};
 use desk::Desk;
 use exact_checks::Program;
 use linear_program::Linear;

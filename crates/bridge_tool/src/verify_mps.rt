@@ -5,23 +5,21 @@ ghost use Rattle.linear_program.specs.Programs.{IsLinear, linear_value};
 ghost use Rattle.certificates.specs.Certificates.{IsCertificateOf, claim_objective};
 ghost use Rattle.certificates.specs.Setting.{IsCertificateFor, program_setting};
 ghost use Rattle.certificate_text.specs.Reader.{IsCertificateText};
-ghost use Rattle.command_parts.specs.InsideAnswer.{IsAtRest, status_of};
+ghost use Rattle.command_core.specs.InsideAnswer.{IsAtRest, status_of};
 ghost use Rattle.bridge_tool.specs.InsideVerify.{GivesProgram};
-ghost use Rattle.command_parts.specs.SeveralFiles.{Comes, ReadsFile, itself};
+ghost use Rattle.command_core.specs.SeveralFiles.{Comes, ReadsFile, itself};
 ghost use Rattle.command_parts.specs.Refusal.{IsCertificateRefused};
-ghost use Rattle.bridge_tool.specs.Verify.{IsTextIn, IsTextRefused, as_import, by_linear, claim_shown, mps_claim_row, no_objective, verify_promise};
+ghost use Rattle.bridge_tool.specs.Verify.{IsTextIn, IsTextRefused, by_linear, claim_shown, mps_claim_row, no_objective, verify_promise};
 
 use crate::verify::verdict_on;
 use certificates::Certificate;
-use command_parts::{
-    Answer, Refusal, answered, claim_objective, end, open_certificate_over, open_fixed, open_mps,
-};
+use command_core::{Answer, Refusal, answered, end, refusal};
+use command_parts::{claim_objective, import_refusal, open_certificate_over, open_fixed, open_mps};
 use desk::Desk;
 use linear_fold::FoldFault;
 use linear_program::Linear;
-use mps_import::ImportFault;
 use mps_model::Mps;
-use mps_program::{MpsFault, linear_of};
+use mps_program::linear_of;
 use std::alloc::Global;
 use texts::Stop;
 
@@ -49,24 +47,13 @@ pub(crate) fn open_text<D: Desk>(
     }
 }
 
-// A fault of a program as import has it.
-fn as_import(fault: MpsFault) -> ImportFault
-    ensures { result ≡ as_import fault }
-{
-    match fault {
-        MpsFault::TooLarge => ImportFault::TooLarge,
-        MpsFault::TooWide(row) => ImportFault::TooWide(row),
-        MpsFault::EmptyInterval(column) => ImportFault::EmptyInterval(column),
-    }
-}
-
 // The linear program of an MPS program, or why it has none.
 fn to_linear(alloc: Global, mps: &Mps) -> Result<Linear, Stop<Refusal>>
     ensures { GivesProgram mps.now result }
 {
     match linear_of(alloc, mps) {
         Ok(linear) => Ok(linear),
-        Err(Stop::Fault(fault)) => Err(Stop::Fault(Refusal::Import(as_import(fault)))),
+        Err(Stop::Fault(fault)) => Err(Stop::Fault(import_refusal(fault))),
         Err(Stop::Memory) => Err(Stop::Memory),
     }
 }
@@ -109,7 +96,8 @@ fn to_verdict(
     if objective > 0 {
         drop(linear);
         let fault = FoldFault::NoSuchObjective(objective);
-        return Err(Stop::Fault(Refusal::Fold(objective, fault)));
+        let refused = refusal(1, b"objective", objective, fault.text());
+        return Err(Stop::Fault(refused));
     }
     let told = verdict_on(alloc, linear, certificate)?;
     Ok(told)

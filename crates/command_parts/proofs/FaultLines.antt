@@ -1,6 +1,6 @@
 -- What is told of a text that is refused names one of its lines: the first fault of folding it stands at a place of the
 -- file, and each line that tells a refusal begins with `refused `, and ends its line.
-use Rattle.std.proofs.Common.{[], ◌≡◌, ℕ, zero, suc, ◌+◌, ◌≤◌, Bool, true, false, not, ◌||◌, ◌==◌, IsTrue, List, ◌∷◌, ◌++◌, length, refl, sym, subst, subst₂, arith, Option, Some, None, is_some, nat_lt, pos, option_map, if◌then◌else◌, ◌∙◌, ◌<◌, ap, inl, inr, append_assoc, ℤ, codes}
+use Rattle.std.proofs.Common.{[], ◌≡◌, ℕ, zero, suc, ◌+◌, ◌≤◌, Bool, true, false, not, ◌||◌, ◌==◌, IsTrue, List, ◌∷◌, ◌++◌, length, refl, sym, subst, subst₂, arith, Option, Some, None, is_some, nat_lt, pos, option_map, if◌then◌else◌, ◌∙◌, ◌<◌, ap, inl, inr, append_assoc, codes}
 use Rattle.std.specs.Option.{option_or}
 use Rattle.std.proofs.lemmas.Bool.{ltb-false, ltb-true}
 use Rattle.std.proofs.lemmas.Option.{same_Some}
@@ -56,22 +56,10 @@ use Rattle.nl_lines.specs.Reasons.{opcode_text, nl_reason_text}
 use Rattle.proof_text.specs.Reasons.{proof_reason_text}
 use Rattle.command_parts.specs.Refusal.{HasTextRefusal, IsAnswerRefused, IsCertificateRefused, IsFixedRefused, IsMpsRefused, IsProofRefused, IsSolRefused}
 use Rattle.sol_files.specs.Reasons.{sol_reason_text}
-use Rattle.command_parts.specs.Told.{refusal, refused_at, IsRefusalLine, file_text}
+use Rattle.command_core.specs.Told.{refusal, refused_at}
 use Rattle.command_parts.specs.ToldLines.{TellsLine, TellsPlace}
 use Rattle.sol_files.proofs.FaultLines.{sol_fault_line}
 use Rattle.command_parts.specs.Stages.{CannotBeExported}
-use Rattle.std.specs.Fmt.{decimal, signed_decimal}
-use Rattle.dual_return.specs.declared.fault.ReturnFault.TheVariants.{DualTooWide}
-use Rattle.mps_import.specs.declared.import_fault.ImportFault.TheVariants.{EmptyInterval, TooWide as TooWideImport, TooLarge}
-use Rattle.command_parts.specs.InsideAnswer.{status_of, told_by}
-use Rattle.command_parts.specs.InsideRefusal.{fold_what, refusal_line}
-use Rattle.linear_fold.specs.Reasons.{fold_fault_text as fold_text}
-use Rattle.command_parts.specs.VerdictTold.{negative_line}
-use Rattle.solution_fit.specs.Fits.{fit_text}
-use Rattle.command_parts.specs.declared.answer.Answer.{Answer as Ended}
-use Rattle.command_parts.specs.declared.answer.Answer.TheVariants.{Done, Refused}
-use Rattle.command_parts.specs.declared.refusal.Refusal.{Refusal}
-use Rattle.command_parts.specs.declared.refusal.Refusal.TheVariants.{Nl, Fold, Scale, Mps, Sol, Answer, Names, Proof, Certificate, Import, Fit, Negative, Return}
 
 abbrev IsPlaced : File → FileFault → Type 0
 IsPlaced f x = HasFaultPlace f (named_fault f x)
@@ -240,60 +228,3 @@ scale_told text told k ObjectiveTooWide e = inr (inr (record { number = k; why =
 pub export_told : (text : List ℕ) (nl : NlValue) (k : ℕ) (told : List ℕ) → IsNl text nl → CannotBeExported nl k told → TellsPlace text told
 export_told text nl k told read (inl f) = placed_fold text told nl.places f.fault (fault_lines text nl f.fault read (fold_placed nl.file k f.fault f.first)) f.told
 export_told text nl k told read (inr h) = scale_told text told k h.first.fault h.first.told
-
--- ---- fronts
-
--- it begins so
-abbrev Begins : List ℕ → Type 0
-Begins front = (text : List ℕ) × (front ≡ codes "refused " ++ text)
-
-more : (front text : List ℕ) → Begins front → Begins (front ++ text)
-more front text h = (h.0 ++ text, ap (λ (x : List ℕ). x ++ text) h.1 ∙ append_assoc (codes "refused ") h.0 text)
-
-ended : (front : List ℕ) → Begins front → IsRefusalLine (front ++ codes "\n")
-ended front h = (h.0, ap (λ (x : List ℕ). x ++ codes "\n") h.1)
-
-at_begins : (file : ℕ) (what : List ℕ) (number : ℕ) → Begins (refused_at file what number)
-at_begins file what number =
-    more _ (codes ": ") (more _ (decimal number) (more _ (codes " ") (more _ what (file_text file, refl))))
-
--- ---- lines
-
-refusal_so : (file : ℕ) (what : List ℕ) (number : ℕ) (text : List ℕ) → IsRefusalLine (refusal file what number text)
-refusal_so file what number text = ended _ (more _ text (at_begins file what number))
-
--- a text and the end of its line, after the word
-word_so : (text tail : List ℕ) → (codes "refused " ++ text) ++ (tail ++ codes "\n") ≡ codes "refused " ++ (text ++ tail) ++ codes "\n"
-word_so text tail =
-    append_assoc (codes "refused ") text (tail ++ codes "\n") ∙ ap (λ (x : List ℕ). codes "refused " ++ x) (sym (append_assoc text tail (codes "\n")))
-    ∙ sym (append_assoc (codes "refused ") (text ++ tail) (codes "\n"))
-
-negative_so : (number : ℤ) → IsRefusalLine (negative_line number)
-negative_so number =
-    let front : Begins (codes "refused objective " ++ signed_decimal number) = more (codes "refused objective ") (signed_decimal number) (codes "objective ", refl) in
-    (front.0 ++ codes ": no such objective", ap (λ (x : List ℕ). x ++ codes ": no such objective\n") front.1 ∙ word_so front.0 (codes ": no such objective"))
-
-line_so : (r : Refusal) → IsRefusalLine (refusal_line r)
-line_so (Nl f) = ended _ (more _ (opcode_text f.reason) (more _ (nl_reason_text f.reason) (at_begins 1 (codes "line") f.line)))
-line_so (Fold number f) = refusal_so 1 (fold_what f) number (fold_text f)
-line_so (Scale k (RowTooWide i)) = refusal_so 1 (codes "row") i (codes "row too wide")
-line_so (Scale k ObjectiveTooWide) = refusal_so 1 (codes "objective") k (codes "objective too wide")
-line_so (Mps f) = refusal_so 1 (codes "line") f.line (mps_reason_text f.reason)
-line_so (Sol file f) = refusal_so file (codes "line") f.line (sol_reason_text f.reason)
-line_so (Answer f) = refusal_so 2 (codes "line") f.line (answer_reason_text f.reason)
-line_so (Names file f) = refusal_so file (codes "line") f.line (name_reason_text f.reason)
-line_so (Proof file f) = refusal_so file (codes "line") f.line (proof_reason_text f.reason)
-line_so (Certificate file f) = refusal_so file (codes "line") f.line (certificate_reason_text f.reason)
-line_so (Import TooLarge) = (codes "program: too large", refl)
-line_so (Import (TooWideImport row)) = refusal_so 1 (codes "row") row (codes "too wide")
-line_so (Import (EmptyInterval column)) = refusal_so 1 (codes "column") column (codes "empty interval")
-line_so (Fit f) = ended _ (more _ (fit_text f) (codes "file 2: ", refl))
-line_so (Negative number) = negative_so number
-line_so (Return (DualTooWide i)) = refusal_so 1 (codes "row") i (codes "dual too wide")
-
--- with status 2 such a line is told
-pub refusal_told : (answer : Ended) → status_of answer ≡ 2 → IsRefusalLine (told_by answer)
-refusal_told (Refused r) e = line_so r
-refusal_told (Done true) e = absurd (omega (arith, e))
-refusal_told (Done false) e = absurd (omega (arith, e))
-refusal_told other e = absurd (omega (arith, e))

@@ -1,6 +1,3 @@
-pub mod Known
-pub mod Ending
-pub mod SeveralFiles
 pub mod FaultLines
 pub mod NameLists
 pub mod TextsRead

@@ -11,19 +11,20 @@ use Rattle.name_files.specs.declared.fault.NameReason.TheVariants.{OtherCount}
 use Rattle.nl_model.specs.File.{File}
 use Rattle.nl_model.specs.declared.header_counts.Counts.{Counts as FileCounts}
 use Rattle.command_parts.specs.NameLists.{AreListed, IsListRefused, column_counts, row_counts, after_lists}
-use Rattle.command_parts.specs.NamesTold.{name_line}
+use Rattle.name_files.specs.Reasons.{name_reason_text}
+use Rattle.command_core.specs.Told.{fault_line}
 use Rattle.nl_segments.specs.Grammar.{NlValue}
 use Rattle.nl_segments.specs.Reader.{IsNl}
 use Rattle.command_parts.specs.Refusal.{HasTextRefusal}
-use Rattle.command_parts.specs.SeveralFiles.{ReadsFile, itself, after_file, desk_promise}
-use Rattle.command_parts.specs.declared.answer.Answer.{Answer}
-use Rattle.command_parts.proofs.SeveralFiles.{AreRead, read_by, HasComeDown, IsSound, first_down, first_sound, first_stopped, further, sound_after, stopped}
+use Rattle.command_core.specs.SeveralFiles.{ReadsFile, itself, after_file, desk_promise}
+use Rattle.command_core.specs.declared.answer.Answer.{Answer}
+use Rattle.command_core.proofs.SeveralFiles.{AreRead, read_by, HasComeDown, IsSound, first_down, first_sound, first_stopped, further, sound_after, stopped}
 use Rattle.command_parts.proofs.TextsRead.{nl_read}
-use Rattle.command_parts.specs.InsideAnswer.{IsCounted}
-use Rattle.command_parts.specs.Promise.{Promise}
+use Rattle.command_core.specs.InsideAnswer.{IsCounted}
+use Rattle.command_core.specs.Promise.{Promise}
 
 pub list_read : (counts : Counts) (file : ℕ) → AreRead (AreListed counts) (IsListRefused counts file)
-list_read counts file = read_by (name_rules counts) (SaysNames counts) (name_line file) (λ lines. used_names counts lines) (λ lines names h. h) (λ lines. refl)
+list_read counts file = read_by (name_rules counts) (SaysNames counts) (fault_line name_reason_text file) (λ lines. used_names counts lines) (λ lines names h. h) (λ lines. refl)
 
 -- ---- how many names there are
 

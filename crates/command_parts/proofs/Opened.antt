@@ -18,12 +18,12 @@ use Rattle.certificates.specs.Certificates.{CertificateValue}
 use Rattle.certificates.specs.Setting.{IsCertificateFor, Setting}
 use Rattle.certificate_text.specs.Reader.{IsCertificateText}
 use Rattle.certificate_text.proofs.Files.{certificate_from}
-use Rattle.command_parts.specs.InsideRefusal.{refusal_line}
+use Rattle.command_parts.specs.NlTold.{nl_line}
 use Rattle.command_parts.specs.Refusal.{HasTextRefusal, IsSolRefused}
-use Rattle.command_parts.specs.SeveralFiles.{HasEnded, HasSaid, IsRefusedBy, ReadsFile, itself}
-use Rattle.command_parts.specs.declared.answer.Answer.{Answer}
-use Rattle.command_parts.specs.declared.answer.Answer.TheVariants.{InputFault, NoMemory, Refused}
-use Rattle.command_parts.specs.declared.refusal.Refusal.TheVariants.{Nl, Sol}
+use Rattle.command_parts.specs.SolTold.{sol_line}
+use Rattle.command_core.specs.SeveralFiles.{HasEnded, HasSaid, IsRefusedBy, ReadsFile, itself}
+use Rattle.command_core.specs.declared.answer.Answer.{Answer}
+use Rattle.command_core.specs.declared.answer.Answer.TheVariants.{InputFault, NoMemory, Refused}
 
 -- what is known of each value that a text says is known of what was read
 pub known_of : {R V : Type 0} (seen : R → V) (reads : List ℕ → V → Type 0) (refuses : List ℕ → List ℕ → Type 0) (P : R → Type 0) → ((text : List ℕ) (r : R) → reads text (seen r) → P r)
@@ -36,7 +36,7 @@ module _ {R V : Type 0} (seen : R → V) (reads : List ℕ → R → Type 0) (sa
     (value : (text : List ℕ) (r : R) → reads text r → says text (seen r)) (line : (text line : List ℕ) → refuses text line → tells text line)
     (file : List ℕ) (old new : Meaning) where
   ended_as : (answer : Answer) → HasEnded refuses file old new answer → HasEnded tells file old new answer
-  ended_as (Refused refusal) h = record { bytes = h.bytes; read = h.read; says = line h.bytes (refusal_line refusal) h.says; same = h.same }
+  ended_as (Refused refusal) h = record { bytes = h.bytes; read = h.read; says = line h.bytes refusal.line h.says; same = h.same }
   ended_as InputFault h = h
   ended_as NoMemory h = h
   ended_as other h = absurd h
@@ -54,14 +54,14 @@ module _ {R V : Type 0} (seen : R → V) (reads : List ℕ → R → Type 0) (sa
 pub nl_said : (text : List ℕ) (r : NlRead) → IsRead nl_rules (λ lines r. SaysFile lines (value_of r)) text r → IsNl text (value_of r)
 nl_said text r h = record { clean = h.clean; said = h.said }
 
-pub nl_refused : (text line : List ℕ) → IsRefusedBy nl_rules (λ fault. Nl (fault_of fault)) text line → HasTextRefusal text line
+pub nl_refused : (text line : List ℕ) → IsRefusedBy nl_rules (λ fault. nl_line (fault_of fault)) text line → HasTextRefusal text line
 nl_refused text line h = record { fault = fault_of h.fault; first = record { first = h.first; opcode = refl }; told = h.told }
 
 -- each place of a file has its line
 pub nl_lines : (text : List ℕ) (r : NlRead) → IsNl text (value_of r) → HasLines r
 nl_lines text r h = has_lines text r (record { clean = h.clean; said = h.said })
 
-pub sol_refused : (number : ℕ) (text line : List ℕ) → IsRefusedBy sol_rules (λ found. Sol number (told found)) text line → IsSolRefused number text line
+pub sol_refused : (number : ℕ) (text line : List ℕ) → IsRefusedBy sol_rules (λ found. sol_line number (told found)) text line → IsSolRefused number text line
 sol_refused number text line h = record { fault = told h.fault; first = (h.fault, h.first, refl); told = h.told }
 
 -- ---- proofs and certificates

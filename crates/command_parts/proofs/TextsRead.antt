@@ -11,27 +11,28 @@ use Rattle.nl_model.specs.Draft.{file_of}
 use Rattle.nl_segments.specs.Reader.{IsNl, HasNlFault, fault_of}
 use Rattle.nl_lines.specs.declared.fault.NlFault.{NlFault}
 use Rattle.command_parts.specs.Refusal.{HasTextRefusal, IsFixedRefused, IsMpsRefused, IsSolRefused, IsAnswerRefused, IsProofRefused, IsCertificateRefused}
-use Rattle.command_parts.proofs.SeveralFiles.{AreRead, read_so, read_by}
+use Rattle.command_core.proofs.SeveralFiles.{AreRead, read_so, read_by}
 use Rattle.mps_reader.specs.Grammar.{SaysMps, mps_rules, standing as mps_standing}
 use Rattle.mps_reader.specs.Reader.{IsMpsText}
 use Rattle.fixed_mps.specs.Fields.{free}
 use Rattle.fixed_mps.specs.Grammar.{SaysFixed, fixed_rules}
 use Rattle.fixed_mps.specs.Reader.{IsFixedText}
-use Rattle.command_parts.specs.MpsTold.{mps_line}
+use Rattle.mps_reader.specs.Reasons.{mps_reason_text}
+use Rattle.command_core.specs.Told.{fault_line}
 use Rattle.sol_files.specs.Reader.{HasSolFault, IsSol}
 use Rattle.sol_files.proofs.ReadingLemmas.{one_reading}
 use Rattle.command_parts.specs.SolTold.{sol_line}
 use Rattle.answer_file.specs.Grammar.{SaysAnswer, answer_of, answer_rules, standing as answer_standing}
 use Rattle.answer_file.specs.Names.{Setting}
 use Rattle.answer_file.specs.Reading.{IsAnswer}
-use Rattle.command_parts.specs.AnswerTold.{answer_line}
+use Rattle.answer_file.specs.Reasons.{answer_reason_text}
 use Rattle.proof_text.specs.Reader.{HasProofFault, IsProofText}
 use Rattle.certificates.specs.Setting.{Setting as CertificateSetting}
 use Rattle.proof_text.proofs.ReadingLemmas.{one_reading as one_proof}
-use Rattle.command_parts.specs.ProofTold.{proof_line}
+use Rattle.proof_text.specs.Reasons.{proof_reason_text}
 use Rattle.certificate_text.specs.Reader.{HasCertificateFault, IsCertificateText}
 use Rattle.certificate_text.proofs.ReadingLemmas.{one_reading as one_certificate}
-use Rattle.command_parts.specs.CertificateTold.{certificate_line}
+use Rattle.certificate_text.specs.Reasons.{certificate_reason_text}
 
 -- ---- .nl texts
 
@@ -76,10 +77,10 @@ nl_read = read_so IsNl HasNlFault nl_line one_value same_nl_line either_nl not_b
 -- ---- MPS and .sol texts
 
 pub mps_read : AreRead IsMpsText IsMpsRefused
-mps_read = read_by mps_rules SaysMps (mps_line 1) (λ lines. (mps_standing lines).draft.mps) (λ lines m h. h) (λ lines. refl)
+mps_read = read_by mps_rules SaysMps (fault_line mps_reason_text 1) (λ lines. (mps_standing lines).draft.mps) (λ lines m h. h) (λ lines. refl)
 
 pub fixed_read : AreRead IsFixedText IsFixedRefused
-fixed_read = read_by fixed_rules SaysFixed (mps_line 1) (λ lines. (mps_standing (map free lines)).draft.mps) (λ lines m h. h) (λ lines. refl)
+fixed_read = read_by fixed_rules SaysFixed (fault_line mps_reason_text 1) (λ lines. (mps_standing (map free lines)).draft.mps) (λ lines m h. h) (λ lines. refl)
 
 -- each text says one value, or is refused with one line
 pub sol_read : (file : ℕ) → AreRead IsSol (IsSolRefused file)
@@ -90,18 +91,18 @@ sol_read file =
 -- ---- answers
 
 pub answer_read : (s : Setting) → AreRead (IsAnswer s) (IsAnswerRefused s)
-answer_read s = read_by (answer_rules s) (SaysAnswer s) (answer_line 2) (λ lines. answer_of (answer_standing s lines)) (λ lines a h. h) (λ lines. refl)
+answer_read s = read_by (answer_rules s) (SaysAnswer s) (fault_line answer_reason_text 2) (λ lines. answer_of (answer_standing s lines)) (λ lines a h. h) (λ lines. refl)
 
 -- ---- proofs and certificates
 
 -- each text says one proof, or is refused with one line
 pub proof_read : (s : CertificateSetting) (file : ℕ) → AreRead (IsProofText s) (IsProofRefused s file)
 proof_read s file =
-    read_so (IsProofText s) (HasProofFault s) (proof_line file)
-    (λ text. (one_proof s text).one_value) (λ text a b h claimed. ap (proof_line file) ((one_proof s text).one_fault a b h claimed)) (λ text. (one_proof s text).some) (λ text. (one_proof s text).not_both)
+    read_so (IsProofText s) (HasProofFault s) (fault_line proof_reason_text file)
+    (λ text. (one_proof s text).one_value) (λ text a b h claimed. ap (fault_line proof_reason_text file) ((one_proof s text).one_fault a b h claimed)) (λ text. (one_proof s text).some) (λ text. (one_proof s text).not_both)
 
 -- each text says one certificate, or is refused with one line
 pub certificate_read : (s : CertificateSetting) (file : ℕ) → AreRead (IsCertificateText s) (IsCertificateRefused s file)
 certificate_read s file =
-    read_so (IsCertificateText s) (HasCertificateFault s) (certificate_line file)
-    (λ text. (one_certificate s text).one_value) (λ text a b h k. ap (certificate_line file) ((one_certificate s text).one_fault a b h k)) (λ text. (one_certificate s text).some) (λ text. (one_certificate s text).not_both)
+    read_so (IsCertificateText s) (HasCertificateFault s) (fault_line certificate_reason_text file)
+    (λ text. (one_certificate s text).one_value) (λ text a b h k. ap (fault_line certificate_reason_text file) ((one_certificate s text).one_fault a b h k)) (λ text. (one_certificate s text).some) (λ text. (one_certificate s text).not_both)

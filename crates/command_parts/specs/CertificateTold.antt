@@ -1,27 +1,17 @@
--- The lines that tell faults of certificates' texts, and the lines of verdicts on certificates.
+-- The lines of verdicts on certificates.
 use Rattle.std.specs.Prelude.{◌≡◌, ℕ, Bool, true, false, nat_lt, if◌then◌else◌, List, [], ◌++◌, codes}
 use Rattle.std.specs.Option.{option_map_or}
 use Rattle.std.specs.Fmt.{decimal}
 use Rattle.fractions.specs.Fits.{fits}
 use Rattle.duality.specs.Certificate.{ClaimOutcome, holds, fails}
 use Rattle.duality.specs.Told.{Told, optimal, within, bound, feasible, infeasible, unbounded}
-use Rattle.texts.specs.declared.fault.TextFault.{TextFault}
 use Rattle.linear_program.specs.Numbers.{number_value}
 use Rattle.certificates.specs.Certificates.{claim_objective}
 use Rattle.certificates.specs.Told.{told_claim}
 use Rattle.certificates.specs.declared.certificate.Claim.{Claim}
 use Rattle.certificates.specs.declared.certificate.Claim.TheVariants.{Optimal, Within, Bound, Feasible, Infeasible, Unbounded}
-use Rattle.certificate_text.specs.declared.fault.CertificateReason.{CertificateReason}
-use Rattle.certificate_text.specs.Reasons.{certificate_reason_text}
 use Rattle.certificate_judge.specs.Reasons.{failed_text}
-use Rattle.command_parts.specs.Told.{number_text, refusal}
-
--- the line of a fault of a certificate's text, which is this file of its command
-abbrev pub certificate_line : ℕ → TextFault CertificateReason → List ℕ
-certificate_line file f =
-    refusal file (codes "line") f.line (certificate_reason_text f.reason)
-
--- ---- verdicts
+use Rattle.command_core.specs.Told.{number_text}
 
 -- what is said where a claim holds
 abbrev pub told_text : Told → List ℕ

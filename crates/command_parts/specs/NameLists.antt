@@ -5,10 +5,11 @@ use Rattle.desk.specs.Desk.{Texts}
 use Rattle.texts.specs.Reading.{HasFault, IsRead}
 use Rattle.name_files.specs.Names.{Counts, SaysNames, name_rules}
 use Rattle.nl_model.specs.File.{File}
-use Rattle.command_parts.specs.NamesTold.{name_line}
-use Rattle.command_parts.specs.Promise.{Promise}
-use Rattle.command_parts.specs.SeveralFiles.{after_file}
-use Rattle.command_parts.specs.Told.{TellsFault}
+use Rattle.name_files.specs.Reasons.{name_reason_text}
+use Rattle.command_core.specs.Told.{fault_line}
+use Rattle.command_core.specs.Promise.{Promise}
+use Rattle.command_core.specs.SeveralFiles.{after_file}
+use Rattle.command_core.specs.Told.{TellsFault}
 
 -- a name for each constraint, and then none or one for each objective
 abbrev pub row_counts : File → Counts
@@ -24,7 +25,8 @@ AreListed counts text names = IsRead (name_rules counts) (SaysNames counts) text
 
 -- the text has a first fault as a list of so many names, which this line tells of this file
 abbrev pub IsListRefused : Counts → (file : ℕ) → List ℕ → List ℕ → Type 0
-IsListRefused counts file text = TellsFault (HasFault (name_rules counts) text) (name_line file)
+IsListRefused counts file text =
+    TellsFault (HasFault (name_rules counts) text) (fault_line name_reason_text file)
 
 -- Both lists of names of a file are read, that of rows first, and lead to what is next. They are
 -- this file of the command and the one after it.

@@ -11,7 +11,7 @@ use Rattle.scaling.specs.declared.scale_fault.ScaleFault.TheVariants.{RowTooWide
 use Rattle.nl_lines.specs.Reasons.{opcode_text, nl_reason_text}
 use Rattle.linear_fold.specs.Reasons.{fold_fault_text}
 use Rattle.scaling.specs.Reasons.{scale_fault_text as scale_text}
-use Rattle.command_parts.specs.Told.{refused_at, refusal}
+use Rattle.command_core.specs.Told.{refused_at, refusal}
 
 -- the line of a fault of an .nl text
 abbrev pub nl_line : NlFault → List ℕ

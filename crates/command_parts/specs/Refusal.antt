@@ -10,13 +10,14 @@ use Rattle.mps_reader.specs.Reader.{HasMpsFault}
 use Rattle.nl_segments.specs.Reader.{HasNlFault}
 use Rattle.proof_text.specs.Reader.{HasProofFault}
 use Rattle.sol_files.specs.Reader.{HasSolFault}
-use Rattle.command_parts.specs.AnswerTold.{answer_line}
-use Rattle.command_parts.specs.CertificateTold.{certificate_line}
-use Rattle.command_parts.specs.MpsTold.{mps_line}
+use Rattle.answer_file.specs.Reasons.{answer_reason_text}
+use Rattle.command_core.specs.Told.{fault_line}
+use Rattle.certificate_text.specs.Reasons.{certificate_reason_text}
+use Rattle.mps_reader.specs.Reasons.{mps_reason_text}
 use Rattle.command_parts.specs.NlTold.{nl_line}
-use Rattle.command_parts.specs.ProofTold.{proof_line}
+use Rattle.proof_text.specs.Reasons.{proof_reason_text}
 use Rattle.command_parts.specs.SolTold.{sol_line}
-use Rattle.command_parts.specs.Told.{TellsFault}
+use Rattle.command_core.specs.Told.{TellsFault}
 
 -- the text is no .nl text, and this line tells its first fault
 abbrev pub HasTextRefusal : List ℕ → List ℕ → Type 0
@@ -24,11 +25,11 @@ HasTextRefusal text = TellsFault (HasNlFault text) nl_line
 
 -- the text has a first fault as an MPS text, which this line tells
 abbrev pub IsMpsRefused : List ℕ → List ℕ → Type 0
-IsMpsRefused text = TellsFault (HasMpsFault text) (mps_line 1)
+IsMpsRefused text = TellsFault (HasMpsFault text) (fault_line mps_reason_text 1)
 
 -- the same as an MPS text of fixed columns
 abbrev pub IsFixedRefused : List ℕ → List ℕ → Type 0
-IsFixedRefused text = TellsFault (HasFixedFault text) (mps_line 1)
+IsFixedRefused text = TellsFault (HasFixedFault text) (fault_line mps_reason_text 1)
 
 -- the text, which is this file of its command, has a first fault as a .sol text, which this line
 -- tells
@@ -37,12 +38,14 @@ IsSolRefused file text = TellsFault (HasSolFault text) (sol_line file)
 
 -- the same as an answer, which is the second file of its command
 abbrev pub IsAnswerRefused : AnswerSetting → List ℕ → List ℕ → Type 0
-IsAnswerRefused s text = TellsFault (HasFault (answer_rules s) text) (answer_line 2)
+IsAnswerRefused s text =
+    TellsFault (HasFault (answer_rules s) text) (fault_line answer_reason_text 2)
 
 -- the same as a proof, which is this file of its command
 abbrev pub IsProofRefused : Setting → (file : ℕ) → List ℕ → List ℕ → Type 0
-IsProofRefused s file text = TellsFault (HasProofFault s text) (proof_line file)
+IsProofRefused s file text = TellsFault (HasProofFault s text) (fault_line proof_reason_text file)
 
 -- the same as a certificate
 abbrev pub IsCertificateRefused : Setting → (file : ℕ) → List ℕ → List ℕ → Type 0
-IsCertificateRefused s file text = TellsFault (HasCertificateFault s text) (certificate_line file)
+IsCertificateRefused s file text =
+    TellsFault (HasCertificateFault s text) (fault_line certificate_reason_text file)

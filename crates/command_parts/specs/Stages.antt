@@ -9,10 +9,10 @@ use Rattle.linear_program.specs.Programs.{LinearValue, linear_value}
 use Rattle.nl_segments.specs.Grammar.{NlValue}
 use Rattle.scaling.specs.Scaled.{ScaledValue}
 use Rattle.scaling.specs.Scaling.{HasNoScaleFault, HasScaleFault, IsScaledOf}
-use Rattle.command_parts.specs.InsideRefusal.{Gives}
-use Rattle.command_parts.specs.declared.refusal.Refusal.{Refusal}
+use Rattle.command_core.specs.InsideRefusal.{Gives}
+use Rattle.command_core.specs.declared.refused.Refusal.{Refusal}
 use Rattle.command_parts.specs.NlTold.{fold_line, scale_line}
-use Rattle.command_parts.specs.Told.{TellsFault}
+use Rattle.command_core.specs.Told.{TellsFault}
 
 -- the file folds, to this linear program
 pub record HasFolded (value : NlValue) (k : ℕ) (l : LinearValue) : Type 0 where

@@ -5,7 +5,7 @@ use Rattle.duality.specs.Verdict.{Verdict, yes, gap, refused}
 use Rattle.solution_fit.specs.declared.fitting.FitFault.{FitFault}
 use Rattle.solution_fit.specs.Fits.{fit_text}
 use Rattle.exact_checks.specs.Reasons.{cause_text}
-use Rattle.command_parts.specs.Told.{number_text}
+use Rattle.command_core.specs.Told.{number_text}
 
 -- ---- verdicts
 

@@ -2,27 +2,27 @@
 ghost use Rattle.std.specs.Prelude.{◌≡◌, ◌≢◌, IfErr, length};
 ghost use Rattle.answer_file.specs.Names.{named_setting, setting_of};
 ghost use Rattle.answer_file.specs.Reading.{IsAnswer};
-ghost use Rattle.command_parts.specs.InsideAnswer.{status_of};
+ghost use Rattle.answer_file.specs.Reasons.{answer_reason_text};
+ghost use Rattle.command_core.specs.Told.{fault_line};
+ghost use Rattle.command_core.specs.InsideAnswer.{status_of};
 ghost use Rattle.command_parts.specs.Refusal.{IsAnswerRefused};
-ghost use Rattle.command_parts.specs.declared.refusal.Refusal.TheVariants.{Answer as IsAnswerFault};
-ghost use Rattle.command_parts.specs.SeveralFiles.{ReadsFile, itself};
+ghost use Rattle.command_core.specs.SeveralFiles.{ReadsFile, itself};
 
-use crate::answer::Answer;
 use crate::input::{Source, open};
-use crate::refusal::Refusal;
 use answer_file::{Answer as Given, AnswerFault, AnswerGrammar, Scope};
+use command_core::{Answer, Refusal, refusal};
 use desk::Desk;
 use name_lists::NameList;
 use nl_model::NlFile;
 use std::alloc::Global;
 
 impl Source for AnswerGrammar {
-    ghost told = { λ _. IsAnswerFault };
+    ghost told = { λ _. fault_line answer_reason_text 2 };
 
     fn told(_number: u32, fault: AnswerFault) -> Refusal
-        ensures { result ≡ IsAnswerFault fault }
+        ensures { result.line ≡ fault_line answer_reason_text 2 fault }
     {
-        Refusal::Answer(fault)
+        refusal(2, b"line", fault.line, fault.reason.text())
     }
 }
 

@@ -2,13 +2,12 @@
 ghost use Rattle.std.specs.Prelude.{◌≡◌};
 ghost use Rattle.command_parts.specs.AnswerTold.{return_line};
 
-use crate::told::refusal;
+use command_core::{Refusal, refusal};
 use dual_return::ReturnFault;
-use written_texts::LineText;
 
-/// The line of a dual that is too wide.
-pub fn return_line(fault: ReturnFault) -> LineText<128>
-    ensures { result ≡ return_line fault }
+/// The refusal of a dual that is too wide.
+pub fn return_refusal(fault: ReturnFault) -> Refusal
+    ensures { result.line ≡ return_line fault }
 {
     match fault {
         ReturnFault::DualTooWide(con) => refusal(1, b"row", con, fault.text()),

@@ -4,28 +4,28 @@ ghost use Rattle.certificates.specs.Setting.{IsCertificateFor};
 ghost use Rattle.file_certificates.specs.Files.{IsCertificateIn};
 ghost use Rattle.certificate_text.specs.Reader.{IsCertificateText};
 ghost use Rattle.file_certificates.specs.Setting.{setting_of};
-ghost use Rattle.command_parts.specs.InsideAnswer.{status_of};
+ghost use Rattle.certificate_text.specs.Reasons.{certificate_reason_text};
+ghost use Rattle.command_core.specs.Told.{fault_line};
+ghost use Rattle.command_core.specs.InsideAnswer.{status_of};
 ghost use Rattle.command_parts.specs.Refusal.{IsCertificateRefused};
-ghost use Rattle.command_parts.specs.declared.refusal.Refusal.TheVariants.{Certificate as IsCertificateFault};
-ghost use Rattle.command_parts.specs.SeveralFiles.{ReadsFile, itself};
+ghost use Rattle.command_core.specs.SeveralFiles.{ReadsFile, itself};
 
-use crate::answer::Answer;
 use crate::input::{Source, open};
-use crate::refusal::Refusal;
 use certificate_text::{CertificateFault, CertificateGrammar};
 use certificates::Certificate;
+use command_core::{Answer, Refusal, refusal};
 use desk::Desk;
 use linear_program::Kind;
 use nl_model::{NlFile, all_kinds};
 use std::alloc::Global;
 
 impl Source for CertificateGrammar {
-    ghost told = { IsCertificateFault };
+    ghost told = { fault_line certificate_reason_text };
 
     fn told(number: u32, fault: CertificateFault) -> Refusal
-        ensures { result ≡ IsCertificateFault number fault }
+        ensures { result.line ≡ fault_line certificate_reason_text number fault }
     {
-        Refusal::Certificate(number, fault)
+        refusal(number, b"line", fault.line, fault.reason.text())
     }
 }
 

@@ -1,27 +1,25 @@
 // Opening a text of any kind that commands read.
-ghost use Rattle.std.specs.Prelude.{◌≡◌, ◌≢◌, List, ℕ, [], Err, IfErr, IfSome};
+ghost use Rattle.std.specs.Prelude.{◌≡◌, ◌≢◌, List, ℕ, [], Err, IfErr, IfSome, IsErrAnd};
 ghost use Rattle.texts.specs.Reading.{IsRead};
 ghost use Rattle.texts.specs.Readers.{HasTaken, grammar_of, stopped_by};
+ghost use Rattle.texts.specs.Stopped.{IsFaultAnd, MatchStop};
 ghost use Rattle.texts.specs.declared.fault.TextFault.{TextFault};
-ghost use Rattle.command_parts.specs.InsideAnswer.{status_of};
-ghost use Rattle.command_parts.specs.InsideRefusal.{refused_by};
-ghost use Rattle.command_parts.specs.SeveralFiles.{IsRefusedBy, ReadsFile, Says, itself};
-ghost use Rattle.command_parts.specs.declared.refusal.Refusal.{Refusal};
+ghost use Rattle.texts.specs.declared.stop.Stop.TheVariants.{Memory};
+ghost use Rattle.command_core.specs.InsideAnswer.{status_of};
+ghost use Rattle.command_core.specs.SeveralFiles.{IsRefusedBy, ReadsFile, Says, itself};
 
-use crate::answer::Answer;
-use crate::one_file::{answered, missed, read};
-use crate::refusal::Refusal;
+use command_core::{Answer, Refusal, answered, missed, read};
 use desk::Desk;
 use std::alloc::Global;
 use texts::{Grammar, Reader, Stop, TextFault};
 
 /// A grammar of texts that commands read.
 pub trait Source: Grammar {
-    /// The refusal that a fault of a text is, which is this file of its command.
-    ghost told: { ℕ → TextFault Self.Reason → Refusal };
+    /// The line that tells a fault of a text, which is this file of its command.
+    ghost told: { ℕ → TextFault Self.Reason → List ℕ };
 
     fn told(number: u32, fault: TextFault<Self::Reason>) -> Refusal
-        ensures { result ≡ told number fault };
+        ensures { result.line ≡ told number fault };
 }
 
 // What the text says that a reader was fed, or why it is refused; the text is this file of its
@@ -33,7 +31,8 @@ fn judged<G: Source>(reader: Reader<G>, number: u32) -> Result<G::Value, Stop<Re
         (G.says (G.setting (grammar_of reader))))
         (IsRefusedBy (G.rules (G.setting (grammar_of reader))) (G.told number)) text result }
     ensures kept { IfSome (stopped_by reader)
-        (λ stop. result ≡ Err (refused_by (G.told number) stop)) }
+        (λ stop. MatchStop stop (λ fault. IsErrAnd result (λ told. IsFaultAnd told
+        (λ refusal. refusal.line ≡ G.told number fault))) (result ≡ Err Memory)) }
 {
     match reader.finish() {
         Ok(value) => Ok(value),

@@ -2,14 +2,14 @@
 ghost use Rattle.std.specs.Prelude.{◌≡◌, ◌≢◌, IfErr};
 ghost use Rattle.fixed_mps.specs.Reader.{IsFixedText};
 ghost use Rattle.mps_reader.specs.Reader.{IsMpsText};
-ghost use Rattle.command_parts.specs.InsideAnswer.{status_of};
+ghost use Rattle.mps_reader.specs.Reasons.{mps_reason_text};
+ghost use Rattle.command_core.specs.Told.{fault_line};
+ghost use Rattle.command_core.specs.InsideAnswer.{status_of};
 ghost use Rattle.command_parts.specs.Refusal.{IsFixedRefused, IsMpsRefused};
-ghost use Rattle.command_parts.specs.declared.refusal.Refusal.TheVariants.{Mps as IsMpsFault};
-ghost use Rattle.command_parts.specs.SeveralFiles.{ReadsFile, itself};
+ghost use Rattle.command_core.specs.SeveralFiles.{ReadsFile, itself};
 
-use crate::answer::Answer;
 use crate::input::{Source, open};
-use crate::refusal::Refusal;
+use command_core::{Answer, Refusal, refusal};
 use desk::Desk;
 use fixed_mps::FixedGrammar;
 use mps_model::Mps;
@@ -17,22 +17,22 @@ use mps_reader::{MpsFault, MpsGrammar};
 use std::alloc::Global;
 
 impl Source for MpsGrammar {
-    ghost told = { λ _. IsMpsFault };
+    ghost told = { λ _. fault_line mps_reason_text 1 };
 
     fn told(_number: u32, fault: MpsFault) -> Refusal
-        ensures { result ≡ IsMpsFault fault }
+        ensures { result.line ≡ fault_line mps_reason_text 1 fault }
     {
-        Refusal::Mps(fault)
+        refusal(1, b"line", fault.line, fault.reason.text())
     }
 }
 
 impl Source for FixedGrammar {
-    ghost told = { λ _. IsMpsFault };
+    ghost told = { λ _. fault_line mps_reason_text 1 };
 
     fn told(_number: u32, fault: MpsFault) -> Refusal
-        ensures { result ≡ IsMpsFault fault }
+        ensures { result.line ≡ fault_line mps_reason_text 1 fault }
     {
-        Refusal::Mps(fault)
+        refusal(1, b"line", fault.line, fault.reason.text())
     }
 }
 

@@ -1,14 +1,14 @@
 // Reading and judging lists of names.
 ghost use Rattle.std.specs.Prelude.{◌≡◌, ◌≢◌, IfErr, IfOk, length};
 ghost use Rattle.name_files.specs.Names.{Counts};
-ghost use Rattle.command_parts.specs.InsideAnswer.{status_of};
+ghost use Rattle.name_files.specs.Reasons.{name_reason_text};
+ghost use Rattle.command_core.specs.Told.{fault_line};
+ghost use Rattle.command_core.specs.InsideAnswer.{status_of};
 ghost use Rattle.command_parts.specs.NameLists.{AreListed, IsListRefused, column_counts, row_counts};
-ghost use Rattle.command_parts.specs.declared.refusal.Refusal.TheVariants.{Names};
-ghost use Rattle.command_parts.specs.SeveralFiles.{ReadsFile, itself};
+ghost use Rattle.command_core.specs.SeveralFiles.{ReadsFile, itself};
 
-use crate::answer::Answer;
 use crate::input::{Source, open};
-use crate::refusal::Refusal;
+use command_core::{Answer, Refusal, refusal};
 use desk::Desk;
 use name_files::{NameFault, NameGrammar};
 use name_lists::NameList;
@@ -16,12 +16,12 @@ use nl_model::NlFile;
 use std::alloc::Global;
 
 impl Source for NameGrammar {
-    ghost told = { Names };
+    ghost told = { fault_line name_reason_text };
 
     fn told(number: u32, fault: NameFault) -> Refusal
-        ensures { result ≡ Names number fault }
+        ensures { result.line ≡ fault_line name_reason_text number fault }
     {
-        Refusal::Names(number, fault)
+        refusal(number, b"line", fault.line, fault.reason.text())
     }
 }
 

@@ -1,26 +1,26 @@
 // Reading and judging an .nl file.
 ghost use Rattle.std.specs.Prelude.{◌≡◌, ◌≢◌, IfErr, IfOk};
 ghost use Rattle.nl_segments.specs.Reader.{HasLines, IsNl, fault_of, value_of};
-ghost use Rattle.command_parts.specs.InsideAnswer.{status_of};
+ghost use Rattle.command_parts.specs.NlTold.{nl_line};
+ghost use Rattle.command_core.specs.InsideAnswer.{status_of};
 ghost use Rattle.command_parts.specs.Refusal.{HasTextRefusal};
-ghost use Rattle.command_parts.specs.declared.refusal.Refusal.TheVariants.{Nl};
-ghost use Rattle.command_parts.specs.SeveralFiles.{ReadsFile};
+ghost use Rattle.command_core.specs.SeveralFiles.{ReadsFile};
 
-use crate::answer::Answer;
 use crate::input::{Source, open};
-use crate::refusal::Refusal;
+use crate::nl_told::nl_refusal;
+use command_core::{Answer, Refusal};
 use desk::Desk;
 use nl_segments::{NlGrammar, NlRead, NlReason, fault_of};
 use std::alloc::Global;
 use texts::TextFault;
 
 impl Source for NlGrammar {
-    ghost told = { λ _ fault. Nl (fault_of fault) };
+    ghost told = { λ _ fault. nl_line (fault_of fault) };
 
     fn told(_number: u32, fault: TextFault<NlReason>) -> Refusal
-        ensures { result ≡ Nl (fault_of fault) }
+        ensures { result.line ≡ nl_line (fault_of fault) }
     {
-        Refusal::Nl(fault_of(fault))
+        nl_refusal(fault_of(fault))
     }
 }
 

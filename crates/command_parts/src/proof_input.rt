@@ -3,27 +3,27 @@ ghost use Rattle.std.specs.Prelude.{◌≡◌, ◌≢◌, IfErr, IfOk};
 ghost use Rattle.file_certificates.specs.Files.{IsProofIn};
 ghost use Rattle.proof_text.specs.Reader.{IsProofText};
 ghost use Rattle.file_certificates.specs.Setting.{setting_of};
-ghost use Rattle.command_parts.specs.InsideAnswer.{status_of};
+ghost use Rattle.proof_text.specs.Reasons.{proof_reason_text};
+ghost use Rattle.command_core.specs.Told.{fault_line};
+ghost use Rattle.command_core.specs.InsideAnswer.{status_of};
 ghost use Rattle.command_parts.specs.Refusal.{IsProofRefused};
-ghost use Rattle.command_parts.specs.declared.refusal.Refusal.TheVariants.{Proof as IsProofFault};
-ghost use Rattle.command_parts.specs.SeveralFiles.{ReadsFile, itself};
+ghost use Rattle.command_core.specs.SeveralFiles.{ReadsFile, itself};
 
-use crate::answer::Answer;
 use crate::input::{Source, open};
-use crate::refusal::Refusal;
 use certificates::proof::Proof;
+use command_core::{Answer, Refusal, refusal};
 use desk::Desk;
 use nl_model::{NlFile, all_kinds};
 use proof_text::{ProofFault, ProofGrammar};
 use std::alloc::Global;
 
 impl Source for ProofGrammar {
-    ghost told = { IsProofFault };
+    ghost told = { fault_line proof_reason_text };
 
     fn told(number: u32, fault: ProofFault) -> Refusal
-        ensures { result ≡ IsProofFault number fault }
+        ensures { result.line ≡ fault_line proof_reason_text number fault }
     {
-        Refusal::Proof(number, fault)
+        refusal(number, b"line", fault.line, fault.reason.text())
     }
 }
 

@@ -2,26 +2,26 @@
 ghost use Rattle.std.specs.Prelude.{◌≡◌, ◌≢◌, IfErr};
 ghost use Rattle.sol_files.specs.Reader.{IsSol};
 ghost use Rattle.sol_files.specs.Told.{told as told_as};
-ghost use Rattle.command_parts.specs.InsideAnswer.{status_of};
+ghost use Rattle.command_parts.specs.SolTold.{sol_line};
+ghost use Rattle.command_core.specs.InsideAnswer.{status_of};
 ghost use Rattle.command_parts.specs.Refusal.{IsSolRefused};
-ghost use Rattle.command_parts.specs.declared.refusal.Refusal.TheVariants.{Sol as IsSolFault};
-ghost use Rattle.command_parts.specs.SeveralFiles.{ReadsFile, itself};
+ghost use Rattle.command_core.specs.SeveralFiles.{ReadsFile, itself};
 
-use crate::answer::Answer;
 use crate::input::{Source, open};
-use crate::refusal::Refusal;
+use command_core::{Answer, Refusal, refusal};
 use desk::Desk;
 use sol_files::{Refusal as Found, Sol, SolGrammar, told};
 use std::alloc::Global;
 use texts::TextFault;
 
 impl Source for SolGrammar {
-    ghost told = { λ number found. IsSolFault number (told_as found) };
+    ghost told = { λ number found. sol_line number (told_as found) };
 
     fn told(number: u32, found: TextFault<Found>) -> Refusal
-        ensures { result ≡ IsSolFault number (told_as found) }
+        ensures { result.line ≡ sol_line number (told_as found) }
     {
-        Refusal::Sol(number, told(found))
+        let fault = told(found);
+        refusal(number, b"line", fault.line, fault.reason.text())
     }
 }
 

@@ -10,8 +10,8 @@ ghost use Rattle.exported_program.specs.Program.{mps_of};
 ghost use Rattle.scaling.specs.Exported.{scaled_as};
 ghost use Rattle.command_parts.specs.Stages.{Folds, Scales, fold_steps};
 
-use crate::nl_told::fold_refusal;
-use crate::refusal::Refusal;
+use crate::nl_told::{fold_refusal, scale_refusal};
+use command_core::Refusal;
 use linear_fold::fold_file;
 use linear_program::Linear;
 use mps_export::program;
@@ -51,7 +51,7 @@ pub fn scale(alloc: Global, linear: Linear, objective: u32) -> Result<Scaled, St
     let scaled = scale_program(alloc, linear);
     match scaled {
         Ok(scaled) => Ok(scaled),
-        Err(Stop::Fault(fault)) => Err(Stop::Fault(Refusal::Scale(objective, fault))),
+        Err(Stop::Fault(fault)) => Err(Stop::Fault(scale_refusal(objective, fault))),
         Err(Stop::Memory) => Err(Stop::Memory),
     }
 }

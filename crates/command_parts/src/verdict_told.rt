@@ -4,11 +4,10 @@ ghost use Rattle.exact_checks.specs.Answers.{answer_of};
 ghost use Rattle.exact_checks.specs.declared.verdict.Verdict.TheVariants.{TooWide};
 ghost use Rattle.command_parts.specs.VerdictTold.{fit_line, is_yes, negative_line, verdict_line, verdict_text};
 
-use crate::told::{fixed, put_signed};
+use command_core::{Refusal, fixed, put_signed, refusal_of};
 use exact_checks::{Spot, Verdict};
 use solution_fit::FitFault;
 use std::alloc::{AllocError, Global};
-use written_texts::LineText;
 
 // Where a number does not fit.
 fn put_too_wide(line: &mut String, place: Spot) -> Result<(), AllocError>
@@ -61,23 +60,19 @@ pub fn is_yes(verdict: Verdict) -> bool
     }
 }
 
-/// The line of a solution, the second file of its command, that does not fit the first.
-pub fn fit_line(fault: FitFault) -> LineText<128>
-    ensures { result ≡ fit_line fault }
+/// The refusal of a solution, the second file of its command, that does not fit the first.
+pub fn fit_refusal(fault: FitFault) -> Refusal
+    ensures { result.line ≡ fit_line fault }
 {
-    let mut line = LineText::new();
-    line.put_word(b"\n");
-    line.put_word(fault.text().as_bytes());
-    line.put_word(b"refused file 2: ");
-    line
+    refusal_of("file 2", fault.text())
 }
 
-/// The line of an objective of a number below 0.
-pub fn negative_line(number: i32) -> LineText<128>
-    ensures { result ≡ negative_line number }
+/// The refusal of an objective of a number below 0.
+pub fn negative_refusal(number: i32) -> Refusal
+    ensures { result.line ≡ negative_line number }
 {
     let mut line = fixed(b": no such objective\n");
     put_signed(&mut line, number);
     line.put_word(b"refused objective ");
-    line
+    Refusal { line }
 }

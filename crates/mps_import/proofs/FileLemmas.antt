@@ -14,8 +14,8 @@ use Rattle.linear_program.specs.declared.interval.Interval.{Interval as Sides}
 use Rattle.mps_model.specs.Mps.{Mps, column_interval, objective_row}
 use Rattle.mps_import.specs.declared.build.Parts.{Parts}
 use Rattle.mps_import.specs.declared.rows.RowUse.{RowUse}
-use Rattle.mps_import.specs.declared.import_fault.ImportFault.{ImportFault}
-use Rattle.mps_import.specs.declared.import_fault.ImportFault.TheVariants.{TooWide}
+use Rattle.mps_program.specs.declared.mps_fault.MpsFault.{MpsFault}
+use Rattle.mps_program.specs.declared.mps_fault.MpsFault.TheVariants.{TooWide}
 use Rattle.mps_program.specs.Decimals.{sides_from}
 use Rattle.mps_import.specs.Decimals.{number_tree}
 use Rattle.mps_import.specs.Faults.{is_too_large, import_fault}
@@ -144,10 +144,10 @@ module _ (m : Mps Dec) (p : Parts) (are : ArePartsOf m p) where
           file_is = ap file_of d_is ∙ ap₂ (λ ss bs. record (import_of m) { sides = ss; bounds = bs }) are.sides bounds_are
 
 -- a stop for a wide row tells the first fault, where the program is not too large
-stop_is : (m : Mps Dec) (stop : Stop ImportFault) → is_too_large m ≡ false → IfFault stop (λ f. option_map TooWide (first_wide m) ≡ Some f) → IfFault stop (λ f. import_fault m ≡ Some f)
+stop_is : (m : Mps Dec) (stop : Stop MpsFault) → is_too_large m ≡ false → IfFault stop (λ f. option_map TooWide (first_wide m) ≡ Some f) → IfFault stop (λ f. import_fault m ≡ Some f)
 stop_is m (Fault f) e h = wide_fault m f e h
 stop_is m Memory e h = tt
 
-pub wide_stop : {A : Type 0} (m : Mps Dec) (r : Result A (Stop ImportFault)) (stop : Stop ImportFault) → is_too_large m ≡ false → IfFault stop (λ f. option_map TooWide (first_wide m) ≡ Some f) → IsErrAnd r (λ y. y ≡ stop) → IfErr r (λ s. IfFault s (λ f. import_fault m ≡ Some f))
+pub wide_stop : {A : Type 0} (m : Mps Dec) (r : Result A (Stop MpsFault)) (stop : Stop MpsFault) → is_too_large m ≡ false → IfFault stop (λ f. option_map TooWide (first_wide m) ≡ Some f) → IsErrAnd r (λ y. y ≡ stop) → IfErr r (λ s. IfFault s (λ f. import_fault m ≡ Some f))
 wide_stop m (Ok x) stop e h i = tt
 wide_stop m (Err y) stop e h i = subst (λ s. IfFault s (λ f. import_fault m ≡ Some f)) (sym i) (stop_is m stop e h)

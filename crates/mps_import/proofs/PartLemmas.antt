@@ -23,8 +23,8 @@ use Rattle.linear_program.specs.declared.kind.Kind.TheVariants.{Continuous, Bina
 use Rattle.mps_model.specs.Built.{entry_of}
 use Rattle.mps_model.specs.Mps.{MpsRow, Mps, row_interval, objective_row}
 use Rattle.mps_import.specs.declared.build.Parts.{Parts}
-use Rattle.mps_import.specs.declared.import_fault.ImportFault.{ImportFault}
-use Rattle.mps_import.specs.declared.import_fault.ImportFault.TheVariants.{EmptyInterval, TooWide, TooLarge}
+use Rattle.mps_program.specs.declared.mps_fault.MpsFault.{MpsFault}
+use Rattle.mps_program.specs.declared.mps_fault.MpsFault.TheVariants.{EmptyInterval, TooWide, TooLarge}
 use Rattle.mps_import.specs.declared.rows.RowUse.{RowUse}
 use Rattle.mps_import.specs.declared.rows.RowUse.TheVariants.{Unused, Objective, Constraint}
 use Rattle.mps_program.specs.Kinds.{kind_by, column_kind, is_whole, is_zero_to_one}
@@ -126,7 +126,7 @@ module _ (m : Mps Dec) where
   unfolding import_fault
   large_fault e = ap (λ b. if b then Some TooLarge else option_or (option_map TooWide (first_wide m)) (option_map EmptyInterval (first_empty m))) e
 
-  pub wide_fault : (f : ImportFault) → is_too_large m ≡ false → option_map TooWide (first_wide m) ≡ Some f → import_fault m ≡ Some f
+  pub wide_fault : (f : MpsFault) → is_too_large m ≡ false → option_map TooWide (first_wide m) ≡ Some f → import_fault m ≡ Some f
   unfolding import_fault
   wide_fault f e h = ap₂ (λ b w. if b then Some TooLarge else option_or w (option_map EmptyInterval (first_empty m))) e h
 

@@ -5,4 +5,3 @@ pub mod Faults
 pub mod InsideKinds
 pub mod InsideUses
 pub mod InsideParts
-pub mod Reasons

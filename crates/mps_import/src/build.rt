@@ -13,19 +13,18 @@ ghost use Rattle.mps_import.specs.Faults.{import_fault};
 ghost use Rattle.mps_import.specs.Import.{counts_with, import_counts, import_of, import_options, objective_constant};
 ghost use Rattle.mps_import.specs.InsideParts.{ArePartsOf, begun_draft, side_test};
 ghost use Rattle.mps_import.specs.Variables.{order_of_columns};
-ghost use Rattle.mps_import.specs.declared.import_fault.ImportFault.TheVariants.{TooWide as TooWideFault};
+ghost use Rattle.mps_program.specs.declared.mps_fault.MpsFault.TheVariants.{TooWide as TooWideFault};
 ghost use Rattle.mps_program.specs.Decimals.{sides_from};
 ghost use Rattle.mps_program.specs.Faults.{first_wide};
 ghost use Rattle.mps_program.specs.Program.{constraints, values_of};
 
-use crate::import_fault::ImportFault;
 use crate::imported::{Imported, Order};
 use crate::rows::{RowUse, row_uses};
 use crate::terms::{Counted, add_terms, count_terms};
 use crate::variables::{Variables, in_kinds};
 use exact_numbers::Dec;
 use mps_model::Mps;
-use mps_program::{constraint_sides, first_empty, right_side, sides_and_kinds, with_one};
+use mps_program::{MpsFault, constraint_sides, first_empty, right_side, sides_and_kinds, with_one};
 use nl_model::{Counts, Expr, ExprBuilder, Header, Interval, NlBuilder, NlFile, Node, Options};
 use std::alloc::{AllocError, Global};
 use std::cmp::Ordering;
@@ -54,7 +53,7 @@ fn is_too_long(constraints: u32, columns: usize) -> bool
 }
 
 // The sides of the constraints, or a fault of the first row whose range is out of reach.
-fn sides_of(alloc: Global, mps: &Mps) -> Result<Vec<Interval>, Stop<ImportFault>>
+fn sides_of(alloc: Global, mps: &Mps) -> Result<Vec<Interval>, Stop<MpsFault>>
     ensures sides { IfOk result
         (λ v. v.items
         ≡ map (λ i. sides_from (row_interval (values_of mps.now) i)) (constraints mps.now.rows)) }
@@ -65,12 +64,12 @@ fn sides_of(alloc: Global, mps: &Mps) -> Result<Vec<Interval>, Stop<ImportFault>
 {
     match constraint_sides(alloc, mps) {
         Ok(sides) => Ok(sides),
-        Err(stop) => Err(stop.map_fault(|row| ImportFault::TooWide(row))),
+        Err(stop) => Err(stop.map_fault(|row| MpsFault::TooWide(row))),
     }
 }
 
 // The parts of a program, or its first fault.
-fn parts_of(alloc: Global, mps: &Mps) -> Result<Parts, Stop<ImportFault>>
+fn parts_of(alloc: Global, mps: &Mps) -> Result<Parts, Stop<MpsFault>>
     ensures parts { IfOk result (λ p. ArePartsOf mps.now p) }
     ensures fault { IfErr result
         (λ stop. IfFault stop (λ fault. import_fault mps.now ≡ Some fault)) }
@@ -81,14 +80,14 @@ fn parts_of(alloc: Global, mps: &Mps) -> Result<Parts, Stop<ImportFault>>
     let variables = in_kinds(alloc, &columns.kinds)?;
     let width = mps.columns().len();
     if is_too_long(rows.constraints, width) {
-        return Err(Stop::Fault(ImportFault::TooLarge));
+        return Err(Stop::Fault(MpsFault::TooLarge));
     }
     let Some(count) = count_terms(mps, &variables.columns, &rows.uses) else {
-        return Err(Stop::Fault(ImportFault::TooLarge));
+        return Err(Stop::Fault(MpsFault::TooLarge));
     };
     let sides = sides_of(alloc, mps)?;
     if let Some(column) = first_empty(&columns.sides) {
-        return Err(Stop::Fault(ImportFault::EmptyInterval(column)));
+        return Err(Stop::Fault(MpsFault::EmptyInterval(column)));
     }
     Ok(Parts {
         uses: rows.uses,
@@ -283,7 +282,7 @@ fn file_of(alloc: Global, mps: &Mps, parts: &Parts) -> Result<NlFile, AllocError
 }
 
 /// The .nl file that means what the program means, and the column of each of its variables.
-pub fn import(alloc: Global, mps: &Mps) -> Result<Imported, Stop<ImportFault>>
+pub fn import(alloc: Global, mps: &Mps) -> Result<Imported, Stop<MpsFault>>
     ensures clean { IfOk result (λ x. import_fault mps.now ≡ None) }
     ensures file { IfOk result (λ x. x.file ≡ import_of mps.now) }
     ensures order { IfOk result (λ x. x.order ≡ order_of_columns mps.now) }

@@ -2,7 +2,6 @@
 #![tactic(auto)]
 
 mod build;
-mod import_fault;
 mod imported;
 pub mod laws;
 mod places;
@@ -11,5 +10,5 @@ mod terms;
 mod variables;
 
 pub use build::import;
-pub use import_fault::ImportFault;
 pub use imported::{Imported, Order};
+pub use mps_program::MpsFault as ImportFault;

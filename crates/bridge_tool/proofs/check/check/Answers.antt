@@ -1,10 +1,10 @@
 use Rattle.nl_segments.specs.Reader.{value_of}
 use Rattle.bridge_tool.specs.Check.{IsCertified, IsNotCertified}
-use Rattle.command_parts.specs.SeveralFiles.{itself}
+use Rattle.command_core.specs.SeveralFiles.{itself}
 use Rattle.command_parts.proofs.TextsRead.{nl_read}
 use Rattle.bridge_tool.proofs.Exporting.{text_file}
 use Rattle.bridge_tool.proofs.Verdicts.{check_last, meant_so}
-use Rattle.command_parts.proofs.SeveralFiles.{both_ended, both_stopped, second_stopped}
+use Rattle.command_core.proofs.SeveralFiles.{both_ended, both_stopped, second_stopped}
 use Rattle.bridge_tool.proofs.check.check.Goals as goal
 
 pub returns-in-Err : goal.returns-in-Err

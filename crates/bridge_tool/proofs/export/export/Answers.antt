@@ -1,7 +1,7 @@
 use Rattle.nl_segments.specs.Reader.{value_of}
 use Rattle.bridge_tool.specs.Export.{IsExportMeant}
 use Rattle.bridge_tool.proofs.Exporting.{export_last}
-use Rattle.command_parts.proofs.SeveralFiles.{NoVerdict, ended_in_pieces, meant_always, only_stopped}
+use Rattle.command_core.proofs.SeveralFiles.{NoVerdict, ended_in_pieces, meant_always, only_stopped}
 use Rattle.bridge_tool.proofs.export.export.Goals as goal
 
 pub returns-in-Err : goal.returns-in-Err

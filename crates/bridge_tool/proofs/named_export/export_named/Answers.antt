@@ -1,10 +1,10 @@
 use Rattle.std.proofs.Common.{false, refl}
 use Rattle.nl_segments.specs.Reader.{value_of}
 use Rattle.bridge_tool.specs.NamedExport.{AreNamedMeant, named_told}
-use Rattle.command_parts.specs.SeveralFiles.{itself}
+use Rattle.command_core.specs.SeveralFiles.{itself}
 use Rattle.command_parts.proofs.NameLists.{columns_stopped, listed_sound, nl_stopped, rows_down, rows_stopped}
 use Rattle.bridge_tool.proofs.NamedExporting.{after_names, named_last, names_sound, of_lists}
-use Rattle.command_parts.proofs.SeveralFiles.{NoVerdict, last_ended, meant_always}
+use Rattle.command_core.proofs.SeveralFiles.{NoVerdict, last_ended, meant_always}
 use Rattle.bridge_tool.proofs.named_export.export_named.Goals as goal
 
 pub returns-in-Err : goal.returns-in-Err

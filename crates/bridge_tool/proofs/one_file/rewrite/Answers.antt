@@ -1,6 +1,6 @@
 use Rattle.nl_segments.specs.Reader.{value_of}
-use Rattle.command_parts.specs.SeveralFiles.{itself}
-use Rattle.command_parts.proofs.SeveralFiles.{meant_always, meant_anyway}
+use Rattle.command_core.specs.SeveralFiles.{itself}
+use Rattle.command_core.proofs.SeveralFiles.{meant_always, meant_anyway}
 use Rattle.bridge_tool.specs.declared.one_file.OneFile.TheVariants.{Import, Mps, Nl, Sol}
 use Rattle.bridge_tool.proofs.OneFile.{ended, meant_so, sol_meant, stopped}
 use Rattle.nl_round_trip.proofs.Rewriting.{written_again}

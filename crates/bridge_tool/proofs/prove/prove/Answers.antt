@@ -1,9 +1,9 @@
 use Rattle.nl_segments.specs.Reader.{value_of}
 use Rattle.bridge_tool.specs.Prove.{IsLeftOpen, IsProvedOf}
-use Rattle.command_parts.specs.SeveralFiles.{itself}
+use Rattle.command_core.specs.SeveralFiles.{itself}
 use Rattle.command_parts.proofs.TextsRead.{nl_read}
 use Rattle.bridge_tool.proofs.Verdicts.{prove_last}
-use Rattle.command_parts.proofs.SeveralFiles.{both_ended, both_stopped, second_stopped}
+use Rattle.command_core.proofs.SeveralFiles.{both_ended, both_stopped, second_stopped}
 use Rattle.bridge_tool.proofs.prove.prove.Goals as goal
 
 pub returns-in-Err : goal.returns-in-Err

@@ -1,11 +1,11 @@
 use Rattle.nl_segments.specs.Reader.{value_of}
 use Rattle.answer_file.specs.declared.naming.Naming.TheVariants.{Numbered}
 use Rattle.bridge_tool.specs.Return.{IsReturnMeant}
-use Rattle.command_parts.specs.SeveralFiles.{itself}
+use Rattle.command_core.specs.SeveralFiles.{itself}
 use Rattle.command_parts.proofs.TextsRead.{nl_read}
 use Rattle.bridge_tool.proofs.Exporting.{text_file}
 use Rattle.bridge_tool.proofs.Returning.{return_last, return_meant}
-use Rattle.command_parts.proofs.SeveralFiles.{NoVerdict, both_ended, both_stopped, meant_anyway, second_stopped}
+use Rattle.command_core.proofs.SeveralFiles.{NoVerdict, both_ended, both_stopped, meant_anyway, second_stopped}
 use Rattle.bridge_tool.proofs.returns.return_answer.Goals as goal
 
 pub returns-in-Err : goal.returns-in-Err

@@ -3,11 +3,11 @@ use Rattle.nl_segments.specs.Reader.{value_of}
 use Rattle.answer_file.specs.Names.{named_setting}
 use Rattle.answer_file.specs.declared.naming.Naming.TheVariants.{Listed}
 use Rattle.bridge_tool.specs.Return.{IsReturnMeant, named_return_told}
-use Rattle.command_parts.specs.SeveralFiles.{itself}
+use Rattle.command_core.specs.SeveralFiles.{itself}
 use Rattle.command_parts.proofs.NameLists.{columns_down, columns_stopped, listed_sound, nl_stopped, rows_stopped}
 use Rattle.bridge_tool.proofs.Exporting.{text_file}
 use Rattle.bridge_tool.proofs.Returning.{after_names, answer_last, names_sound, return_meant}
-use Rattle.command_parts.proofs.SeveralFiles.{NoVerdict, last_ended, last_stopped, meant_anyway}
+use Rattle.command_core.proofs.SeveralFiles.{NoVerdict, last_ended, last_stopped, meant_anyway}
 use Rattle.bridge_tool.proofs.returns.return_named.Goals as goal
 
 pub returns-in-Err : goal.returns-in-Err

@@ -4,7 +4,7 @@ use Rattle.linear_program.specs.Programs.{linear_value}
 use Rattle.certificates.specs.Certificates.{IsCertificateOf, claim_outcome}
 use Rattle.certificate_judge.specs.Outcomes.{outcome_of}
 use Rattle.command_parts.specs.CertificateTold.{HasFittingBound, outcome_line}
-use Rattle.command_parts.specs.Outcome.{Done}
+use Rattle.command_core.specs.Outcome.{Done}
 use Rattle.bridge_tool.specs.Verify.{by_linear}
 use Rattle.bridge_tool.proofs.Programs.{bound_fits, shown_so}
 use Rattle.bridge_tool.proofs.verify.verdict_on.Goals as goal

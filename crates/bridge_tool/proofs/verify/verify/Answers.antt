@@ -1,9 +1,9 @@
 use Rattle.nl_segments.specs.Reader.{value_of}
-use Rattle.command_parts.specs.SeveralFiles.{itself}
+use Rattle.command_core.specs.SeveralFiles.{itself}
 use Rattle.bridge_tool.specs.Verify.{IsDenied, IsVerified, nl_claim_row}
 use Rattle.bridge_tool.specs.declared.verify.ProblemText.TheVariants.{Nl}
 use Rattle.bridge_tool.proofs.Programs.{claim_counted, claim_last, claim_meant, claimed}
-use Rattle.command_parts.proofs.SeveralFiles.{both_ended, both_stopped, second_stopped}
+use Rattle.command_core.proofs.SeveralFiles.{both_ended, both_stopped, second_stopped}
 use Rattle.bridge_tool.proofs.verify.verify.Goals as goal
 
 pub returns-in-Err : goal.returns-in-Err

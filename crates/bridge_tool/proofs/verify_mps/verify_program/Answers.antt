@@ -2,11 +2,11 @@ use Rattle.std.proofs.Common.{refl, arith}
 use Rattle.linear_program.specs.Programs.{linear_value}
 use Rattle.certificates.specs.Setting.{program_setting}
 use Rattle.certificates.proofs.Settings.{certificate_for, program_has_setting}
-use Rattle.command_parts.specs.SeveralFiles.{itself}
+use Rattle.command_core.specs.SeveralFiles.{itself}
 use Rattle.bridge_tool.specs.Verify.{IsDenied, IsVerified, mps_claim_row}
 use Rattle.bridge_tool.specs.declared.verify.ProblemText.TheVariants.{Mps}
 use Rattle.bridge_tool.proofs.Programs.{claim_counted, claim_last, claim_meant, claimed, comes_as, opened_as, program_ended, program_is, program_there, text_ended}
-use Rattle.command_parts.proofs.SeveralFiles.{at_rest, both_ended, both_stopped, second_stopped}
+use Rattle.command_core.proofs.SeveralFiles.{at_rest, both_ended, both_stopped, second_stopped}
 use Rattle.bridge_tool.proofs.verify_mps.verify_program.Goals as goal
 
 pub returns-in-Err : goal.returns-in-Err

@@ -1,7 +1,7 @@
 use Rattle.certificates.specs.Setting.{IsCertificateFor, Setting}
 use Rattle.certificate_text.specs.Reader.{IsCertificateText}
 use Rattle.command_parts.specs.Refusal.{IsCertificateRefused}
-use Rattle.command_parts.specs.SeveralFiles.{itself}
+use Rattle.command_core.specs.SeveralFiles.{itself}
 use Rattle.command_parts.proofs.Opened.{certificate_known, known_of}
 use Rattle.command_parts.proofs.certificate_input.open_certificate_over.Goals as goal
 

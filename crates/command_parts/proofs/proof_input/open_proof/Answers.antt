@@ -4,7 +4,7 @@ use Rattle.file_certificates.specs.Setting.{setting_of}
 use Rattle.proof_text.specs.Reader.{IsProofText}
 use Rattle.proof_text.proofs.TextTrees.{text_is_proof}
 use Rattle.command_parts.specs.Refusal.{IsProofRefused}
-use Rattle.command_parts.specs.SeveralFiles.{itself}
+use Rattle.command_core.specs.SeveralFiles.{itself}
 use Rattle.command_parts.proofs.Opened.{known_of, setting_in}
 use Rattle.command_parts.proofs.proof_input.open_proof.Goals as goal
 

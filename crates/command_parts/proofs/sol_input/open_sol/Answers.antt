@@ -1,6 +1,6 @@
 use Rattle.sol_files.specs.Reader.{IsSol}
 use Rattle.command_parts.specs.Refusal.{IsSolRefused}
-use Rattle.command_parts.specs.SeveralFiles.{itself}
+use Rattle.command_core.specs.SeveralFiles.{itself}
 use Rattle.command_parts.proofs.Opened.{read_as, sol_refused}
 use Rattle.command_parts.proofs.sol_input.open_sol.Goals as goal
 

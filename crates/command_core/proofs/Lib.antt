@@ -1,0 +1,4 @@
+pub mod Known
+pub mod Ending
+pub mod SeveralFiles
+pub mod RefusalLines
