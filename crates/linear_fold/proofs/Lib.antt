@@ -4,6 +4,7 @@ pub mod CountLemmas
 pub mod Expressions
 pub mod Folding
 pub mod Operators
+pub mod OrderLemmas
 pub mod OwnerLemmas
 pub mod StackLemmas
 pub mod SumLemmas

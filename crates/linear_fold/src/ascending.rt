@@ -1,6 +1,8 @@
 // Terms that ascend by variable: as they stand, they are the coefficients of a form.
-ghost use Rattle.std.specs.Prelude.{◌≡◌, ◌+◌, ◌^◌, ◌≤◌, ◌↔◌, [], length, IfOk, IsTrue};
-ghost use Rattle.exact_numbers.specs.Values.{frac_value};
+ghost use Rattle.std.specs.Prelude.{◌≡◌, ◌+◌, ◌^◌, ◌≤◌, ◌↔◌, [], length, All, IfOk, IfSome, IsTrue, None, true};
+ghost use Rattle.std.specs.List.Sorted.{IsPermutation};
+ghost use Rattle.fractions.specs.Fits.{fits};
+ghost use Rattle.exact_numbers.specs.Values.{dec_value, frac_value};
 ghost use Rattle.program_meaning.specs.Lines.{constant_line};
 ghost use Rattle.file_meaning.specs.Expressions.{linear_terms};
 ghost use Rattle.linear_fold.specs.InsideHeld.{ComesToHeld};
@@ -30,6 +32,31 @@ pub(crate) fn are_ascending(terms: &[(u32, Dec)]) -> bool
         least = u64::from(*variable) + 1;
     }
     true
+}
+
+// Whether each factor has a fraction that is not 0.
+fn are_kept(terms: &[(u32, Dec)]) -> bool
+    ensures { result ≡ true → All (λ t. fits (dec_value t.1) ≡ true) terms.now }
+{
+    for (_, factor) in terms {
+        if factor.is_zero() {
+            return false;
+        }
+        if !factor.has_fraction() {
+            return false;
+        }
+    }
+    true
+}
+
+// The terms in the order of their variables.
+fn in_order(alloc: Global, terms: &[(u32, Dec)]) -> Result<Vec<(u32, Dec)>, AllocError>
+    ensures order { IfOk result (λ v. IsPermutation terms.now v.items) }
+    ensures count { IfOk result (λ v. length v.items ≡ length terms.now) }
+{
+    let mut ordered = terms.to_vec(alloc)?;
+    ordered.sort_unstable_by_key(|term| term.0);
+    Ok(ordered)
 }
 
 /// Whether no term adds anything: each factor is 0.
@@ -95,4 +122,33 @@ pub(crate) fn form_of_ascending<L: Ledger>(
             Ok(Entry::Linear(Form::of_terms(constant, list)))
         }
     }
+}
+
+/// The form of a number and of terms that have fractions and ascend once they are in order; none of
+/// others. A step for the number and for each term.
+pub(crate) fn form_in_order<L: Ledger>(
+    alloc: Global,
+    number: &Form,
+    terms: &[(u32, Dec)],
+    first: usize,
+    steps: &mut Steps<L>,
+) -> Result<Option<Entry>, AllocError>
+    requires number { form_terms number.now ≡ [] }
+    requires first { first ≤ 2 ^ 22 }
+    ensures entry { IfOk result
+        (λ o. IfSome o
+        (λ e. ComesToTerms (form_line number.now) first (linear_terms terms.now) e)) }
+    ensures none { IfOk result (λ o. o ≡ None → steps.new ≡ steps.old) }
+    ensures above { steps.old ≤ steps.new }
+    ensures below { steps.new ≤ steps.old + 1 + length terms.now }
+{
+    if !are_kept(terms) {
+        return Ok(None);
+    }
+    let ordered = in_order(alloc, terms)?;
+    if !are_ascending(&ordered) {
+        return Ok(None);
+    }
+    let entry = form_of_ascending(alloc, number, &ordered, first, steps)?;
+    Ok(Some(entry))
 }

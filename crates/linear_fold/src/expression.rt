@@ -11,7 +11,7 @@ ghost use Rattle.linear_fold.specs.InsideFolds.{AddsTerms, AreKnown, AreSlotsWit
 ghost use Rattle.linear_program.specs.Forms.{IsWithin, form_line, place_count, sum_line};
 ghost use Rattle.linear_fold.specs.InsideOperates.{IsBlank, IsPad};
 
-use crate::ascending::{are_ascending, are_zero, form_of_ascending};
+use crate::ascending::{are_ascending, are_zero, form_in_order, form_of_ascending};
 use crate::entries::Entry;
 use crate::fold::{Room, fold_tree};
 use crate::leaf_sums::leaf_sum;
@@ -183,8 +183,13 @@ fn with_terms<L: Ledger>(
     ensures above { steps.old ≤ steps.new }
     ensures below { steps.new ≤ steps.old + (variables + 1) + length terms.now }
 {
-    if form.is_constant() && are_ascending(terms) {
-        return form_of_ascending(alloc, form, terms, first, steps);
+    if form.is_constant() {
+        if are_ascending(terms) {
+            return form_of_ascending(alloc, form, terms, first, steps);
+        }
+        if let Some(entry) = form_in_order(alloc, form, terms, first, steps)? {
+            return Ok(entry);
+        }
     }
     let mut total = empty_sum(alloc, room, variables)?;
     put(&mut total, form, steps)?;
