@@ -6,11 +6,13 @@ ghost use Rattle.mps_reader.specs.InsideHeldSteps.{with_bound};
 ghost use Rattle.mps_reader.specs.InsideLines.{IsBoundText, IsColumnBound, IsKindText, IsNext, TakesLines};
 ghost use Rattle.mps_words.specs.Sections.{last_of};
 
-use crate::bounds::{bound_kind_of_two, needs_number, no_number};
 use crate::state::State;
 use exact_numbers::Dec;
 use mps_model::BoundKind;
-use mps_words::{Keyword, PairText, first_name, first_number, first_pair};
+use mps_words::{
+    Keyword, PairText, bound_kind_of_two, first_name, first_number, first_pair, needs_number,
+    no_number,
+};
 use texts::Front;
 
 // The kind that a line begins with, and what follows it and a space.

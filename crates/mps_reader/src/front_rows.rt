@@ -9,10 +9,9 @@ ghost use Rattle.mps_reader.specs.Saying.{place_of};
 ghost use Rattle.mps_words.specs.Sections.{last_of};
 
 use crate::front_lines::FrontTaken;
-use crate::rows::row_kind_of_one;
 use crate::state::State;
 use mps_model::RowKind;
-use mps_words::{Keyword, first_name, is_marker_word};
+use mps_words::{Keyword, first_name, is_marker_word, row_kind_of_one};
 use texts::Front;
 
 /// A row, and what follows its line.

@@ -15,7 +15,6 @@ mod pairs;
 mod reader;
 mod rows;
 mod sections;
-mod set_name;
 mod side_lines;
 mod sides;
 mod state;

@@ -1,3 +1,4 @@
+pub mod DataLines
 pub mod InsideCodes
 pub mod InsideFronts
 pub mod InsideMarks

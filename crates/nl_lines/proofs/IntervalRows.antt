@@ -1,5 +1,6 @@
 -- A row that is an interval alone: it is no head, and judged by its interval.
 use Rattle.std.proofs.Common.{◌≡◌, ◌∙◌, ℕ, suc, ◌+◌, ◌≤◌, ◌==◌, get_or, Bool, true, false, not, ◌&&◌, ◌||◌, List, [], ◌∷◌, length, refl, sym, ap, subst, arith, Some, None, if◌then◌else◌}
+use Rattle.std.proofs.Math.Bool.{and-false}
 use Rattle.std.specs.Prelude.{codes, drop, slice_index}
 use Rattle.std.specs.Option.{option_map_or}
 use Rattle.std.specs.Str.{bytes_eq}
@@ -78,12 +79,8 @@ unfolding interval_form_tests
 interval_fine words i of_constraint unit w fine =
     let s = sided_row words i w in
     let parts = or_parts (is_empty i) (unit && not (is_within_unit i)) fine in
-    let five : (of_constraint && bytes_eq (word_at words 0) (codes "5")) ≡ false = rw (s.is, not_five s.digit s.high) (no_more of_constraint) in
+    let five : (of_constraint && bytes_eq (word_at words 0) (codes "5")) ≡ false = rw (s.is, not_five s.digit s.high) (and-false of_constraint) in
     rw (five, w.sides, w.says, parts.0, parts.1) refl
-  where
-    no_more : (a : Bool) → (a && false) ≡ false
-    no_more true = refl
-    no_more false = refl
 
 -- ---- rows of each kind
 

@@ -1,5 +1,5 @@
 -- What pieces say: a file, and the line of each node, term and head.
-use Rattle.std.specs.Prelude.{ℕ, ℤ, List, [], ◌∷◌, ◌++◌, take, map, replicate, get_or, slice_get, slice_set, Option, Some, None, option_and_then, if◌then◌else◌}
+use Rattle.std.specs.Prelude.{ℕ, ℤ, List, [], ◌∷◌, ◌++◌, take, map, replicate, get_or, slice_get, slice_set, Option, Some, option_and_then, if◌then◌else◌}
 use Rattle.std.specs.Option.{option_or}
 use Rattle.std.specs.List.{fold}
 use Rattle.exact_numbers.specs.declared.dec.Dec.{Dec}
@@ -14,6 +14,7 @@ use Rattle.nl_model.specs.declared.suffix.Suffix.{Suffix as FileSuffix}
 use Rattle.nl_model.specs.Draft.{Draft, empty_draft}
 use Rattle.nl_model.specs.Nodes.{tree_of}
 use Rattle.nl_meaning.specs.Trees.{Tree}
+pub use Rattle.line_places.specs.Owners.{OwnerLines, no_lines}
 use Rattle.nl_lines.specs.declared.head.Head.{Head}
 use Rattle.nl_lines.specs.declared.head.Head.TheVariants.{Body, Objective, Definition, DualGuesses, PrimalGuesses, Sides, Bounds, ColumnCounts, Terms, Slopes, Suffix}
 use Rattle.nl_lines.specs.Nodes.{only_nodes}
@@ -64,21 +65,11 @@ draft_of options c pieces = fold with_piece (empty_draft options c) pieces
 
 -- ---- The lines.
 
--- the lines of an owner: of its head, if it has one, of its nodes in prefix order, and of its terms
--- in file order
-pub record OwnerLines : Type 0 where
-  pub head : Option ℕ
-  pub nodes : List ℕ
-  pub terms : List ℕ
-
 -- the lines of defined variables in file order, of constraints and of objectives
 pub record PlaceLines : Type 0 where
   pub definitions : List OwnerLines
   pub constraints : List OwnerLines
   pub objectives : List OwnerLines
-
-abbrev pub no_lines : OwnerLines
-no_lines = record { head = None; nodes = []; terms = [] }
 
 abbrev pub empty_lines : Counts → PlaceLines
 empty_lines c =

@@ -17,7 +17,6 @@ use Rattle.proof_text.specs.Standing.{IsSaid, ProofStanding, is_whole_proof, pro
 use Rattle.proof_text.specs.Tests.{proof_end_tests}
 use Rattle.proof_text.specs.Grammar.{SaysProof, proof_rules}
 use Rattle.proof_text.specs.Reader.{IsFed, IsProofText, Reading, ReadsProof}
-use Rattle.proof_text.proofs.GrammarLemmas.{read_for}
 use Rattle.proof_text.proofs.TextTrees.{text_is_proof}
 use Rattle.tree_text.specs.Readings.{HasOneReading}
 use Rattle.tree_text.proofs.ReadingLemmas.{one_reading as one_reading_of}
@@ -58,5 +57,7 @@ proof_from s text t same (Err stop) reads = tt
 pub proof_read : (inside held : Reading) (result : Result ProofValue (Stop (TextFault ProofReason))) → inside ≡ held
     → ((text : List ℕ) → Stands inside.stopped (proof_rules inside.read.setting) (λ lines. inside.read.standing ≡ proof_standing (rows_in lines)) inside.lines text → ReadsProof inside.read.setting text result)
     → IfOk result (λ p. (s : Setting) (text : List ℕ) → IsFed s held text → IsProofFor s p)
-proof_read inside held (Ok p) same reads = λ s text fed. text_is_proof s text p (read_for inside held (Ok p) same reads s text fed)
+proof_read inside held (Ok p) same reads = λ s text fed.
+    let at : IsFed s inside text = subst (λ (r : Reading). IsFed s r text) (sym same) fed in
+    text_is_proof s text p (subst (λ (t : Setting). ReadsProof t text (Ok p)) at.same (reads text at.stands))
 proof_read inside held (Err stop) same reads = tt

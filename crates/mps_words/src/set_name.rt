@@ -1,6 +1,6 @@
 // The set name of a section.
 ghost use Rattle.std.specs.Prelude.{◌≡◌, false, IfOk};
-ghost use Rattle.mps_reader.specs.Tests.{is_bad_set};
+ghost use Rattle.mps_words.specs.DataLines.{is_bad_set};
 
 use std::alloc::{AllocError, Global};
 use std::marker::Model;
@@ -13,7 +13,7 @@ pub struct SetName {
 
 impl Model for SetName {
     ghost use Rattle.std.specs.Prelude.{List, ℕ, ◌≡◌, false};
-    ghost use Rattle.mps_reader.specs.Tests.{is_bad_set};
+    ghost use Rattle.mps_words.specs.DataLines.{is_bad_set};
 
     ghost Value = { List ℕ };
 
@@ -24,7 +24,7 @@ impl Model for SetName {
 
 impl SetName {
     /// The set name with these bytes.
-    pub(crate) fn tested(alloc: Global, text: &[u8]) -> Result<SetName, AllocError>
+    pub fn tested(alloc: Global, text: &[u8]) -> Result<SetName, AllocError>
         requires { is_bad_set text.now ≡ false }
         ensures { IfOk result (λ set. set ≡ text.now) }
     {
@@ -33,7 +33,7 @@ impl SetName {
     }
 
     /// Its bytes.
-    pub(crate) fn bytes(&self) -> &[u8]
+    pub fn bytes(&self) -> &[u8]
         ensures value { result.now ≡ self.now }
         ensures fine { is_bad_set self.now ≡ false }
     {

@@ -1,6 +1,6 @@
 use Rattle.std.proofs.Common.{arith}
 use Rattle.std.proofs.lemmas.Grind.{common_steps}
-use Rattle.mps_reader.proofs.bounds.read_number.Goals as goal
+use Rattle.mps_words.proofs.bound_words.read_number.Goals as goal
 
 pub returns : goal.returns
 returns c = grind (arith, common_steps)
