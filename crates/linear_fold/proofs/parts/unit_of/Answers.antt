@@ -1,4 +1,4 @@
-use Rattle.std.proofs.Common.{rules, ◌≡◌, ◌≤◌, arith, negsuc, pos}
+use Rattle.std.proofs.Common.{rules, ◌≡◌, negsuc, pos}
 use Rattle.exact_numbers.specs.Values.{frac_value}
 use Rattle.linear_fold.proofs.SumLemmas.{unit_minus, unit_plus}
 use Rattle.linear_fold.proofs.parts.unit_of.Goals as goal

@@ -1,6 +1,3 @@
-use Rattle.std.proofs.Common.{◌≡◌, List, ◌∷◌, [], reverse, take}
-use Rattle.std.proofs.Common.{◌∙◌, ap, sym}
-use Rattle.program_meaning.specs.Lines.{line_neg}
 use Rattle.linear_fold.specs.InsideOperates.{part_line}
 use Rattle.linear_fold.proofs.SumLemmas.{minus_line, plus_line, two_taken, unit_product}
 use Rattle.linear_fold.proofs.sums.by_unit.Goals as goal
