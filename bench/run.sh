@@ -1,6 +1,6 @@
 #!/usr/bin/env bash
 # Times the built program: `export` beside a plain converter on AMPL's own library (asl2mps.c, which is built here where
-# Debian's libamplsolver-dev is there) and of nested trees beside smaller ones, `mps`, which reads and writes, beside clp,
+# Debian's libamplsolver-dev is there) and of nested trees and other forms beside smaller ones, `mps`, which reads and writes, beside clp,
 # which reads alone (coinor-clp), `verify_mps` beside `verify` of the same program as .nl, and `verify` of large certificates.
 #
 #     [TERMS="1000000 2000000 4000000"] [RUNS=5] bench/run.sh PROGRAM [BASELINE]
