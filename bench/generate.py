@@ -9,11 +9,17 @@
 FORM   linear       the terms stand under J (what modelling systems write)
        list         each term is an expression, in a list under C
        defined      each row's terms belong to a defined variable of its own
+       exponents    as linear, numbers such as 1.234e-05
+       quotients    as list, each term a variable over 3, 6, 7 or 9
+ORDER  ascending, descending or mixed
+NAMES  numbered, short (random, of 7 bytes) or long (random, of 30)
 SHAPE  right        v + (v + (v + ..))
        left         ((.. + v) + v) + v
        products     c v + (c v + (c v + ..))
        differences  v - (v - (v - ..))
        negations    -(v + -(v + -(v + ..)))
+       negatives    -1 (v + -1 (v + ..))
+       factors      2 (v + 0.5 (v + 2 (v + ..)))
        lists        v + v + (v + v + (..)), each a list of three
        balanced     the sum of two halves, each of which is such a sum
        spine        v + .. + v of 200 variables, and a tree of that shape, added up
@@ -53,6 +59,13 @@ def decimal(rnd: random.Random) -> str:
     return text if float(text) != 0 else "0.5"
 
 
+def factor(rnd: random.Random, form: str) -> str:
+    """The factor of a term under J."""
+    if form == "exponents":
+        return f"{rnd.choice((-1, 1)) * rnd.randint(1000, 9999) / 1000:.3f}e{rnd.randint(-9, 9):+03d}"
+    return decimal(rnd) if form == "linear" else "0"
+
+
 def rows(variables: int, count: int, per_row: int, form: str) -> Iterator[str]:
     rnd = random.Random(1)
     per_row = min(per_row, variables)
@@ -66,6 +79,8 @@ def rows(variables: int, count: int, per_row: int, form: str) -> Iterator[str]:
     for i, row in enumerate(columns):
         if form == "list":
             yield f"C{i}\no54\n{len(row)}\n" + "".join(f"o2\nn{decimal(rnd)}\nv{j}\n" for j in row)
+        elif form == "quotients":
+            yield f"C{i}\no54\n{len(row)}\n" + "".join(f"o3\nv{j}\nn{rnd.choice((3, 6, 7, 9))}\n" for j in row)
         else:
             yield f"C{i}\nv{variables + i}\n" if form == "defined" else f"C{i}\nn0\n"
     yield "O0 1\nn12.5\nr\n"
@@ -81,7 +96,7 @@ def rows(variables: int, count: int, per_row: int, form: str) -> Iterator[str]:
             counts[j] += 1
     yield columns_before(counts)
     for i, row in enumerate(columns):
-        yield f"J{i} {len(row)}\n" + "".join(f"{j} {decimal(rnd) if form == 'linear' else 0}\n" for j in row)
+        yield f"J{i} {len(row)}\n" + "".join(f"{j} {factor(rnd, form)}\n" for j in row)
     yield f"G0 {variables}\n" + "".join(f"{j} {decimal(rnd)}\n" for j in range(variables))
 
 
@@ -135,14 +150,40 @@ def nested(count: int, shape: str) -> Iterator[str]:
     variables = [f"v{place}\n" for place in places]
     if shape == "products":
         variables = [f"o2\nn{rnd.randint(1, 99999) / 100}\n{it}" for it in variables]
-    fronts = {"right": "o0\n", "products": "o0\n", "differences": "o1\n", "negations": "o16\no0\n"}
+    fronts = {"right": "o0\n", "products": "o0\n", "differences": "o1\n", "negations": "o16\no0\n", "negatives": "o2\nn-1\no0\n"}
     yield header(count, 1, 0, 0, count, 0) + "C0\n"
     if shape in fronts:
         yield from right(variables, fronts[shape])
+    elif shape == "factors":
+        yield from right([f"o2\nn{2 - place % 2 * 1.5:g}\no0\n{it}" for place, it in enumerate(variables[:-1])] + variables[-1:], "")
     else:
         yield from {"left": left, "lists": lists, "balanced": balanced, "spine": spine}[shape](variables)
     yield "O0 0\nn0\nr\n1 10\nb\n" + "2 0\n" * count + columns_before([1] * count)
     yield f"J0 {count}\n" + "".join(f"{place} 0\n" for place in range(count))
+
+
+# ---- one row, and names
+
+def one_row(count: int, order: str) -> Iterator[str]:
+    rnd = random.Random(1)
+    places = list(range(count))
+    if order == "mixed":
+        rnd.shuffle(places)
+    yield header(count, 1, 0, 0, count, 0) + "C0\nn0\nO0 0\nn0\nr\n1 10\nb\n" + "2 0\n" * count + columns_before([1] * count)
+    yield f"J0 {count}\n" + "".join(f"{place} {decimal(rnd)}\n" for place in places[::-1 if order == "descending" else 1])
+
+
+def mps(entries: int, names: str) -> Iterator[str]:
+    rnd = random.Random(1)
+    size = {"numbered": 0, "short": 6, "long": 29}[names]
+    letters = "abcdefghijklmnopqrstuvwxyz0123456789"
+    count = entries // TERMS
+    rows, columns = ([first + ("".join(rnd.choices(letters, k=size)) or str(i)) for i in range(count)] for first in "RC")
+    yield "NAME x FREE\nROWS\n N OBJ\n" + "".join(f" L {row}\n" for row in rows) + "COLUMNS\n"
+    for column in columns:
+        yield "".join(f" {column} {rows[i]} {decimal(rnd)}\n" for i in sorted(rnd.sample(range(count), TERMS)))
+    yield "RHS\n" + "".join(f" RHS {row} 50\n" for row in rows) + "BOUNDS\n"
+    yield "".join(f" UP BND {column} 100\n" for column in columns) + "ENDATA\n"
 
 
 # ---- certificates
@@ -181,8 +222,8 @@ def planes(count: int) -> Iterator[str]:
 def main(kind: str, out: str, size: str, *more: str) -> None:
     if kind == "rows":
         texts = {Path(out): rows(int(size), int(more[0]), int(more[1]), *(more[2:] or ("linear",)))}
-    elif kind == "nested":
-        texts = {Path(out): nested(int(size), *more)}
+    elif kind in ("nested", "row", "mps"):
+        texts = {Path(out): {"nested": nested, "row": one_row, "mps": mps}[kind](int(size), *more)}
     else:
         made = {"leaves": leaves, "planes": planes}[kind](int(size))
         texts = {Path(out, f"{kind}.nl"): program(), Path(out, f"{kind}.certificate"): made}

@@ -1,6 +1,6 @@
 #!/usr/bin/env bash
 # Times the built program: `export` beside a plain converter on AMPL's own library (asl2mps.c, which is built here where
-# Debian's libamplsolver-dev is there) and of nested trees beside smaller ones, `mps`, which reads and writes, beside clp,
+# Debian's libamplsolver-dev is there) and of nested trees and other forms beside smaller ones, `mps`, which reads and writes, beside clp,
 # which reads alone (coinor-clp), `verify_mps` beside `verify` of the same program as .nl, and `verify` of large certificates.
 #
 #     [TERMS="1000000 2000000 4000000"] [RUNS=5] bench/run.sh PROGRAM [BASELINE]
@@ -104,15 +104,45 @@ for form in list defined; do
 done
 
 echo
+echo "export of other forms (of generate.py), beside a tenth of the terms, and beside J terms or a row that ascends"
+printf '%9s %12s %8s %8s %6s %8s %13s\n' terms form export tenth times "of ours" "bytes a term"
+other_form() {
+    local times seconds peak tenth beside
+    times=$(measure 0 "$program" export "$2" ::: 0 "$program" export "$3" ::: 0 "$program" export "$4")
+    read -r seconds peak tenth _ beside _ <<<"$times"
+    printf '%9s %12s %8s %8s %6s %8s %13s\n' "${sizes[0]}" "$1" "$seconds" "$tenth" "$(ratio "$seconds" "$tenth")" \
+        "$(ratio "$seconds" "$beside")" "$(bytes_each "$peak" "${sizes[0]}")"
+}
+for form in linear wide exponents list quotients defined; do
+    other_form "$form" "$(nl_text "${sizes[0]}" "$form")" "$(nl_text $((sizes[0] / 10)) "$form")" "$(nl_text "${sizes[0]}" linear)"
+done
+for order in ascending descending mixed; do
+    python3 "$here/generate.py" row "$work/$order.nl" "${sizes[0]}" "$order"
+    python3 "$here/generate.py" row "$work/tenth.nl" $((sizes[0] / 10)) "$order"
+    other_form "$order" "$work/$order.nl" "$work/tenth.nl" "$work/ascending.nl"
+done
+
+echo
+echo "check and return of rows of one term"
+printf '%9s %8s %8s %12s\n' rows command seconds "bytes a row"
+rows=$((sizes[0] / 10))
+printf 'answer 1\n' >"$work/answer"
+{ printf '\nOptions\n0\n'; printf '%s\n' "$rows" "$rows" "$rows" "$rows"; yes 0 | head -n $((rows * 2)); echo "objno 0 0"; } >"$work/zero.sol"
+text=$(nl_text "$rows" wide)
+read -r seconds peak other more <<<"$(measure 1 "$program" check "$text" "$work/zero.sol" ::: 0 "$program" return "$text" "$work/answer")"
+printf '%9s %8s %8s %12s\n' "$rows" check "$seconds" "$(bytes_each "$peak" "$rows")" "$rows" return "$other" "$(bytes_each "$more" "$rows")"
+
+echo
 echo "export of one row that is a nested tree (of generate.py), beside a quarter of its size: more than 4.5 times is a defect, but for"
-echo "spine, whose sides are large"
+echo "spine, whose sides are large; factors that cancel, of a fortieth of the size, are quadratic"
 printf '%9s %12s %8s %8s %6s %17s\n' variables shape export quarter times "bytes a variable"
-for shape in right left products differences negations lists balanced spine; do
-    python3 "$here/generate.py" nested "$work/nested.nl" 160000 "$shape"
-    python3 "$here/generate.py" nested "$work/quarter.nl" 40000 "$shape"
+for shape in right left products differences negations negatives lists balanced spine factors; do
+    count=$([ "$shape" = factors ] && echo 4000 || echo 160000)
+    python3 "$here/generate.py" nested "$work/nested.nl" "$count" "$shape"
+    python3 "$here/generate.py" nested "$work/quarter.nl" $((count / 4)) "$shape"
     times=$(measure 0 "$program" export "$work/nested.nl" ::: 0 "$program" export "$work/quarter.nl")
     read -r seconds peak quarter _ <<<"$times"
-    printf '%9s %12s %8s %8s %6s %17s\n' 160000 "$shape" "$seconds" "$quarter" "$(ratio "$seconds" "$quarter")" "$(bytes_each "$peak" 160000)"
+    printf '%9s %12s %8s %8s %6s %17s\n' "$count" "$shape" "$seconds" "$quarter" "$(ratio "$seconds" "$quarter")" "$(bytes_each "$peak" "$count")"
 done
 
 echo
@@ -128,6 +158,20 @@ for size in "${sizes[@]}"; do
     part=-
     [ -z "$clp" ] || part=$(ratio "$seconds" "$beside")
     printf '%9s %8s %8s %6s %14s %8s\n' "$size" "$seconds" "${beside:--}" "$part" "$(bytes_each "$peak" "$size")" "$nl"
+done
+
+echo
+echo "mps by names, beside a tenth of the entries"
+printf '%9s %9s %8s %8s %6s %8s %6s\n' entries names mps tenth times clp ratio
+for names in numbered short long; do
+    python3 "$here/generate.py" mps "$work/names.mps" "${sizes[0]}" "$names"
+    python3 "$here/generate.py" mps "$work/tenth.mps" $((sizes[0] / 10)) "$names"
+    words=(0 "$program" mps "$work/names.mps" ::: 0 "$program" mps "$work/tenth.mps")
+    [ -z "$clp" ] || words+=(::: 0 "$clp" "$work/names.mps" -quit)
+    read -r seconds _ tenth _ beside _ <<<"$(measure "${words[@]}")"
+    part=-
+    [ -z "$clp" ] || part=$(ratio "$seconds" "$beside")
+    printf '%9s %9s %8s %8s %6s %8s %6s\n' "${sizes[0]}" "$names" "$seconds" "$tenth" "$(ratio "$seconds" "$tenth")" "${beside:--}" "$part"
 done
 
 echo

@@ -13,9 +13,9 @@ use Rattle.fractions.specs.LowestLemmas.{coprime-swap}
 use Rattle.fractions.specs.Fits.{fits}
 use Rattle.fractions.specs.Functions.{exponent_of, or_zero, power_of, is_smaller, lesser_of, greater_of, least_of, greatest_of, floor_of, ceiling_of, absolute_of}
 use lib.IntN.{*ℤ-one, zero-*ℤ}
-use Rattle.fractions.specs.Rational.{ℚ, whole, ◌<ℚ◌, over, zero_ℚ, ◌*ℚ◌, neg_ℚ}
+use Rattle.fractions.specs.Rational.{ℚ, whole, ◌<ℚ◌, over, zero_ℚ, one_ℚ, ◌*ℚ◌, neg_ℚ}
 use Rattle.fractions.proofs.Coprimes.{coprime-mul, coprime-pow}
-use Rattle.fractions.proofs.Extremes.{absolute_above, absolute_below, power_of-suc}
+use Rattle.fractions.proofs.Extremes.{absolute_above, absolute_below, power_of-suc, power_of-zero}
 use Rattle.fractions.proofs.Arithmetic.{over_lowest, zero_value, over_whole}
 use Rattle.fractions.proofs.Values.{own_value, value_le, value_lt}
 use Rattle.program_meaning.specs.Lines.{constant_line, Line, is_constant, are_constant, constants_of}
@@ -96,6 +96,9 @@ better_same true x = chosen_same (is_smaller x x) x
 better_same false x = chosen_same (is_smaller x x) x
 
 -- ---- powers
+pub power_first : (x : ℚ) → power_of x 0 ≡ one_ℚ
+power_first x = power_of-zero x
+
 pub power_next : (x : ℚ) (n : ℕ) → power_of x (n + 1) ≡ x *ℚ power_of x n
 power_next x n = ap (power_of x) (omega arith) ∙ power_of-suc x n
 

@@ -1,9 +1,9 @@
 -- Terms in another order, of which no two have one variable.
-use Rattle.std.proofs.Common.{◌≡◌, ◌≢◌, ℕ, suc, zero, ◌+◌, ◌<◌, ◌≤◌, ◌∙◌, sym, ap, refl, subst, arith, true, false, ◌==◌, Bool, cond, Some, None, List, [], ◌∷◌, length, drop, All, get_or, set, sum_by, ⊎_elim}
+use Rattle.std.proofs.Common.{◌≡◌, ◌≢◌, ℕ, suc, zero, ◌+◌, ◌<◌, ◌≤◌, ◌∙◌, sym, ap, refl, subst, arith, true, false, ◌==◌, Bool, cond, None, List, [], ◌∷◌, length, drop, All, get_or, set, sum_by, ⊎_elim}
 use Rattle.std.specs.Option.{option_or}
 use Rattle.std.specs.List.Sorted.{IsPermutation}
 use Rattle.std.proofs.lemmas.Bool.{and_from, cases_eq, eq-eqb, eqb-true}
-use Rattle.std.proofs.lemmas.List.{length-set, get_or-set_same, get_or-set_other, drop_more}
+use Rattle.std.proofs.lemmas.List.{length-set, get_or-set_same, get_or-set_other}
 use Rattle.std.proofs.lemmas.List.Edits.{swap_is}
 use Rattle.std.proofs.lemmas.List.Elements.{All-cons, All-head, All-tail}
 use Rattle.std.proofs.lemmas.List.Sorted.{All-permutation, IsPermutation-keeps, sum_by-IsPermutation}
@@ -14,7 +14,7 @@ use Rattle.fractions.specs.Fits.{fits, sum_fits}
 use Rattle.fractions.specs.Rational.{ℚ, zero_ℚ, ◌+ℚ◌, ◌*ℚ◌}
 use Rattle.fractions.specs.Sums.{sum_over}
 use Rattle.fractions.proofs.Adding.{sum_over_nil, sum_over_cons}
-use Rattle.fractions.proofs.Arithmetic.{+ℚ_assoc, +ℚ_cancel, +ℚ_comm, +ℚ_zero, *ℚ_zero}
+use Rattle.fractions.proofs.Arithmetic.{+ℚ_assoc, +ℚ_cancel, +ℚ_zero, *ℚ_zero}
 use Rattle.fractions.proofs.Ring.{ring, v, ◌⊕◌}
 use Rattle.program_meaning.specs.Lines.{Line, line_with, one_if}
 use Rattle.program_meaning.proofs.LineLemmas.{apart-eqb}

@@ -1,5 +1,5 @@
 -- Sums of parts: the order of two, their signs, and running sums over the end of a stack.
-use Rattle.std.proofs.Common.{◌≡◌, ◌≢◌, ℕ, zero, suc, ◌+◌, ◌*◌, ◌-◌, ◌<◌, ◌≤◌, ◌/◌, ◌==◌, ◌∙◌, sym, ap, ap₂, refl, subst, subst₂, arith, Bool, true, false, ◌&&◌, ℤ, pos, ◌+ℤ◌, ◌*ℤ◌, neg_ℤ, unsigned_abs, Result, Ok, Err, Some, List, [], ◌∷◌, ◌++◌, map, length, reverse, take, length-append, ⊎_elim}
+use Rattle.std.proofs.Common.{◌≡◌, ◌≢◌, ℕ, zero, suc, ◌+◌, ◌*◌, ◌-◌, ◌<◌, ◌≤◌, ◌/◌, ◌==◌, ◌∙◌, sym, ap, ap₂, refl, subst, subst₂, arith, Bool, get_or, true, false, if◌then◌else◌, ◌&&◌, ℤ, pos, ◌+ℤ◌, ◌*ℤ◌, neg_ℤ, unsigned_abs, Result, Ok, Err, Some, List, [], ◌∷◌, ◌++◌, map, length, reverse, take, length-append, ⊎_elim}
 use Rattle.std.proofs.lemmas.List.{reverse-append, take-take, take_all}
 use Rattle.std.proofs.Math.Bool.{and-true}
 use Rattle.std.proofs.Math.Seq.{take-append_seam}
@@ -17,7 +17,7 @@ use Rattle.fractions.proofs.Arithmetic.{*ℚ-neg, +ℚ_comm, +ℚ_zero, neg-*ℚ
 use Rattle.fractions.proofs.Signed.{neg-*ℤ}
 use Rattle.program_meaning.specs.Lines.{Line, constant_line, one_if, all_below, is_constant, is_zero, products_fit, line_neg, line_scaled, line_sum, running_line, running_sums_fit, sums_fit}
 use Rattle.nl_meaning.specs.Faults.{too_wide_unless}
-use Rattle.code_tables.specs.declared.class.OpClass.TheVariants.{Difference, Negation, List as SumOfAll}
+use Rattle.code_tables.specs.declared.class.OpClass.TheVariants.{Difference, Negation, Product, List as SumOfAll}
 use Rattle.linear_program.specs.declared.too_wide.Wide.{Wide}
 use Rattle.linear_program.specs.Coefs.{AddsAt}
 use Rattle.linear_program.specs.Forms.{AddsScaled, Multiplies, IsZeroFrom, ScaledSumFits}
@@ -25,8 +25,12 @@ use Rattle.linear_program.proofs.Scaled.{all_below-intro, same_line}
 use Rattle.linear_fold.specs.declared.operate.Outcome.{Outcome}
 use Rattle.linear_fold.specs.declared.operate.Outcome.TheVariants.{Linear as Made, Refused}
 use Rattle.linear_fold.specs.declared.parts.PartialForm.{PartialForm}
-use Rattle.linear_fold.specs.InsideOperates.{AreOperands, ComesTo, IsLeft, IsOperand, IsSameSum, IsSound, Operates, SumsTo, multiple_line, part_line}
-use Rattle.linear_fold.proofs.Operators.{FitsLine, adds_multiple, stops_multiple, added, line_fits, neg_fits, scaled_by_minus, scaled_by_one}
+use Rattle.linear_fold.specs.declared.parts.PartialForm.TheVariants.{Number}
+use Rattle.exact_numbers.specs.declared.frac.Frac.{Frac}
+use Rattle.exact_numbers.specs.Values.{frac_value}
+use Rattle.fractions.proofs.Values.{same_parts}
+use Rattle.linear_fold.specs.InsideOperates.{AreOperands, ComesTo, IsLeft, IsOperand, IsSameSum, IsSound, IsUnit, Operates, SumsTo, multiple_line, part_line}
+use Rattle.linear_fold.proofs.Operators.{FitsLine, adds_multiple, stops_multiple, added, fault_first, first_of_all, line_fits, neg_fits, number_constant, part_fits, scaled_by_minus, scaled_by_one}
 
 -- ---- the order of two numbers
 swap_tests : (a b c d : Bool) → (a && b && c && d) ≡ (a && c && b && d)
@@ -308,6 +312,54 @@ pub difference_of : (n : ℕ) (ps : List PartialForm) (a b q : PartialForm) (o :
 difference_of n ps a b q o e line h =
     subst (λ rs. Operates n Difference (map part_line rs) o) (sym e)
     (difference_comes n (part_line a) (part_line b) o (subst (λ l. ComesTo n (sums_fit n (part_line a) l) (line_sum (part_line a) l) o) line h))
+
+-- ---- products by 1 and -1
+chosen : {X : Type 0} (t : Bool) (x y : X) → t ≡ true → (if t then x else y) ≡ x
+chosen true x y e = refl
+chosen false x y e = cc
+
+pub minus_line : (minus : Bool) (a b : Line) → minus ≡ true → b ≡ line_neg a → b ≡ (if minus then line_neg a else a)
+minus_line true a b t e = e
+minus_line false a b t e = cc
+
+pub plus_line : (minus : Bool) (a : Line) → minus ≡ false → a ≡ (if minus then line_neg a else a)
+plus_line true a t = cc
+plus_line false a t = refl
+
+unit_times : (minus : Bool) (b : Line) → line_scaled (if minus then neg_ℚ one_ℚ else one_ℚ) b ≡ (if minus then line_neg b else b)
+unit_times true b = scaled_by_minus (neg_ℚ one_ℚ) one_ℚ b refl refl
+unit_times false b = scaled_by_one one_ℚ b refl
+
+one_value : (x : ℚ) → x.top ≡ pos 1 → x.bottom ≡ 1 → x ≡ one_ℚ
+unfolding whole
+one_value x t b = same_parts x one_ℚ t b
+
+minus_value : (x : ℚ) → x.top ≡ negsuc 0 → x.bottom ≡ 1 → x ≡ neg_ℚ one_ℚ
+unfolding whole
+minus_value x t b = same_parts x (neg_ℚ one_ℚ) (t ∙ sym (neg_parts one_ℚ).0) (b ∙ sym (neg_parts one_ℚ).1)
+
+-- the last of a list is the first of the operands
+module _ (ps : List PartialForm) (p : PartialForm) (k : Frac) (some : 0 < length ps) (at : p ≡ get_or ps (length ps - 1) p) (is : p ≡ Number k) (whole_number : (frac_value k).bottom ≡ 1) where
+  unit_first : (minus : Bool) → frac_value k ≡ (if minus then neg_ℚ one_ℚ else one_ℚ) → IsUnit minus (reverse ps)
+  unit_first minus v = subst (IsUnit minus) (sym (first_of_all ps p some at)) (ap part_line is ∙ ap constant_line v)
+
+  pub unit_plus : (frac_value k).top ≡ pos 1 → IsUnit false (reverse ps)
+  unit_plus t = unit_first false (one_value (frac_value k) t whole_number)
+
+  pub unit_minus : (frac_value k).top ≡ negsuc 0 → IsUnit true (reverse ps)
+  unit_minus t = unit_first true (minus_value (frac_value k) t whole_number)
+
+-- a product of two operands, the first of which is 1 or -1
+pub unit_product : (n : ℕ) (ps : List PartialForm) (minus : Bool) (a b r : PartialForm) → ps ≡ a ∷ b ∷ [] → IsUnit minus ps → part_line r ≡ (if minus then line_neg (part_line b) else part_line b) → (IsSound n b → IsSound n r) → AreOperands n ps → Operates n Product (map part_line ps) (Made r)
+unit_product n ps minus a b r e unit line sound within =
+    let k : ℚ = if minus then neg_ℚ one_ℚ else one_ℚ in
+    let scaled : line_scaled k (part_line b) ≡ part_line r = unit_times minus (part_line b) ∙ sym line in
+    let fit : products_fit n k (part_line b) ≡ true = line_fits n k (part_line b) (subst FitsLine (sym scaled) (part_fits r)) in
+    let test : is_constant n (constant_line k) ≡ true = sym (number_constant n k) in
+    let is : part_line a ≡ constant_line k = subst (IsUnit minus) e unit in
+    subst (λ rs. Operates n Product (map part_line rs) (Made r)) (sym e)
+    (subst (λ l. Operates n Product (l ∷ part_line b ∷ []) (Made r)) (sym is)
+    (fault_first _ _ _ test ∙ ap too_wide_unless fit, sym scaled ∙ sym (chosen _ _ _ test), sound (subst (AreOperands n) e within).1.0.sound))
 
 -- ---- steps
 pub steps_more : (w i from old new : ℕ) → old ≤ from + 2 * w * i → new ≤ old + 2 * w → new ≤ from + 2 * w * (i + 1)

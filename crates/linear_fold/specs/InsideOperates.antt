@@ -5,7 +5,7 @@ use Rattle.texts.specs.declared.stop.Stop.TheVariants.{Fault, Memory}
 use Rattle.code_tables.specs.declared.class.OpClass.{OpClass}
 use Rattle.code_tables.specs.declared.class.OpClass.TheVariants.{Least, Greatest}
 use Rattle.fractions.specs.Functions.{lesser_of, greater_of}
-use Rattle.fractions.specs.Rational.{ℚ, zero_ℚ}
+use Rattle.fractions.specs.Rational.{ℚ, neg_ℚ, one_ℚ, zero_ℚ}
 use Rattle.nl_meaning.specs.declared.Fault.{Fault as NodeFault}
 use Rattle.nl_meaning.specs.declared.Reason.TheVariants.{TooWide}
 use Rattle.program_meaning.specs.Lines.{constant_line, line_neg, line_sum, line_with, Line, are_constant, constants_of, sums_fit}
@@ -68,6 +68,11 @@ IsUnbroken (Broken x) = ⊥
 abbrev pub AreUnbroken : List PartialForm → Type 0
 AreUnbroken [] = Unit {0}
 AreUnbroken (p ∷ ps) = IsUnbroken p × AreUnbroken ps
+
+-- the first of parts is 1, or -1
+abbrev pub IsUnit : Bool → List PartialForm → Type 0
+IsUnit minus [] = ⊥
+IsUnit minus (p ∷ ps) = part_line p ≡ constant_line (if minus then neg_ℚ one_ℚ else one_ℚ)
 
 -- a form, or the opposite of one
 abbrev pub IsForm : PartialForm → Type 0

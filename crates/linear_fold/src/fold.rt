@@ -8,7 +8,7 @@ ghost use Rattle.linear_fold.specs.InsideOperates.{AreSameParts, IsLeft, IsPad};
 
 use crate::entries::Entry;
 use crate::operate::{self, Outcome};
-use crate::parts::{PartialForm, first_fault, operands_of, take_last};
+use crate::parts::{PartialForm, first_fault, operands_of, take_last, unit_of};
 use code_tables::{OpClass, class_of};
 use exact_numbers::{Dec, Frac};
 use linear_program::{Form, Pad};
@@ -103,7 +103,7 @@ fn are_many(stack: &[PartialForm], rest: usize, open_at: usize) -> bool
 }
 
 // Whether the open part of a stack is to be closed before an operator, whose operands stand from a place
-// on. A sum takes it, or is added up without it; a negation leaves it as it is.
+// on. A sum takes it, or is added up without it; a negation and a product by 1 or -1 leave it as it is.
 fn is_in_the_way(class: OpClass, stack: &[PartialForm], rest: usize, room: &Room) -> bool
     ensures { result ≡ true → room.now.open_at < length stack.now }
 {
@@ -115,6 +115,7 @@ fn is_in_the_way(class: OpClass, stack: &[PartialForm], rest: usize, room: &Room
         OpClass::Difference => are_many(stack, rest, room.open_at),
         OpClass::List => are_many(stack, rest, room.open_at),
         OpClass::Negation => false,
+        OpClass::Product => room.open_at >= rest && unit_of(stack).is_none(),
         _ => room.open_at >= rest,
     }
 }

@@ -7,7 +7,7 @@ ghost use Rattle.nl_meaning.specs.Trees.{Takes, rule_of};
 ghost use Rattle.linear_program.specs.Forms.{IsWithin, form_line};
 ghost use Rattle.linear_fold.specs.InsideOperates.{AreOperands, ComesTo, IsLeft, IsOperand, IsPad, Operates, lines_of_parts, multiple_line, part_line};
 
-use crate::parts::{PartialForm, operands_of};
+use crate::parts::{PartialForm, operands_of, unit_of};
 use crate::{constants, sums};
 use code_tables::OpClass;
 use exact_numbers::Frac;
@@ -200,6 +200,9 @@ pub(crate) fn operate<L: Ledger>(
         OpClass::Difference => sums::difference(alloc, stack, pad, steps, variables),
         OpClass::Negation => Ok(sums::negated(stack)),
         OpClass::Product => {
+            if let Some(minus) = unit_of(operands_of(stack, count)) {
+                return Ok(sums::by_unit(stack, minus));
+            }
             let (a, b) = two_of(operands_of(stack, count));
             product(alloc, a, b, steps, variables)
         }

@@ -6,7 +6,7 @@ ghost use Rattle.fractions.specs.Rational.{zero_ℚ};
 ghost use Rattle.program_meaning.specs.Lines.{is_constant, is_zero, line_neg};
 ghost use Rattle.linear_program.specs.Forms.{IsWithin, form_line, form_terms, is_open};
 ghost use Rattle.linear_fold.specs.InsideFolds.{IsEntryOf, IsPartWithin, first_broken};
-ghost use Rattle.linear_fold.specs.InsideOperates.{HasPlaces, IsOperand, IsPad, IsPlaced, IsSamePart, IsSound, IsUnbroken, is_open_part, multiple_line, part_line};
+ghost use Rattle.linear_fold.specs.InsideOperates.{HasPlaces, IsOperand, IsPad, IsPlaced, IsSamePart, IsSound, IsUnbroken, IsUnit, is_open_part, multiple_line, part_line};
 
 use crate::entries::Entry;
 use exact_numbers::Frac;
@@ -71,6 +71,26 @@ pub(crate) fn operands_of(stack: &Vec<PartialForm>, count: usize) -> &[PartialFo
     ensures count { length result.now ≡ count }
 {
     stack.split_at(stack.len() - count).1
+}
+
+/// Whether the first of operands, the last of the list, is -1; none where it is not 1 either.
+pub(crate) fn unit_of(operands: &[PartialForm]) -> Option<bool>
+    requires { 1 ≤ length operands.now }
+    ensures { IfSome result (λ minus. IsUnit minus (reverse operands.now)) }
+{
+    let PartialForm::Number(number) = &operands[operands.len() - 1] else {
+        return None;
+    };
+    if number.den() != 1 {
+        return None;
+    }
+    if number.num() == 1 {
+        return Some(false);
+    }
+    if number.num() == -1 {
+        return Some(true);
+    }
+    None
 }
 
 // The constant of a form without coefficients.

@@ -1,11 +1,11 @@
 // Sums of parts. A part that is open, or else the pad, takes the others, so that a sum within a sum
 // is added up in its place.
 ghost use Rattle.std.specs.Prelude.{◌≡◌, Bool, true, ◌+◌, ◌*◌, ◌<◌, ◌≤◌, ℕ, IfOk, OnOk, reverse, take, vec_len};
-ghost use Rattle.code_tables.specs.declared.class.OpClass.TheVariants.{Difference, List, Negation};
+ghost use Rattle.code_tables.specs.declared.class.OpClass.TheVariants.{Difference, List, Negation, Product};
 ghost use Rattle.exact_numbers.specs.Values.{frac_value};
 ghost use Rattle.program_meaning.specs.Lines.{Line, line_sum, running_line, running_sums_fit, sums_fit};
 ghost use Rattle.linear_program.specs.Forms.{AddsScaled, form_line, is_open, pad_places};
-ghost use Rattle.linear_fold.specs.InsideOperates.{AreOperands, AreUnbroken, ComesTo, HasPlaces, IsForm, IsLeft, IsOperand, IsPad, IsSameSum, IsSound, IsUnbroken, Operates, SumsTo, lines_of_parts, multiple_line, part_line};
+ghost use Rattle.linear_fold.specs.InsideOperates.{AreOperands, AreUnbroken, ComesTo, HasPlaces, IsForm, IsLeft, IsOperand, IsPad, IsSameSum, IsSound, IsUnbroken, IsUnit, Operates, SumsTo, lines_of_parts, multiple_line, part_line};
 
 use crate::operate::Outcome;
 use crate::parts::{PartialForm, form_of_multiple, take_last};
@@ -379,4 +379,22 @@ pub(crate) fn negated(stack: &mut Vec<PartialForm>) -> Outcome
 {
     let part = take_last(stack);
     Outcome::Linear(part.opposite())
+}
+
+/// The product of an operand by 1, or by -1: both are taken from the end of a stack, the factor being
+/// last.
+pub(crate) fn by_unit(stack: &mut Vec<PartialForm>, minus: bool) -> Outcome
+    requires count { 2 ≤ vec_len stack.old }
+    requires unit { IsUnit minus (take 2 (reverse stack.old.items)) }
+    requires unbroken { AreUnbroken (take 2 (reverse stack.old.items)) }
+    ensures outcome { (n : ℕ) → AreOperands n (take 2 (reverse stack.old.items))
+        → Operates n Product (lines_of_parts (take 2 (reverse stack.old.items))) result }
+    ensures left { IsLeft 2 stack.old.items stack.new.items }
+{
+    let _factor = take_last(stack);
+    let part = take_last(stack);
+    if minus {
+        return Outcome::Linear(part.opposite());
+    }
+    Outcome::Linear(part)
 }

@@ -1,4 +1,4 @@
-use Rattle.std.proofs.Common.{ap, subst, sym, ◌∙◌}
+use Rattle.std.proofs.Common.{ap, subst}
 use Rattle.file_meaning.specs.Expressions.{linear_terms}
 use Rattle.linear_program.specs.Forms.{form_line}
 use Rattle.linear_fold.specs.InsideFolds.{ComesToTerms}

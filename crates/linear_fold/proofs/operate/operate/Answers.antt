@@ -43,3 +43,9 @@ pub returns-in-Absolute-clause-outcome : goal.returns-in-Absolute-clause-outcome
 returns-in-Absolute-clause-outcome g c =
     let is = sym c.operands_of-in-Absolute.ensures.operands ∙ c.one_of-in-Absolute.ensures in
     as_operands c.args.variables c.args.class _ (take c.args.count (reverse c.args.stack.now.items)) _ c.absolute.result c.in-Absolute.is is (c.absolute.ensures c.args.variables (one_within c.args.variables (take c.args.count (reverse c.args.stack.now.items)) _ is c.requires.within))
+
+pub returns-in-Some-clause-outcome : goal.returns-in-Some-clause-outcome
+returns-in-Some-clause-outcome g c =
+    let two : c.args.count ≡ 2 = subst (λ k. Takes (rule_of k) c.args.count) c.in-Product.is c.requires.rule in
+    as_operands c.args.variables c.args.class _ (take c.args.count (reverse c.args.stack.now.items)) (take 2 (reverse c.args.stack.now.items)) c.by_unit.result c.in-Product.is (ap (λ k. take k (reverse c.args.stack.now.items)) two)
+    (c.by_unit.ensures.outcome c.args.variables (subst (λ k. AreOperands c.args.variables (take k (reverse c.args.stack.now.items))) two c.requires.within))
