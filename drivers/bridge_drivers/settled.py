@@ -83,7 +83,7 @@ def found(answer: Answer, verdict: Verdict, facts: Facts, kind: str,
         said is not None and closes(answer, values, said),
         said is not None and is_within(said, facts.gap), misses,
         said is not None and said.word == "bound" and is_beyond(answer, verdict.bound()),
-        verdict.contradicted, verdict.by_doubles, facts.checked, facts.strict)
+        verdict.contradicted, verdict.by_doubles, verdict.is_open, facts.checked, facts.strict)
 
 
 def closes(answer: Answer, values: Mapping[str, Fraction] | None, said: Said) -> bool:
