@@ -14,7 +14,7 @@ from bridge_drivers.certificates import Certifier
 from bridge_drivers.certify import clp
 from bridge_drivers.certify.claims import Verdict
 from bridge_drivers.certify.watch import Over, Watch
-from models import MODELS, nl, whole
+from models import MODELS, nl
 import stored
 
 
@@ -97,7 +97,7 @@ class Claims(Case):
     @NEEDS_CLP
     def test_a_ray_that_there_was_no_time_for(self) -> None:
         """A point alone earns no code 0 where the objective may have no end."""
-        open_end = nl([whole(0, None)] * 3, [(None, 18, {0: 10, 1: 7, 2: -12})],
+        open_end = nl([("I", 0, None)] * 3, [(None, 18, {0: 10, 1: 7, 2: -12})],
                       [("max", 0, {0: 10, 1: 7, 2: 12})])
         for text, wanted in ((MODELS["knap"].text, (0, "optimal 17")),
                              (open_end, (100, "feasible 17"))):
