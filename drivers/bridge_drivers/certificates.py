@@ -131,7 +131,8 @@ class Certifier:
         if claim == "point" and not self.relaxed and not verdict.is_proved() and size > LARGE:
             stands = self.as_it_stands(work, answer)
             if stands.is_proved():
-                return stands._replace(by_doubles=verdict.by_doubles, note=verdict.note)
+                return stands._replace(by_doubles=verdict.by_doubles, note=verdict.note,
+                                       is_open=verdict.is_open)
         return verdict
 
     def as_it_stands(self, work: Certifying, answer: Answer) -> Verdict:

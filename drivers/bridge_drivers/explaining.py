@@ -238,13 +238,15 @@ class Refusal:
 
 
 def around(path: str, line: int, before: int = 2, after: int = 3) -> list[str]:
-    """The lines about one line, each with its number, that one marked."""
+    """The lines about one line, each with its number, that one marked; of a text alone."""
     lines = []
     try:
         with open(path, "rb") as f:
             for number, text in enumerate(f, 1):
                 if number > line + after:
                     break
+                if b"\0" in text:
+                    return []
                 if number >= line - before:
                     shown = text.rstrip(b"\r\n")[:100].decode("utf-8", "surrogateescape")
                     lines.append(f"{'>' if number == line else ' '} {number:6} {shown}")

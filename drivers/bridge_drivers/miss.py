@@ -8,6 +8,7 @@ from .program import Program
 
 MOST = 1e-6                 # of the largest term: what counts as satisfied
 ROUNDING = 1e-12            # the same where all columns are whole numbers
+OWN = 2.0 ** -45            # the same of a linear program: what rounding its own terms leaves
 
 
 class Miss(NamedTuple):

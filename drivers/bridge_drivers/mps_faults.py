@@ -14,7 +14,8 @@ BEYOND = {**dict.fromkeys(("SOS", "SOS1", "SOS2", "SETS"), "special ordered sets
           **dict.fromkeys(("QUADOBJ", "QMATRIX", "QSECTION"), "quadratic objectives"),
           "QCMATRIX": "quadratic rows", "CSECTION": "cones", "INDICATORS": "indicator rows",
           "GENCONS": "general constraints", "PWLOBJ": "piecewise-linear objectives",
-          "LAZYCONS": "lazy rows", "USERCUTS": "cuts"}
+          "LAZYCONS": "lazy rows", "USERCUTS": "cuts",
+          "OBJNAME": "objectives that are not the first N row"}
 KINDS = ("LO", "UP", "FX", "FR", "MI", "PL", "BV", "LI", "UI")
 BARE = ("FR", "MI", "PL", "BV")         # kinds of bounds that have no number
 PLAIN = {"column again": (0, "the lines of a column must stand together"),
@@ -77,7 +78,7 @@ def section(line: Line) -> str:
         return of(word, f"{BEYOND[word.upper()]} are not read")
     if word.upper() in SECTIONS:
         return of(word, "out of its order, or twice")
-    return of(word, "no section that is known", (*SECTIONS, "OBJNAME"))
+    return of(word, "no section that is known", (*SECTIONS, *BEYOND))
 
 
 def kind(line: Line) -> str:

@@ -41,7 +41,8 @@ class Found:
     proved bound is at the objective of that point, or of the answer where none is proved, up to
     1e-6; `within_gap` up to the gap that was asked for. `is_beyond`: the answer is better than the
     bound. `contradicted`: no point has its whole values. `by_doubles`: its duals in doubles,
-    rounded to the safe side, say the same as `closes`."""
+    rounded to the safe side, say the same as `closes`. `is_open`: the time ended before it was
+    known whether there is a ray."""
 
     said: Code
     claim: str = ""
@@ -55,6 +56,7 @@ class Found:
     is_beyond: bool = False
     contradicted: bool = False
     by_doubles: bool = False
+    is_open: bool = False
     checked: bool = True
     strict: bool = False
 
@@ -103,7 +105,7 @@ def of_point(f: Found) -> Ruling:
         return Ruling(Code.UNSURE, At.PROVED, "the gap is not proved" if f.is_gap else "")
     if f.mended:
         return Ruling(Code.UNSURE, At.PROVED, "its digits are not those of an exact point")
-    if not f.linear or f.by_doubles:
+    if not f.linear and (f.claim == "within" or not f.is_open) or f.by_doubles:
         return Ruling(Code.SOLVED, At.PROVED)
     away = "the bound that is proved is away from it" if f.claim == "within" else NO_BOUND
     return Ruling(Code.UNSURE, At.PROVED, away)

@@ -10,7 +10,7 @@ from . import verdicts
 from .answer import Answer
 from .certify.claims import Verdict
 from .codes import Code
-from .miss import NONE, ROUNDING, Miss
+from .miss import NONE, OWN, ROUNDING, Miss
 from .program import Program
 from .ruling import FINAL, STRICT, At, Found, Misses, Ruling, ruled
 from .verdicts import Said
@@ -73,17 +73,17 @@ def found(answer: Answer, verdict: Verdict, facts: Facts, kind: str,
     program, outcome, said = answer.program, answer.outcome, verdicts.read(verdict.line)
     if not verdict.is_proved():
         said = None
-    share = facts.missed.share
+    linear = not program.whole or bool(answer.options.relax)
+    share, room = facts.missed.share, OWN if linear else ROUNDING
     mended = bool(program.whole) and values is not None and not kind and is_apart(answer, values)
     misses = Misses.MUCH if facts.missed.is_much() else \
-        Misses.LITTLE if share > ROUNDING else Misses.NOTHING
+        Misses.LITTLE if share > room else Misses.NOTHING
     return Found(
-        outcome.code, verdict.claim(), not program.whole or bool(answer.options.relax),
-        outcome.is_gap, kind, mended,
+        outcome.code, verdict.claim(), linear, outcome.is_gap, kind, mended,
         said is not None and closes(answer, values, said),
         said is not None and is_within(said, facts.gap), misses,
         said is not None and said.word == "bound" and is_beyond(answer, verdict.bound()),
-        verdict.contradicted, verdict.by_doubles, facts.checked, facts.strict)
+        verdict.contradicted, verdict.by_doubles, verdict.is_open, facts.checked, facts.strict)
 
 
 def closes(answer: Answer, values: Mapping[str, Fraction] | None, said: Said) -> bool:

@@ -303,10 +303,11 @@ class Solving:
 
     @staticmethod
     def with_proved_duals(answer: Answer, verdict: Verdict, told: str) -> Answer | None:
-        """The answer with the duals of the certificate where its own do not show what is proved;
-        None where they do, or there are no others."""
+        """With code 0 the answer with the duals of the certificate where its own do not show an
+        optimum, or a bound; None where they do, or there are no others."""
         duals, own = proved_duals(answer, verdict), answer.outcome.duals
-        if verdict.claim() != "optimal" or own is None or told.startswith("yes") \
+        shows = ("yes",) if verdict.claim() == "optimal" else ("yes", "gap")
+        if answer.outcome.code != Code.SOLVED or own is None or told.startswith(shows) \
                 or told.endswith(" is broken") or not duals \
                 or all(own[row] == y for row, y in duals.items()):
             return None

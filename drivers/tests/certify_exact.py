@@ -13,11 +13,13 @@ from bridge_drivers import solvers
 from bridge_drivers.bridge import Bridge
 from bridge_drivers.certify import doubles, points
 from bridge_drivers.certify.claims import Certifying, Given, certified
+from bridge_drivers.certify.clp import State
 from bridge_drivers.certify.leaves import Closer
 from bridge_drivers.certify.model import Box, Model
 from bridge_drivers.certify.simplex import Ended, Simplex
 from bridge_drivers.certify.watch import Watch
 from bridge_drivers.program import Program
+from misleading import Misleading
 from misleading_kinds import models
 from models import MODELS, nl, whole
 
@@ -134,6 +136,25 @@ class Programs(Case):
                 self.assertEqual(found.is_proved(), model.best is None, model.name)
 
     @NEEDS_CLP
+    def test_doubles_where_solvers_are_misled(self) -> None:
+        """What CLP's point and duals say of nearly singular ones, tiny rays and far ends, where
+        they close, is so."""
+        closed = 0
+        for model in filter(Misleading.is_linear, models(12)):
+            work = self.work(model.text())
+            work.load()
+            p, clp = work.model, work.model.relaxation()
+            if clp.solve() is not State.OPTIMAL or \
+                    not doubles.closes(p, clp.values(), dict(enumerate(clp.duals()))):
+                continue
+            closed += 1
+            self.assertFalse(model.best is None or model.is_endless, model.name)
+            terms = [float(c) * v for c, v in zip(p.cost, clp.values())]
+            self.assertLessEqual(abs(p.sign * sum(terms) - float(model.best)),
+                                 1e-6 * max(1.0, sum(map(abs, terms))), model.name)
+        self.assertGreater(closed, 20)
+
+    @NEEDS_CLP
     def test_linear_ones_without_an_answer(self) -> None:
         """What is true of them, as where a solver stopped without a point."""
         for name, line in (("product", "optimal 19"), ("thirds", "optimal 1/3"),
@@ -176,7 +197,7 @@ class Doubles(TestCase):
                 is_told = max(map(abs, x)) < 1e9 and not any(0 < abs(c) < 1e-6 for c in p.cost)
                 self.assertFalse(is_told and doubles.closes(p, x, {}), seed)
             broken = [v + 1e-6 * max(1.0, abs(v)) for v in x]
-            self.assertFalse(doubles.closes(p, broken, y) and doubles.misses(p, broken))
+            self.assertFalse(doubles.closes(p, broken, y) and doubles.misses(p, broken) is None)
         self.assertGreater(closed, 40)
 
 

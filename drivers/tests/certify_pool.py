@@ -129,8 +129,8 @@ class Portions(Pooled):
         self.assertGreater(told, 20)
 
     def test_better(self) -> None:
-        """A point that a portion finds comes through."""
-        rng, caught = random.Random(7), 0
+        """A point that a portion finds comes through; what is left has a bound all the same."""
+        rng, caught, told = random.Random(7), 0, 0
         for _ in range(20):
             made = random_model(rng, False)
             found = self.found(made)
@@ -142,7 +142,12 @@ class Portions(Pooled):
                 plans.goes(plans.begun("plain"), SECONDS)
             self.assertTrue(work.model.fits(better.exception.point))
             caught += 1
-        self.assertGreater(caught, 5)
+            bounded = plans.bounded()
+            if bounded is not None:
+                head = text.head("bound", 0, work.model.sign * bounded[0])
+                self.assertEqual(work.judged(head, bounded[1]).claim(), "bound")
+                told += 1
+        self.assertGreater(min(caught, told), 5)
 
     def test_other_claims(self) -> None:
         """A contradiction and a point, where all but the first nodes are worked apart."""

@@ -13,8 +13,8 @@ from support import (CHECKED, HAS_CLP, HERE, NEEDS_CLP, NEEDS_PROGRAM, Case, Inj
 from bridge_drivers.certificates import Certifier
 from bridge_drivers.certify import clp
 from bridge_drivers.certify.claims import Verdict
-from bridge_drivers.certify.watch import Watch
-from models import MODELS
+from bridge_drivers.certify.watch import Over, Watch
+from models import MODELS, nl
 import stored
 
 
@@ -93,6 +93,20 @@ class Claims(Case):
             with mock.patch.object(Certifier, "verdict", lambda *_: verdict):
                 ended = self.replay("cbc", "knap", self.stub, "strict=1", "-s")
                 self.assertEqual((ended.returncode, self.sol().code), (status, code))
+
+    @NEEDS_CLP
+    def test_a_ray_that_there_was_no_time_for(self) -> None:
+        """A point alone earns no code 0 where the objective may have no end."""
+        open_end = nl([("I", 0, None)] * 3, [(None, 18, {0: 10, 1: 7, 2: -12})],
+                      [("max", 0, {0: 10, 1: 7, 2: 12})])
+        for text, wanted in ((MODELS["knap"].text, (0, "optimal 17")),
+                             (open_end, (100, "feasible 17"))):
+            self.put(text)
+            with mock.patch("bridge_drivers.certify.points.ray", side_effect=Over("time")):
+                line = self.last("cbc", "knap")
+            self.assertEqual((self.sol().code, line), wanted)
+        self.assertIn("(code 100: no bound is proved)", self.sol().message[0])
+        self.assertEqual((self.last("cbc", "knap"), self.sol().code), ("unbounded", 300))
 
     def test_fractions_are_written_as_nearest(self) -> None:
         self.put(MODELS["thirds"].text)

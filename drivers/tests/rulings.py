@@ -17,7 +17,7 @@ SAID = (SOLVED, UNSURE, STOPPED, LIMIT, INFEASIBLE, EITHER, UNBOUNDED)
 CLAIMS = ("", "optimal", "within", "feasible", "bound", "infeasible", "unbounded")
 WITH_POINT = (SOLVED, UNSURE, STOPPED)
 FLAGS = ("linear", "is_gap", "mended", "closes", "within_gap", "is_beyond", "contradicted",
-         "by_doubles", "checked", "strict")
+         "by_doubles", "is_open", "checked", "strict")
 
 
 def all_of_them() -> Iterator[Found]:
@@ -50,6 +50,8 @@ class Rules(unittest.TestCase):
                 self.assertEqual(got.at, At.PROVED)
                 self.assertFalse(f.claim != "optimal" and (f.kind or f.mended)
                                  and not f.within_gap)
+                if not f.within_gap and not f.by_doubles:
+                    self.assertFalse(f.claim == "feasible" and f.is_open)
             # a point that misses the model is none
             if got.at is At.ANSWER and f.misses is Misses.MUCH:
                 self.assertEqual(got.code, UNSURE)
@@ -78,7 +80,8 @@ class Rules(unittest.TestCase):
                 (Found(SOLVED, "", True), UNSURE, own, NO_BOUND),
                 (Found(SOLVED, "", True, checked=False), SOLVED, own, ""),
                 (Found(SOLVED, "feasible"), SOLVED, proved, ""),
-                (Found(SOLVED, "within"), SOLVED, proved, ""),
+                (Found(SOLVED, "feasible", is_open=True), UNSURE, proved, NO_BOUND),
+                (Found(SOLVED, "within", is_open=True), SOLVED, proved, ""),
                 (Found(SOLVED, "feasible", kind="a better"), UNSURE, proved, ""),
                 (Found(SOLVED, "within", mended=True), UNSURE, proved,
                  "its digits are not those of an exact point"),

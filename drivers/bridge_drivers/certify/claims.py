@@ -126,7 +126,8 @@ def certified(work: Certifying, claim: str, given: Given = Given()) -> Verdict:
             except Over:
                 watch.disarm()
                 Clp.restrict(watch.to_end() - KEPT)
-                return work.by_doubles(work.best(work.known()))
+                found = work.by_doubles(work.best(work.known()))
+                return found._replace(is_open=work.is_open())
     except Refused as fault:
         return Verdict(WITHOUT + fault.line())
     except (Unfit, NoClp, Stopped, Over) as fault:

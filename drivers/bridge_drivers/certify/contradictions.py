@@ -139,13 +139,18 @@ class Contradicting(Judging):
         p = self.model
         if short_of_rays(p):
             return None
-        found = points.ray(p)
-        cone = p.cone()
+        found, cone = points.ray(p), p.cone()
         if found is None and simplex.is_small(cone):
-            ended = self.ended(cone)
-            if ended.point is not None and points.is_ray(p, ended.point):
-                return ended.point
+            direction = self.ended(cone).point
+            if direction is not None and points.is_ray(p, direction):
+                found = direction
+        self.has_looked = True
         return found
+
+    def is_open(self) -> bool:
+        """Whether there may be a ray: there is no bound, and none was looked for to the end."""
+        return not (self.has_looked or self.shown is not None
+                    or hasattr(self, "model") and short_of_rays(self.model))
 
     def some_point(self) -> Point | None:
         """A feasible point, whatever its objective."""

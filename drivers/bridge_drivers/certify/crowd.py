@@ -269,6 +269,8 @@ class Crowd:
     def added(self, strand: Strand, found: Outcome) -> None:
         """What a portion made of its strand."""
         self.pool.spent += found.spent
+        if (found.better is not None or found.fault) and not strand.is_dropped:
+            self.waiting.append(strand)         # it is open still, and has a bound
         if found.better is not None:
             raise Better(*found.better)
         if strand.is_dropped:
@@ -326,8 +328,7 @@ class Crowd:
                            Closed(done.tree, frozenset(depths[o] for o in done.needs)))
         except (Stopped, Better):
             return None
-        assert isinstance(self.root, Closed)
-        return self.root.tree
+        return self.root.tree if isinstance(self.root, Closed) else None
 
     def closed(self) -> float:
         """The share of the tree that is closed, where both parts of a split count alike."""

@@ -53,7 +53,8 @@ class Verdict(NamedTuple):
     file's own sense, `path` where the accepted text is, a line of figures, and the duals of the
     exported rows where one leaf has them. `contradicted`: CLP finds no point that has the answer's
     whole variables. `note` says why it is not `optimal`, where that is known. `by_doubles`: the
-    answer's duals, rounded to the safe side, bound its objective to 1e-6."""
+    answer's duals, rounded to the safe side, bound its objective to 1e-6. `is_open`: the objective
+    may have no end, since a ray was not looked for as long as it takes."""
 
     line: str
     point: Point | None = None
@@ -64,6 +65,7 @@ class Verdict(NamedTuple):
     contradicted: bool = False
     note: str = ""
     by_doubles: bool = False
+    is_open: bool = False
 
     def is_proved(self) -> bool:
         return self.path is not None
@@ -109,6 +111,7 @@ class Judging:
         self.note = ""                          # why they are apart
         self.plans: Plans | None = None
         self.contradicted = False               # the answer's whole variables are
+        self.has_looked = False                 # for a ray
         self.linear = False
         self.path = os.path.join(folder, "certificate")
 

@@ -82,9 +82,6 @@ class WholeClaims(LinearClaims):
             yield self.one_leaf(NOTHING, "optimal", point)._replace(duals={})
         plans = self.planned(point)
         point = self.point or point
-        if plans is None:
-            yield from self.told()
-            return
         if plans.best is not None:
             yield self.by_tree(plans.best, point)
         told = plans.told() or [str(NoClp())]
@@ -93,8 +90,9 @@ class WholeClaims(LinearClaims):
         yield from self.told()
         yield Verdict(WITHOUT + told[-1], point)
 
-    def planned(self, point: Point) -> Plans | None:
-        """The plans that were tried at the best point; None where better ones do not end."""
+    def planned(self, point: Point) -> Plans:
+        """The plans that were tried at the best point; where better ones do not end, at the last
+        but one."""
         p = self.model
         for _ in range(MOST_BETTER):
             plans = self.plans_for(p, p.value(point))
@@ -114,7 +112,7 @@ class WholeClaims(LinearClaims):
             except NoClp:
                 return plans
         self.know_point(point)
-        return None
+        return plans
 
     def know_searched(self) -> None:
         """The closest bound that a stopped search has, whatever value it was for."""
