@@ -6,43 +6,60 @@ import copy
 from dataclasses import replace
 from fractions import Fraction
 from functools import cached_property
-from typing import Mapping, Sequence
+from itertools import islice
+from typing import Iterable, Iterator, Mapping, Sequence
 
 from .codes import Code
 from .miss import NONE, Miss, miss, missing
 from .options import Options
-from .program import Program
+from .program import Objective, Program
 from .solvers.base import Outcome
-from .values import Number, double_of, texts_of
+from .values import Named, Number, double_of, finite, in_order, texts_of
 
 NEAR_WHOLE = 1e-5
 NEAR_DUAL = 1e-7
+BLOCK = 1 << 14                 # lines that are made at once
 
 
 class Answer:
-    """Decimal texts by name. `loose` and `loose_duals` count the values and duals that are only
-    the nearest decimals of fractions, `apart` the integer variables that are not near a whole
-    number."""
+    """Decimal texts by name, in the order of the program, and costs as they were given. `loose` and
+    `loose_duals` count the values and duals that are only the nearest decimals of fractions,
+    `apart` the integer variables that are not near a whole number."""
 
     def __init__(self, program: Program, outcome: Outcome, options: Options) -> None:
         self.program, self.outcome, self.options = program, outcome, options
         self.loose = self.apart = self.loose_duals = 0
         self.most_apart = 0.0
-        self.values: dict[str, str] | None = None
-        self.duals: dict[str, str] | None = None
-        self.costs: dict[str, str] | None = None
+        self.values: Named[str] | None = None
+        self.duals: Named[str] | None = None
         self.whole = program.whole if options.round and not options.relax else set()
+        self.given_costs: Sequence[Number] | None = None
         if outcome.values is not None:
-            self.values, self.loose = by_name(program.columns, self.rounded(outcome.values))
+            texts, self.loose = texts_of(self.rounded(in_order(outcome.values, program.columns)))
+            self.values = Named(program.columns, texts)
         if outcome.duals is not None:
-            self.duals, self.loose_duals = by_name(program.constraints, outcome.duals)
-        if outcome.costs is not None:       # they are checked by nothing, exact or not
-            self.costs, _ = by_name(program.columns, outcome.costs)
+            texts, self.loose_duals = texts_of(in_order(outcome.duals, program.constraints))
+            self.duals = Named(program.constraints, texts)
+        if outcome.costs is not None:
+            self.given_costs = finite(in_order(outcome.costs, program.columns))
+
+    @property
+    def costs(self) -> Named[str] | None:
+        """They are checked by nothing, exact or not."""
+        costs = self.given_costs
+        return None if costs is None else Named(self.program.columns, texts_of(costs)[0])
 
     @cached_property
-    def doubles(self) -> dict[str, float]:
+    def doubles(self) -> list[float]:
         """Of its values."""
-        return {name: float(text) for name, text in (self.values or {}).items()}
+        texts = self.values.given if self.values is not None else []
+        known = {text: float(text) for text in set(texts)}
+        return list(map(known.__getitem__, texts))
+
+    @cached_property
+    def figures(self) -> Objective:
+        """Of its values."""
+        return self.program.at(self.doubles)
 
     @cached_property
     def missed(self) -> Miss:
@@ -53,11 +70,12 @@ class Answer:
             return missing(self.most_apart, "a whole number")
         return miss(self.program, self.values, self.whole)
 
-    def rounded(self, values: Mapping[str, Number]) -> Mapping[str, Number]:
+    def rounded(self, values: Sequence[Number]) -> Sequence[Number]:
         """Whole columns at the whole numbers that they are near."""
         if not self.whole:
             return values
-        return {c: self.near_whole(v) if c in self.whole else v for c, v in values.items()}
+        return [self.near_whole(v) if whole else v
+                for v, whole in zip(values, self.program.read.whole)]
 
     def near_whole(self, value: Number) -> Number:
         if not abs(float(value)) < float("inf"):
@@ -87,15 +105,18 @@ class Answer:
     def with_duals(self, duals: Mapping[str, str] | None) -> Answer:
         other = copy.copy(self)
         other.__dict__.pop("body", None)
-        other.duals = None if duals is None else dict(duals)
-        other.costs, other.loose_duals = None, 0
+        names = self.program.constraints
+        other.duals = None if duals is None else Named(names, in_order(duals, names))
+        other.given_costs, other.loose_duals = None, 0
         return other
 
-    def at(self, values: Mapping[str, Number], duals: Mapping[str, Fraction], code: Code,
+    def at(self, values: Sequence[Number], duals: Mapping[str, Fraction], code: Code,
            is_own: bool = True) -> Answer:
-        """At other values. Near its own ones its duals, costs and basis still stand, and given
-        duals in their place where they are near all of them; at another point given ones alone."""
-        outcome = replace(self.outcome, values=values, objective=None, code=code)
+        """At other values of columns. Near its own ones its duals, costs and basis still stand, and
+        given duals in their place where they are near all of them; at another point given ones
+        alone."""
+        outcome = replace(self.outcome, values=Named(self.program.columns, values),
+                          objective=None, code=code)
         if not is_own:
             known = {row: duals[row] for row in self.program.constraints if row in duals}
             lacks = len(known) < len(self.program.constraints) or self.is_integer()
@@ -108,19 +129,21 @@ class Answer:
                 for row, y in duals.items()):
             outcome.duals = {**old, **duals}
         other = Answer(self.program, replace(outcome, costs=None), self.options)
-        other.outcome, other.costs = outcome, self.costs
+        other.outcome, other.given_costs = outcome, self.given_costs
         return other if self.duals is not None else other.without_duals()
 
-    def reduced_costs(self, duals: Mapping[str, Fraction]) -> dict[str, Fraction]:
+    def reduced_costs(self, duals: Mapping[str, Fraction]) -> Named[Fraction]:
         """What these leave of the costs, exactly."""
         p = self.program
         numbers = list(map(Fraction, map(bytes.decode, p.read.numbers)))
         y = {i: duals[row] for i, row in enumerate(p.constraints) if duals[row]}
-        costs = [Fraction(p.costs.get(column, 0)) for column in p.columns]
+        costs = [Fraction(0)] * len(p.columns)
+        for j, k in zip(*p.objective):
+            costs[j] = numbers[k]
         for i, j, k in zip(*p.read.entries()):
             if i in y:
                 costs[j] -= y[i] * numbers[k]
-        return dict(zip(p.columns, costs))
+        return Named(p.columns, costs)
 
     def is_integer(self) -> bool:
         return bool(self.program.whole) and not self.options.relax
@@ -146,31 +169,34 @@ class Answer:
             text, double = str(figure), double_of(figure)
             near = "beyond doubles" if double is None else f"{double:.17g}"
             return text if len(text) <= 40 else f"{near} (a fraction of {len(text)} digits)"
-        return f"{self.program.figure(self.doubles):.10g}"
+        return f"{self.figures.value:.10g}"
 
     @cached_property
-    def body(self) -> list[str]:
-        lines, o = [], self.outcome
+    def body(self) -> bytes:
+        o, names = self.outcome, self.program.columns
+        told: list[tuple[str, Iterable[tuple[str, object]]]] = []
         if self.values is not None:
-            lines += [f"col {c} {v}" for c, v in self.values.items()]
+            told.append(("col %s %s\n", zip(names, self.values.given)))
         if self.duals is not None:
-            lines += [f"row {r} {v}" for r, v in self.duals.items()]
-        if self.costs is not None:
-            told = {c: v for c, v in self.costs.items() if v != "0"}    # one says: all are known
-            lines += [f"suffix 4 rc {c} {v}"
-                      for c, v in (told or dict(list(self.costs.items())[:1])).items()]
-        if o.column_basis and o.row_basis is not None and self.costs is not None:
-            lines += [f"suffix 0 sstatus {c} {s}" for c, s in o.column_basis.items()]
-            lines += [f"suffix 1 sstatus {r} {s}" for r, s in o.row_basis.items()]
-        return lines
+            told.append(("row %s %s\n", zip(self.program.constraints, self.duals.given)))
+        costs = self.costs
+        if costs is not None and costs.names:
+            known = [pair for pair in zip(names, costs.given) if pair[1] != "0"]
+            told.append(("suffix 4 rc %s %s\n", known or [(names[0], costs.given[0])]))
+        if o.column_basis and o.row_basis is not None and costs is not None:
+            told += [("suffix 0 sstatus %s %s\n", zip(names, in_order(o.column_basis, names))),
+                     ("suffix 1 sstatus %s %s\n", o.row_basis.items())]
+        return b"".join(written(told))
 
     def text(self, message: Sequence[str]) -> bytes:
         lines = ["answer 1", f"status {int(self.outcome.code)}", f"objno {self.options.objno - 1}"]
         lines += [f"message {m}" for m in message]
-        return ("\n".join(lines + self.body) + "\n").encode()
+        return ("\n".join(lines) + "\n").encode() + self.body
 
 
-def by_name(names: Sequence[str], values: Mapping[str, Number]) -> tuple[dict[str, str], int]:
-    """Decimal texts, with how many are not exact."""
-    texts, loose = texts_of([values[name] for name in names])
-    return dict(zip(names, texts)), loose
+def written(told: Iterable[tuple[str, Iterable[tuple[str, object]]]]) -> Iterator[bytes]:
+    """Lines of some forms, many at once."""
+    for form, pairs in told:
+        left = iter(pairs)
+        while part := list(islice(left, BLOCK)):
+            yield "".join(map(form.__mod__, part)).encode()

@@ -24,7 +24,8 @@ from .job import Job
 from .keeping import Keeper, Kept
 from .sol import numbers_of
 from .solvers.base import BASIC
-from .values import plain, text_of
+from .program import TIED, TIED_ROW
+from .values import in_order, plain, text_of
 from .verdicts import Said
 
 SECONDS = 60.0              # of a search, where timelim says nothing
@@ -156,8 +157,8 @@ class Certifier:
     def numbers(self, answer: Answer) -> tuple[list[str], list[str]]:
         """The values and duals of an answer as they are written."""
         if self.alone:
-            values = list((answer.values or {}).values())
-            duals = list((answer.duals or {}).values())
+            values, duals = (list(part.given) if part is not None else []
+                             for part in (answer.values, answer.duals))
         else:
             duals, values = numbers_of(self.returned(answer, [], "numbers"))
         return values, duals if self.linear else []
@@ -165,17 +166,20 @@ class Certifier:
     def given(self, answer: Answer) -> Given:
         """The answer by position: the solver's numbers, whole ones as they are written."""
         p, outcome = self.program, answer.outcome
-        columns = [name for name in p.columns if name != "z"]
-        rows = [name for name in p.constraints if name != "zdef"]
+        n = len(p.columns) - (p.columns[-1:] == [TIED])
+        rows = [name for name in p.constraints if name != TIED_ROW]
         values = duals = basis = None
         if outcome.values is not None and answer.values is not None:
-            values = [Fraction(answer.values[c]) if c in p.whole and not self.relaxed
-                      else outcome.values[c] for c in columns]
-            values = [v if type(v) in (float, Fraction) else float(v) for v in values]
+            numbers = in_order(outcome.values, p.columns)[:n]
+            values = [v if type(v) in (float, Fraction) else float(v) for v in numbers]
+            if p.whole and not self.relaxed:
+                values = [Fraction(text) if whole else v for text, whole, v in
+                          zip(answer.values.given, p.read.whole, values)]
         if outcome.duals is not None:
             duals = {int(row[1:]): outcome.duals[row] for row in rows}
         if outcome.column_basis is not None and outcome.row_basis is not None:
-            basis = Basis([j for j, c in enumerate(columns) if outcome.column_basis[c] == BASIC],
+            ends = in_order(outcome.column_basis, p.columns)[:n]
+            basis = Basis([j for j, end in enumerate(ends) if end == BASIC],
                           [int(r[1:]) for r in rows if outcome.row_basis[r] != BASIC])
         return Given(values, duals, basis)
 

@@ -333,10 +333,11 @@ class Driver(Run):
     def show(self) -> None:
         """Values of variables and duals of constraints, one a line, by their names; a screen of
         values without asking where it is called by hand."""
-        o, values, duals = self.options, self.pairs("values"), self.pairs("duals")
-        told = list(showing.lines(values)) if o.wantsol & 2 else \
-            list(showing.screen(values)) if self.is_by_hand() else []
-        if o.wantsol & 4 and duals:
+        o = self.options
+        shows = showing.lines if o.wantsol & 2 else showing.screen if self.is_by_hand() else None
+        told = list(shows(self.pairs("values"))) if shows is not None else []
+        duals = self.pairs("duals") if o.wantsol & 4 else []
+        if duals:
             told += ["duals", *showing.lines(duals)]
         print("".join(f"{line}\n" for line in told), end="", file=self.out())
 

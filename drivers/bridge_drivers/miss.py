@@ -5,6 +5,7 @@ from __future__ import annotations
 from typing import Collection, Iterator, Mapping, NamedTuple
 
 from .program import Program
+from .values import in_order
 
 MOST = 1e-6                 # of the largest term: what counts as satisfied
 ROUNDING = 1e-12            # the same where all columns are whole numbers
@@ -36,9 +37,10 @@ class Activities:
     def __init__(self, program: Program, values: Mapping[str, str],
                  whole: Collection[str]) -> None:
         self.program, self.read = program, program.read
-        self.x = [float(values[name]) for name in program.columns]
-        self.whole = [name in whole and values[name].lstrip("-").isdigit()
-                      for name in program.columns] if whole else [False] * len(self.x)
+        texts = in_order(values, program.columns)
+        self.x = list(map(float, texts))
+        self.whole = [name in whole and text.lstrip("-").isdigit() for name, text in
+                      zip(program.columns, texts)] if whole else [False] * len(self.x)
         self.terms = program.terms()
 
     def misses(self) -> Iterator[Miss]:

@@ -7,8 +7,11 @@ from __future__ import annotations
 import copy
 import math
 import re
+from array import array
 from functools import cached_property
-from typing import Mapping, Sequence
+from itertools import compress
+from operator import mul
+from typing import Sequence
 
 from .mps_reader import OBJECTIVE, Text, exact
 from .names import Names
@@ -19,10 +22,31 @@ INFINITE = math.inf
 BOUND = re.compile(rb"^ (LO|UP) (\S+) (\S+) (\S*[.eE]\S*)$", re.M)
 
 
+class Objective:
+    """That of a program in doubles, for messages, never for a claim: a constant and terms."""
+
+    def __init__(self, start: float, terms: list[float]) -> None:
+        self.start, self.terms = start, terms
+
+    @cached_property
+    def value(self) -> float:
+        return math.fsum([self.start, *self.terms])
+
+    @cached_property
+    def largest(self) -> float:
+        """The size of the largest term."""
+        return max([abs(term) for term in (self.start, *self.terms)])
+
+    @cached_property
+    def total(self) -> float:
+        """The sum of the sizes of terms without the constant."""
+        return sum([abs(term) for term in self.terms])
+
+
 class Program:
     """`read` has all numbers by place. `rows` are the names in order, the objective's first,
     `kinds` their letters (N, E, L, G); `columns` the names in order, `whole` those that are
-    integer. `objective` are its columns and numbers by place, `costs` its coefficients as texts,
+    integer. `objective` are its columns and which numbers, `costs` its coefficients as texts,
     `objective_rhs` is minus its constant. `names` are those of a file that has its own, with
     `notes` on what other readers take otherwise; else `is_exported`: `bridge export` wrote it,
     which scales rows and leaves those without sides out."""
@@ -39,25 +63,32 @@ class Program:
         self.whole = {name for name, whole in zip(self.columns, self.read.whole) if whole}
         self.objective_rhs = self.read.rhs.get(OBJECTIVE, b"0").decode()
         self.objective = entries_of(self.read.entries(), OBJECTIVE)
-        numbers = decoded(self.read.numbers)
-        self.costs = {self.columns[j]: numbers[k] for j, k in self.objective if numbers[k] != "0"}
+
+    @cached_property
+    def costs(self) -> dict[str, str]:
+        numbers = self.read.numbers
+        return {self.columns[j]: numbers[k].decode() for j, k in zip(*self.objective)
+                if numbers[k] != b"0"}
 
     def has_objective(self) -> bool:
         """Whether the objective is anything but the constant 0."""
-        return bool(self.costs) or self.objective_rhs != "0"
+        return self.objective_rhs != "0" or \
+            any(self.read.numbers[k] != b"0" for k in self.objective.numbers)
 
-    def figure(self, values: Mapping[str, str] | Mapping[str, float]) -> float:
-        """The objective at doubles or decimal texts, in doubles: for a message, never for a
-        claim."""
-        return math.fsum([-float(self.objective_rhs), *self.terms_at(values)])
-
-    def terms_at(self, values: Mapping[str, str] | Mapping[str, float]) -> list[float]:
-        """Those of the objective without its constant."""
-        return [cost * float(values[column]) for column, cost in self.cost_doubles.items()]
+    def at(self, x: Sequence[float]) -> Objective:
+        """The objective at values of all columns."""
+        columns, costs = self.cost_doubles
+        return Objective(-float(self.objective_rhs),
+                         list(map(mul, costs, map(x.__getitem__, columns))))
 
     @cached_property
-    def cost_doubles(self) -> dict[str, float]:
-        return {column: float(cost) for column, cost in self.costs.items()}
+    def cost_doubles(self) -> tuple[array[int], array[float]]:
+        """Columns and coefficients of the objective, but for those that are 0."""
+        known = list(map(float, self.read.numbers))
+        costs = array("d", map(known.__getitem__, self.objective.numbers))
+        if all(costs):
+            return self.objective.columns, costs
+        return array("i", compress(self.objective.columns, costs)), array("d", filter(None, costs))
 
     def far(self, size: float) -> int:
         """How many sides, ranges and bounds are at least of that size."""

@@ -3,15 +3,16 @@ the model. A proved claim holds whatever the solver said, and nothing contradict
 
 from __future__ import annotations
 
+import math
 from fractions import Fraction
-from typing import Mapping, NamedTuple
+from typing import NamedTuple, Sequence
 
 from . import verdicts
 from .answer import Answer
 from .certify.claims import Verdict
 from .codes import Code
 from .miss import NONE, OWN, ROUNDING, Miss
-from .program import Program
+from .program import TIED, Objective
 from .ruling import FINAL, STRICT, At, Found, Misses, Ruling, ruled
 from .verdicts import Said
 
@@ -47,13 +48,23 @@ class Settled(NamedTuple):
     lacks: str = ""
 
 
+class Proved(NamedTuple):
+    """A point that is proved, by the place of columns: exactly, in doubles, its objective there,
+    and what it is beside the answer. `is_apart`: it has another objective than the answer."""
+
+    values: Sequence[Fraction]
+    x: Sequence[float]
+    objective: Objective
+    is_apart: bool
+    kind: str
+
+
 def settled(answer: Answer, verdict: Verdict, facts: Facts = Facts()) -> Settled:
     """By the ruling on what was found."""
-    values = proved_values(answer, verdict)
-    kind = another(answer, values) if values is not None else ""
-    ruling = ruled(found(answer, verdict, facts, kind, values))
-    if ruling.at is At.PROVED and values is not None:
-        return at_point(answer, verdict, values, kind, ruling)
+    proved = proved_point(answer, verdict)
+    ruling = ruled(found(answer, verdict, facts, proved))
+    if ruling.at is At.PROVED and proved is not None:
+        return at_point(answer, verdict, proved, ruling)
     if ruling.at is At.ANSWER:
         text = STRICT if ruling.lacks == STRICT else None
         return Settled(ruling.code, answer.with_code(ruling.code), text, "", ruling.lacks)
@@ -67,50 +78,43 @@ def is_final(verdict: Verdict) -> bool:
     return verdict.claim() in FINAL
 
 
-def found(answer: Answer, verdict: Verdict, facts: Facts, kind: str,
-          values: Mapping[str, Fraction] | None) -> Found:
+def found(answer: Answer, verdict: Verdict, facts: Facts, proved: Proved | None) -> Found:
     """What decides on the code."""
     program, outcome, said = answer.program, answer.outcome, verdicts.read(verdict.line)
     if not verdict.is_proved():
         said = None
     linear = not program.whole or bool(answer.options.relax)
     share, room = facts.missed.share, OWN if linear else ROUNDING
-    mended = bool(program.whole) and values is not None and not kind and is_apart(answer, values)
+    kind = proved.kind if proved else ""
+    mended = bool(program.whole) and proved is not None and not kind and proved.is_apart
     misses = Misses.MUCH if facts.missed.is_much() else \
         Misses.LITTLE if share > room else Misses.NOTHING
     return Found(
         outcome.code, verdict.claim(), linear, outcome.is_gap, kind, mended,
-        said is not None and closes(answer, values, said),
+        said is not None and closes(answer, proved, said),
         said is not None and is_within(said, facts.gap), misses,
         said is not None and said.word == "bound" and is_beyond(answer, verdict.bound()),
         verdict.contradicted, verdict.by_doubles, verdict.is_open, facts.checked, facts.strict)
 
 
-def closes(answer: Answer, values: Mapping[str, Fraction] | None, said: Said) -> bool:
+def closes(answer: Answer, proved: Proved | None, said: Said) -> bool:
     """Whether the bound is at the objective of the proved point, else of the answer: up to 1e-6 of
     it, of 1, or of the sum of its terms."""
     if said.bound is None:
         return False
     if said.bound == said.value:
         return True
-    if values is not None and said.value is not None:
-        at = said.value
-        x = as_doubles(values)
+    if proved is not None and said.value is not None:
+        at, objective = said.value, proved.objective
     elif answer.values is not None:
-        x = answer.doubles
-        figure = answer.program.figure(x)
-        if abs(figure) == float("inf") or figure != figure:
+        objective = answer.figures
+        if not math.isfinite(objective.value):
             return False
-        at = Fraction(figure)
+        at = Fraction(objective.value)
     else:
         return False
-    return abs(said.bound - at) <= CLOSE * max(abs(at), Fraction(1), terms(answer.program, x))
-
-
-def terms(program: Program, values: Mapping[str, float]) -> Fraction:
-    """The sum of the sizes of the objective's terms."""
-    total = sum([abs(term) for term in program.terms_at(values)])
-    return Fraction(total) if total < float("inf") else Fraction(0)
+    terms = Fraction(objective.total) if objective.total < math.inf else Fraction(0)
+    return abs(said.bound - at) <= CLOSE * max(abs(at), Fraction(1), terms)
 
 
 def is_within(said: Said, gap: float) -> bool:
@@ -126,14 +130,19 @@ def without_point(answer: Answer, code: Code) -> Settled:
     return Settled(code, answer.without_point(code), WORDS[code])
 
 
-def proved_values(answer: Answer, verdict: Verdict) -> dict[str, Fraction] | None:
-    """The point that is proved, by column."""
+def proved_point(answer: Answer, verdict: Verdict) -> Proved | None:
+    """None where there is none."""
     if not verdict.is_proved() or verdict.point is None:
         return None
-    values = {f"x{j}": value for j, value in enumerate(verdict.point)}
-    if "z" in answer.program.columns and verdict.value is not None:
-        values["z"] = verdict.value
-    return values
+    program, values = answer.program, verdict.point
+    if program.columns[-1:] == [TIED] and verdict.value is not None:
+        values = [*values, verdict.value]
+    x = as_doubles(values)
+    objective = program.at(x)
+    if answer.values is None:
+        return Proved(values, x, objective, False, "a")
+    apart = is_apart(answer.figures, objective)
+    return Proved(values, x, objective, apart, another(answer, x, objective) if apart else "")
 
 
 def proved_duals(answer: Answer, verdict: Verdict) -> dict[str, Fraction]:
@@ -141,13 +150,12 @@ def proved_duals(answer: Answer, verdict: Verdict) -> dict[str, Fraction]:
     return {f"c{i}": y for i, y in verdict.duals.items() if f"c{i}" in answer.program.kinds}
 
 
-def at_point(answer: Answer, verdict: Verdict, values: Mapping[str, Fraction], kind: str,
-             ruling: Ruling) -> Settled:
+def at_point(answer: Answer, verdict: Verdict, proved: Proved, ruling: Ruling) -> Settled:
     """At the point that was proved. A solver's `optimal` stands beside one that is feasible with
     the same objective."""
-    code, own = ruling.code, answer.outcome.code
-    moved = answer.at(values, proved_duals(answer, verdict) if code == Code.SOLVED else {}, code,
-                      not kind)
+    code, own, kind = ruling.code, answer.outcome.code, proved.kind
+    duals = proved_duals(answer, verdict) if code == Code.SOLVED else {}
+    moved = answer.at(proved.values, duals, code, not kind)
     if ruling.lacks == STRICT:
         return Settled(code, moved, STRICT, kind, ruling.lacks)
     is_own = not kind and (code == own or bool(ruling.lacks) or answer.outcome.is_gap)
@@ -156,42 +164,27 @@ def at_point(answer: Answer, verdict: Verdict, values: Mapping[str, Fraction], k
     return Settled(code, moved, None if is_own else words, kind, ruling.lacks)
 
 
-def another(answer: Answer, values: Mapping[str, Fraction]) -> str:
-    """What a point is beside the answer; nothing where the objective is the same, or each value up
-    to the digits that are printed."""
-    if answer.values is None:
-        return "a"
-    if not is_apart(answer, values):
+def another(answer: Answer, x: Sequence[float], objective: Objective) -> str:
+    """What a point of another objective is beside the answer; nothing where each value is the same
+    up to the digits that are printed."""
+    if all(abs(v - old) <= DIGITS * max(abs(v), abs(old)) for v, old in zip(x, answer.doubles)):
         return ""
-    program, old, new = answer.program, answer.doubles, as_doubles(values)
-    if all(abs(v - old[c]) <= DIGITS * max(abs(v), abs(old[c])) for c, v in new.items()):
-        return ""
-    is_more = program.figure(new) > program.figure(old)
-    return "a better" if is_more == program.maximise else "another"
+    is_more = objective.value > answer.figures.value
+    return "a better" if is_more == answer.program.maximise else "another"
 
 
-def is_apart(answer: Answer, values: Mapping[str, Fraction]) -> bool:
-    """Whether a point has another objective than the answer."""
-    if answer.values is None:
-        return False
-    program, old, new = answer.program, answer.doubles, as_doubles(values)
-    one, other = (program.figure(point) for point in (old, new))
-    return abs(one - other) > FAR * max(size(program, old), size(program, new), abs(one))
+def is_apart(old: Objective, new: Objective) -> bool:
+    """Whether they are not the same."""
+    return abs(old.value - new.value) > FAR * max(old.largest, new.largest, abs(old.value))
 
 
 def is_beyond(answer: Answer, bound: Fraction) -> bool:
     """Whether the answer is better than what was proved to be the best."""
     if answer.values is None:
         return False
-    program, x = answer.program, answer.doubles
-    by = program.figure(x) - as_double(bound)
-    return (by if program.maximise else -by) > FAR * max(size(program, x), abs(as_double(bound)))
-
-
-def size(program: Program, values: Mapping[str, float]) -> float:
-    """The largest term of the objective."""
-    return max([abs(term) for term in program.terms_at(values)]
-               + [abs(float(program.objective_rhs))])
+    own, limit = answer.figures, as_double(bound)
+    by = own.value - limit
+    return (by if answer.program.maximise else -by) > FAR * max(own.largest, abs(limit))
 
 
 def as_double(value: Fraction) -> float:
@@ -201,7 +194,7 @@ def as_double(value: Fraction) -> float:
         return float("inf") if value > 0 else float("-inf")
 
 
-def as_doubles(values: Mapping[str, Fraction]) -> dict[str, float]:
+def as_doubles(values: Sequence[Fraction]) -> list[float]:
     """Each object once: most stand many times."""
-    known = {id(value): as_double(value) for value in {id(v): v for v in values.values()}.values()}
-    return {name: known[id(value)] for name, value in values.items()}
+    known = {place: as_double(value) for place, value in {id(v): v for v in values}.items()}
+    return [known[id(value)] for value in values]

@@ -26,7 +26,7 @@ from .options import Options
 from .program import Program, given, hollow
 from .settled import Facts, is_final, proved_duals, settled
 from .solvers.base import Outcome, Solver, Unclear
-from .values import BadValue
+from .values import BadValue, in_order
 from .verdicts import percent, read
 
 
@@ -312,7 +312,8 @@ class Solving:
                 or all(own[row] == y for row, y in duals.items()):
             return None
         assert answer.outcome.values is not None
-        other = answer.at(answer.outcome.values, duals, answer.outcome.code, False)
+        values = in_order(answer.outcome.values, answer.program.columns)
+        other = answer.at(values, duals, answer.outcome.code, False)
         return other if other.duals is not None else None
 
     def check_line(self, certifier: Certifier, answer: Answer, verdict: Verdict,

@@ -121,9 +121,9 @@ def figures_of(program: Program) -> Figures:
 
 def entries(f: Figures, program: Program) -> None:
     """Those of rows and of the objective, which may stand in the row zdef."""
-    read, costs = program.read, list(program.objective)
+    read, costs = program.read, list(zip(*program.objective))
     if TIED_ROW in f.kinds:
-        costs += entries_of(read.entries(), program.constraints.index(TIED_ROW))
+        costs += zip(*entries_of(read.entries(), program.constraints.index(TIED_ROW)))
     values = [known(text) for text in read.numbers]
     left = Counter(read.number)
     for j, k in costs:

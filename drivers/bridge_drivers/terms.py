@@ -7,7 +7,7 @@ from __future__ import annotations
 from array import array
 from functools import cached_property
 from itertools import accumulate
-from typing import Any, Dict, Iterable, List, Mapping, Sequence, Tuple
+from typing import Any, Dict, Iterable, List, Mapping, NamedTuple, Sequence, Tuple
 
 MANY = 20_000                   # terms from which on NumPy is worth its start
 EXACT = 53                      # bits of whole numbers that doubles hold
@@ -15,6 +15,13 @@ PART = 26                       # bits of a part of a wide coefficient
 LOADED: List[Any] = []          # once loaded, or once missed
 Pairs = List[List[Tuple[int, int]]]
 Entries = Tuple["array[int]", "array[int]", "array[int]"]     # rows, columns, and which numbers
+
+
+class Line(NamedTuple):
+    """Of one row: columns, and which numbers."""
+
+    columns: array[int]
+    numbers: array[int]
 
 
 def numpy() -> Any:
@@ -215,13 +222,16 @@ def limbs(x: Sequence[int], bits: int) -> Iterable[Tuple[int, List[int]]]:
         rest, shift = [v >> bits for v in rest], shift + bits
 
 
-def entries_of(entries: Entries, row: int) -> List[Tuple[int, int]]:
-    """Of one row: columns, and which numbers."""
+def entries_of(entries: Entries, row: int) -> Line:
     np = numpy() if len(entries[0]) > MANY else None
     if np is None:
-        return [(j, k) for i, j, k in zip(*entries) if i == row]
-    chosen = np.flatnonzero(np.frombuffer(entries[0], np.int32) == row)
-    return list(zip(*(np.frombuffer(part, np.int32)[chosen].tolist() for part in entries[1:])))
+        chosen = [at for at, i in enumerate(entries[0]) if i == row]
+        columns, numbers = (array("i", [part[at] for at in chosen]) for part in entries[1:])
+    else:
+        chosen = np.flatnonzero(np.frombuffer(entries[0], np.int32) == row)
+        columns, numbers = (array("i", np.frombuffer(part, np.int32)[chosen].tobytes())
+                            for part in entries[1:])
+    return Line(columns, numbers)
 
 
 def numbers_used(row: array[int], number: array[int], to: Sequence[int]) -> List[int]:

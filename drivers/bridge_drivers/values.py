@@ -6,10 +6,12 @@ from __future__ import annotations
 import decimal
 import math
 from fractions import Fraction
+from functools import cached_property
 from math import gcd
-from typing import Sequence, Union
+from typing import Dict, Iterator, Mapping, Sequence, TypeVar, Union
 
 Number = Union[int, float, Fraction]
+T = TypeVar("T")
 
 MOST_DIGITS = 2 ** 127 - 1
 MOST_PLACES = 400
@@ -18,6 +20,33 @@ NEAR = decimal.Context(prec=17, Emin=-10 ** 6, Emax=10 ** 6, rounding=decimal.RO
 
 class BadValue(Exception):
     """A value that no decimal stands for: infinite, or not a number."""
+
+
+class Named(Mapping[str, T]):
+    """What names have, in their order: `given`. The names stand once for many such."""
+
+    def __init__(self, names: Sequence[str], given: Sequence[T]) -> None:
+        self.names, self.given = names, given
+
+    @cached_property
+    def places(self) -> Dict[str, int]:
+        return {name: place for place, name in enumerate(self.names)}
+
+    def __getitem__(self, name: str) -> T:
+        return self.given[self.places[name]]
+
+    def __iter__(self) -> Iterator[str]:
+        return iter(self.names)
+
+    def __len__(self) -> int:
+        return len(self.names)
+
+
+def in_order(given: Mapping[str, T], names: Sequence[str]) -> Sequence[T]:
+    """What these names have."""
+    if isinstance(given, Named) and given.names is names:
+        return given.given
+    return [given[name] for name in names]
 
 
 def exact_decimal(value: Fraction) -> str | None:
@@ -78,13 +107,19 @@ def text_of(value: Number) -> tuple[str, bool]:
     return (near_decimal(exact), False) if decimal_text is None else (decimal_text, True)
 
 
+def finite(values: Sequence[Number]) -> Sequence[Number]:
+    """The same; BadValue where one is infinite, or not a number."""
+    bad = next((v for v in values if isinstance(v, float) and not math.isfinite(v)), None)
+    if bad is not None:
+        raise BadValue(str(bad))
+    return values
+
+
 def texts_of(values: Sequence[Number]) -> tuple[list[str], int]:
     """The same of many, with how many are not exact. Each object that is no double is written
     once: most stand many times."""
     if set(map(type, values)) == {float}:
-        if not all(map(math.isfinite, values)):
-            raise BadValue(str(next(v for v in values if not math.isfinite(v))))
-        texts = [repr(v) if v else "0" for v in values]
+        texts = [repr(v) if v else "0" for v in finite(values)]
         return [text[:-2] if text[-2:] == ".0" else text for text in texts], 0
     known = {id(v): v for v in values}
     pairs = [text_of(v) for v in known.values()]

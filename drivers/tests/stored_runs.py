@@ -48,7 +48,7 @@ class StoredRuns(Case):
         program = Program(b"NAME nl\nROWS\n N obj\n L c0\nCOLUMNS\n x0 obj 2\n x0 c0 3\n x1 c0 -1\n"
                           b"ENDATA\n")
         answer = Answer(program, Outcome(Code.SOLVED, "", {"x0": 0, "x1": 0}), Options())
-        moved = answer.at({"x0": 0, "x1": 0}, {"c0": F(1, 2)}, Code.SOLVED, False)
+        moved = answer.at([0, 0], {"c0": F(1, 2)}, Code.SOLVED, False)
         self.assertEqual(moved.costs, {"x0": "0.5", "x1": "0.5"})
 
     def test_command_lines(self) -> None:

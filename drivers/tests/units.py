@@ -57,7 +57,7 @@ class Texts(Case):
                          (["obj", "c0"], ["x0", "x1", "x2", "z"], {"x1", "x2"}))
         self.assertEqual((p.maximise, p.costs, p.objective_rhs),
                          (True, {"x0": "2", "x2": "5"}, "-3"))
-        self.assertEqual(p.figure({"x0": "1", "x2": "0.5"}), 7.5)
+        self.assertEqual(p.at([1, 9, 0.5, 9]).value, 7.5)
         self.assertTrue(p.free_name().startswith(b"NAME nl FREE\nOBJSENSE"))
         self.assertNotIn(b"OBJSENSE", p.without_sense())
         empty = Program(b"NAME nl\nROWS\n N obj\nCOLUMNS\nRHS\nENDATA\n")

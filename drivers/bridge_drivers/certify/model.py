@@ -84,16 +84,16 @@ class Model:
         it is put back."""
         read = program.read
         entries = program.objective if row == OBJECTIVE else entries_of(read.entries(), row)
-        used = sorted({k for _, k in entries})
+        used = sorted(set(entries.numbers))
         known, factor = wholes_of([read.rhs.get(row, b"0"), *(read.numbers[k] for k in used)])
         over = dict(zip(used, known[1:]))
-        numbers = [known[0], *(over[k] for _, k in entries)]
+        numbers = [known[0], *map(over.__getitem__, entries.numbers)]
         if row != OBJECTIVE:
             factor = -numbers.pop()             # of z, the last column
         sign = self.sign if factor > 0 else -self.sign
         numbers, self.cost_scale = reduced([sign * v for v in numbers], abs(factor))
         self.start, self.costs = -numbers[0], [0] * self.n
-        for (j, _), v in zip(entries, numbers[1:]):
+        for j, v in zip(entries.columns, numbers[1:]):
             self.costs[j] = v
 
     def set_terms(self, read: Text, places: Sequence[int], factors: Mapping[int, int]) -> None:

@@ -5,9 +5,11 @@ from __future__ import annotations
 import os
 import re
 import struct
+from array import array
 from typing import TYPE_CHECKING, NamedTuple
 
 from ..codes import Code
+from ..values import Named
 from .base import (BASIC, LOWER, UPPER, Outcome, Solver, Unclear, has_values, outcome, read_lines,
                    row_side, without_answer)
 from .statuses import COIN, NO_POINT, row_of
@@ -16,16 +18,18 @@ if TYPE_CHECKING:
     from ..job import Job, Ran
     from ..program import Program
 
-LONG = re.compile(rb"(?<= )[-+]?[\d.]{23,}(?:[eE]\S+)?$", re.M)
+LEAST_LONG = 23
+LONG = re.compile(rb"(?<= )[-+]?[\d.]{%d,}(?:[eE]\S+)?$" % LEAST_LONG, re.M)
+ZEROS = bytes.maketrans(b".123456789", b"0" * 10)       # all that stand in such numbers
 COMPLAINT = r"Bad image|No match|Unknown|Unable to open|errors? on input|infeasible bound"
 
 
 class Saved(NamedTuple):
     """By name: values of columns, duals of rows, reduced costs of columns."""
 
-    values: dict[str, float]
-    duals: dict[str, float]
-    costs: dict[str, float]
+    values: Named[float]
+    duals: Named[float]
+    costs: Named[float]
 
 
 class Coin(Solver):
@@ -55,7 +59,10 @@ class Coin(Solver):
 
     def text(self, program: Program) -> bytes:
         """CoinUtils does not take all numbers of more than 22 digits: they are doubles here."""
-        return LONG.sub(lambda found: repr(float(found.group())).encode(), program.free_name())
+        text = program.free_name()
+        if b"0" * LEAST_LONG not in text.translate(ZEROS):
+            return text
+        return LONG.sub(lambda found: repr(float(found.group())).encode(), text)
 
     def reading(self, program: Program, path: str) -> list[str]:
         return [path, *(["-max"] if program.maximise else []), "-solve", "-solution", "stdout"]
@@ -73,11 +80,11 @@ class Coin(Solver):
         length = 16 + 16 * (rows + columns)
         if len(data) != length or struct.unpack("=ii", data[:8]) != (rows, columns):
             raise Unclear("the saved answer is of another model")
-        doubles = struct.unpack(f"={1 + 2 * (rows + columns)}d", data[8:])
+        doubles = array("d", data[8:])
         duals, values = 1 + rows, 1 + 2 * rows
-        return Saved(dict(zip(p.columns, doubles[values:values + columns])),
-                     dict(zip(p.constraints, doubles[duals:values])),
-                     dict(zip(p.columns, doubles[values + columns:])))
+        return Saved(Named(p.columns, doubles[values:values + columns]),
+                     Named(p.constraints, doubles[duals:values]),
+                     Named(p.columns, doubles[values + columns:]))
 
     def answer(self, job: Job, ran: Ran) -> Outcome:
         """The outcome, whose status is the first line of -solution."""
@@ -101,20 +108,19 @@ class Coin(Solver):
         return found
 
 
-def basis(program: Program, path: str) -> tuple[dict[str, int] | None, dict[str, int] | None]:
+def basis(program: Program, path: str) -> tuple[Named[int] | None, Named[int] | None]:
     """AMPL's statuses of an MPS basis: columns at their lower side and rows basic, but for
     the lines of the file."""
     lines = read_lines(path)
     if lines is None:
         return None, None
-    columns = dict.fromkeys(program.columns, LOWER)
-    rows = dict.fromkeys(program.constraints, BASIC)
+    moved: dict[str, int] = {}
     for words in (line.split() for line in lines if line.startswith(" ") and line.strip()):
         if words[0] in ("XU", "XL"):
-            if words[1] in columns:
-                columns[words[1]] = BASIC
-            if words[2] in rows:
-                rows[words[2]] = row_side(program.kinds[words[2]], words[0][1])
-        elif words[0] in ("BS", "UL") and words[1] in columns:
-            columns[words[1]] = BASIC if words[0] == "BS" else UPPER
-    return columns, rows
+            moved[words[1]] = BASIC
+            moved[words[2]] = row_side(program.kinds.get(words[2], ""), words[0][1])
+        elif words[0] in ("BS", "UL"):
+            moved[words[1]] = BASIC if words[0] == "BS" else UPPER
+    columns, rows = program.columns, program.constraints
+    return (Named(columns, [moved.get(name, LOWER) for name in columns]),
+            Named(rows, [moved.get(name, BASIC) for name in rows]))

@@ -36,7 +36,7 @@ class Arrays:
         self.bounds = numpy.array(program.bounds()).T
         self.whole = numpy.array(program.read.whole, dtype=int)
         self.cost = numpy.zeros(terms.n)
-        for j, k in program.objective:
+        for j, k in zip(*program.objective):
             self.cost[j] = float(program.read.numbers[k])
         starts = numpy.cumsum([0, *map(len, terms.rows)])
         columns, values = zip(*itertools.chain.from_iterable(terms.rows)) if starts[-1] \
