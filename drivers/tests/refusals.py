@@ -187,12 +187,15 @@ class Kinds(Case):
                          "it")
 
 
+WORKED = ("refusals", "export")     # the second has what is wide
+
+
 class Reasons(unittest.TestCase):
     def test_each_that_is_provoked_is_listed(self) -> None:
         """Those of the worked texts, in `nl-bridge help refusals`."""
         sys.path.append(os.path.join(DRIVERS, "..", "acceptance"))
-        from cases import refusals as worked
-        for case in worked.cases():
+        import texts
+        for case in (case for name in WORKED for case in texts.cases(name)):
             if case.told.startswith("refused "):
                 told = explaining.parsed(case.told.rstrip("\n"))
                 assert told is not None, case.told

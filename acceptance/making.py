@@ -2,7 +2,9 @@
 from __future__ import annotations
 
 from collections.abc import Iterator
-from .texts import Case, bad_words
+
+import texts
+from texts import Case, Text
 
 
 Row = tuple[dict[int, int], int, int, int]
@@ -52,12 +54,11 @@ def program(rows: list[Row]) -> str:
 def summary(seed: int, size: int) -> str:
     """The line of an instance, counted on its own."""
     rows = instance(seed, size)
-    return f"variables {size} rows {size} terms {sum(len(row) for row, _, _, _ in rows)} bytes {len(program(rows))}\n"
+    return f"variables {size} rows {size} terms {sum(len(row) for row, _, _, _ in rows)} bytes {len(program(rows))}"
 
 
 def cases() -> Iterator[Case]:
-    yield Case("one variable", ("make", "1", "1"), {}, out="variables 1 rows 1 terms 1 bytes 168\n")
+    yield from texts.cases("make")
     for seed, size in [(5, 8), (0, 9), (4294967295, 100), (7, 20000)]:
-        yield Case(f"make {seed} {size}", ("make", str(seed), str(size)), {}, out=summary(seed, size))
-    for words in [("1", "0"), ("1", "20001"), ("01", "1"), ("4294967296", "1"), ("1", "01"), ("-1", "1"), ("1",), ("1", "1", "1")]:
-        yield bad_words(f"make {' '.join(words)}", "make", *words)
+        out = Text("{summary}", {"summary": summary(seed, size)})
+        yield Case(f"make {seed} {size}", ("make", str(seed), str(size)), [], 0, out, "")
