@@ -4,6 +4,7 @@ stored runs, and what an answer to a small model must look like."""
 from __future__ import annotations
 
 import contextlib
+import gzip
 import io
 import os
 import re
@@ -31,6 +32,8 @@ from bridge_drivers.driver import Driver                # noqa: E402
 from bridge_drivers.job import LOG, Job, Ran            # noqa: E402
 from bridge_drivers.solving import Solving              # noqa: E402
 from models import MODELS                               # noqa: E402
+from tables import rows_of                              # noqa: E402
+import mps_models                                       # noqa: E402
 import stored                                           # noqa: E402
 
 LOOSE = ("lp_solve",)           # prints six digits
@@ -43,6 +46,7 @@ ALLOWED = {word: set(map(int, re.findall(r"\b(?:0|[1-4]\d0)\b", codes))) for wor
 CHECKED = "bridge check of the .sol: "
 PROGRAM = find("", BESIDE) if os.environ.get("BRIDGE") else []
 HAS_CLP = clp.library() is not None
+FIRST = next((name for name in solvers.NAMES if solvers.load(name).place()), "")
 
 
 def knows(command: str) -> bool:
@@ -82,6 +86,20 @@ def ran(command: str, *words: str, place: str = BIN, **environment: str) -> Ende
                            stdin=subprocess.DEVNULL, capture_output=True,
                            env={**os.environ, **environment})
     return Ended(ended.returncode, ended.stdout, ended.stderr)
+
+
+def content(words: str) -> bytes:
+    """Of a file of a table: a text, `model NAME`, `mps NAME`, `example NAME`, packed, or cut."""
+    kind, _, name = words.partition(" ")
+    if kind == "cut":
+        return content(name)[:60]
+    if kind == "gzip":
+        return gzip.compress(content(name))
+    if kind == "example":
+        return Path(EXAMPLES, name).read_bytes()
+    if kind == "mps":
+        return mps_models.text_of(name).encode()
+    return MODELS[name].text if kind == "model" else words.encode("latin-1")
 
 
 def driven(driver: str, *words: str, **others: str) -> Ended:
@@ -208,6 +226,54 @@ class Case(unittest.TestCase):
         with mock.patch("shutil.which", lambda name, **_: "/stored/" + name), \
                 mock.patch.dict(os.environ, environment or {}):
             return called(lambda: OfflineDriver(driver).main(list(words)))
+
+    def calls(self, table: str, kind: str) -> None:
+        """The rows of a table: `put` with a file and its content, or a call with its status and
+        what comes of it. DIR is the folder of the test, and `m` a model in it."""
+        for first, second, *rest in rows_of(table, kind):
+            if first == "put":
+                path = Path(self.spelled(second))
+                path.write_bytes(content(rest[0]))
+                path.chmod(0o755 if rest[0].startswith("#!") else 0o644)
+                continue
+            with self.subTest(call=first):
+                ended = self.of_words(self.spelled(first).split())
+                text = (ended.stdout + ended.stderr).replace(self.stub, "m")
+                self.assertEqual(ended.returncode, int(second), text)
+                for told in rest:
+                    self.comes(told, text.replace(self.folder, "DIR"))
+
+    def spelled(self, words: str) -> str:
+        return re.sub(r"(?<![^ =])m(?=[ .]|$)", self.stub, words.replace("DIR", self.folder))
+
+    def of_words(self, words: list[str]) -> Ended:
+        """A call of a table: a command, behind its environment; `replay` is a driver over the
+        stored run of a model."""
+        environment = {}
+        while re.match("[A-Za-z_-]+=", words[0]):
+            name, _, environment[name] = words.pop(0).partition("=")
+        if words[0] == "replay":
+            return self.replay(*words[1:], environment=environment)
+        words[0] = words[0].replace("SOLVER", FIRST)
+        return ran(*words, **environment)
+
+    def comes(self, told: str, text: str) -> None:
+        """Of a call: `code: N` of its .sol, `no: FILE`, `file: NAME CONTENT`, `all: TEXT`,
+        `not: TEXT`, or a part of what it prints."""
+        kind, _, rest = told.partition(": ")
+        if kind == "code":
+            self.assertEqual(self.sol().code, int(rest), text)
+        elif kind == "no":
+            self.assertFalse(os.path.exists(self.spelled(rest)), text)
+        elif kind == "file":
+            path, _, wanted = rest.partition(" ")
+            self.assertEqual(Path(self.spelled(path)).read_bytes(), content(wanted))
+        elif kind == "all":
+            self.assertEqual(text, rest)
+        elif kind == "not":
+            self.assertNotIn(rest, text)
+        else:
+            self.assertIn(told, text)
 
     def judge(self, driver: str, name: str) -> None:
         """The .sol of a model against what is wanted."""

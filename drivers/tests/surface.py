@@ -13,7 +13,7 @@ import sys
 import unittest
 from pathlib import Path
 
-from support import BIN, EXAMPLES, NEEDS_CLP, NEEDS_PROGRAM, TOP, Case, called, ran
+from support import BIN, EXAMPLES, NEEDS_CLP, NEEDS_PROGRAM, TOP, Case, called
 from models import MODELS
 
 from bridge_drivers import commands, front, solvers, words
@@ -91,13 +91,6 @@ class Options_(unittest.TestCase):
                 known.take([word + "=1"])
         self.assertEqual(near("veryfy", commands.WORDS), " did you mean `verify`?")
         self.assertEqual(near("gap", commands.WORDS), "")
-        for call, end in (("help gap", "no help on gap; did you mean `mipgap`?"),
-                          ("knap --foo", "unknown option --foo;"),
-                          ("foo x", "unknown command foo;"),
-                          ("stats", "stats takes MODEL [K];"),
-                          ("help refusal", "no help on refusal; did you mean `refusals`?")):
-            self.assertEqual(called(lambda: front.command(call.split())),
-                             (3, "", f"nl-bridge: {end} -h lists the commands\n"))
         for unknown in (["foo"], ["foo=1"], ["-foo"], ["timelim=1", "foo", "2"]):
             with self.assertRaisesRegex(BadOption, "^unknown option foo; -= lists the options$"):
                 Options().take(unknown)
@@ -232,33 +225,7 @@ class Statuses(Case):
 
     @NEEDS_PROGRAM
     def test_each(self) -> None:
-        """By calls that end so."""
-        self.put(MODELS["knap"].text)
-        with open(self.stub + ".txt", "wb") as f:
-            f.write(MODELS["nonlinear"].text)
-        self.put(b"certificate 1\nbound 0 16\nduals 0\n", ".certificate")
-        nl, bad, of = self.stub, self.stub + ".txt", self.stub + ".certificate"
-        for call, status in (
-                (["nl-bridge", "export", nl], 0), (["nl-bridge", "verify", nl, of], 1),
-                (["nl-bridge", "export", bad], 2), (["nl-bridge", "stats", bad], 2),
-                (["nl-bridge", "explain", bad], 2), (["bridge-cbc", bad, "solver=/bin/true"], 2),
-                (["nl-bridge", "export"], 3), (["nl-bridge", "exprt", nl], 3),
-                (["bridge-cbc", nl, "prove=2"], 3), (["bridge-certify", nl, "x=1"], 3),
-                (["bridge-certify", nl, "driver=x"], 3), (["bridge-cbc"], 3), (["nl-bridge"], 3),
-                (["nl-bridge", "verify", nl, "/nonexistent"], 4), (["bridge-cbc", "/no/m"], 4),
-                (["nl-bridge", "stats", "/no/m"], 4), (["bridge-certify", "/no/m.mps"], 4),
-                (["nl-bridge", "explain", nl, of, "--svg", "/no/x"], 5),
-                (["nl-bridge", "explain", nl, of, "--html", of, "overwrite=1"], 5),
-                *([(["bridge-certify", nl, "certificate=/no/x"], 5)] if HAS_CBC else []),
-                (["bridge-cbc", nl, "solver=/no/cbc"], 127),
-                (["bridge-cbc", nl, "solver=/bin/true"], 1),
-                (["bridge-certify", nl, "bridge=/no/bridge"], 127)):
-            ended = ran(*call)
-            self.assertEqual(ended.returncode, status, (call, ended))
-
-    @NEEDS_PROGRAM
-    def test_a_refusal_points_to_explain(self) -> None:
-        self.put(MODELS["nonlinear"].text)
-        self.assertEqual(ran("nl-bridge", "export", self.stub + ".nl").stderr,
-                         "refused line 12: nonlinear\nnl-bridge: `nl-bridge explain "
-                         f"{self.stub}.nl` says more\n")
+        """By calls that end so; a refusal points to `explain`, and a word that is not known to one
+        that is near."""
+        for kind in ("status", "refusal", "meant", *(["certify"] if HAS_CBC else [])):
+            self.calls("surface", kind)
