@@ -9,11 +9,11 @@ import subprocess
 import unittest
 import xml.etree.ElementTree as xml
 from fractions import Fraction as F
-from pathlib import Path
 
 import reports
-from support import EXAMPLES, NEEDS_PROGRAM, PROGRAM, Case
-from models import MODELS, nl
+from support import NEEDS_PROGRAM, PROGRAM, Case, content
+from models import MODELS, text_of as model_text
+from tables import rows_of
 
 from bridge_drivers import BridgeError, front, interface
 from bridge_drivers.bridge import Bridge
@@ -26,12 +26,8 @@ from bridge_drivers.printable import printable
 
 BROWSER = shutil.which("chromium") or shutil.which("google-chrome")
 SVG = "{http://www.w3.org/2000/svg}"
-# 12 a + 21 b + 33 c = 500; max y with y <= 10 x and y <= 7; max x + y with x - y <= 2
-PARITY = nl([("I", None, None)] * 3, [(500, 500, {0: 12, 1: 21, 2: 33})])
-FLOW = nl([("C", 0, 7), ("B", 0, 1)], [(None, 0, {0: 1, 1: -10})], [("max", 0, {0: 1})])
-ENDLESS = nl([("C", 0, None), ("I", 0, None)], [(None, 2, {0: 1, 1: -1})],
-             [("max", 0, {0: 1, 1: 1})])
-WIDE = nl([("B", 0, 1)] * 9, [], [("max", 0, {j: j + 1 for j in range(9)})])
+TEXTS = {name: model_text(cells) for name, *cells in rows_of("explains", "model")}
+FLOW, ENDLESS, WIDE = TEXTS["flow"], TEXTS["endless"], TEXTS["wide"]
 
 
 def text_of(lines: str) -> bytes:
@@ -40,7 +36,7 @@ def text_of(lines: str) -> bytes:
 
 
 def example(name: str) -> bytes:
-    return Path(EXAMPLES, name).read_bytes()
+    return content("example " + name)
 
 
 def full_tree(depth: int, claim: str) -> bytes:
@@ -89,63 +85,6 @@ class Texts(Case):
             self.assertRaises(front.BadWords, front.explained, front.read(words))
 
 
-KNAP, HOLDS = example("knap.nl"), example("knap.certificate")
-PLANE = "infeasible/plane 3 166/0 4/1 7/2 11/weights 2/0 1:3/1 -1/weights 2/0 -1:3/1 1"
-LEMMA = "bound 0 7/lemma 2 0/0 1/1 -7/split 1 0/duals 1/0 1/duals 0/duals 1/1 1"
-HELD = (
-    (KNAP, "a b z", HOLDS, 0, [
-        "m.certificate holds of m.nl: optimal 17",
-        "claim     a point has the objective 17, and none is better",
-        "point     a 1, b 1; the others 0",
-        "tree      7 nodes: 3 splits, 0 planes, 0 lemmas, 4 leaves (2 by weights); depth 3",
-        "uses      constraint 0 in 2 of 4 leaves"]),
-    (PARITY, "a b c", text_of(PLANE), 0, [
-        "m.certificate holds of m.nl: infeasible",
-        "tree      3 nodes: 0 splits, 1 plane, 0 lemmas, 2 leaves (2 by weights); depth 1",
-        "uses      planes and lemmas 2 times"]),
-    (FLOW, "y x", text_of(LEMMA), 0, ["m.certificate holds of m.nl: bound 7"]),
-    (ENDLESS, "", text_of("unbounded 0/point 0/ray 2/0 1/1 1"), 0, [
-        "claim     the objective goes above every number",
-        "point     all 0", "ray       x0 1, x1 1; the others 0"]))
-FAILING = (
-    (KNAP, "a b z", HOLDS.replace(b"optimal 0\npoint 2\n0 1\n1 1\n", b"bound 0 16\n"), 1, [
-        "m.certificate does not hold of m.nl: leaf 0 gap 17",
-        "claim     it claims: no point has more than 16",
-        "fails     leaf 0 (line 4): its duals show that no point of this part is better than 17, "
-        "and the claim needs 16: 1 (6.25 %) too high", "path      1. z at most 0 (line 3)"]),
-    (PARITY, "a b c", text_of(PLANE.replace("1 -1", "1 -2")), 1, [
-        "fails     leaf 0 (line 7): the numbers leave variable 0 (a) the cost 4, which asks for "
-        "its lower bound, and there is none",
-        "path      1. 4 a + 7 b + 11 c at most 166 (plane) (line 3)"]),
-    (PARITY, "a b c", text_of(PLANE.replace("166", "167")), 1, [
-        "fails     leaf 0 (line 7): its weights show -1/3, and contradict each other only above "
-        "0: about 0.3333333333 too little"]),
-    (FLOW, "y x", text_of(LEMMA.replace("lemma 2 0", "lemma 2 -1")), 1, [
-        "fails     leaf 0 (line 7): its duals show that no point of this part is better than 0, "
-        "and the lemma of line 3 needs -1: 1 (100.00 %) too high",
-        "path      1. in the proof of the lemma: y - 7 x at most -1 (line 3)",
-        "path      2. x at most 0 (line 6)"]),
-    (nl([("C", 0, None)] * 2, [(None, 2, {0: 3, 1: 5})], [("max", 0, {0: 1})]), "",
-     text_of(f"feasible 0/point 2/0 1e-36/1 1{'0' * 36}"), 1, [
-        "fails     a sum of constraint 0 at the point, or a side of it, passes 128 bits: numbers "
-        "with fewer digits are wanted"]),
-    *((ENDLESS, "", text_of(text), 1, ["fails     " + line]) for text, line in (
-        ("unbounded 0/point 0/ray 1/0 1",
-         "constraint 0 changes by 1 along the ray, past a side that it has"),
-        ("feasible 0/point 1/0 3", "constraint 0 is 3 at the point, and at most 2: 1 too much"),
-        ("feasible 0/point 1/0 -.5",
-         "variable 0 is -1/2 at the point, and at least 0: 0.5 too little"),
-        ("feasible 0/point 1/1 .25",
-         "variable 1 is 1/4 at the point, 0.25 from a whole number"),
-        ("unbounded 0/point 0/ray 0",
-         "along the ray the objective changes by 0, which is no better"))))
-REFUSED = (
-    (ENDLESS, "", b"certificate 1\nfeasible 0\npoint 1\n7 1\n", 2, [
-        "m.certificate line 4: index out of range", ">      4 7 1"]),
-    (ENDLESS, "", b"letters\n", 2, [
-        "m.certificate line 1: bad first line (it does not begin with `certificate 1`)"]))
-
-
 @NEEDS_PROGRAM
 class Explained(Case):
     """By the verdicts of the program."""
@@ -177,10 +116,14 @@ class Explained(Case):
     def test_lines(self) -> None:
         """Of each the model, names of variables, the certificate, the status, and lines in their
         order."""
-        for model, names, text, status, wanted in (*HELD, *FAILING, *REFUSED):
-            lines = self.explain(model, text, names)
+        for name, names, given, status, *wanted in rows_of("explains", "case"):
+            model = TEXTS[name] if name in TEXTS else example(name + ".nl")
+            text = "\n".join(["certificate 1", *given.split(" / "), ""]).encode()
+            if given.startswith(("example ", "no ")):
+                text = content(given.removeprefix("no "))
+            lines = self.explain(model, text, names.replace("-", ""))
             self.assertEqual((self.status, [line for line in lines if line in wanted]),
-                             (status, wanted), lines)
+                             (int(status), wanted), lines)
 
     def test_sums(self) -> None:
         """Their lines add up to what the program tells of a leaf, in one width, nothing cut."""
@@ -297,7 +240,3 @@ class Explained(Case):
                                  timeout=120, check=False)
             self.assertIn(f"<title>true {blocks} {boxes} true {width}</title>", ran.stdout,
                           ran.stderr)
-
-
-if __name__ == "__main__":
-    unittest.main()

@@ -48,30 +48,9 @@ class Processes(Case):
             time.sleep(0.05)
         return child
 
-    def test_packages_of_solvers(self) -> None:
-        """A solver that is not there is told with the Debian package that has it."""
-        self.put(MODELS["knap"].text)
-        bridge = self.script("bridge", "exit 3")
-        for driver, package in (("cbc", "coinor-cbc"), ("clp", "coinor-clp"),
-                                ("esolver", "qsopt-ex"), ("glpsol", "glpk-utils"),
-                                ("lp_solve", "lp-solve")):
-            ended = driven(driver, self.stub, PATH="/nonexistent", BRIDGE=bridge)
-            wanted = f"not found: apt install {package} (Debian) or give solver=PATH\n"
-            self.assertEqual((ended.returncode, ended.stderr),
-                             (127, f"bridge-{driver}: {driver} was {wanted}"))
-
     def test_programs_that_fail_or_are_not_there(self) -> None:
-        self.put(MODELS["knap"].text)
-        for words, code, told in (
-                ([f"solver={self.script('cbc', 'echo out of paper >&2; exit 7')}"], 506,
-                 "CBC gave no usable answer"),
-                ([f"solver={self.script('cbc2', 'kill -9 $$')}"], 506, "CBC gave no usable answer"),
-                (["solver=/nonexistent/cbc"], 503,
-                 "/nonexistent/cbc was not found: install it or give solver=PATH"),
-                (["solver=/bin/true", "bridge=/nonexistent/b"], 503, "could not be run")):
-            ended = driven("cbc", self.stub, "-AMPL", *words)
-            self.assertEqual((ended.returncode, self.sol().code), (0, code), ended.stderr)
-            self.assertIn(told, ended.stderr)
+        """A solver that is not there is told with the Debian package that has it."""
+        self.calls("processes", "missing")
 
     def test_time_limit_kills(self) -> None:
         """Also what the solver started, which holds its output open."""
