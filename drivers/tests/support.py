@@ -227,10 +227,15 @@ class Case(unittest.TestCase):
                 mock.patch.dict(os.environ, environment or {}):
             return called(lambda: OfflineDriver(driver).main(list(words)))
 
-    def calls(self, table: str, kind: str) -> None:
-        """The rows of a table: `put` with a file and its content, or a call with its status and
-        what comes of it. DIR is the folder of the test, and `m` a model in it."""
-        for first, second, *rest in rows_of(table, kind):
+    def calls(self, table: str, kind: str, driver: str = FIRST) -> None:
+        """The rows of a table: `put` with a file and its content, `remove`, or a call with its
+        status and what comes of it. DIR is the folder of the test, `m` a model in it, DRIVER
+        a driver."""
+        for row in rows_of(table, kind):
+            first, second, *rest = (cell.replace("DRIVER", driver) for cell in row)
+            if first == "remove":
+                os.unlink(self.spelled(second))
+                continue
             if first == "put":
                 path = Path(self.spelled(second))
                 path.write_bytes(content(rest[0]))
@@ -254,17 +259,18 @@ class Case(unittest.TestCase):
             name, _, environment[name] = words.pop(0).partition("=")
         if words[0] == "replay":
             return self.replay(*words[1:], environment=environment)
-        words[0] = words[0].replace("SOLVER", FIRST)
         return ran(*words, **environment)
 
     def comes(self, told: str, text: str) -> None:
-        """Of a call: `code: N` of its .sol, `no: FILE`, `file: NAME CONTENT`, `all: TEXT`,
-        `not: TEXT`, or a part of what it prints."""
+        """Of a call: `code: N` of its .sol, `no: FILE`, `there: FILE`, `file: NAME CONTENT`,
+        `all: TEXT`, `not: TEXT`, or a part of what it prints."""
         kind, _, rest = told.partition(": ")
         if kind == "code":
             self.assertEqual(self.sol().code, int(rest), text)
         elif kind == "no":
             self.assertFalse(os.path.exists(self.spelled(rest)), text)
+        elif kind == "there":
+            self.assertTrue(os.path.exists(self.spelled(rest)), text)
         elif kind == "file":
             path, _, wanted = rest.partition(" ")
             self.assertEqual(Path(self.spelled(path)).read_bytes(), content(wanted))
