@@ -48,6 +48,7 @@ class Importing(Case):
         self.assertEqual([bounds.column(j) for j in range(6)],
                          ["c", "'MARKER'", "b", "v", "i", "low"])
 
+
 class Figures(unittest.TestCase):
     def test_lines(self) -> None:
         figures = stats.figures_of(Program(EXPORTED))

@@ -9,7 +9,7 @@ import shutil
 import unittest
 from fractions import Fraction as F
 
-from support import NEEDS_CLP, NEEDS_MPS, PROGRAM, Case, content, driven, ran
+from support import NEEDS_CLP, NEEDS_MPS, PROGRAM, Case, content, driven
 from tables import rows_of
 
 from bridge_drivers import kinds, mps_file, solvers
@@ -239,21 +239,7 @@ class Driven(Case):
 
     def test_certificates(self) -> None:
         """Beside the model, for each of its ends; the model itself is never written over."""
-        for end in (".mps", ".mps.gz"):
-            text = MODELS["free"].text.encode()
-            self.put(gzip.compress(text) if end.endswith("gz") else text, end)
-            ended = ran("bridge-certify", self.stub + end, f"driver={SOLVERS[0]}")
-            self.assertEqual(ended.stdout.split("\n")[-2], "optimal -3/2", ended.stderr)
-            ended = ran("nl-bridge", "verify", self.stub + end, self.stub + ".certificate")
-            self.assertEqual(ended[:2], (0, "optimal -3/2\n"))
-            os.unlink(self.stub + ".certificate")
-            told = self.told(SOLVERS[0], MODELS["free"].text, "overwrite=1",
-                             f"certificate={self.stub}{end}", end=end)
-            lines = "\n".join(told["lines"])
-            self.assertIn("the certificate is not kept: ", lines)
-            self.assertIn("it is what this command reads", lines)
-            self.assertEqual("what is judged is the text that stub.mps.gz unpacks to" in lines,
-                             end == ".mps.gz")
+        self.calls("files", "certificate")
 
 
 @NEEDS_MPS
@@ -262,19 +248,6 @@ class Front(Case):
 
     def test_calls(self) -> None:
         self.calls("files", "front")
-
-    def test_json(self) -> None:
-        self.put(FIXED_TEXT.encode(), ".mps")
-        self.put(gzip.compress(FIXED_TEXT.encode()), ".mps.gz")
-        self.put(CERTIFICATE, ".certificate")
-        for call, place, wanted in (
-                ("verify .mps .certificate", ("value", "exact"), "-23/2"),
-                ("stats .mps.gz", ("stats", "columns"), 3), ("stats .certificate", ("status",), 2)):
-            words = [self.stub + word if word.startswith(".") else word for word in call.split()]
-            told = found = json.loads(ran("nl-bridge", *words, "json=1").stdout)
-            for key in place:
-                found = found[key]
-            self.assertEqual((found, faults(told, schema())), (wanted, []))
 
 
 @unittest.skipUnless(PROGRAM and shutil.which("sh"), "no bridge, or no shell")

@@ -109,6 +109,7 @@ class Processes(Case):
         child.communicate(timeout=60)
         self.assertEqual((child.returncode, self.sol().code), (0, 506))
 
+
 @NEEDS_PROGRAM
 @unittest.skipUnless(shutil.which("minizinc") and shutil.which("cbc"), "no minizinc, or no cbc")
 class MiniZinc(Case):

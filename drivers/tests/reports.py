@@ -11,7 +11,7 @@ from typing import Any
 from support import DRIVERS, EXAMPLES, HAS_CLP, NEEDS_PROGRAM, PROGRAM, Case, ran
 from models import MODELS
 
-from bridge_drivers import VERSION, report
+from bridge_drivers import VERSION, report, solvers
 from bridge_drivers.built import built
 from fractions import Fraction as F
 
@@ -141,15 +141,6 @@ class Objects(Case):
                                  (0, "optimal", self.stub + ".new"))
                 self.assertEqual(self.sol().message, told["lines"])
 
+    @unittest.skipUnless(solvers.load("cbc").place(), "no cbc")
     def test_failures(self) -> None:
-        self.put(MODELS["nonlinear"].text)
-        for command in ("bridge-cbc", "bridge-certify"):
-            for words, status, code in (((), 2, 501), (("speed=9",), 3, 502)):
-                told = self.call(command, self.stub, "json=1", *words)
-                if told["code"] == 503:
-                    continue
-                self.assertEqual((told["status"], told["code"], told["claim"]),
-                                 (status, code, None))
-                self.assertTrue(self.err.rstrip().endswith(told["text"]), self.err)
-        told = self.call("bridge-certify", self.stub, "json=1", "certificate=-")
-        self.assertEqual(told["status"], 3)
+        self.calls("reports", "failure")

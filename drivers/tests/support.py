@@ -6,6 +6,7 @@ from __future__ import annotations
 import contextlib
 import gzip
 import io
+import json
 import os
 import re
 import shutil
@@ -80,11 +81,13 @@ def called(run: Callable[[], int]) -> Ended:
     return Ended(int(status), out.getvalue(), err.getvalue())
 
 
-def ran(command: str, *words: str, place: str = BIN, **environment: str) -> Ended:
-    """How a command as a process of its own ended."""
-    ended = subprocess.run([sys.executable, os.path.join(place, command), *words], text=True,
-                           stdin=subprocess.DEVNULL, capture_output=True,
-                           env={**os.environ, **environment})
+def ran(command: str, *words: str, place: str = BIN, given: str = os.devnull, folder: str = ".",
+        **environment: str) -> Ended:
+    """How a command as a process of its own ended; a file is given to it."""
+    with open(given, "rb") as stream:
+        ended = subprocess.run([sys.executable, os.path.join(place, command), *words], text=True,
+                               stdin=stream, capture_output=True, cwd=folder,
+                               env={**os.environ, **environment})
     return Ended(ended.returncode, ended.stdout, ended.stderr)
 
 
@@ -245,6 +248,8 @@ class Case(unittest.TestCase):
                 ended = self.of_words(self.spelled(first).split())
                 text = (ended.stdout + ended.stderr).replace(self.stub, "m")
                 self.assertEqual(ended.returncode, int(second), text)
+                if "json=1" in first:
+                    self.is_report(ended)
                 for told in rest:
                     self.comes(told, text.replace(self.folder, "DIR"))
 
@@ -259,7 +264,16 @@ class Case(unittest.TestCase):
             name, _, environment[name] = words.pop(0).partition("=")
         if words[0] == "replay":
             return self.replay(*words[1:], environment=environment)
-        return ran(*words, **environment)
+        given = words.pop() if "<" in words else os.devnull
+        return ran(*(word for word in words if word != "<"), given=given, folder=self.folder,
+                   **environment)
+
+    def is_report(self, ended: Ended) -> None:
+        """What is printed is as its schema wants it, with the status."""
+        import reports
+        found = json.loads(ended.stdout)
+        self.assertEqual((found["status"], reports.faults(found, reports.schema())),
+                         (ended.returncode, []))
 
     def comes(self, told: str, text: str) -> None:
         """Of a call: `code: N` of its .sol, `no: FILE`, `there: FILE`, `file: NAME CONTENT`,

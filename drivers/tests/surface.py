@@ -9,11 +9,10 @@ import lzma
 import os
 import re
 import subprocess
-import sys
 import unittest
 from pathlib import Path
 
-from support import BIN, EXAMPLES, NEEDS_CLP, NEEDS_PROGRAM, TOP, Case, called
+from support import HAS_CLP, NEEDS_PROGRAM, TOP, Case, called
 from models import MODELS
 
 from bridge_drivers import commands, front, solvers, words
@@ -174,46 +173,13 @@ class Models(Case):
                                  (b"NAME\n", True, self.stub))
 
     @NEEDS_PROGRAM
-    def test_damaged(self) -> None:
-        """A packed file that ends too soon, of each command."""
-        self.put(gzip.compress(MODELS["knap"].text)[:40], ".nl.gz")
-        for given in (["export"], ["stats"], ["explain"], ["explain", "export"]):
-            status, out, err = called(lambda: front.command([*given, self.stub + ".nl.gz"]))
-            self.assertEqual(status, 2, given)
-            self.assertIn(".nl.gz: the packed file ends too soon or is damaged", out + err)
-
-    @NEEDS_PROGRAM
     def test_each_command(self) -> None:
-        """Of one model in each form each command says the same."""
-        self.put(Path(EXAMPLES, "knap.certificate").read_bytes(), ".certificate")
-        data = Path(EXAMPLES, "knap.nl").read_bytes()
-        self.put(data)
-        self.put(gzip.compress(data), ".nl.gz")
-        for word, end, line in (("verify", [self.stub + ".certificate"], "optimal 17"),
-                                ("stats", [], "sense         maximise"), ("export", [], "NAME nl"),
-                                ("explain", [], "X: is not refused"), ("nl", [], "g3 1 1 0")):
-            for model, given in ((self.stub, b""), (self.stub + ".nl", b""), ("-", data),
-                                 (self.stub + ".nl.gz", b""), ("/dev/stdin", gzip.compress(data))):
-                ran = subprocess.run([sys.executable, os.path.join(BIN, "nl-bridge"), word, model,
-                                      *end], input=given, capture_output=True, check=False)
-                told = ran.stdout.decode().replace(self.stub + ".nl: ", "X: ").replace(
-                    model + ": ", "X: ")
-                self.assertEqual((ran.returncode, f"\n{line}" in "\n" + told), (0, True),
-                                 (word, model, told, ran.stderr))
-
-    @NEEDS_PROGRAM
-    @NEEDS_CLP
-    @unittest.skipUnless(HAS_CBC, "no cbc")
-    def test_a_driver(self) -> None:
-        """Of standard input, packed; what is written beside it is called stdin."""
-        for driver, end in (("certify", "certificate"), ("cbc", "sol")):
-            ran = subprocess.run([sys.executable, os.path.join(BIN, "bridge-" + driver), "-",
-                                  *(["-s"] if driver == "cbc" else [])], cwd=self.folder,
-                                 input=gzip.compress(MODELS["knap"].text), capture_output=True,
-                                 check=False)
-            self.assertEqual(ran.returncode, 0, ran.stderr)
-            self.assertIn(b"what is judged is the text that - unpacks to\n", ran.stdout)
-            self.assertTrue(os.path.exists(os.path.join(self.folder, "stdin." + end)))
+        """Of one model in each form each says the same; of one that is damaged, too; a driver on
+        standard input, what is written beside it being called stdin."""
+        self.calls("surface", "form")
+        self.calls("surface", "damaged")
+        if HAS_CBC and HAS_CLP:
+            self.calls("surface", "stdin")
 
 
 class Statuses(Case):

@@ -7,21 +7,14 @@ import os
 from typing import Dict
 from unittest import mock
 
-from support import NEEDS_PROGRAM, PROGRAM, Case, called
+from support import NEEDS_PROGRAM, Case
 from models import MODELS
 
-from bridge_drivers import front, solvers
-from bridge_drivers.bridge import Bridge
+from bridge_drivers import solvers
 from bridge_drivers.files import Places, own_folder
 
 OLDER = b"letters\n"
 Files = Dict[str, bytes]
-
-
-def quietly(*words: str) -> str:
-    """What a call of nl-bridge prints, on both streams."""
-    ended = called(lambda: front.command(words))
-    return ended.stdout + ended.stderr
 
 
 class Rule(Case):
@@ -126,20 +119,4 @@ class Commands(Case):
 
     def test_import(self) -> None:
         """All three files or none; onto itself never."""
-        self.put(MODELS["product"].text)
-        bridge, mps = Bridge(PROGRAM, lambda argv: None), self.stub + ".mps"
-        self.put(bridge.text("export", self.stub + ".nl"), ".mps")
-        for end in (".nl", ".row", ".col"):
-            target = os.path.join(self.folder, "new" + end[1:])
-            with open(target + end, "wb") as f:
-                f.write(OLDER)
-            before = self.tree()
-            self.assertIn(f"{target}{end}: it stands there", quietly("import", mps, target + ".nl"))
-            self.assertEqual(self.tree(), before)
-            self.assertIn("is written", quietly("overwrite=1", "import", mps, target))
-        os.rename(mps, self.stub + ".nl")
-        before = self.tree()
-        for words in ([], ["overwrite=1"]):
-            told = quietly("import", self.stub + ".nl", self.stub, *words)
-            self.assertIn("it is what this command reads", told)
-            self.assertEqual(self.tree(), before)
+        self.calls("untouched", "import")
