@@ -11,13 +11,12 @@ from __future__ import annotations
 import sys
 from collections.abc import Iterator, Sequence
 
-import making
 import texts
 from meaning import is_same_in_groups
 from program import Program
 from texts import Case
 
-TABLES = ("check", "export", "fixed", "import", "mps", "names", "nl", "prove", "refusals", "returned", "sol", "verify", "verify_mps")
+TABLES = ("check", "export", "fixed", "import", "make", "mps", "names", "nl", "prove", "refusals", "returned", "sol", "verify", "verify_mps")
 
 
 def output(program: Program, content: bytes, command: str, *words: str) -> bytes | None:
@@ -71,7 +70,7 @@ def check(program: Program, case: Case) -> bool:
 
 def examples(commands: Sequence[str]) -> Iterator[Case]:
     """The examples of all tables, of these commands alone where there are some."""
-    for case in [*(case for name in TABLES for case in texts.cases(name)), *making.cases()]:
+    for case in (case for name in TABLES for case in texts.cases(name)):
         if not commands or case.words[0] in commands:
             yield case
 
