@@ -27,37 +27,39 @@ from bridge_drivers.printable import printable
 BROWSER = shutil.which("chromium") or shutil.which("google-chrome")
 SVG = "{http://www.w3.org/2000/svg}"
 TEXTS = {name: model_text(cells) for name, *cells in rows_of("explains", "model")}
-FLOW, ENDLESS, WIDE = TEXTS["flow"], TEXTS["endless"], TEXTS["wide"]
 
 
-def text_of(lines: str) -> bytes:
-    """The lines of a certificate, which stand here between `/`; a fraction has `:`."""
-    return "\n".join(["certificate 1", *lines.split("/")]).replace(":", "/").encode() + b"\n"
+def model(name: str) -> bytes:
+    """Of the table, of the small ones, or an example."""
+    if name in TEXTS:
+        return TEXTS[name]
+    return MODELS[name].text if name == "diet" else content(f"example {name}.nl")
 
 
-def example(name: str) -> bytes:
-    return content("example " + name)
+def certificate(words: str) -> bytes:
+    """Its lines behind the first, with ` / ` between; an example; `no TEXT`, which is none; or
+    `tree DEPTH CLAIM`."""
+    kind, _, rest = words.partition(" ")
+    if kind in ("example", "no"):
+        return content(words.removeprefix("no "))
+    if kind == "tree":
+        depth, claim = rest.split(" ", 1)
+        return full_tree(int(depth), claim)
+    return "\n".join(["certificate 1", *words.split(" / "), ""]).encode()
 
 
 def full_tree(depth: int, claim: str) -> bytes:
     """All splits of `depth` binary variables, with leaves without numbers."""
-    lines = [claim]
-
-    def below(level: int) -> None:
-        if level == depth:
-            lines.append("duals 0")
-            return
-        lines.append(f"split {level} 0")
-        below(level + 1)
-        below(level + 1)
-    below(0)
-    return text_of("/".join(lines))
+    def below(level: int) -> list[str]:
+        return ["duals 0"] if level == depth else [f"split {level} 0", *2 * below(level + 1)]
+    return certificate(" / ".join([claim, *below(0)]))
 
 
 class Texts(Case):
     def test_reading(self) -> None:
-        self.put(text_of("optimal 0/point 1/1 1/lemma 2 0/0 1/1 -7/split 1 0/duals 1/0 1/duals 0/"
-                         "plane 1 2/1 3/weights 1/0 .5/duals 1/1 1"), ".certificate")
+        self.put(certificate("optimal 0 / point 1 / 1 1 / lemma 2 0 / 0 1 / 1 -7 / split 1 0 / "
+                             "duals 1 / 0 1 / duals 0 / plane 1 2 / 1 3 / weights 1 / 0 .5 / "
+                             "duals 1 / 1 1"), ".certificate")
         c = reading.read(self.stub + ".certificate")
         self.assertEqual((c.claim, c.objective, c.point, c.ray), ("optimal", 0, {1: F(1)}, None))
         self.assertEqual([(n.kind, n.line, n.parent, n.part, n.depth, n.leaf, n.size, n.leaves)
@@ -71,7 +73,7 @@ class Texts(Case):
         self.assertEqual((c.nodes[5].pairs, c.place_of_leaf(3)), ([(0, ".5")], 6))
 
     def test_what_ends_too_soon(self) -> None:
-        self.put(text_of("bound 0 1/split 0 0/duals 0"), ".certificate")
+        self.put(certificate("bound 0 1 / split 0 0 / duals 0"), ".certificate")
         self.assertRaises(ValueError, reading.read, self.stub + ".certificate")
 
     def test_words_of_the_call(self) -> None:
@@ -89,9 +91,9 @@ class Texts(Case):
 class Explained(Case):
     """By the verdicts of the program."""
 
-    def explain(self, model: bytes, certificate: bytes, names: str = "") -> list[str]:
-        self.put(model)
-        self.put(certificate, ".certificate")
+    def explain(self, name: str, words: str, names: str = "") -> list[str]:
+        self.put(model(name))
+        self.put(certificate(words), ".certificate")
         self.put(names.replace(" ", "\n").encode(), ".col")
         try:
             told = interface.explain(self.stub, self.stub + ".certificate")
@@ -103,9 +105,9 @@ class Explained(Case):
         more = told.refusal["more"] if told.refusal else []
         return "\n".join([*told.lines, *more]).replace(self.stub, "m").split("\n")
 
-    def object(self, model: bytes, certificate: bytes) -> Explaining:
-        self.put(model)
-        self.put(certificate, ".certificate")
+    def object(self, name: str = "knap", words: str = "example knap.certificate") -> Explaining:
+        self.put(model(name))
+        self.put(certificate(words), ".certificate")
         bridge = Bridge(PROGRAM, lambda argv: None)
         files = Files(self.stub + ".nl", self.stub + ".certificate")
         reply = bridge.call("verify", *files[:2])
@@ -117,27 +119,14 @@ class Explained(Case):
         """Of each the model, names of variables, the certificate, the status, and lines in their
         order."""
         for name, names, given, status, *wanted in rows_of("explains", "case"):
-            model = TEXTS[name] if name in TEXTS else example(name + ".nl")
-            text = "\n".join(["certificate 1", *given.split(" / "), ""]).encode()
-            if given.startswith(("example ", "no ")):
-                text = content(given.removeprefix("no "))
-            lines = self.explain(model, text, names.replace("-", ""))
+            lines = self.explain(name, given, names.replace("-", ""))
             self.assertEqual((self.status, [line for line in lines if line in wanted]),
                              (int(status), wanted), lines)
 
     def test_sums(self) -> None:
         """Their lines add up to what the program tells of a leaf, in one width, nothing cut."""
-        knap = example("knap.nl")
-        for model, text in (
-                (knap, example("knap.certificate")), (knap, full_tree(3, "bound 0 -1")),
-                (knap, text_of("bound 0 16/duals 1/0 1.5")),
-                (knap, text_of("bound 0 17/lemma 3 17/0 10/1 7/2 12/split 2 0/duals 0/split 0 0/"
-                               "split 1 0/duals 0/weights 1/0 -1/weights 1/0 -1/duals 1/1 1")),
-                (knap, text_of("bound 0 18/plane 3 1/0 1/1 1/2 1/duals 2/0 1/1 5/duals 1/0 1.75")),
-                (FLOW, text_of("bound 0 -3/split 1 0/duals 1/0 1/duals 1/0 .5")),
-                (MODELS["diet"].text, text_of("bound 0 9/duals 2/0 .25/1 .125")),
-                (WIDE, full_tree(5, "bound 0 9"))):
-            told = self.object(model, text)
+        for name, given in rows_of("explains", "sum"):
+            told = self.object(name, given)
             assert told.bounds is not None
             found = re.fullmatch(r"leaf (\d+) gap (\S+)", told.verdict)
             if found is not None:
@@ -157,16 +146,15 @@ class Explained(Case):
         """A plane on it, whatever it is multiplied by, and turned."""
         for factor, low, high in ((1, "objective \u2264 16", "objective \u2265 17"),
                                   (-1, "objective \u2265 -16", "objective \u2264 -17")):
-            pairs = "/".join(f"{j} {factor * a}" for j, a in enumerate((10, 7, 12)))
-            told = self.object(example("knap.nl"),
-                               text_of(f"bound 0 17/plane 3 16/{pairs}/duals 0/duals 0"))
+            pairs = " / ".join(f"{j} {factor * a}" for j, a in enumerate((10, 7, 12)))
+            told = self.object("knap", f"bound 0 17 / plane 3 16 / {pairs} / duals 0 / duals 0")
             parts = [part.part for part in told.tree().parts()]
             self.assertEqual(parts, ["all points", low, high])
 
     # pictures ------------------------------------------------------------------------
 
     def test_picture(self) -> None:
-        told = self.object(example("knap.nl"), example("knap.certificate"))
+        told = self.object()
         root = xml.fromstring(told.picture())
         groups = root.findall(SVG + "g")
         self.assertEqual([g.get("class") for g in groups],
@@ -178,7 +166,7 @@ class Explained(Case):
         self.assertEqual(len(root.findall(SVG + "path")), 6 + 1)
 
     def test_without_a_tree(self) -> None:
-        told = self.object(ENDLESS, text_of("feasible 0/point 0"))
+        told = self.object("endless", "feasible 0 / point 0")
         texts = [t.text for t in xml.fromstring(told.picture()).iter(SVG + "text")]
         self.assertEqual(texts, ["the certificate has no tree"])
         self.assertNotIn("Its tree", told.page())
@@ -186,7 +174,7 @@ class Explained(Case):
     def test_folded(self) -> None:
         """A large tree is folded to a depth, but for the path to the leaf that fails."""
         for claim, fails in (("bound 0 45", False), ("bound 0 40", True)):
-            told = self.object(WIDE, full_tree(9, claim))
+            told = self.object("wide", f"tree 9 {claim}")
             picture = Picture(told.wording, told.fails, told.holds)
             depths = [told.certificate.nodes[d.place].depth for d in picture.drawn]
             root = xml.fromstring(picture.svg(True))
@@ -202,14 +190,14 @@ class Explained(Case):
             self.assertIn("+ 30 nodes, 16 leaves", [t.text for t in root.iter(SVG + "text")])
 
     def test_all_that_do_not_close_are_marked(self) -> None:
-        told = self.object(example("knap.nl"), full_tree(3, "bound 0 10"))
+        told = self.object("knap", "tree 3 bound 0 10")
         picture = Picture(told.wording, told.fails, told.holds)
         self.assertEqual([picture.closes(at) for at, node in enumerate(told.certificate.nodes)
                           if node.is_leaf()], [True, False, True, False, True, False, False, False])
 
     def test_names_are_escaped(self) -> None:
         self.put(b"<b>&\n\x1b[31mb\nz\n", ".col")
-        told = self.object(example("knap.nl"), example("knap.certificate"))
+        told = self.object()
         for text in (told.page(), told.picture()):
             self.assertNotIn("<b>", text)
             self.assertEqual(printable(text), text)
@@ -220,7 +208,7 @@ class Explained(Case):
     def test_in_a_browser(self) -> None:
         """In two widths: nothing but the tree is wider than the page, no sum is cut off, nothing is
         fetched, and the tree is drawn."""
-        told = self.object(WIDE, full_tree(9, "bound 0 40"))
+        told = self.object("wide", "tree 9 bound 0 40")
         page = told.page()
         self.assertNotRegex(page, r"""(?i)<script|<link|<img|url\(|src=|href=""")
         probe = ("<script>document.title = [document.documentElement.scrollWidth <= innerWidth, "
