@@ -69,16 +69,8 @@ class Texts(Case):
                          [4, 2, 2, 1, 0])
 
     def test_refusals(self) -> None:
-        def line(status: int, told: str) -> str:
-            return Refused("return", Reply(status, b"", told)).line()
-        self.assertEqual(line(2, "refused line 12: nonlinear"),
-                         "refused line 12: nonlinear (the model is not linear there)")
-        self.assertEqual(line(2, "refused line 9: refused opcode 39"),
-                         "refused line 9: refused opcode 39 (an operator that is not linear)")
-        self.assertEqual(line(3, "bad words"),
-                         "this bridge does not know the command `return` (bad words)")
-        self.assertEqual(line(6, ""), "want of memory")
-        self.assertEqual(line(-9, ""), "`bridge return` was stopped by signal 9")
+        for status, told, line in rows_of("units", "refusal"):
+            self.assertEqual(Refused("return", Reply(int(status), b"", told)).line(), line)
 
     def test_bare_sol(self) -> None:
         self.put(MODELS["knap"].text)
@@ -121,11 +113,8 @@ class Files(Case):
                          ["b", "0 0.5 0.30000000000000004", "S4 1 rc", "0 2", ""])
 
     def test_shortest_numbers(self) -> None:
-        for old, new, count in (
-                (b"0 0.90000000000000002\nn6.4000000000000004\n", b"0 0.9\nn6.4\n", 2),
-                (b"1 -0.10000000000000001\n", b"1 -0.1\n", 1),
-                (b"1 9.0000000000000002e-06\n", b"1 9e-06\n", 1)):
-            self.assertEqual(nl.shortest_numbers(old), (new, count))
+        for old, new, count in rows_of("units", "shortest"):
+            self.assertEqual(nl.shortest_numbers(old.encode()), (new.encode(), int(count)))
         same = b"0 0.123456789 1.5\n3 123456789012345678\nx0.90000000000000002\n"
         self.assertEqual(nl.shortest_numbers(same), (same, 0))
 
