@@ -6,7 +6,7 @@ import copy
 import os
 
 from support import NEEDS_PROGRAM, Case, content
-from bridge_drivers import VERSION, showing, solvers
+from bridge_drivers import showing, solvers
 from models import MODELS
 from tables import rows_of
 import stored
@@ -14,20 +14,16 @@ import stored
 
 @NEEDS_PROGRAM
 class Words(Case):
-    def test_files(self) -> None:
-        """Nothing is written without asking, and what stands there stays."""
-        self.calls("manners", "words")
+    def test_words(self) -> None:
+        """Nothing is written without asking, and what stands there stays; options of the call come
+        behind those of the environment."""
+        for kind in ("words", "shown", "environment", "kept"):
+            self.calls("manners", kind)
+        for driver in solvers.NAMES:
+            self.calls("manners", "version", driver)
 
-    def test_wantsol(self) -> None:
+    def test_a_screen(self) -> None:
         """Without asking, at most a screen of values."""
-        self.put(MODELS["product"].text)
-        for words, shown in ((["wantsol=7"], ["x0 2", "x1 4", "duals", "c0 1", "c1 0"]),
-                             ([], ["x0 2", "x1 4"]), (["wantsol=2"], ["x0 2", "x1 4"]),
-                             (["wantsol=0"], []), (["-s"], []), (["-AMPL"], [])):
-            lines = self.replay("cbc", "product", self.stub, "-e", *words).stdout.splitlines()
-            at = lines.index("optimal 19") + 1 if "optimal 19" in lines else len(lines)
-            self.assertEqual(lines[at:], shown, words)
-        self.assertEqual(self.replay("cbc", "product", self.stub, "wantsol=8", "-e").stdout, "")
         self.put(MODELS["thirds"].text)
         ended = self.replay("esolver", "thirds", self.stub, "wantsol=14", "-e")
         self.assertEqual([line.split()[0] for line in ended.stdout.splitlines()],
@@ -35,36 +31,6 @@ class Words(Case):
         told = list(showing.screen([(f"x{j}", str(j % 2)) for j in range(100)]))
         self.assertEqual((len(told), told[0]), (showing.SCREEN + 1, "x1 1"))
         self.assertIn("(80 values more: wantsol=2 prints all", told[-1])
-
-    def test_environment(self) -> None:
-        """Options of the call come last."""
-        self.put(MODELS["second"].text)
-        for name in ("bridge_cbc_options", "bridge-cbc_options"):
-            ended = self.replay("cbc", "second", self.stub, "-AMPL", "objno=2",
-                                environment={name: "objno 7 check = 0"})
-            self.assertEqual(ended.stdout, f"bridge-cbc {VERSION}: objno=7 check=0 objno=2\n")
-            sol = self.sol()
-            self.assertEqual((sol.objno, sol.code, sol.values), (1, 0, [7]))
-            self.assertEqual(sol.message[-1], "not proved: check=0")
-
-    def test_versions(self) -> None:
-        for driver in solvers.NAMES:
-            self.assertRegex(self.replay(driver, "", "-v").stdout, r"^bridge-\w+ \d+\.\d+\.\d+ \(")
-            ended = self.replay(driver, "")
-            self.assertEqual((ended.returncode, ended.stdout), (3, ""))
-            self.assertIn(f"bridge_{driver}_options", ended.stderr)
-
-    def test_keep_and_steps(self) -> None:
-        self.put(MODELS["knap"].text)
-        kept = os.path.join(self.folder, "kept")
-        ended = self.replay("cbc", "knap", self.stub, "-AMPL", "outlev=2", "keep=" + kept)
-        self.assertIn(" export ", ended.stdout)
-        self.assertRegex(ended.stdout, r"seconds: export .*; driver's own processor time \d")
-        for name in ("model.mps", "coin.mps", "bridge.txt", "bridge.sol", "answer.bin"):
-            self.assertTrue(os.path.exists(os.path.join(kept, name)), name)
-        for name, own in (("bridge.sol", ".sol"), ("text.nl", ".nl")):
-            with open(os.path.join(kept, name)) as a, open(self.stub + own) as b:
-                self.assertEqual(a.read(), b.read())
 
 
 @NEEDS_PROGRAM

@@ -9,6 +9,7 @@ import io
 import json
 import os
 import re
+import shlex
 import shutil
 import subprocess
 import sys
@@ -26,7 +27,7 @@ TOP = os.path.join(DRIVERS, "..")
 EXAMPLES = os.path.join(TOP, "packaging", "examples")
 sys.path[:0] = [os.path.join(HERE, ".."), HERE]
 
-from bridge_drivers import solvers                      # noqa: E402
+from bridge_drivers import VERSION, solvers             # noqa: E402
 from bridge_drivers.bridge import BESIDE, Bridge, Reply, find   # noqa: E402
 from bridge_drivers.certify import clp                  # noqa: E402
 from bridge_drivers.driver import Driver                # noqa: E402
@@ -235,7 +236,8 @@ class Case(unittest.TestCase):
         status and what comes of it. DIR is the folder of the test, `m` a model in it, DRIVER
         a driver."""
         for row in rows_of(table, kind):
-            first, second, *rest = (cell.replace("DRIVER", driver) for cell in row)
+            first, second, *rest = (cell.replace("DRIVER", driver).replace("VERSION", VERSION)
+                                    for cell in row)
             if first == "remove":
                 os.unlink(self.spelled(second))
                 continue
@@ -245,7 +247,7 @@ class Case(unittest.TestCase):
                 path.chmod(0o755 if rest[0].startswith("#!") else 0o644)
                 continue
             with self.subTest(call=first):
-                ended = self.of_words(self.spelled(first).split())
+                ended = self.of_words(shlex.split(self.spelled(first)))
                 text = (ended.stdout + ended.stderr).replace(self.stub, "m")
                 self.assertEqual(ended.returncode, int(second), text)
                 if "json=1" in first:
@@ -277,7 +279,8 @@ class Case(unittest.TestCase):
 
     def comes(self, told: str, text: str) -> None:
         """Of a call: `code: N` of its .sol, `no: FILE`, `there: FILE`, `file: NAME CONTENT`,
-        `all: TEXT`, `not: TEXT`, or a part of what it prints."""
+        `in: FILE TEXT`, `same: FILE FILE`, `all: TEXT`, `ends: TEXT`, `not: TEXT`, or a part of
+        what it prints."""
         kind, _, rest = told.partition(": ")
         if kind == "code":
             self.assertEqual(self.sol().code, int(rest), text)
@@ -288,8 +291,16 @@ class Case(unittest.TestCase):
         elif kind == "file":
             path, _, wanted = rest.partition(" ")
             self.assertEqual(Path(self.spelled(path)).read_bytes(), content(wanted))
+        elif kind == "in":
+            path, _, wanted = rest.partition(" ")
+            self.assertIn(wanted, Path(self.spelled(path)).read_text())
+        elif kind == "same":
+            one, other = self.spelled(rest).split()
+            self.assertEqual(Path(one).read_bytes(), Path(other).read_bytes())
         elif kind == "all":
             self.assertEqual(text, rest)
+        elif kind == "ends":
+            self.assertTrue(text.endswith(rest), text)
         elif kind == "not":
             self.assertNotIn(rest, text)
         else:
