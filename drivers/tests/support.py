@@ -243,6 +243,7 @@ class Case(unittest.TestCase):
                 continue
             if first == "put":
                 path = Path(self.spelled(second))
+                path.parent.mkdir(parents=True, exist_ok=True)
                 path.write_bytes(content(rest[0]))
                 path.chmod(0o755 if rest[0].startswith("#!") else 0o644)
                 continue
@@ -266,6 +267,8 @@ class Case(unittest.TestCase):
             name, _, environment[name] = words.pop(0).partition("=")
         if words[0] == "replay":
             return self.replay(*words[1:], environment=environment)
+        if "/" in words[0]:             # of a clone
+            words[0] = os.path.join("..", "..", words[0])
         given = words.pop() if "<" in words else os.devnull
         return ran(*(word for word in words if word != "<"), given=given, folder=self.folder,
                    **environment)
@@ -293,7 +296,7 @@ class Case(unittest.TestCase):
             self.assertEqual(Path(self.spelled(path)).read_bytes(), content(wanted))
         elif kind == "in":
             path, _, wanted = rest.partition(" ")
-            self.assertIn(wanted, Path(self.spelled(path)).read_text())
+            self.assertIn(self.spelled(wanted), Path(self.spelled(path)).read_text())
         elif kind == "same":
             one, other = self.spelled(rest).split()
             self.assertEqual(Path(one).read_bytes(), Path(other).read_bytes())
