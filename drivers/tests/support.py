@@ -252,7 +252,7 @@ class Case(unittest.TestCase):
                 text = (ended.stdout + ended.stderr).replace(self.stub, "m")
                 self.assertEqual(ended.returncode, int(second), text)
                 if "json=1" in first:
-                    self.is_report(ended)
+                    self.is_report(ended, first.split()[0])
                 for told in rest:
                     self.comes(told, text.replace(self.folder, "DIR"))
 
@@ -273,12 +273,17 @@ class Case(unittest.TestCase):
         return ran(*(word for word in words if word != "<"), given=given, folder=self.folder,
                    **environment)
 
-    def is_report(self, ended: Ended) -> None:
-        """What is printed is as its schema wants it, with the status."""
+    def is_report(self, ended: Ended, command: str) -> dict:
+        """What is printed, which is as its schema wants it; a refusal stands on standard error,
+        too."""
         import reports
-        found = json.loads(ended.stdout)
-        self.assertEqual((found["status"], reports.faults(found, reports.schema())),
-                         (ended.returncode, []))
+        found: dict = json.loads(ended.stdout)
+        self.assertEqual(reports.faults(found, reports.schema()), [])
+        self.assertEqual((found["status"], found["command"], found["version"]),
+                         (ended.returncode, command, VERSION))
+        if ended.returncode in (2, 3, 4):
+            self.assertTrue(ended.stderr.rstrip().endswith(found["text"]), ended.stderr)
+        return found
 
     def comes(self, told: str, text: str) -> None:
         """Of a call: `code: N` of its .sol, `no: FILE`, `there: FILE`, `file: NAME CONTENT`,
