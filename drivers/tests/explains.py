@@ -15,7 +15,7 @@ from support import NEEDS_PROGRAM, PROGRAM, Case, content
 from models import MODELS, text_of as model_text
 from tables import rows_of
 
-from bridge_drivers import BridgeError, front, interface
+from bridge_drivers import BridgeError, interface
 from bridge_drivers.bridge import Bridge
 from bridge_drivers.explained import reading, sums
 from bridge_drivers.explained.command import Explaining, Files
@@ -75,16 +75,6 @@ class Texts(Case):
     def test_what_ends_too_soon(self) -> None:
         self.put(certificate("bound 0 1 / split 0 0 / duals 0"), ".certificate")
         self.assertRaises(ValueError, reading.read, self.stub + ".certificate")
-
-    def test_words_of_the_call(self) -> None:
-        call = front.read(["--svg=s", "explain", "m", "--html", "h", "--", "-c"])
-        self.assertEqual((call.word, call.rest, call.pages),
-                         ("explain", ["m", "-c"], {"html": "h", "svg": "s"}))
-        for words in (["explain", "m", "c", "--pdf", "x"], ["explain", "m", "c", "--html"],
-                      ["verify", "m", "c", "--html", "x"], ["export", "m", "json=1"]):
-            self.assertRaises(front.BadWords, front.read, words)
-        for words in (["explain"], ["explain", "m", "c", "d"]):
-            self.assertRaises(front.BadWords, front.explained, front.read(words))
 
 
 @NEEDS_PROGRAM

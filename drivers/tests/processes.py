@@ -9,6 +9,7 @@ import subprocess
 import sys
 import time
 import unittest
+from pathlib import Path
 from typing import Any
 
 from support import BIN, HERE, NEEDS_PROGRAM, Case, driven
@@ -122,16 +123,11 @@ class MiniZinc(Case):
             f.write(model)
         words = ["minizinc", "--solver", "bridge-cbc", "--nl-flags", "prove=1", source]
         environment = {**os.environ, "MZN_SOLVER_PATH": os.path.join(HERE, "..", "minizinc")}
-        if not mode:
-            ran = subprocess.run(words, env=environment, capture_output=True)
-            told = ran.stderr
-        else:
-            with open(path, mode) as err:
-                ran = subprocess.run(words, env=environment, stderr=err,
-                                     stdout=subprocess.DEVNULL)
-            with open(path, "rb") as f:
-                told = f.read()
-            os.unlink(path)
+        with open(path, mode or "wb") as err:
+            ran = subprocess.run(words, env=environment, stdout=subprocess.DEVNULL,
+                                 stderr=err if mode else subprocess.PIPE)
+        told = ran.stderr or Path(path).read_bytes()
+        os.unlink(path)
         lines = told.decode().split("\n")
         return ran.returncode, [line for line in lines if "bridge-cbc: " in line]
 

@@ -14,6 +14,7 @@ from pathlib import Path
 
 from support import HAS_CLP, NEEDS_PROGRAM, TOP, Case, called
 from models import MODELS
+from tables import rows_of
 
 from bridge_drivers import commands, front, solvers, words
 from bridge_drivers.certify.command import Command
@@ -83,9 +84,7 @@ class Help(unittest.TestCase):
 class Options_(unittest.TestCase):
     def test_did_you_mean(self) -> None:
         known = Command("cbc").options
-        for word, meant in (("gap", "mipgap"), ("timeout", "timelim"), ("quiet", "wantsol=8"),
-                            ("o", "certificate"), ("timelimit", "timelim"), ("proove", "prove"),
-                            ("certficate", "certificate")):
+        for word, meant in rows_of("surface", "near"):
             with self.assertRaisesRegex(BadOption, f"did you mean `{meant}`\\?"):
                 known.take([word + "=1"])
         self.assertEqual(near("veryfy", commands.WORDS), " did you mean `verify`?")
@@ -136,8 +135,13 @@ class Options_(unittest.TestCase):
             self.assertEqual(front.read(call), wanted)
         self.assertEqual(front.read(["export", "--", "-x"]).rest, ["-x"])
         self.assertEqual(front.read(["export", "-"]).rest, ["-"])
-        for call in (["export", "m", "-x"], ["export", "m", "json=1"], ["stats", "m", "--html=h"]):
-            self.assertRaises(front.BadWords, front.read, call)
+        call = front.read(["--svg=s", "explain", "m", "--html", "h", "--", "-c"])
+        self.assertEqual((call.rest, call.pages), (["m", "-c"], {"html": "h", "svg": "s"}))
+        for bad in ("export m -x", "export m json=1", "stats m --html=h", "explain m c --pdf x",
+                    "explain m c --html", "verify m c --html x"):
+            self.assertRaises(front.BadWords, front.read, bad.split())
+        for bad in ("explain", "explain m c d"):
+            self.assertRaises(front.BadWords, front.explained, front.read(bad.split()))
 
 
 class Models(Case):
