@@ -15,6 +15,7 @@ ESCAPE = re.compile(r"\\(?:[nrt]|x[0-9a-f]{2})")
 def rows_of(table: str, kind: str = "") -> list[list[str]]:
     lines = Path(FOLDER, table + ".txt").read_text(encoding="utf-8").split("\n")
     text = "\n".join(line for line in lines if line.strip() and not line.startswith("# "))
+    text = re.sub(r" \|$", " | ", text.replace("\n    ", ""), flags=re.M)
     rows = [ESCAPE.sub(lambda at: at[0].encode().decode("unicode_escape"), line).split(" | ")
-            for line in text.replace("\n    ", "").split("\n")]
+            for line in text.split("\n")]
     return [row[1:] for row in rows if row[0] == kind] if kind else rows
