@@ -12,9 +12,9 @@ import unittest
 from unittest import mock
 
 from support import BIN, EXAMPLES, NEEDS_PROGRAM, Case
+from tables import rows_of
 
 from bridge_drivers import colour, console
-from bridge_drivers.colour import GREEN, RED, YELLOW
 
 
 class Terminal(io.StringIO):
@@ -24,11 +24,8 @@ class Terminal(io.StringIO):
 
 class Colours(unittest.TestCase):
     def test_of_each_verdict(self) -> None:
-        for line, wanted in (("optimal 17", GREEN), ("infeasible", GREEN), ("unbounded", GREEN),
-                             ("optimal 7 of objective 2", GREEN), ("within 19 17", YELLOW),
-                             ("bound 3", YELLOW), ("feasible 22/5", YELLOW), ("yes 22/5", GREEN),
-                             ("proved", GREEN), ("not proved: time", RED), ("leaf 0 gap 17", RED)):
-            self.assertEqual(colour.of(line), wanted, line)
+        for line, wanted in rows_of("colours"):
+            self.assertEqual(colour.of(line), getattr(colour, wanted), line)
 
     def told(self, stream: io.StringIO, **environment: str) -> str:
         with mock.patch.dict(os.environ, {"NO_COLOR": "", "TERM": "xterm", **environment}):

@@ -12,6 +12,7 @@ import time
 import unittest
 
 from support import BIN, Case
+from tables import rows_of
 
 from bridge_drivers import front
 
@@ -56,16 +57,7 @@ class Bash(Case):
     def test_answers(self) -> None:
         for name in ("a.nl", "a.certificate", "b.txt", "c.mps", "c.mps.gz", "c.gz"):
             open(os.path.join(self.folder, name), "w", encoding="ascii").close()
-        for call, answers in (
-                ("bridge-cbc knap pro", "prove="), ("bridge-cbc knap prove =", "0 1"),
-                ("bridge-cbc knap only = m", "mps"), ("bridge-glpsol k x", "xcheck="),
-                ("/usr/bin/bridge-certify knap driver = c", "cbc clp"), ("bridge-cbc k x", ""),
-                ("bridge-cbc k -A", "-AMPL"), ("bridge-cbc a", "a.nl"),
-                ("bridge-cbc c", "c.mps c.mps.gz"), ("bridge-cbc c.mps format = f", "fixed free"),
-                ("bridge-cbc a certificate = a.c", "a.certificate"),
-                ("nl-bridge verify a.nl a", "a.certificate a.nl"),
-                ("nl-bridge ex", "explain export"), ("nl-bridge explain --h", "--html"),
-                ("nl-bridge stats m.nl js", "json=1"), ("nl-bridge completion z", "zsh")):
+        for call, answers in rows_of("completions"):
             self.assertEqual(self.answers(*call.split()), answers.split(), call)
 
 

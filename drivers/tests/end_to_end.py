@@ -5,7 +5,6 @@ from __future__ import annotations
 
 import subprocess
 import unittest
-from typing import Callable
 from unittest import mock
 
 from support import HAS_CLP, Case, Ended, driven, knows
@@ -16,11 +15,8 @@ import misled
 EACH_MISLED = 1                 # models of a kind
 
 
-class Through(Case):
+class EndToEnd(Case):
     """What is tried with each driver."""
-
-    def through(self, driver: str, *words: str) -> None:
-        raise NotImplementedError
 
     def driven(self, driver: str, text: bytes, *words: str) -> Ended:
         """A driver on a model, with status 0."""
@@ -29,17 +25,12 @@ class Through(Case):
         self.assertEqual(ended.returncode, 0, ended.stderr)
         return ended
 
+    def solves(self, driver: str, name: str) -> None:
+        self.driven(driver, MODELS[name].text, "-AMPL", *MODELS[name].options)
+        self.judge(driver, name)
 
-class EndToEnd(Through):
-    def through(self, driver: str, *words: str) -> None:
-        self.driven(driver, MODELS[words[0]].text, "-AMPL", *MODELS[words[0]].options)
-        self.judge(driver, words[0])
-
-
-class Only(Through):
-    """The command that `only=mps` prints can be run as it stands, and solves."""
-
-    def through(self, driver: str, *words: str) -> None:
+    def only(self, driver: str) -> None:
+        """The command that `only=mps` prints can be run as it stands, and solves."""
         model = "product" if solvers.load(driver).integers else "diet"
         lines = self.driven(driver, MODELS[model].text, "only=mps", "-e").stdout.split("\n")
         self.assertEqual(len(lines), 3, lines)
@@ -48,11 +39,8 @@ class Only(Through):
         self.assertEqual(again.returncode, 0, again.stdout + again.stderr)
         self.assertRegex(again.stdout + again.stderr, "(?i)optimal|solved|value of objective")
 
-
-class FarBounds(Through):
-    """Sides and bounds that a solver takes for none: a line says so."""
-
-    def through(self, driver: str, *words: str) -> None:
+    def far(self, driver: str) -> None:
+        """Sides and bounds that a solver takes for none: a line says so."""
         solver = solvers.load(driver)
         for name, (text, _) in FAR.items():
             self.driven(driver, text, "-AMPL", "-e")
@@ -61,12 +49,9 @@ class FarBounds(Through):
                 is_told = bool(solver.infinite) and float(solver.infinite) <= float(size)
                 self.assertEqual("may take for none" in sol.text, is_told, sol.text)
 
-
-class Misled(Through):
-    """The first models of each kind: none ends with code 0 and a wrong or impossible answer, and
-    none that is right and exact is lost. `misled.py` runs all of them, both ways."""
-
-    def through(self, driver: str, *words: str) -> None:
+    def misled(self, driver: str) -> None:
+        """The first models of each kind: none ends with code 0 and a wrong or impossible answer,
+        and none that is right and exact is lost. `misled.py` runs all of them, both ways."""
         for model in misled.models(EACH_MISLED):
             if not misled.takes(driver, model):
                 continue
@@ -76,22 +61,17 @@ class Misled(Through):
                 self.assertEqual((found.wrong, found.lost), ("", ""), found.code)
 
 
-def test_of(*words: str) -> Callable[[Through], None]:
-    return lambda self: self.through(*words)
+def add(method: str, lacks: str, *words: str) -> None:
+    """A test, which is skipped where something is lacking."""
+    setattr(EndToEnd, "_".join(("test", method, *words)), unittest.skipIf(lacks, lacks)(
+        lambda self: getattr(self, method)(*words)))
 
 
-def add_tests() -> None:
-    there = knows("verify")
-    for driver in solvers.NAMES:
-        solver = there and solvers.load(driver).place()
-        for kind, needs_clp in ((Only, False), (FarBounds, False), (Misled, True)):
-            reason = f"no {driver}, or no library of CLP" if needs_clp else f"no {driver}"
-            setattr(kind, f"test_{driver}", unittest.skipUnless(
-                solver and (HAS_CLP or not needs_clp), reason)(test_of(driver)))
-        reason = f"no {driver}" if there else "no bridge that knows `verify`"
-        for name in MODELS:
-            setattr(EndToEnd, f"test_{driver}_{name}", unittest.skipUnless(solver, reason)(
-                test_of(driver, name)))
-
-
-add_tests()
+PROGRAM_LACKS = "" if knows("verify") else "no bridge that knows `verify`"
+for DRIVER in solvers.NAMES:
+    LACKS = PROGRAM_LACKS or ("" if solvers.load(DRIVER).place() else f"no {DRIVER}")
+    add("only", LACKS, DRIVER)
+    add("far", LACKS, DRIVER)
+    add("misled", LACKS or ("" if HAS_CLP else "no library of CLP"), DRIVER)
+    for NAME in MODELS:
+        add("solves", LACKS, DRIVER, NAME)

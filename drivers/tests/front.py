@@ -8,8 +8,9 @@ import re
 import subprocess
 import sys
 
-from support import BIN, DRIVERS, NEEDS_PROGRAM, TOP, Case, ran
+from support import BIN, DRIVERS, NEEDS_PROGRAM, TOP, Case
 from models import MODELS
+from tables import rows_of
 
 from bridge_drivers import console, front
 
@@ -27,30 +28,13 @@ class Table(Case):
     def test_faults_of_words_and_files(self) -> None:
         """The proved program tells the fault, and what is added says which word or file, and
         why."""
-        self.put(b"x")
-        nl, mps = self.stub + ".nl", os.path.join(self.folder, "m")
-        with open(mps + ".mps", "wb") as f:
-            f.write(b"NAME\nROWS\n")
-        for words, status, told in (
-                (["export", "/nonexistent/m.nl"], 4,
-                 "/nonexistent/m.nl: input fault (No such file or directory)"),
-                (["verify", mps, nl], 4, f"{mps}: input fault (No such file or directory); {mps}"
-                 f".mps is an MPS file: `bridge-certify {mps}.mps` and the drivers take it, "
-                 f"`nl-bridge import {mps}.mps {mps}.nl` makes {mps}.nl of it"),
-                (["verify", nl, self.folder], 4, f"{self.folder}: input fault (Is a directory)"),
-                (["export"], 3, "bad words: export takes FILE [K] or FILE K ROWS COLS; -h lists "
-                                "the commands"),
-                (["export", nl, "one"], 3, "bad words: K is a plain number up to 4294967295, not "
-                                           "one; -h lists the commands")):
-            ended = ran("nl-bridge", *words, BRIDGE=self.script("faulty", FAULTY))
-            self.assertEqual(ended, (status, "", f"nl-bridge: {told}\n"))
+        self.script("faulty", FAULTY)
+        self.calls("front", "fault")
 
     def test_words_of_the_table(self) -> None:
-        for call, wrong in (("export a", False), ("export a 0", False), ("export a 00", True),
-                            ("export a 4294967296", True), ("export a 0 r", True),
-                            ("return a b", False), ("return a b r c", False), ("return a", True),
-                            ("make 1 2", False), ("make 1", True), ("nl \udcff", False)):
-            self.assertEqual(bool(front.wrong_words(call.split())), wrong, call)
+        for call, wanted in rows_of("front", "words"):
+            self.assertEqual(bool(front.wrong_words(call.split())), wanted == "wrong", call)
+        self.assertFalse(front.wrong_words(["nl", "\udcff"]))
 
     def test_commands_are_those_of_the_table(self) -> None:
         path = os.path.join(TOP, "docs", "user", "commands.md")

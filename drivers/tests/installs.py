@@ -24,10 +24,6 @@ class Installing(Case):
                               capture_output=True, text=True, check=False,
                               env={**os.environ, "HOME": self.folder})
 
-    def paths(self) -> set[str]:
-        return {os.path.join(place, name) for place, _, names in os.walk(self.folder)
-                for name in names}
-
     @NEEDS_PROGRAM
     def test_another_program(self) -> None:
         """It is taken into the folder, and configurations name what can be run; also again."""
@@ -51,26 +47,12 @@ class Installing(Case):
 
     def test_below_home_and_away_again(self) -> None:
         """Other files stay."""
-        prefix = os.path.join(self.folder, ".local")
-        other = os.path.join(prefix, "bin", "bridge-other")
-        os.makedirs(os.path.dirname(other))
-        open(other, "w", encoding="ascii").close()
-        ran = self.install(prefix)
-        self.assertEqual(ran.returncode, 0, ran.stderr)
-        own = os.path.join(self.folder, ".minizinc", "solvers", "bridge-cbc.msc")
-        with open(own, encoding="utf-8") as f:
-            self.assertEqual(json.load(f)["executable"][0],
-                             os.path.join(prefix, "bin", "bridge-cbc"))
-        self.assertNotIn("MZN_SOLVER_PATH", ran.stdout)
-        for shell, name in (("bash-completion/completions", "bridge-certify"),
-                            ("fish/vendor_completions.d", "bridge-cbc.fish"),
-                            ("zsh/site-functions", "_nl-bridge")):
-            self.assertTrue(os.path.isfile(os.path.join(prefix, "share", shell, name)), name)
-        self.assertEqual(self.install(prefix, "--remove").returncode, 0)
-        self.assertEqual(self.paths(), {other})
-        self.assertEqual({place for place, _, _ in os.walk(self.folder)},
-                         {self.folder, prefix, os.path.dirname(other)})
-        self.assertEqual(self.install(prefix, "--remove").returncode, 1)
+        self.calls("installs", "home")
+        found = {os.path.join(place, name) for place, inner, names in os.walk(self.folder)
+                 for name in [*inner, *names]}
+        own = [os.path.join(self.folder, name)
+               for name in (".local", ".local/bin", ".local/bin/bridge-other")]
+        self.assertEqual(sorted(found), own)
 
 
 class Package(unittest.TestCase):

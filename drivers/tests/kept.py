@@ -14,6 +14,7 @@ from unittest import mock
 
 from support import HERE, NEEDS_PROGRAM, PROGRAM, Case
 from models import MODELS
+from tables import rows_of
 
 from bridge_drivers import files, solvers, verdicts
 from bridge_drivers.bridge import Bridge, Late, Reply
@@ -34,17 +35,9 @@ class Covers(unittest.TestCase):
             found = verdicts.read(line)
             assert found is not None, line
             return found
-        for new, old, wanted in (
-                ("optimal 7", "optimal 7", True), ("optimal 7", "within 9 7", True),
-                ("feasible 7", "optimal 7", False), ("feasible 8", "feasible 7", True),
-                ("feasible 6", "feasible 7", False), ("within 9 7", "within 8 7", False),
-                ("within 8 7", "within 9 7", True), ("within 8 6", "within 9 7", False),
-                ("bound 8", "feasible 7", False), ("bound 8", "bound 9", True),
-                ("bound 9", "within 9 7", False), ("within 9 7", "bound 9", True),
-                ("infeasible", "optimal 7", True), ("feasible 7", "infeasible", False),
-                ("optimal 7 of objective 1", "feasible 3", False),
-                ("unbounded", "bound 9 of objective 1", False)):
-            self.assertEqual(verdicts.covers(said(new), said(old), True), wanted, (new, old))
+        for new, old, wanted in rows_of("kept", "covers"):
+            self.assertEqual(verdicts.covers(said(new), said(old), True), wanted == "yes",
+                             (new, old))
         self.assertTrue(verdicts.covers(said("feasible 6"), said("feasible 7"), False))
 
     def test_lines(self) -> None:
@@ -66,21 +59,8 @@ class InWords(unittest.TestCase):
         return verdicts.in_words(said, maximise, steps)
 
     def test_claims(self) -> None:
-        for line, maximise, words in (
-                ("within 19 17", True, "a point has the objective 17, and no point has more than "
-                 "the bound 19; the bound is 2 (11.76 %) above the point's"),
-                ("within 5/3 2", False, "a point has the objective 2, and no point has less than "
-                 "the bound about 1.666666667; the bound is about 0.3333333333 (16.67 %) below the "
-                 "point's"),
-                ("within 1 0", True, "a point has the objective 0, and no point has more than the "
-                 "bound 1; the bound is 1 above the point's"),
-                ("bound 173/4", False, "no point has less than 43.25"),
-                ("feasible 22/5", False, "a point has the objective 4.4"),
-                ("optimal 22/5 of objective 2", False,
-                 "a point has the objective 4.4, and none is better"),
-                ("infeasible", True, "no point satisfies the model"),
-                ("unbounded", False, "the objective goes below every number")):
-            self.assertEqual(self.words(line, maximise), words)
+        for line, sense, words in rows_of("kept", "words"):
+            self.assertEqual(self.words(line, sense == "max"), words)
         self.assertEqual(self.words("bound 1" + "0" * 400), "no point has more than 1e400")
         self.assertRegex(self.words("bound 12345678901234567/3"), r"than about 4\.1152263e\+15$")
 
@@ -121,11 +101,8 @@ class Keeping(Case):
 
     def test_what_stays(self) -> None:
         older = b"certificate 1\noptimal 0\npoint 1\n0 1\nduals 0\n"
-        for line, says, proves in (("feasible 17", "optimal 17", True),
-                                   ("feasible 17", "leaf 0 gap 16", False),
-                                   ("optimal 17", "optimal 17", True),
-                                   ("optimal 17", "within 18 17", False),
-                                   ("within 19 17", "within 18 17", True)):
+        for line, says, kind in rows_of("kept", "older"):
+            proves = kind == "proves"
             self.put(older, ".certificate")
             kept = self.keep(line, says)
             self.assertEqual((self.bytes_of(".certificate") == older, kept.path, kept.failed),
@@ -195,23 +172,9 @@ class Keeping(Case):
 
 @NEEDS_PROGRAM
 class Certify(Case):
-    """bridge-certify as a process, over a cbc that is a script."""
-
-    def certify(self, *words: str, **others: object) -> "subprocess.CompletedProcess[str]":
-        return subprocess.run([sys.executable, CERTIFY, self.stub, *words],
-                              stdin=subprocess.DEVNULL, capture_output=True, text=True,
-                              check=False, **others)                       # type: ignore
-
     @NEEDS_CBC
     def test_failures_leave_an_older_one(self) -> None:
-        self.put(OPTIMAL, ".certificate")
-        for model, words, status in (("nonlinear", (), 2),
-                                     ("knap", ("bridge=/nonexistent/b",), 127)):
-            self.put(MODELS[model].text)
-            ended = self.certify(*words)
-            self.assertEqual(ended.returncode, status, ended.stderr)
-            self.assertIn(f"{self.stub}.certificate stays as it was\n", ended.stderr)
-            self.assertEqual(self.bytes_of(".certificate"), OPTIMAL)
+        self.calls("kept", "failure")
 
     @NEEDS_CBC
     def test_a_full_disk_is_named(self) -> None:
@@ -221,7 +184,9 @@ class Certify(Case):
         def small() -> None:
             signal.signal(signal.SIGXFSZ, signal.SIG_IGN)
             resource.setrlimit(resource.RLIMIT_FSIZE, (64, 64))
-        ended = self.certify("bridge=" + " ".join(PROGRAM), preexec_fn=small)
+        ended = subprocess.run([sys.executable, CERTIFY, self.stub, "bridge=" + " ".join(PROGRAM)],
+                               stdin=subprocess.DEVNULL, capture_output=True, text=True,
+                               check=False, preexec_fn=small)
         self.assertNotEqual(ended.returncode, 0)
         self.assertRegex(ended.stderr + ended.stdout,
                          r"/\S+( could not be run or written)?: File too large")

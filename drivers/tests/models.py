@@ -3,9 +3,12 @@
 from __future__ import annotations
 
 import collections
+import re
 from dataclasses import dataclass, field
 from fractions import Fraction as F
-from typing import Mapping, Sequence, Union
+from typing import Iterable, Mapping, Sequence, Union
+
+from tables import rows_of
 
 Text = Union[int, str]
 
@@ -67,19 +70,10 @@ class Model:
     code: int
     objective: F | None = None
     duals: list[Text] | None = None
-    costs: dict[int, int] | None = None
+    costs: dict[int, str] | None = None
     linear: bool = True
     options: list[str] = field(default_factory=list)
     word: str = ""
-
-
-def linear(text, code, objective=None, duals=None, costs=None, options=(), word="") -> Model:
-    objective = None if objective is None else F(objective)
-    return Model(text, code, objective, duals, costs, True, list(options), word)
-
-
-def mixed(text, code, objective=None) -> Model:
-    return Model(text, code, None if objective is None else F(objective), linear=False)
 
 
 def real(lo: Text | None = 0, hi: Text | None = None):
@@ -90,77 +84,52 @@ def whole(lo: Text | None = 0, hi: Text | None = None):
     return ("I", lo, hi)
 
 
-MODELS = {
-    # integer programs
-    "knap": mixed(nl([whole(0, 1)] * 3, [(None, 10, {0: 5, 1: 4, 2: "6.5"})],
-                     [("max", 0, {0: 10, 1: 7, 2: 12})]), 0, 17),
-    "mixed": mixed(nl([real(0, "7.5"), whole(0, 20), whole(0, 20)],
-                      [(None, "24.5", {0: "1.5", 1: 3, 2: 2}), (None, 14, {0: "0.5", 1: 1, 2: 2})],
-                      [("max", 0, {0: "2.25", 1: 5, 2: 4})]), 0, "43.25"),
-    "eqknap": mixed(nl([whole(0, 99)] * 3, [(1000, 1000, {0: 37, 1: 53, 2: 111})],
-                       [("min", 0, {0: 1, 1: 1, 2: 1})]), 0, 14),
-    "whole_infeasible": mixed(nl([whole(0, 10), whole(0, 10)], [(13, 13, {0: 2, 1: 4})],
-                                 [("max", 0, {0: 1})]), 200),
-    "whole_unbounded": mixed(nl([whole(), whole()], [(None, 3, {0: 1, 1: -1})],
-                                [("max", 0, {0: 1, 1: 1})]), 300),
-    "large_whole": mixed(nl([whole(0, 98765432)], [(None, "197530864.5", {0: 2})],
-                            [("max", 1, {0: 1})]), 0, 98765433),
-    # linear programs
-    "product": linear(nl([real(), real(0, 4)], [(None, 10, {0: 3, 1: 1}), (1, 7, {0: 1, 1: 1})],
-                         [("max", 5, {0: 3, 1: 2})]), 0, 19, [1, 0], {1: 1}),
-    "diet": linear(nl([real(0, 100), real(0, 100)],
-                      [(4, None, {0: "0.5", 1: "2.5"}), ("6.4", None, {0: "1.5", 1: "0.5"})],
-                      [("min", 0, {0: "0.9", 1: 1})]), 0, "4.4", ["0.3", "0.5"]),
-    "scaled": linear(nl([real(), real()], [(None, 1, {1: 1}), (None, 8, {0: 1, 1: 1})],
-                        [("max", 0, {0: 1, 1: 2})], {0: ["o3", "v0", "n3"]}),
-                     0, 3, [3, 0], {1: -1}),
-    "thirds": linear(nl([real(), real()], [(None, 1, {0: 3, 1: 1}), (None, 2, {0: 1, 1: 7})],
-                        [("max", ["o3", "v0", "n3"], {0: 0, 1: 1})]),
-                     0, F(1, 3), [F(1, 15), F(2, 15)]),
-    "ranges": linear(nl([real(None, None), real(None, 3)],
-                        [(-4, 6, {0: 1, 1: 1}), (2, 2, {0: 1, 1: -1})],
-                        [("min", "-1.5", {0: 2, 1: 1})]), 0, "-6.5", ["1.5", "0.5"]),
-    "rowless": linear(nl([real(3, None), real(None, 4)], [], [("min", 2, {0: 1, 1: -1})]), 0, 1),
-    "free_row": linear(nl([real(), real(0, 2)],
-                          [(None, None, {0: 1}), (3, None, {0: 1, 1: 1})], [("min", 0, {0: 1})]),
-                       0, 1, [0, 1], {1: -1}),
-    "no_objective": linear(nl([real(), real()], [(2, None, {0: 1, 1: 1})]), 0),
-    "second": linear(nl([real(0, 9)], [(None, 7, {0: 1})],
-                        [("min", 0, {0: 1}), ("max", 1, {0: 2})]), 0, 15, [2],
-                     options=["objno=2"]),
-    "infeasible": linear(nl([real(), real()], [(3, None, {0: 1, 1: 1}), (None, 2, {0: 1, 1: 1})],
-                            [("min", 0, {0: 1, 1: 1})]), 200),
-    "unbounded": linear(nl([real(), real()], [(None, 3, {0: 1, 1: -1})],
-                           [("max", 0, {0: 1, 1: 1})]), 300),
-    "unbounded_rowless": linear(nl([real()], [], [("max", 0, {0: 1})]), 300),
-    "crossed": linear(nl([real(3, 2)], [(1, None, {0: 1})], [("min", 0, {0: 1})]), 200,
-                      word="empty interval"),
-    # refusals
-    "nonlinear": linear(nl([real(0, 9), real(0, 9)], [(None, 7, {0: 0, 1: 0})],
-                           [("max", 0, {0: 1})], {0: ["o2", "v0", "v1"]}), 501,
-                        word="is nonlinear"),
-    "square_root": linear(nl([real(0, 9)], [(None, 2, {0: 0})], [("max", 0, {0: 1})],
-                             {0: ["o39", "v0"]}), 501,
-                          word="sqrt(x0) is not linear (refused opcode 39)"),
-    "logical": linear(nl([real(0, 9)]).replace(b" 1 0 0 0 0\n", b" 1 0 0 0 0 1\n"), 501,
-                      word="refused count"),
-    "third_objective": linear(nl([real(0, 9)], [], [("min", 0, {0: 1})]), 501,
-                              options=["objno=3"],
-                              word="objno=3: no such objective: the file has 1, and objno "
-                                   "counts from 1"),
-}
+def end(word: str) -> Text | None:
+    return None if word == "-" else word
 
 
-# Sides and bounds that some solvers take for none, each with the exact optimum.
-FAR = {
-    "lower": (nl([real("1e30")], [(None, None, {0: 1})], [("min", 0, {0: 1})]), 10 ** 30),
-    "upper": (nl([real(0, "1e30"), real()], [(None, 5, {0: 1, 1: -1})], [("max", 0, {0: 1})]),
-              10 ** 30),
-    "beyond": (nl([real(0, "1e31")], [], [("max", 0, {0: 1})]), 10 ** 31),
-    "side": (nl([real(None, None)], [("1e30", None, {0: 1})], [("min", 0, {0: 1})]), 10 ** 30),
-    "near": (nl([real("1e29")], [], [("min", 0, {0: 1})]), 10 ** 29),
-    "whole": (nl([whole(0, "1e30")], [(None, "2.5", {0: "0.5"})], [("max", 0, {0: 1})]), 5),
-}
+def terms_of(words: str) -> dict[int, str]:
+    """Coefficients by column."""
+    pairs = (word.split("*") if "*" in word else (str(j), word)
+             for j, word in enumerate(words.split()))
+    return {int(j): a for j, a in pairs if a != "_"}
+
+
+def text_of(cells: Iterable[str]) -> bytes:
+    """A model of its columns, objectives, rows and expressions of rows; other cells are not its."""
+    columns, objectives, rows, trees = [], [], [], {}
+    for cell in cells:
+        word, *words = cell.split()
+        before, _, terms = cell.partition(":")
+        if word in ("B", "C", "I"):
+            for one in cell.split(", "):
+                kind, lo, hi, *times = one.split()
+                columns += [(kind, end(lo), end(hi))] * int(times[0][1:] if times else 1)
+        elif word in ("max", "min"):
+            constant = before.split()[1:]
+            objectives.append((word, constant if len(constant) > 1 else constant[0],
+                               terms_of(terms)))
+        elif re.fullmatch(r"(\S+) (\S+) ", before):
+            rows.append((end(word), end(words[0]), terms_of(terms)))
+        elif re.fullmatch(r"C\d+", word):
+            trees[int(word[1:])] = words
+    text = nl(columns, rows, objectives, trees)
+    counts = b" 1 0 0 0 0\n"
+    return text.replace(counts, b" 1 0 0 0 0 1\n") if "logic 1" in cells else text
+
+
+def model_of(code: str, *cells: str) -> Model:
+    said = dict(cell.partition(" ")[::2] for cell in cells)
+    number, *objective = code.split()
+    return Model(text_of(cells), int(number), F(objective[0]) if objective else None,
+                 said["duals"].split() if "duals" in said else None,
+                 terms_of(said["costs"]) if "costs" in said else None,
+                 not {"B", "I"} & set(cells[0].split()), said.get("options", "").split(),
+                 said.get("word", ""))
+
+
+MODELS = {name: model_of(*cells) for name, *cells in rows_of("models")}
+FAR = {name: (text_of(cells), int(best)) for name, best, *cells in rows_of("far")}
 
 
 def is_solved(name: str) -> bool:

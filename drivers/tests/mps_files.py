@@ -2,14 +2,13 @@
 
 from __future__ import annotations
 
-import gzip
-import json
 import os
 import shutil
 import unittest
 from fractions import Fraction as F
 
-from support import NEEDS_CLP, NEEDS_MPS, PROGRAM, Case, Ended, driven, ran
+from support import NEEDS_CLP, NEEDS_MPS, PROGRAM, Case, content, driven
+from tables import rows_of
 
 from bridge_drivers import kinds, mps_file, solvers
 from bridge_drivers.bridge import Bridge, Refused
@@ -17,11 +16,9 @@ from bridge_drivers.importing import lists_of
 from bridge_drivers.mps_mended import BOM, mended
 from bridge_drivers.mps_text import program_of
 from plain import Plain, random_text
-from reports import faults, schema
-from mps_models import (BLANK, EMPTY_INTERVAL, FAULTS, FIXED_TEXT, MODELS, WHOLE, sections)
+from mps_models import BLANK, FAULTS, FIXED_TEXT, MODELS
 
 SOLVERS = [name for name in solvers.NAMES if solvers.load(name).place()]
-CERTIFICATE = b"certificate 1\nfeasible 0\npoint 2\n0 1\n1 1\n"
 
 
 def bridge() -> Bridge:
@@ -116,18 +113,11 @@ class Mended(unittest.TestCase):
 
 class Kinds(Case):
     def test_what_is_one(self) -> None:
-        text = FIXED_TEXT.encode()
-        for name, data, wanted in (
-                ("m.mps", text, True), ("afiro", text, True), ("m.MPS", b"", True),
-                ("m.mps.gz", gzip.compress(text), True), ("m.mps.gz", b"\x1f\x8b\x08", True),
-                ("m.nl", b"g3 1 1\n", False),
-                ("m.lp", b"Minimize\n obj: x\n", False), ("m", b"\n" * 4000, False),
-                ("m", b"\n" * 99 + b"* \r\n \t\r\nNAME\r\n", True), ("m", b"", False),
-                ("m.gz", b"\x1f\x8b\x08", False), ("m.mps", b"\x7fELF\x02", False)):
+        for name, data, wanted in rows_of("files", "kind"):
             path = os.path.join(self.folder, name)
             with open(path, "wb") as f:
-                f.write(data)
-            self.assertEqual(kinds.is_mps(path), wanted, name)
+                f.write(content(data))
+            self.assertEqual(kinds.is_mps(path), wanted == "MPS", name)
             os.unlink(path)
         self.assertFalse(kinds.is_mps(self.folder))
 
@@ -214,12 +204,10 @@ class Read(Case):
 class Driven(Case):
     """With solvers."""
 
-    def told(self, solver: str, text: str, *words: str, end: str = ".mps") -> dict:
-        self.put(gzip.compress(text.encode()) if end.endswith("gz") else text.encode(), end)
-        ended = driven(solver, self.stub + end, "json=1", "wantsol=6", *words)
-        found: dict = json.loads(ended.stdout)
-        self.assertEqual((found["status"], faults(found, schema())), (ended.returncode, []))
-        return found
+    def told(self, solver: str, text: str, *words: str) -> dict:
+        self.put(text.encode(), ".mps")
+        ended = driven(solver, self.stub + ".mps", "json=1", "wantsol=6", *words)
+        return self.is_report(ended, "bridge-" + solver)
 
     @NEEDS_CLP
     def test_all(self) -> None:
@@ -237,107 +225,23 @@ class Driven(Case):
                         self.assertEqual(values, {x: F(v) for x, v in model.values.items()})
 
     def test_lines(self) -> None:
-        whole = sections("N o / E row", WHOLE.format("col o 1 row 1"), "RHS row 1.5")
-        for text, words, code, last, line in (
-                (MODELS["cut"].text, [], 0, "optimal -23/2", "it is read in free form; in fixed "
-                 "columns it is another program, which format=fixed reads"),
-                (MODELS["cut"].text, ["format=fixed"], 0, "optimal -33/2", ""),
-                (whole, ["relax=1"], None, None, "variable 0 (col) is not whole"),
-                (EMPTY_INTERVAL, [], 200, None, "stub.mps: column 1 (low): empty interval")):
-            told = self.told(SOLVERS[0], text, *words)
-            self.assertIn(told["code"], (told["code"] if code is None else code,))
-            self.assertIn(last or told["text"], told["text"])
-            self.assertIn(line, "\n".join(told["lines"]))
+        self.calls("files", "line")
 
     def test_refusals(self) -> None:
-        packed = gzip.compress(FIXED_TEXT.encode())[:60]
-        no_sol = "a .sol is the answer to an .nl file: wantsol=2 "
-        for data, word, status, line in (
-                (packed, "", 2, "stub.mps: the packed file ends too soon or is damaged"),
-                (BLANK.encode(), "", 2, "names with blanks are not read"),
-                (FIXED_TEXT.encode(), "objno=2", 2, "objno=2: no such objective"),
-                (FIXED_TEXT.encode(), "shortest=1", 3, "shortest=1 is for .nl files"),
-                (FIXED_TEXT.encode(), "format=nl", 3, "format=nl: free or fixed is wanted"),
-                (FIXED_TEXT.encode(), "-AMPL", 3, no_sol), (FIXED_TEXT.encode(), "-s", 3, no_sol)):
-            self.put(data, ".mps")
-            ended = driven(SOLVERS[0], self.stub + ".mps", *filter(None, [word]))
-            self.assertEqual((ended.returncode, line in ended.stderr), (status, True), ended.stderr)
+        self.calls("files", "driver")
         self.assertEqual(os.listdir(self.folder), ["stub.mps"])
 
     def test_certificates(self) -> None:
         """Beside the model, for each of its ends; the model itself is never written over."""
-        for end in (".mps", ".mps.gz"):
-            text = MODELS["free"].text.encode()
-            self.put(gzip.compress(text) if end.endswith("gz") else text, end)
-            ended = ran("bridge-certify", self.stub + end, f"driver={SOLVERS[0]}")
-            self.assertEqual(ended.stdout.split("\n")[-2], "optimal -3/2", ended.stderr)
-            ended = ran("nl-bridge", "verify", self.stub + end, self.stub + ".certificate")
-            self.assertEqual(ended[:2], (0, "optimal -3/2\n"))
-            os.unlink(self.stub + ".certificate")
-            told = self.told(SOLVERS[0], MODELS["free"].text, "overwrite=1",
-                             f"certificate={self.stub}{end}", end=end)
-            lines = "\n".join(told["lines"])
-            self.assertIn("the certificate is not kept: ", lines)
-            self.assertIn("it is what this command reads", lines)
-            self.assertEqual("what is judged is the text that stub.mps.gz unpacks to" in lines,
-                             end == ".mps.gz")
+        self.calls("files", "certificate")
 
 
 @NEEDS_MPS
 class Front(Case):
     """`nl-bridge`."""
 
-    def setUp(self) -> None:
-        super().setUp()
-        self.put(FIXED_TEXT.encode(), ".mps")
-        self.put(gzip.compress(FIXED_TEXT.encode()), ".mps.gz")
-        self.put(CERTIFICATE, ".certificate")
-
-    def call(self, command: str, *ends: str) -> Ended:
-        words = [self.stub + word if word.startswith(".") else word for word in ends]
-        ended = ran("nl-bridge", command, *words)
-        return Ended(ended.returncode, *(text.replace(self.stub, "m") for text in ended[1:]))
-
     def test_calls(self) -> None:
-        """Of the files as they are put, or with other ends: texts that are printed."""
-        self.put(CERTIFICATE.replace(b"1 1\n", b"1 3/2\n"), ".high")
-        self.put(CERTIFICATE.replace(b"1 1\n", b"2 1\n"), ".over")
-        self.put(b"certificate 1\nfeasible 1\npoint 0\n", ".second")
-        self.put(BLANK.encode(), ".blank")
-        self.put(MODELS["free"].text.replace("RHS\n cap 3", "RHS\n cap 0.1234567890123456789")
-                 .encode(), ".digits")
-        for call, status, told in (
-                ("verify .mps .certificate", 0, "feasible -23/2\n"),
-                ("verify_mps .mps .certificate", 0, "feasible -23/2\n"),
-                ("verify_fixed .mps .certificate", 0, "feasible -23/2\n"),
-                ("verify .mps.gz .certificate", 0, "feasible -23/2\n"),
-                ("verify .mps .high", 1, "row 0 broken\n"),
-                ("verify .mps .second", 2, "nl-bridge: m.mps: objective 1: no such objective"),
-                ("verify .mps .mps", 2, "line 1: bad first line (it does not begin with "
-                                        "`certificate 1`)"),
-                ("explain .mps .certificate", 0, "m.certificate holds of m.mps: feasible -23/2\n"
-                 "claim     a point has the objective -11.5\n"
-                 "point     ONE 1, TWO 1; the others 0\n"),
-                ("explain .mps.gz .over", 1, "fails     constraint 0 (CAP) is 23/2 at the point, "
-                                             "and at most 10: 1.5 too much"),
-                ("explain .mps", 0, "m.mps: is not refused\n"),
-                ("explain .blank", 2, "  >      8     MY ONE    COST"),
-                ("stats .mps.gz", 0, "sense         minimise, constant 11/2\ncolumns       3: 0 "
-                                     "continuous, 3 binary, 0 integer; 0 free, 0 fixed\n"),
-                ("stats .mps 1", 2, ""),
-                ("stats .digits", 0, "not doubles   1 numbers: 0.1234567890123456789 (cap)\n")):
-            ran = self.call(*call.split())
-            self.assertEqual(ran.returncode, status, call)
-            self.assertIn(told, ran.stdout + ran.stderr)
-
-    def test_json(self) -> None:
-        for call, place, wanted in (
-                ("verify .mps .certificate", ("value", "exact"), "-23/2"),
-                ("stats .mps.gz", ("stats", "columns"), 3), ("stats .certificate", ("status",), 2)):
-            told = found = json.loads(self.call(*call.split(), "json=1").stdout)
-            for key in place:
-                found = found[key]
-            self.assertEqual((found, faults(told, schema())), (wanted, []))
+        self.calls("files", "front")
 
 
 @unittest.skipUnless(PROGRAM and shutil.which("sh"), "no bridge, or no shell")
@@ -353,7 +257,3 @@ class OlderProgram(Case):
                             read)
         self.assertEqual(caught.exception.line(), "this bridge does not know the command "
                                                   "`verify_mps` (bad words)")
-
-
-if __name__ == "__main__":
-    unittest.main()

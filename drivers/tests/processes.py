@@ -9,6 +9,7 @@ import subprocess
 import sys
 import time
 import unittest
+from pathlib import Path
 from typing import Any
 
 from support import BIN, HERE, NEEDS_PROGRAM, Case, driven
@@ -48,30 +49,9 @@ class Processes(Case):
             time.sleep(0.05)
         return child
 
-    def test_packages_of_solvers(self) -> None:
-        """A solver that is not there is told with the Debian package that has it."""
-        self.put(MODELS["knap"].text)
-        bridge = self.script("bridge", "exit 3")
-        for driver, package in (("cbc", "coinor-cbc"), ("clp", "coinor-clp"),
-                                ("esolver", "qsopt-ex"), ("glpsol", "glpk-utils"),
-                                ("lp_solve", "lp-solve")):
-            ended = driven(driver, self.stub, PATH="/nonexistent", BRIDGE=bridge)
-            wanted = f"not found: apt install {package} (Debian) or give solver=PATH\n"
-            self.assertEqual((ended.returncode, ended.stderr),
-                             (127, f"bridge-{driver}: {driver} was {wanted}"))
-
     def test_programs_that_fail_or_are_not_there(self) -> None:
-        self.put(MODELS["knap"].text)
-        for words, code, told in (
-                ([f"solver={self.script('cbc', 'echo out of paper >&2; exit 7')}"], 506,
-                 "CBC gave no usable answer"),
-                ([f"solver={self.script('cbc2', 'kill -9 $$')}"], 506, "CBC gave no usable answer"),
-                (["solver=/nonexistent/cbc"], 503,
-                 "/nonexistent/cbc was not found: install it or give solver=PATH"),
-                (["solver=/bin/true", "bridge=/nonexistent/b"], 503, "could not be run")):
-            ended = driven("cbc", self.stub, "-AMPL", *words)
-            self.assertEqual((ended.returncode, self.sol().code), (0, code), ended.stderr)
-            self.assertIn(told, ended.stderr)
+        """A solver that is not there is told with the Debian package that has it."""
+        self.calls("processes", "missing")
 
     def test_time_limit_kills(self) -> None:
         """Also what the solver started, which holds its output open."""
@@ -130,6 +110,7 @@ class Processes(Case):
         child.communicate(timeout=60)
         self.assertEqual((child.returncode, self.sol().code), (0, 506))
 
+
 @NEEDS_PROGRAM
 @unittest.skipUnless(shutil.which("minizinc") and shutil.which("cbc"), "no minizinc, or no cbc")
 class MiniZinc(Case):
@@ -142,16 +123,11 @@ class MiniZinc(Case):
             f.write(model)
         words = ["minizinc", "--solver", "bridge-cbc", "--nl-flags", "prove=1", source]
         environment = {**os.environ, "MZN_SOLVER_PATH": os.path.join(HERE, "..", "minizinc")}
-        if not mode:
-            ran = subprocess.run(words, env=environment, capture_output=True)
-            told = ran.stderr
-        else:
-            with open(path, mode) as err:
-                ran = subprocess.run(words, env=environment, stderr=err,
-                                     stdout=subprocess.DEVNULL)
-            with open(path, "rb") as f:
-                told = f.read()
-            os.unlink(path)
+        with open(path, mode or "wb") as err:
+            ran = subprocess.run(words, env=environment, stdout=subprocess.DEVNULL,
+                                 stderr=err if mode else subprocess.PIPE)
+        told = ran.stderr or Path(path).read_bytes()
+        os.unlink(path)
         lines = told.decode().split("\n")
         return ran.returncode, [line for line in lines if "bridge-cbc: " in line]
 

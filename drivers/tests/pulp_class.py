@@ -6,8 +6,9 @@ from __future__ import annotations
 import os
 import shutil
 import unittest
+from pathlib import Path
 
-from support import HERE, NEEDS_MPS, Case
+from support import BIN, NEEDS_MPS, Case
 
 try:
     import pulp
@@ -42,9 +43,11 @@ def problem_of(objective, *constraints, sense: int = 1) -> "pulp.LpProblem":
 @NEEDS_MPS
 @unittest.skipUnless(pulp and SOLVERS, "no PuLP or no solver")
 class Solves(Case):
+    def command(self, solver: str, **words) -> "pulp_solver.BridgeCmd":
+        return pulp_solver.BridgeCmd(os.path.join(BIN, "bridge-" + solver), msg=False, **words)
+
     def solve(self, solver: str, problem: "pulp.LpProblem", **words) -> "pulp_solver.BridgeCmd":
-        driver = os.path.join(HERE, "..", "bin", "bridge-" + solver)
-        command = pulp_solver.BridgeCmd(driver, msg=False, **words)
+        command = self.command(solver, **words)
         command.tmpDir = self.folder
         problem.solve(command)
         self.assertEqual(os.listdir(self.folder), [])
@@ -106,15 +109,9 @@ class Solves(Case):
             problem.constraints = {name: next(iter(problem.constraints.values()))}
             command = self.solve(SOLVERS[0], problem, options=["outlev=0"])
             self.assertEqual((x.value(), command.message.split("\n")[-1]), (2, "optimal 4"))
-            self.assertIn(f" G  {told}\n", self.written(command, problem))
-
-    def written(self, command: "pulp_solver.BridgeCmd", problem: "pulp.LpProblem") -> str:
-        path = os.path.join(self.folder, "written.mps")
-        command.written(problem, path)
-        with open(path) as f:
-            text = f.read()
-        os.unlink(path)
-        return text
+            command.written(problem, self.stub)
+            self.assertIn(f" G  {told}\n", Path(self.stub).read_text())
+            os.unlink(self.stub)
 
     @unittest.skipUnless(shutil.which("clp"), "no clp")
     def test_errors_in_words_of_pulp(self) -> None:
@@ -128,17 +125,11 @@ class Solves(Case):
         x = pulp.LpVariable("left", 1)
         problem = problem_of(1 * x, (2 * x >= 3, "both"))
         problem.name = "kept"
-        driver = os.path.join(HERE, "..", "bin", "bridge-" + SOLVERS[0])
-        command = pulp_solver.BridgeCmd(driver, msg=False, keepFiles=True)
-        here = os.getcwd()
+        self.addCleanup(os.chdir, os.getcwd())
         os.chdir(self.folder)
-        try:
-            problem.solve(command)
-        finally:
-            os.chdir(here)
+        problem.solve(self.command(SOLVERS[0], keepFiles=True))
         self.assertEqual(sorted(os.listdir(self.folder)), ["kept-pulp.json", "kept-pulp.mps"])
-        with open(os.path.join(self.folder, "kept-pulp.mps")) as mps:
-            self.assertIn(" G  both\n", mps.read())
+        self.assertIn(" G  both\n", Path(self.folder, "kept-pulp.mps").read_text())
 
 
 @unittest.skipIf(pulp is None, "no PuLP")
@@ -176,10 +167,9 @@ class Manners(unittest.TestCase):
                           "mipgap": 0.1, "threads": 3, "outlev": "1"})
 
     def test_statuses(self) -> None:
-        for last, solution in (("feasible 3", pulp.LpSolutionIntegerFeasible),
-                               ("within 2 3", pulp.LpSolutionIntegerFeasible),
-                               ("not proved: time", pulp.LpSolutionNoSolutionFound),
-                               ("bound 3", pulp.LpSolutionNoSolutionFound)):
+        found, none = pulp.LpSolutionIntegerFeasible, pulp.LpSolutionNoSolutionFound
+        for last, solution in (("feasible 3", found), ("within 2 3", found), ("bound 3", none),
+                               ("not proved: time", none)):
             self.assertEqual(pulp_solver.statuses_of(100, last), (pulp.LpStatusNotSolved, solution))
         told = {code: pulp.LpStatus[pulp_solver.statuses_of(code)[0]]
                 for code in (0, 100, 200, 290, 300, 400, 450)}

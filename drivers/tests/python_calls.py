@@ -14,10 +14,10 @@ from fractions import Fraction as F
 
 import reports
 from support import DRIVERS, EXAMPLES, NEEDS_CLP, NEEDS_MPS, NEEDS_PROGRAM, Case
+from tables import rows_of
 
 import bridge_drivers
-from bridge_drivers import (BridgeError, FileFault, ModelRefused, NotInstalled, Report, WrongOption,
-                            certify, explain, figures, solve, solvers, verify)
+from bridge_drivers import Report, certify, explain, figures, solve, solvers, verify
 
 PAGE = os.path.join(DRIVERS, "PYTHON.md")
 HAS_CBC = solvers.load("cbc").place() is not None
@@ -83,24 +83,14 @@ class Calls(Case):
 
     def test_what_is_raised(self) -> None:
         """Each by a call; the report in it is that of the command."""
-        for call, kind, status, code in (
-                (lambda: explain("product"), ModelRefused, 2, None),
-                (lambda: verify("product", "knap.certificate"), ModelRefused, 2, None),
-                (lambda: verify("knap", "menu.py"), ModelRefused, 2, None),
-                (lambda: verify("nosuch", "knap.certificate"), FileFault, 4, None),
-                (lambda: verify("knap", "nosuch"), FileFault, 4, None),
-                (lambda: figures("knap", bridge="/nonexistent"), NotInstalled, 127, None),
-                (lambda: solve("knap", "cbc", prove=2), WrongOption, 3, 502),
-                (lambda: solve("knap", "cbc", gap=1), WrongOption, 3, 502),
-                (lambda: solve("knap", "nosuch"), WrongOption, 3, 502),
-                (lambda: solve("nosuch", "cbc"), FileFault, 4, 504),
-                (lambda: solve("knap", "cbc", program="/nonexistent"), NotInstalled, 127, 503),
-                (lambda: solve("product", "cbc", program="/bin/true"), ModelRefused, 2, 501),
-                (lambda: solve("knap", "cbc", program="/bin/true"), BridgeError, 1, 506)):
-            with self.assertRaises(kind) as caught:
-                call()
-            self.assertEqual((caught.exception.status, caught.exception.code), (status, code))
-            self.checked(caught.exception.report)
+        for call, kind, status, code in rows_of("python_calls"):
+            name, *words = call.split()
+            options = dict(word.split("=") for word in words if "=" in word)
+            with self.assertRaises(getattr(bridge_drivers, kind)) as caught:
+                getattr(bridge_drivers, name)(*words[:len(words) - len(options)], **options)
+            fault = caught.exception
+            self.assertEqual((str(fault.status), str(fault.code or "-")), (status, code), call)
+            self.checked(fault.report)
 
     def test_the_call_is_no_folder(self) -> None:
         """`certify` is a folder of modules, too, which must not take the call's place."""

@@ -7,6 +7,7 @@ import sys
 import unittest
 
 from support import DRIVERS, Case
+from tables import rows_of
 
 from bridge_drivers import explaining, kinds, reasons
 from bridge_drivers.bridge import Refused, Reply
@@ -29,17 +30,11 @@ class Expressions(unittest.TestCase):
         the first parts stand, and the marked one."""
         terms = [f"v{j}" for j in range(1000)]
         marked = [*terms[:500], "o2 v7 v8", *terms[501:]]
-        for text, words, columns, mark in (
-                ("o2 v0 v1", "(x0 * x1)", 0, -1), ("o41 v2", "sin(x2)", 0, -1),
-                ("o16 o0 v0 n2.5", "-((x0 + 2.5))", 0, -1), ("n7", "7", 0, -1),
-                ("o54 3 v0 v1 n-1", "(x0 + x1 + -1)", 0, -1), ("o93 v0", "opcode 93(x0)", 0, -1),
-                ("o35 o22 v0 n3 n1 n2", "if((x0 < 3), 1, 2)", 0, -1),
-                ("o11 2 v0 o5 v1 n2", "min(x0, (x1 ^ 2))", 0, -1), ("o2 v0", "(x0 * ..)", 0, -1),
-                ("o48 v0 v1", "atan2(x0, x1)", 0, -1), ("", "", 0, -1), ("C0", "", 0, -1),
-                ("3", "", 0, -1), ("o2 v0 v3", "(x0 * v3)", 3, -1),
-                ("o54 2 v0 o2 v1 v1", "(x0 + >>(x1 * x1)<<)", 0, 3),
-                ("o54 1000 " + " ".join(terms), "(x0 + x1 + x2 + x3 + x4 + x5 + ..)", 0, -1)):
+        for text, words, *more in rows_of("refusals", "expression"):
+            columns, mark = (int(more[k]) if k < len(more) else -k for k in (0, 1))
             self.assertEqual(in_words(text, Names("", columns) if columns else None, mark), words)
+        self.assertEqual(in_words("o54 1000 " + " ".join(terms)),
+                         "(x0 + x1 + x2 + x3 + x4 + x5 + ..)")
         self.assertIn(" + >>(x7 * x8)<< + ..", in_words("o54 1000 " + " ".join(marked), mark=502))
         lines = [b"f0 2\t#gamma\n", b"v0 # speed of sound\n", b"h3:abc\n"]
         self.assertEqual(Expression(Names("")).text(lines), "gamma(speed of sound, 'abc')")
@@ -61,25 +56,8 @@ class Refusals(Case):
         self.put(PRODUCT)
         nl = self.stub + ".nl"
         export = ("export", nl)
-        for words, told, line in (
-                (export, "line 17: nonlinear",
-                 "m.nl line 17: constraint 0: (x0 * (x1 + 3)) is nonlinear"),
-                (export, "row 4: row too wide", "m.nl: constraint 4: row too wide (the row's exact "
-                 "values do not fit 128 bits)"),
-                (export, "objective 1: no such objective", "m.nl: objective 1: no such objective "
-                 "(the file has fewer objectives; they count from 0 here)"),
-                (("export", nl, "0", "r", "c"), "file 3 line 3: repeated name",
-                 "c line 3: repeated name (an earlier line has it)"),
-                (("return", nl, "a"), "file 2 line 4: unknown name",
-                 "a line 4: unknown name (no column, or no row that was exported, has it)"),
-                (("check", nl, "s"), "file 2: other counts",
-                 "s: other counts (it is of another model)"),
-                (("import", "p.mps"), "column 2: empty interval",
-                 "p.mps: column 2: empty interval (a lower bound is above its upper bound, so "
-                 "nothing satisfies the model)"),
-                (("mps", "p.mps"), "line 7: unknown row",
-                 "p.mps line 7: unknown row (no line of ROWS has it)")):
-            self.assertEqual(self.line("refused " + told, *words), line)
+        for words, told, line in rows_of("refusals", "line"):
+            self.assertEqual(self.line("refused " + told, *words.replace("NL", nl).split()), line)
         for number, place in ((2, "header"), (23, "objective 0"), (26, "constraint 0"),
                               (25, "sides of constraints"), (29, "variable 1"), (27, "bounds")):
             self.assertIn(f"m.nl line {number}: {place}: ",
@@ -147,23 +125,9 @@ class Kinds(Case):
         return text.replace(self.folder + os.sep, "")
 
     def test_named_ones(self) -> None:
-        for name, data, told in (
-                ("model.mps", b"* made\nNAME x\nROWS\n", "is an MPS file: `bridge-certify "
-                 "model.mps` and the drivers take it, `nl-bridge import model.mps model.nl` makes "
-                 "model.nl of it"),
-                ("model.txt", b"NAME\nROWS\n", "is an MPS file: "),
-                ("model.lp", b"\\ made\nMinimize\n obj: x\n", "is an LP file, which no command "
-                 "here reads: save the model as .nl (AMPL `write gmodel`, "),
-                ("model.lp", b"/* made */\nmax: 3x;\n", "is an LP file"),
-                ("knap.nl.gz", b"\x1f\x8b\x08", "is a compressed file: `gunzip -k knap.nl.gz`"),
-                ("model.mod", b"var x;\n", "is a text of AMPL: in AMPL, `write gmodel;` writes "
-                                            "model.nl"),
-                ("diet.mzn", b"var 1..2: x;\n", "is a text of MiniZinc: `minizinc --solver "
-                                                 "bridge-cbc diet.mzn`"),
-                ("k.certificate", b"certificate 1\n", "is a certificate: `nl-bridge verify "),
-                ("notes", b"\n", "is no .nl file by its name")):
-            self.assertTrue(self.told(name, data).startswith(f"{name} {told}"),
-                            self.told(name, data))
+        for name, data, told in rows_of("refusals", "file"):
+            line = self.told(name, data.encode("latin-1"))
+            self.assertTrue(line.startswith(f"{name} {told}"), line)
 
     def test_others(self) -> None:
         self.assertEqual(kinds.no_model(self.stub), self.stub + ".nl: no such file")
@@ -187,12 +151,15 @@ class Kinds(Case):
                          "it")
 
 
+WORKED = ("refusals", "export")     # the second has what is wide
+
+
 class Reasons(unittest.TestCase):
     def test_each_that_is_provoked_is_listed(self) -> None:
         """Those of the worked texts, in `nl-bridge help refusals`."""
         sys.path.append(os.path.join(DRIVERS, "..", "acceptance"))
-        from cases import refusals as worked
-        for case in worked.cases():
+        import texts
+        for case in (case for name in WORKED for case in texts.cases(name)):
             if case.told.startswith("refused "):
                 told = explaining.parsed(case.told.rstrip("\n"))
                 assert told is not None, case.told

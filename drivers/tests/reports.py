@@ -8,10 +8,10 @@ import re
 import unittest
 from typing import Any
 
-from support import DRIVERS, EXAMPLES, HAS_CLP, NEEDS_PROGRAM, PROGRAM, Case, ran
+from support import DRIVERS, HAS_CLP, NEEDS_PROGRAM, PROGRAM, Case, ran
 from models import MODELS
 
-from bridge_drivers import VERSION, report
+from bridge_drivers import report, solvers
 from bridge_drivers.built import built
 from fractions import Fraction as F
 
@@ -92,46 +92,25 @@ class Objects(Case):
     """Of commands as processes; nothing else is on standard output."""
 
     def call(self, *words: str) -> dict[str, Any]:
-        ended = ran(*words)
-        told: dict[str, Any] = json.loads(ended.stdout)
-        self.assertEqual(faults(told, schema()), [])
-        self.assertEqual((told["status"], told["command"], told["version"]),
-                         (ended.returncode, words[0], VERSION))
-        self.err = ended.stderr
-        return told
-
-    def put_knap(self) -> None:
-        for name in os.listdir(EXAMPLES):
-            if name.startswith("knap"):
-                with open(os.path.join(EXAMPLES, name), "rb") as f:
-                    self.put(f.read(), name[4:])
+        return self.is_report(ran(*words), words[0])
 
     def test_of_nl_bridge(self) -> None:
-        """What is told beside what `python_calls` looks at: sums, the program, what stands on
-        standard error."""
-        self.put_knap()
-        nl, certificate = self.stub + ".nl", self.stub + ".certificate"
-        told = self.call("nl-bridge", "verify", nl, certificate, "json=1")
-        self.assertEqual((told["value"], told["text"], told["sums"]["program"]), (
-            {"exact": "17", "double": 17.0}, "optimal 17", report.sum_of(PROGRAM[0])))
-        self.assertEqual(told["sums"]["certificate"], report.sum_of(certificate))
-        told = self.call("nl-bridge", "verify", nl, "/nonexistent", "json=1")
-        self.assertEqual((told["status"], self.err), (4, f"nl-bridge: {told['text']}\n"))
-        told = self.call("nl-bridge", "stats", nl, "json=1")
-        keys = ("sense", "columns", "binary", "rows", "sides")
-        self.assertEqual([told["stats"][k] for k in keys], ["maximise", 3, 3, 1, [10.0, 10.0]])
+        """What is told beside what `python_calls` looks at: sums, the program, figures, what is
+        refused."""
+        self.calls("reports", "front")
+        certificate = self.stub + ".certificate"
+        told = self.call("nl-bridge", "verify", self.stub, certificate, "json=1")
+        self.assertEqual((told["sums"]["program"], told["sums"]["certificate"]),
+                         (report.sum_of(PROGRAM[0]), report.sum_of(certificate)))
         told = self.call("nl-bridge", "version", "json=1")
         facts = built(PROGRAM[0])
         proved = facts["proved"] == "yes" if facts else None
         self.assertEqual((told["program"], told["proved"]), (PROGRAM, proved))
-        self.put(MODELS["nonlinear"].text)
-        told = self.call("nl-bridge", "stats", nl, "json=1")
-        self.assertEqual((told["status"], self.err), (2, f"nl-bridge: {told['text']}\n"))
-        self.assertEqual((told["refusal"]["reason"], told["refusal"]["number"]), ("nonlinear", 12))
 
     @unittest.skipUnless(HAS_CLP, "no library of CLP")
     def test_drivers(self) -> None:
-        self.put_knap()
+        self.put(MODELS["knap"].text)
+        self.put(b"a\nb\nz\n", ".col")
         for driver in ("cbc", "glpsol", "lp_solve"):
             told = self.call("bridge-" + driver, self.stub, "-AMPL", "json=1", "prove=1",
                              "wantsol=2", "outlev=1", f"certificate={self.stub}.new", "overwrite=1")
@@ -141,15 +120,6 @@ class Objects(Case):
                                  (0, "optimal", self.stub + ".new"))
                 self.assertEqual(self.sol().message, told["lines"])
 
+    @unittest.skipUnless(solvers.load("cbc").place(), "no cbc")
     def test_failures(self) -> None:
-        self.put(MODELS["nonlinear"].text)
-        for command in ("bridge-cbc", "bridge-certify"):
-            for words, status, code in (((), 2, 501), (("speed=9",), 3, 502)):
-                told = self.call(command, self.stub, "json=1", *words)
-                if told["code"] == 503:
-                    continue
-                self.assertEqual((told["status"], told["code"], told["claim"]),
-                                 (status, code, None))
-                self.assertTrue(self.err.rstrip().endswith(told["text"]), self.err)
-        told = self.call("bridge-certify", self.stub, "json=1", "certificate=-")
-        self.assertEqual(told["status"], 3)
+        self.calls("reports", "failure")

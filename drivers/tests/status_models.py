@@ -6,6 +6,7 @@ import random
 from typing import NamedTuple, Sequence
 
 from models import nl
+from tables import rows_of
 
 
 class Real(NamedTuple):
@@ -34,23 +35,11 @@ def knapsacks(columns: int, rows: int, linear: bool = False) -> bytes:
               [("max", 0, {j: rng.randint(10, 99) for j in range(columns)})])
 
 
-SMALL, LARGE, HARD, ENDLESS = (20, 5), (60, 20), (100, 30), (150, 40)
-GAP = "stopped at the gap of 40.00 % that was asked for"
-REAL = (
-    Real("cbc gap", "cbc", SMALL, ["mipgap=0.4"], (0, 100), GAP),
-    Real("cbc time", "cbc", LARGE, ["timelim=1"], (400,), "the time limit with a feasible"),
-    Real("cbc nodes", "cbc", LARGE, ["extra=-maxN 1"], (400,),
-         "the limit of iterations, nodes or solutions with a feasible"),
-    Real("glpsol gap", "glpsol", SMALL, ["mipgap=0.4"], (0, 100), GAP),
-    Real("glpsol time", "glpsol", HARD, ["timelim=1"], (400,), "the time limit with a feasible"),
-    Real("highs gap", "highs", SMALL, ["mipgap=0.4"], (0, 100), GAP),
-    Real("highs time", "highs", LARGE, ["timelim=1"], (400,), "the time limit with a feasible"),
-    Real("lp_solve gap", "lp_solve", SMALL, ["mipgap=0.4"], (0, 100), GAP),
-    Real("lp_solve time", "lp_solve", HARD, ["timelim=1"], (400,),
-         "the time limit with a feasible"),
-    Real("clp iterations", "clp", LARGE, ["extra=-maxIt 1"], (0, 100, 400, 450), ""),
-    Real("cbc interrupt", "cbc", ENDLESS, [], (400,), "interrupted with a feasible solution", 6.0),
-    Real("glpsol interrupt", "glpsol", ENDLESS, [], (), "interrupted", 6.0),
-    Real("lp_solve interrupt", "lp_solve", ENDLESS, [], (), "interrupted", 6.0),
-    Real("highs interrupt", "highs", ENDLESS, [], (), "interrupted", 6.0),
-)
+def real(name: str, driver: str, size: str, options: str, codes: str, told: str,
+         interrupt: str = "0") -> Real:
+    columns, rows = map(int, size.split())
+    return Real(name, driver, (columns, rows), [options] if options else [],
+                [int(code) for code in codes.split()], told, float(interrupt))
+
+
+REAL = tuple(real(*cells) for cells in rows_of("statuses"))

@@ -4,9 +4,12 @@ stored runs, and what an answer to a small model must look like."""
 from __future__ import annotations
 
 import contextlib
+import gzip
 import io
+import json
 import os
 import re
+import shlex
 import shutil
 import subprocess
 import sys
@@ -24,13 +27,15 @@ TOP = os.path.join(DRIVERS, "..")
 EXAMPLES = os.path.join(TOP, "packaging", "examples")
 sys.path[:0] = [os.path.join(HERE, ".."), HERE]
 
-from bridge_drivers import solvers                      # noqa: E402
+from bridge_drivers import VERSION, solvers             # noqa: E402
 from bridge_drivers.bridge import BESIDE, Bridge, Reply, find   # noqa: E402
 from bridge_drivers.certify import clp                  # noqa: E402
 from bridge_drivers.driver import Driver                # noqa: E402
 from bridge_drivers.job import LOG, Job, Ran            # noqa: E402
 from bridge_drivers.solving import Solving              # noqa: E402
 from models import MODELS                               # noqa: E402
+from tables import rows_of                              # noqa: E402
+import mps_models                                       # noqa: E402
 import stored                                           # noqa: E402
 
 LOOSE = ("lp_solve",)           # prints six digits
@@ -43,6 +48,7 @@ ALLOWED = {word: set(map(int, re.findall(r"\b(?:0|[1-4]\d0)\b", codes))) for wor
 CHECKED = "bridge check of the .sol: "
 PROGRAM = find("", BESIDE) if os.environ.get("BRIDGE") else []
 HAS_CLP = clp.library() is not None
+FIRST = next((name for name in solvers.NAMES if solvers.load(name).place()), "")
 
 
 def knows(command: str) -> bool:
@@ -76,12 +82,28 @@ def called(run: Callable[[], int]) -> Ended:
     return Ended(int(status), out.getvalue(), err.getvalue())
 
 
-def ran(command: str, *words: str, place: str = BIN, **environment: str) -> Ended:
-    """How a command as a process of its own ended."""
-    ended = subprocess.run([sys.executable, os.path.join(place, command), *words], text=True,
-                           stdin=subprocess.DEVNULL, capture_output=True,
-                           env={**os.environ, **environment})
+def ran(command: str, *words: str, place: str = BIN, given: str = os.devnull, folder: str = ".",
+        **environment: str) -> Ended:
+    """How a command as a process of its own ended; a file is given to it."""
+    with open(given, "rb") as stream:
+        ended = subprocess.run([sys.executable, os.path.join(place, command), *words], text=True,
+                               stdin=stream, capture_output=True, cwd=folder,
+                               env={**os.environ, **environment})
     return Ended(ended.returncode, ended.stdout, ended.stderr)
+
+
+def content(words: str) -> bytes:
+    """Of a file of a table: a text, `model NAME`, `mps NAME`, `example NAME`, packed, or cut."""
+    kind, _, name = words.partition(" ")
+    if kind == "cut":
+        return content(name)[:60]
+    if kind == "gzip":
+        return gzip.compress(content(name))
+    if kind == "example":
+        return Path(EXAMPLES, name).read_bytes()
+    if kind == "mps":
+        return mps_models.text_of(name).encode()
+    return MODELS[name].text if kind == "model" else words.encode("latin-1")
 
 
 def driven(driver: str, *words: str, **others: str) -> Ended:
@@ -208,6 +230,89 @@ class Case(unittest.TestCase):
         with mock.patch("shutil.which", lambda name, **_: "/stored/" + name), \
                 mock.patch.dict(os.environ, environment or {}):
             return called(lambda: OfflineDriver(driver).main(list(words)))
+
+    def calls(self, table: str, kind: str, driver: str = FIRST) -> None:
+        """The rows of a table: `put` with a file and its content, `remove`, or a call with its
+        status and what comes of it. DIR is the folder of the test, `m` a model in it, DRIVER
+        a driver."""
+        for row in rows_of(table, kind):
+            first, second, *rest = (cell.replace("DRIVER", driver).replace("VERSION", VERSION)
+                                    for cell in row)
+            if first == "remove":
+                os.unlink(self.spelled(second))
+                continue
+            if first == "put":
+                path = Path(self.spelled(second))
+                path.parent.mkdir(parents=True, exist_ok=True)
+                path.write_bytes(content(rest[0]))
+                path.chmod(0o755 if rest[0].startswith("#!") else 0o644)
+                continue
+            with self.subTest(call=first):
+                ended = self.of_words(shlex.split(self.spelled(first)))
+                text = (ended.stdout + ended.stderr).replace(self.stub, "m")
+                self.assertEqual(ended.returncode, int(second), text)
+                if "json=1" in first:
+                    self.is_report(ended, first.split()[0])
+                for told in rest:
+                    self.comes(told, text.replace(self.folder, "DIR"))
+
+    def spelled(self, words: str) -> str:
+        return re.sub(r"(?<![^ =])m(?=[ .]|$)", self.stub, words.replace("DIR", self.folder))
+
+    def of_words(self, words: list[str]) -> Ended:
+        """A call of a table: a command, behind its environment; `replay` is a driver over the
+        stored run of a model."""
+        environment = {}
+        while re.match("[A-Za-z_-]+=", words[0]):
+            name, _, environment[name] = words.pop(0).partition("=")
+        if words[0] == "replay":
+            return self.replay(*words[1:], environment=environment)
+        if "/" in words[0]:             # of a clone
+            words[0] = os.path.join("..", "..", words[0])
+        given = words.pop() if "<" in words else os.devnull
+        return ran(*(word for word in words if word != "<"), given=given, folder=self.folder,
+                   **environment)
+
+    def is_report(self, ended: Ended, command: str) -> dict:
+        """What is printed, which is as its schema wants it; a refusal stands on standard error,
+        too."""
+        import reports
+        found: dict = json.loads(ended.stdout)
+        self.assertEqual(reports.faults(found, reports.schema()), [])
+        self.assertEqual((found["status"], found["command"], found["version"]),
+                         (ended.returncode, command, VERSION))
+        if ended.returncode in (2, 3, 4):
+            self.assertTrue(ended.stderr.rstrip().endswith(found["text"]), ended.stderr)
+        return found
+
+    def comes(self, told: str, text: str) -> None:
+        """Of a call: `code: N` of its .sol, `no: FILE`, `there: FILE`, `file: NAME CONTENT`,
+        `in: FILE TEXT`, `same: FILE FILE`, `all: TEXT`, `ends: TEXT`, `not: TEXT`, or a part of
+        what it prints."""
+        kind, _, rest = told.partition(": ")
+        if kind == "code":
+            self.assertEqual(self.sol().code, int(rest), text)
+        elif kind == "no":
+            self.assertFalse(os.path.exists(self.spelled(rest)), text)
+        elif kind == "there":
+            self.assertTrue(os.path.exists(self.spelled(rest)), text)
+        elif kind == "file":
+            path, _, wanted = rest.partition(" ")
+            self.assertEqual(Path(self.spelled(path)).read_bytes(), content(wanted))
+        elif kind == "in":
+            path, _, wanted = rest.partition(" ")
+            self.assertIn(self.spelled(wanted), Path(self.spelled(path)).read_text())
+        elif kind == "same":
+            one, other = self.spelled(rest).split()
+            self.assertEqual(Path(one).read_bytes(), Path(other).read_bytes())
+        elif kind == "all":
+            self.assertEqual(text, rest)
+        elif kind == "ends":
+            self.assertTrue(text.endswith(rest), text)
+        elif kind == "not":
+            self.assertNotIn(rest, text)
+        else:
+            self.assertIn(told, text)
 
     def judge(self, driver: str, name: str) -> None:
         """The .sol of a model against what is wanted."""

@@ -9,12 +9,12 @@ import lzma
 import os
 import re
 import subprocess
-import sys
 import unittest
 from pathlib import Path
 
-from support import BIN, EXAMPLES, NEEDS_CLP, NEEDS_PROGRAM, TOP, Case, called, ran
+from support import HAS_CLP, NEEDS_PROGRAM, TOP, Case, called
 from models import MODELS
+from tables import rows_of
 
 from bridge_drivers import commands, front, solvers, words
 from bridge_drivers.certify.command import Command
@@ -84,20 +84,11 @@ class Help(unittest.TestCase):
 class Options_(unittest.TestCase):
     def test_did_you_mean(self) -> None:
         known = Command("cbc").options
-        for word, meant in (("gap", "mipgap"), ("timeout", "timelim"), ("quiet", "wantsol=8"),
-                            ("o", "certificate"), ("timelimit", "timelim"), ("proove", "prove"),
-                            ("certficate", "certificate")):
+        for word, meant in rows_of("surface", "near"):
             with self.assertRaisesRegex(BadOption, f"did you mean `{meant}`\\?"):
                 known.take([word + "=1"])
         self.assertEqual(near("veryfy", commands.WORDS), " did you mean `verify`?")
         self.assertEqual(near("gap", commands.WORDS), "")
-        for call, end in (("help gap", "no help on gap; did you mean `mipgap`?"),
-                          ("knap --foo", "unknown option --foo;"),
-                          ("foo x", "unknown command foo;"),
-                          ("stats", "stats takes MODEL [K];"),
-                          ("help refusal", "no help on refusal; did you mean `refusals`?")):
-            self.assertEqual(called(lambda: front.command(call.split())),
-                             (3, "", f"nl-bridge: {end} -h lists the commands\n"))
         for unknown in (["foo"], ["foo=1"], ["-foo"], ["timelim=1", "foo", "2"]):
             with self.assertRaisesRegex(BadOption, "^unknown option foo; -= lists the options$"):
                 Options().take(unknown)
@@ -144,8 +135,13 @@ class Options_(unittest.TestCase):
             self.assertEqual(front.read(call), wanted)
         self.assertEqual(front.read(["export", "--", "-x"]).rest, ["-x"])
         self.assertEqual(front.read(["export", "-"]).rest, ["-"])
-        for call in (["export", "m", "-x"], ["export", "m", "json=1"], ["stats", "m", "--html=h"]):
-            self.assertRaises(front.BadWords, front.read, call)
+        call = front.read(["--svg=s", "explain", "m", "--html", "h", "--", "-c"])
+        self.assertEqual((call.rest, call.pages), (["m", "-c"], {"html": "h", "svg": "s"}))
+        for bad in ("export m -x", "export m json=1", "stats m --html=h", "explain m c --pdf x",
+                    "explain m c --html", "verify m c --html x"):
+            self.assertRaises(front.BadWords, front.read, bad.split())
+        for bad in ("explain", "explain m c d"):
+            self.assertRaises(front.BadWords, front.explained, front.read(bad.split()))
 
 
 class Models(Case):
@@ -181,46 +177,13 @@ class Models(Case):
                                  (b"NAME\n", True, self.stub))
 
     @NEEDS_PROGRAM
-    def test_damaged(self) -> None:
-        """A packed file that ends too soon, of each command."""
-        self.put(gzip.compress(MODELS["knap"].text)[:40], ".nl.gz")
-        for given in (["export"], ["stats"], ["explain"], ["explain", "export"]):
-            status, out, err = called(lambda: front.command([*given, self.stub + ".nl.gz"]))
-            self.assertEqual(status, 2, given)
-            self.assertIn(".nl.gz: the packed file ends too soon or is damaged", out + err)
-
-    @NEEDS_PROGRAM
     def test_each_command(self) -> None:
-        """Of one model in each form each command says the same."""
-        self.put(Path(EXAMPLES, "knap.certificate").read_bytes(), ".certificate")
-        data = Path(EXAMPLES, "knap.nl").read_bytes()
-        self.put(data)
-        self.put(gzip.compress(data), ".nl.gz")
-        for word, end, line in (("verify", [self.stub + ".certificate"], "optimal 17"),
-                                ("stats", [], "sense         maximise"), ("export", [], "NAME nl"),
-                                ("explain", [], "X: is not refused"), ("nl", [], "g3 1 1 0")):
-            for model, given in ((self.stub, b""), (self.stub + ".nl", b""), ("-", data),
-                                 (self.stub + ".nl.gz", b""), ("/dev/stdin", gzip.compress(data))):
-                ran = subprocess.run([sys.executable, os.path.join(BIN, "nl-bridge"), word, model,
-                                      *end], input=given, capture_output=True, check=False)
-                told = ran.stdout.decode().replace(self.stub + ".nl: ", "X: ").replace(
-                    model + ": ", "X: ")
-                self.assertEqual((ran.returncode, f"\n{line}" in "\n" + told), (0, True),
-                                 (word, model, told, ran.stderr))
-
-    @NEEDS_PROGRAM
-    @NEEDS_CLP
-    @unittest.skipUnless(HAS_CBC, "no cbc")
-    def test_a_driver(self) -> None:
-        """Of standard input, packed; what is written beside it is called stdin."""
-        for driver, end in (("certify", "certificate"), ("cbc", "sol")):
-            ran = subprocess.run([sys.executable, os.path.join(BIN, "bridge-" + driver), "-",
-                                  *(["-s"] if driver == "cbc" else [])], cwd=self.folder,
-                                 input=gzip.compress(MODELS["knap"].text), capture_output=True,
-                                 check=False)
-            self.assertEqual(ran.returncode, 0, ran.stderr)
-            self.assertIn(b"what is judged is the text that - unpacks to\n", ran.stdout)
-            self.assertTrue(os.path.exists(os.path.join(self.folder, "stdin." + end)))
+        """Of one model in each form each says the same; of one that is damaged, too; a driver on
+        standard input, what is written beside it being called stdin."""
+        self.calls("surface", "form")
+        self.calls("surface", "damaged")
+        if HAS_CBC and HAS_CLP:
+            self.calls("surface", "stdin")
 
 
 class Statuses(Case):
@@ -232,33 +195,7 @@ class Statuses(Case):
 
     @NEEDS_PROGRAM
     def test_each(self) -> None:
-        """By calls that end so."""
-        self.put(MODELS["knap"].text)
-        with open(self.stub + ".txt", "wb") as f:
-            f.write(MODELS["nonlinear"].text)
-        self.put(b"certificate 1\nbound 0 16\nduals 0\n", ".certificate")
-        nl, bad, of = self.stub, self.stub + ".txt", self.stub + ".certificate"
-        for call, status in (
-                (["nl-bridge", "export", nl], 0), (["nl-bridge", "verify", nl, of], 1),
-                (["nl-bridge", "export", bad], 2), (["nl-bridge", "stats", bad], 2),
-                (["nl-bridge", "explain", bad], 2), (["bridge-cbc", bad, "solver=/bin/true"], 2),
-                (["nl-bridge", "export"], 3), (["nl-bridge", "exprt", nl], 3),
-                (["bridge-cbc", nl, "prove=2"], 3), (["bridge-certify", nl, "x=1"], 3),
-                (["bridge-certify", nl, "driver=x"], 3), (["bridge-cbc"], 3), (["nl-bridge"], 3),
-                (["nl-bridge", "verify", nl, "/nonexistent"], 4), (["bridge-cbc", "/no/m"], 4),
-                (["nl-bridge", "stats", "/no/m"], 4), (["bridge-certify", "/no/m.mps"], 4),
-                (["nl-bridge", "explain", nl, of, "--svg", "/no/x"], 5),
-                (["nl-bridge", "explain", nl, of, "--html", of, "overwrite=1"], 5),
-                *([(["bridge-certify", nl, "certificate=/no/x"], 5)] if HAS_CBC else []),
-                (["bridge-cbc", nl, "solver=/no/cbc"], 127),
-                (["bridge-cbc", nl, "solver=/bin/true"], 1),
-                (["bridge-certify", nl, "bridge=/no/bridge"], 127)):
-            ended = ran(*call)
-            self.assertEqual(ended.returncode, status, (call, ended))
-
-    @NEEDS_PROGRAM
-    def test_a_refusal_points_to_explain(self) -> None:
-        self.put(MODELS["nonlinear"].text)
-        self.assertEqual(ran("nl-bridge", "export", self.stub + ".nl").stderr,
-                         "refused line 12: nonlinear\nnl-bridge: `nl-bridge explain "
-                         f"{self.stub}.nl` says more\n")
+        """By calls that end so; a refusal points to `explain`, and a word that is not known to one
+        that is near."""
+        for kind in ("status", "refusal", "meant", *(["certify"] if HAS_CBC else [])):
+            self.calls("surface", kind)

@@ -18,37 +18,32 @@ from bridge_drivers.bridge import Refused, Reply
 from bridge_drivers.interrupts import SIGNALS, Interrupted, Signals, with_child
 from bridge_drivers.program import Program
 from models import MODELS
+from tables import rows_of
 
 BINARY = os.path.join(HERE, "binary")
 
 
 class Decimals(Case):
     def test_exact_and_nearest(self) -> None:
-        most = 2 ** 127 - 1
-        for value, text, exact in (
-                (F(1, 4), "0.25", True), (F(-13, 2), "-6.5", True), (F(7), "7", True),
-                (F(-3, 40), "-0.075", True), (F(0), "0", True), (-0.0, "0", True),
-                (0.1, "0.1", True), (2.0, "2", True), (1e-300, "1e-300", True), (3, "3", True),
-                (F(1, 2 ** 50), None, True), (F(most), str(most), True),
-                (F(7 * 10 ** 40), "7e40", True), (F(-10 ** 400), "-1e400", True),
-                (F(1, 3), "0.33333333333333333", False), (F(1, 2 ** 60), None, False),
-                (F(10 ** 30, 7), None, False), (F(2 ** 127), None, False),
-                (F(1, 3 * 10 ** 390), "0", False)):
+        zeros = "0" * 390
+        for number, text, kind in [*rows_of("units", "decimal"), ["1/3" + zeros, "0", "near"]]:
+            value = float(number[:-1]) if number.endswith("f") else F(number)
+            exact = kind == "exact"
             got, is_exact = values.text_of(value)
             self.assertEqual(is_exact, exact, value)
-            if text is not None:
+            if text:
                 self.assertEqual(got, text)
             if exact and isinstance(value, F):
                 self.assertEqual(F(got), value)
             else:
                 self.assertLessEqual(abs(F(got) - F(value)), max(abs(F(value)) / 10 ** 16,
                                                                  F(1, 10 ** 380)))
+        self.assertEqual(values.text_of(3), ("3", True))
         for bad in (float("inf"), float("nan"), F(10 ** 400, 7)):
             self.assertRaises(values.BadValue, values.text_of, bad)
 
 
 class Texts(Case):
-
     def test_program(self) -> None:
         p = Program(b"NAME nl\nOBJSENSE\n MAX\nROWS\n N obj\n L c0\nCOLUMNS\n x0 obj 2\n"
                     b" M0 'MARKER' 'INTORG'\n x1 c0 1\n x2 obj 5\n x2 c0 1\n"
@@ -74,16 +69,8 @@ class Texts(Case):
                          [4, 2, 2, 1, 0])
 
     def test_refusals(self) -> None:
-        def line(status: int, told: str) -> str:
-            return Refused("return", Reply(status, b"", told)).line()
-        self.assertEqual(line(2, "refused line 12: nonlinear"),
-                         "refused line 12: nonlinear (the model is not linear there)")
-        self.assertEqual(line(2, "refused line 9: refused opcode 39"),
-                         "refused line 9: refused opcode 39 (an operator that is not linear)")
-        self.assertEqual(line(3, "bad words"),
-                         "this bridge does not know the command `return` (bad words)")
-        self.assertEqual(line(6, ""), "want of memory")
-        self.assertEqual(line(-9, ""), "`bridge return` was stopped by signal 9")
+        for status, told, line in rows_of("units", "refusal"):
+            self.assertEqual(Refused("return", Reply(int(status), b"", told)).line(), line)
 
     def test_bare_sol(self) -> None:
         self.put(MODELS["knap"].text)
@@ -126,11 +113,8 @@ class Files(Case):
                          ["b", "0 0.5 0.30000000000000004", "S4 1 rc", "0 2", ""])
 
     def test_shortest_numbers(self) -> None:
-        for old, new, count in (
-                (b"0 0.90000000000000002\nn6.4000000000000004\n", b"0 0.9\nn6.4\n", 2),
-                (b"1 -0.10000000000000001\n", b"1 -0.1\n", 1),
-                (b"1 9.0000000000000002e-06\n", b"1 9e-06\n", 1)):
-            self.assertEqual(nl.shortest_numbers(old), (new, count))
+        for old, new, count in rows_of("units", "shortest"):
+            self.assertEqual(nl.shortest_numbers(old.encode()), (new.encode(), int(count)))
         same = b"0 0.123456789 1.5\n3 123456789012345678\nx0.90000000000000002\n"
         self.assertEqual(nl.shortest_numbers(same), (same, 0))
 
@@ -202,26 +186,10 @@ class Shown(Case):
         """What solvers tell, in the objective's own sense."""
         least, most = (Program(b"NAME nl\n" + sense + b"ROWS\n N obj\nCOLUMNS\nRHS\nENDATA\n")
                        for sense in (b"", b"OBJSENSE\n MAX\n"))
-        for name, program, line, known in (
-                ("cbc", least, "Cbc0010I After 100 nodes, 12 on tree, 45.5 best solution, best "
-                               "possible 40 (1.23 seconds)",
-                 {"nodes": 100, "open": 12, "incumbent": 45.5, "bound": 40}),
-                ("cbc", most, "Cbc0010I After 0 nodes, 1 on tree, 1e+50 best solution, best "
-                              "possible -1397571.6 (0.2 seconds)",
-                 {"nodes": 0, "open": 1, "bound": 1397571.6}),
-                ("cbc", most, "Cbc0012I Integer solution of -17 found by rounding after 0 "
-                              "iterations and 0 nodes (0.01 seconds)", {"incumbent": 17}),
-                ("clp", most, "Clp0006I 52  Obj 8.5 Primal inf 0 (0)",
-                 {"iterations": 52, "objective": 8.5}),
-                ("glpsol", most, "+  1234: mip =   1.200000000e+01 <=   1.500000000e+01  25.0% "
-                                 "(12; 34)",
-                 {"iterations": 1234, "incumbent": 12, "bound": 15, "open": 12}),
-                ("glpsol", most, "+    84: mip =     not found yet <=              +inf        "
-                                 "(1; 0)", {"iterations": 84, "open": 1}),
-                ("glpsol", least, "*    10: obj =   2.000000000e+00 inf =   0.000e+00 (2)",
-                 {"iterations": 10, "objective": 2}),
-                ("lp_solve", least, "Set parameter", {})):
-            self.assertEqual(solvers.load(name).said(line, program), known, line)
+        for name, sense, line, known in rows_of("units", "log"):
+            told = solvers.load(name).said(line, most if sense == "max" else least)
+            pairs = (word.split("=") for word in known.split())
+            self.assertEqual(told, {key: float(value) for key, value in pairs}, line)
 
 
 class Interrupts(Case):

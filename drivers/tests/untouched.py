@@ -4,25 +4,17 @@
 from __future__ import annotations
 
 import os
-import unittest
 from typing import Dict
 from unittest import mock
 
-from support import NEEDS_PROGRAM, PROGRAM, Case, called
+from support import NEEDS_PROGRAM, Case
 from models import MODELS
 
-from bridge_drivers import front, solvers
-from bridge_drivers.bridge import Bridge
+from bridge_drivers import solvers
 from bridge_drivers.files import Places, own_folder
 
 OLDER = b"letters\n"
 Files = Dict[str, bytes]
-
-
-def quietly(*words: str) -> str:
-    """What a call of nl-bridge prints, on both streams."""
-    ended = called(lambda: front.command(words))
-    return ended.stdout + ended.stderr
 
 
 class Rule(Case):
@@ -113,72 +105,18 @@ class Commands(Case):
                 self.assertIn("bridge.sol", os.listdir(own))
 
     def test_only_mps(self) -> None:
-        """The same text again is no loss; what a solver would relax without a word is not written
-        for it."""
-        self.put(MODELS["product"].text)
         for driver in solvers.NAMES:
-            path = f"{self.stub}.{driver}.mps"
-            self.put(OLDER, f".{driver}.mps")
-            for words, status in (([], 5), (["overwrite=1"], 0), ([], 0)):
-                ended = self.replay(driver, "product", self.stub, "only=mps", *words)
-                self.assertEqual(ended.returncode, status, ended.stderr)
-                self.assertEqual(f"{path}: it stands there" in ended.stderr, status == 5)
-                self.assertEqual(self.bytes_of(f".{driver}.mps") == OLDER, status == 5)
-            os.unlink(path)
-        self.replay("cbc", "product", self.stub, "only=mps", "-AMPL")
-        self.assertEqual((self.sol().code, self.sol().values), (450, []))
-        self.put(MODELS["knap"].text)
+            self.calls("untouched", "only", driver)
         for driver in ("clp", "esolver"):
-            for words, status in (([], 2), (["relax=1"], 0)):
-                ended = self.replay(driver, "knap", self.stub, "only=mps", *words)
-                self.assertEqual((ended.returncode, os.path.exists(f"{self.stub}.{driver}.mps")),
-                                 (status, not status), ended.stderr)
+            self.calls("untouched", "relaxed", driver)
 
-    def test_answers(self) -> None:
-        """An older .sol goes once the model can be read, and stays where it is missing or is the
-        model."""
-        self.put(OLDER, ".sol")
-        for words in ([], ["speed=9"]):
-            self.replay("cbc", "knap", self.stub, "-AMPL", *words)
-            self.assertEqual(self.tree(), {"stub.sol": OLDER})
-        self.put(MODELS["knap"].text)
+    def test_answers_and_pages(self) -> None:
+        self.calls("untouched", "answer")
         os.unlink(self.stub + ".sol")
         os.link(self.stub + ".nl", self.stub + ".sol")
-        ended = self.replay("cbc", "knap", self.stub, "-AMPL")
-        self.assertIn("stub.sol: it is what this command reads", ended.stderr)
-        self.assertEqual(self.tree()["stub.nl"], MODELS["knap"].text)
+        self.calls("untouched", "linked")
+        self.calls("untouched", "page")
 
     def test_import(self) -> None:
         """All three files or none; onto itself never."""
-        self.put(MODELS["product"].text)
-        bridge, mps = Bridge(PROGRAM, lambda argv: None), self.stub + ".mps"
-        self.put(bridge.text("export", self.stub + ".nl"), ".mps")
-        for end in (".nl", ".row", ".col"):
-            target = os.path.join(self.folder, "new" + end[1:])
-            with open(target + end, "wb") as f:
-                f.write(OLDER)
-            before = self.tree()
-            self.assertIn(f"{target}{end}: it stands there", quietly("import", mps, target + ".nl"))
-            self.assertEqual(self.tree(), before)
-            self.assertIn("is written", quietly("overwrite=1", "import", mps, target))
-        os.rename(mps, self.stub + ".nl")
-        before = self.tree()
-        for words in ([], ["overwrite=1"]):
-            told = quietly("import", self.stub + ".nl", self.stub, *words)
-            self.assertIn("it is what this command reads", told)
-            self.assertEqual(self.tree(), before)
-
-    def test_pages(self) -> None:
-        self.put(MODELS["product"].text)
-        self.put(b"certificate 1\nfeasible 0\npoint 0\n", ".certificate")
-        for word in ("--html", "--svg"):
-            self.put(OLDER, ".page")
-            words = ["explain", self.stub, self.stub + ".certificate", word, self.stub + ".page"]
-            told = quietly(*words)
-            self.assertIn("is not written: it stands there", told)
-            self.assertEqual(self.tree()["stub.page"], OLDER)
-            self.assertIn(".page is written", quietly(*words, "overwrite=1"))
-
-
-if __name__ == "__main__":
-    unittest.main()
+        self.calls("untouched", "import")

@@ -5,7 +5,7 @@ import sys
 from fractions import Fraction
 from pathlib import Path
 
-sys.path.append(str(Path(__file__).resolve().parents[2] / "drivers" / "tests"))
+sys.path.append(str(Path(__file__).resolve().parents[1] / "drivers" / "tests"))
 from plain import Ends, Plain  # noqa: E402
 
 Column = tuple[bool, Ends, dict[int, Fraction]]     # whether it is whole, its sides, coefficients by row (-1: the objective)

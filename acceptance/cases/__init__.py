@@ -1,1 +1,0 @@
-"""Worked examples of the commands, a module each."""
