@@ -134,7 +134,7 @@ class Project:
         for folder, inner, names in os.walk(top):
             inner[:] = sorted(name for name in inner if name != "__pycache__")
             for name in sorted(names):
-                if name.endswith(".py") or name == "py.typed":
+                if not name.endswith(".pyc"):
                     path = os.path.join(folder, name)
                     yield File(os.path.relpath(path, os.path.dirname(top)), read(path))
         yield File(f"{PACKAGE}/built.json", self.built())

@@ -7,6 +7,7 @@ import textwrap
 from typing import Iterable, NamedTuple, Sequence
 
 from .codes import STATUSES, Status
+from .texts import tables
 
 NAME = "nl-bridge"
 MODEL = ("a MODEL is a stub (knap for knap.nl), an .nl file or an MPS file; what is read may be "
@@ -37,56 +38,15 @@ class Command(NamedTuple):
         return f"{self.word} {self.rest}".strip()
 
 
-def commands_of(table: str) -> Sequence[Command]:
-    """Of lines `word ; what follows ; what it writes ; more ; options ; example`."""
-    found = []
-    for line in table.replace("\n ", " ").strip().split("\n"):
-        word, rest, text, more, flags, example = map(str.strip, (line + " ; ; ;").split(" ;")[:6])
-        found.append(Command(word, rest, text, more, [FLAGS[flag] for flag in flags.split()],
-                             example))
-    return found
+def commands_of(title: str) -> Sequence[Command]:
+    """Of rows `word | what follows | what it writes | more | options | example`."""
+    rows = (row + [""] * (6 - len(row)) for row in tables("commands.txt")[title])
+    return [Command(word, rest, text, more, [FLAGS[flag] for flag in flags.split()], example)
+            for word, rest, text, more, flags, example in rows]
 
 
-# those of the proved program, in the order of docs/user/commands.md
-COMMANDS = commands_of("""
-export ; FILE [K] ; the MPS text of an .nl file, with objective K (from 0) ; ; ; export knap.nl
-export ; FILE K ROWS COLS ; the same with the names of two lists ; as AMPL writes them beside a
- file (.row, .col)
-return ; NL ANSWER [ROWS COLS] ; the .sol text of a solver's answer ; to what `export` wrote ; ;
- return knap.nl answer.txt
-check ; NL SOL ; one verdict on a point and duals ; `yes V`: the point is best in the relaxed
- program, with the value V ; ; check knap.nl knap.sol
-prove ; NL PROOF ; one verdict on a proof by branches
-verify ; NL CERTIFICATE ; one verdict on a certificate ; ; ; verify knap.nl knap.certificate
-verify_mps ; MPS CERTIFICATE ; the same over an MPS text in free form ; rows (without those that are
- N) and columns by number, from 0 ; ; verify_mps mill.mps mill.certificate
-verify_fixed ; MPS CERTIFICATE ; the same over one in fixed columns
-nl ; FILE ; an .nl text in its one written form ; ; ; nl knap.nl
-mps ; FILE ; an MPS text in its one written form ; ; ; mps mill.mps
-fixed ; FILE ; an MPS text of fixed columns, in free ones
-sol ; FILE ; a .sol text in its one written form ; ; ; sol knap.sol
-import ; FILE ; the .nl text of an MPS text ; ; ; import mill.mps
-make ; SEED SIZE ; one line on an instance that is made ; it is written, read, folded and scaled,
- too ; ; make 1 5
-""")
-# those around it
-OWN = commands_of("""
-explain ; MODEL [K] ; what a refusal is about: the expression, the lines, names ; its place, the
- expression in words with the fault between >> and <<, what helps ; json ; explain product.nl
-explain ; MODEL CERTIFICATE ; what a certificate says, or where it fails ; its claim, what its tree
- is made of, which rows its leaves use; where it does not hold the leaf, the splits that lead there,
- and by how much it fails. The status is that of `verify` ; html svg overwrite json ;
- explain knap.nl knap.certificate --html knap.html
-explain ; COMMAND FILE .. ; the same for a call of another command
-import ; FILE NL ; the .nl text in NL, the names beside it in .row and .col ; ; overwrite
-stats ; MODEL [K] ; sizes and kinds, numbers that are no doubles, scaled rows ; ; json ; stats
- knap.nl
-verify ; MODEL CERTIFICATE ; one verdict, over what any command takes as a model ; an MPS file is
- judged as it stands, in either form ; json ; verify mill.mps mill.certificate
-completion ; bash|fish|zsh ; completion of all commands for a shell
-version ; ; the program with its sum, the toolchain, the drivers ; ; json
-help ; [WORD] ; this text, or that of a command, an option, or of refusals
-""")
+# those of the proved program, in the order of docs/user/commands.md, and those around it
+COMMANDS, OWN = map(commands_of, ("of the proved program", "around it"))
 WORDS = sorted({command.word for command in (*COMMANDS, *OWN)})
 VERDICTS = ("verify", "verify_mps", "verify_fixed", "check", "prove")
 PROVED = (Status.DONE, Status.FAILED, Status.REFUSED, Status.BAD_WORDS, Status.UNREAD,

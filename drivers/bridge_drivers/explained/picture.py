@@ -9,6 +9,7 @@ from fractions import Fraction
 from html import escape
 from typing import Iterator, NamedTuple
 
+from ..texts import text
 from .bounds import Bounds
 from .reading import DUALS, LEMMA, PLANE, ROOT, SPLIT, WEIGHTS
 from .words import Wording, short
@@ -19,29 +20,6 @@ MOST_PATH = 40                  # levels down to a leaf that fails, which are sh
 SECONDS = 5.0                   # in which bounds are worked out
 WIDTH, HEIGHT, ACROSS, DOWN, MARGIN = 204, 58, 240, 70, 12
 MOST_TEXT, MOST_PART = 27, 21   # characters of a line in a node, of its first, which is bold
-STYLE = """
-.tree text { font: 12px system-ui, sans-serif; fill: #1b1f24; }
-.tree .part { font-weight: 600; }
-.tree text.line { fill: #59636e; text-anchor: end; font-size: 10px; }
-.tree rect { fill: #f6f8fa; stroke: #8c959f; stroke-width: 1; }
-.tree path { fill: none; stroke: #8c959f; stroke-width: 1.2; }
-.tree .duals rect { fill: #dafbe1; stroke: #2da44e; }
-.tree .weights rect { fill: #ddf4ff; stroke: #218bff; }
-.tree .folded rect { stroke-dasharray: 5 3; }
-.tree .fails rect { fill: #ffebe9; stroke: #cf222e; stroke-width: 2; }
-.tree .proof { stroke-dasharray: 2 3; }
-"""
-DARK = """
-@media (prefers-color-scheme: dark) {
-  .tree text { fill: #e6edf3; }
-  .tree text.line { fill: #9198a1; }
-  .tree rect { fill: #21262d; stroke: #6e7681; }
-  .tree path { stroke: #6e7681; }
-  .tree .duals rect { fill: #12361f; stroke: #3fb950; }
-  .tree .weights rect { fill: #0c2d4d; stroke: #388bfd; }
-  .tree .fails rect { fill: #4a1414; stroke: #f85149; }
-}
-"""
 
 
 class Drawn(NamedTuple):
@@ -199,12 +177,13 @@ class Picture:
         """The picture, as a file of its own on white, or as a part of a page, light or dark."""
         width, height = self.size()
         nodes = self.certificate.nodes
+        style = "".join(map(text, ("tree.css",) if alone else ("tree.css", "tree-dark.css")))
         said = f"the tree of the certificate: {len(nodes)} nodes, {nodes[0].leaves} leaves" \
             if nodes else "the certificate has no tree"
         return "\n".join([
             f'<svg xmlns="http://www.w3.org/2000/svg" class="tree" width="{width}" '
             f'height="{height}" viewBox="0 0 {width} {height}" role="img" aria-label="{said}">',
-            f"<title>{said}</title>", f"<style>{STYLE + ('' if alone else DARK)}</style>",
+            f"<title>{said}</title>", f"<style>\n{style}</style>",
             *([f'<path d="M0 0H{width}V{height}H0Z" style="fill: #fff; stroke: none"/>'] if alone
               else []), *self.lines(), *self.boxes(),
             *([f'<text x="{MARGIN}" y="{HEIGHT // 2}">{said}</text>'] if not nodes else []),
