@@ -15,48 +15,16 @@ from sources import TOP
 ARCHITECTURE = "amd64"
 MODULES = "usr/lib/python3/dist-packages"
 SOLVERS = "coinor-clp, glpk-utils, lp-solve, minizinc, python3-pulp, qsopt-ex"
-COMMAND = """#!/usr/bin/python3
-import signal
-if signal.getsignal(signal.SIGINT) is signal.default_int_handler:
-    signal.signal(signal.SIGINT, signal.SIG_DFL)        # an interrupt while modules are read
-
-from {module} import {function}
-
-{function}()
-"""
-DESCRIPTION = """ Reads text .nl files of AMPL, MiniZinc, Pyomo and JuMP and writes MPS, exactly;
- takes a solver's answer back as .sol, and checks what it claims.
- {state} The drivers for
- cbc and other solvers, with configurations for MiniZinc and a class for PuLP,
- are Python around it.
-"""
 STATES = {True: "The program nl-bridge is proved.",
           False: "A build for trials: no gate has proved the program."}
-OVERRIDES = """# The program is byte for byte the one that was built, tried and summed.
-nl-bridge: unstripped-binary-or-object [usr/libexec/nl-bridge/bridge]
-"""
-INSTALLED = """#!/bin/sh
-set -e
-if [ "$1" = configure ] && [ -z "$DPKG_ROOT" ] && command -v py3compile >/dev/null; then
-    py3compile -p {name}
-fi
-"""
-REMOVED = """#!/bin/sh
-set -e
-if [ -z "$DPKG_ROOT" ] && command -v py3clean >/dev/null; then
-    py3clean -p {name}
-fi
-"""
-COPYRIGHT = """Format: https://www.debian.org/doc/packaging-manuals/copyright-format/1.0/
-Upstream-Name: bridge
 
-Files: *
-Copyright: {owner}
-License: MIT
-{licence}
-Comment: The program holds code of the library of the Rattle kit that compiled
- it, and of its crates itoa (MIT) and indexmap (MIT or Apache-2.0).
-"""
+
+def template(file: str, /, **words: str) -> bytes:
+    """A text of packaging/debian, with its words."""
+    text = read("packaging", "debian", file).decode()
+    for word, filled in words.items():
+        text = text.replace("{" + word + "}", filled)
+    return text.encode()
 
 
 def zipped(data: bytes) -> bytes:
@@ -69,7 +37,7 @@ def copyright_of() -> bytes:
     owner = next(line for line in lines if line.startswith("Copyright"))
     rest = "\n".join(lines[lines.index(owner) + 1:]).strip().split("\n")
     licence = "\n".join(" " + line if line else " ." for line in rest)
-    return COPYRIGHT.format(owner=owner.replace("Copyright (c) ", ""), licence=licence).encode()
+    return template("copyright", owner=owner.replace("Copyright (c) ", ""), licence=licence)
 
 
 def changelog(project: Project) -> bytes:
@@ -85,8 +53,8 @@ def files(project: Project) -> list[File]:
     inside.append(File(f"usr/libexec/{project.name}/bridge", project.program, 0o755))
     for name, entry in project.scripts.items():
         module, _, function = entry.partition(":")
-        text = COMMAND.format(module=module, function=function)
-        inside.append(File(f"usr/bin/{name}", text.encode(), 0o755))
+        text = template("command", module=module, function=function)
+        inside.append(File(f"usr/bin/{name}", text, 0o755))
     inside += [File(f"usr/share/minizinc/solvers/{f.path}", f.data)
                for f in project.configurations()]
     inside += [File(f"usr/{f.path}", f.data)
@@ -94,7 +62,7 @@ def files(project: Project) -> list[File]:
     inside += [File(f"usr/share/man/man1/{f.path}.gz", zipped(f.data)) for f in project.pages()]
     inside += [File(f"{documents}/{f.path}", f.data) for f in project.documents()]
     inside += [File(f"usr/share/{project.name}/{f.path}", f.data) for f in project.examples()]
-    inside += [File(f"usr/share/lintian/overrides/{project.name}", OVERRIDES.encode()),
+    inside += [File(f"usr/share/lintian/overrides/{project.name}", template("overrides")),
                File(f"{documents}/copyright", copyright_of()),
                File(f"{documents}/changelog.gz", changelog(project))]
     return sorted(inside)
@@ -111,11 +79,11 @@ def control(project: Project, inside: list[File]) -> list[File]:
               "Recommends: coinor-cbc, python3-scipy", f"Suggests: {SOLVERS}", "Section: math",
               "Priority: optional", f"Description: {project.description()}"]
     sums = [f"{hashlib.md5(f.data).hexdigest()}  {f.path}\n" for f in inside]
-    said = DESCRIPTION.format(state=STATES[project.proved])
-    return [File("DEBIAN/control", ("\n".join(fields) + "\n" + said).encode()),
+    said = template("description", state=STATES[project.proved])
+    return [File("DEBIAN/control", "".join(f"{field}\n" for field in fields).encode() + said),
             File("DEBIAN/md5sums", "".join(sums).encode()),
-            File("DEBIAN/postinst", INSTALLED.format(name=project.name).encode(), 0o755),
-            File("DEBIAN/prerm", REMOVED.format(name=project.name).encode(), 0o755)]
+            *(File(f"DEBIAN/{name}", template(name, name=project.name), 0o755)
+              for name in ("postinst", "prerm"))]
 
 
 def put(folder: str, file: File) -> None:

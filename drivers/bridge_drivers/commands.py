@@ -30,9 +30,13 @@ class Command(NamedTuple):
     options: Sequence[tuple[str, str]] = ()
     example: str = ""
 
-    def forms(self) -> list[list[str]]:
-        """The words that follow, without and with those in brackets."""
-        return [re.sub(r"\[.*?\]", "", self.rest).split(), re.sub(r"[][]", "", self.rest).split()]
+    def forms(self, count: int) -> list[list[str]]:
+        """What so many words behind it are called: those in brackets may be missing, `..` are more
+        of the last one."""
+        found = [re.sub(pattern, "", self.rest).split() for pattern in (r"\[.*?\]", r"[][]")]
+        found = [[*names[:-1], *names[-2:-1] * (count - len(names) + 1)]
+                 if names[-1:] == [".."] else names for names in found]
+        return [names for names in found if len(names) == count]
 
     def call(self) -> str:
         return f"{self.word} {self.rest}".strip()

@@ -86,7 +86,7 @@ class Texts(Case):
                       ["verify", "m", "c", "--html", "x"], ["export", "m", "json=1"]):
             self.assertRaises(front.BadWords, front.read, words)
         for words in (["explain"], ["explain", "m", "c", "d"]):
-            self.assertRaises(front.BadWords, front.explained, front.read(words))
+            self.assertRaises(front.BadWords, front.done, front.read(words))
 
 
 KNAP, HOLDS = example("knap.nl"), example("knap.certificate")
