@@ -122,7 +122,7 @@ class Explaining:
         nodes = self.certificate.nodes
         places = [d.place for d in drawn.drawn if nodes[d.place].is_leaf()] if drawn else []
         return [(f"line {nodes[found.place].line}, leaf {nodes[found.place].leaf}: "
-                 + (", ".join(self.wording.cuts(found.place)) or "all points"), found.lines,
+                 + (", ".join(self.wording.path(found.place, False)) or "all points"), found.lines,
                  found.shows) for found in sums(self.wording, places)]
 
 
