@@ -26,6 +26,7 @@ from graphlib import TopologicalSorter
 from pathlib import Path
 from typing import Any, TypeVar
 
+from imports import IMPORT, imports_of
 from made import TOP, asked, piped
 
 READING = TOP / "docs" / "verify" / "reading.md"
@@ -43,7 +44,6 @@ ROW = re.compile(r"^\| (?P<name>[^|]+) \| (?P<roots>(?:headline|`\w+/[^|]*)[^|]*
 Key = tuple[str, str, str]  # crate, file, name
 T = TypeVar("T", bound=Any)
 
-USE = re.compile(r"^(?:unfoldable )?(?:pub )?use ([\w.]+?)\.\{(.*)\}$")
 OUTSIDE = re.compile(r"^(?:unfoldable )?(?:pub )?use |^\s*(?:module|infix|mutual|abbrev mutual)")
 MODULE = re.compile(r"^\s*(?:module|mutual|abbrev mutual)")
 HEAD = re.compile(r"^\s*(?:(?:abbrev|unfoldable)\s+)?(?:pub\s+)?(?:(?:record|data)\s+)?([^\s:({]+)")
@@ -123,13 +123,14 @@ class SpecFile:
 
     @classmethod
     def read(cls, path: Path) -> SpecFile:
+        text = path.read_text()
         file = cls(path.parent.parent.name, path.stem)
+        file.imports = {it.known_as: (it.module.split("."), it.name) for it in imports_of(text)}
         comment: list[str] = []
         current: Definition | None = None
-        for number, line in enumerate(path.read_text().splitlines(), start=1):
-            if found := USE.match(line):
+        for number, line in enumerate(text.splitlines(), start=1):
+            if IMPORT.match(line):
                 file.head += comment
-                file.add_imports(found[1].split("."), found[2])
                 comment = []
             elif is_comment(line):
                 (comment if current is None else current.lines).append(line.rstrip())
@@ -146,16 +147,11 @@ class SpecFile:
             file.owners.update((case, definition.key[2]) for case in definition.constructors())
         return file
 
-    def add_imports(self, path: list[str], names: str) -> None:
-        for name in names.split(", "):
-            own, _, other = name.strip().partition(" as ")
-            self.imports[other or own] = (path, own)
-
     def other_names(self, found: list[Definition]) -> list[str]:
         """A line for each name that these definitions use for what is called otherwise where it stands."""
         words = words_of(found)
         others = [(name, *there) for name, there in sorted(self.imports.items()) if name != there[1] and name in words]
-        return [f"-- here {name} is {'.'.join(path).removeprefix('Rattle.')}:{own}" for name, path, own in others]
+        return [f"-- here {name} is {'.'.join(path)}:{own}" for name, path, own in others]
 
     def types_of_code(self, found: list[Definition]) -> list[str]:
         """A line for each file of code that declares types which these definitions use."""
@@ -169,9 +165,9 @@ class SpecFile:
         words = words_of(found)
         types = set()
         for name, (path, own) in self.imports.items():
-            if name in words and path[2:4] == ["specs", "declared"]:
-                of_code = [part for part in path[4:] if not part.startswith("The")]
-                file = "/".join(["crates", path[1], "src", *(of_code[:-1] or ["lib"])]) + ".rt"
+            if name in words and path[1:3] == ["specs", "declared"]:
+                of_code = [part for part in path[3:] if not part.startswith("The")]
+                file = "/".join(["crates", path[0], "src", *(of_code[:-1] or ["lib"])]) + ".rt"
                 types.add((file, of_code[-1]))
         return types
 
@@ -208,9 +204,9 @@ class Statement:
         if name in file.definitions:
             return (file.crate, file.name, name)
         path, own = file.imports.get(name, ([], ""))
-        if len(path) < 4 or path[0] != "Rattle" or path[2] != "specs":
+        if len(path) < 3 or path[1] != "specs":
             return None
-        other = self.files.get((path[1], path[3]))
+        other = self.files.get((path[0], path[2]))
         return self.resolve(other, own) if other else None
 
     def rests_on(self, key: Key) -> set[Key]:

@@ -96,6 +96,10 @@ def known(text: bytes) -> tuple[Exact, bool]:
     return value.numerator if value.denominator == 1 else value, is_held(value)
 
 
+def size(value: Exact) -> Exact:
+    return -value if value < 0 else value
+
+
 def figures_of(program: Program) -> Figures:
     read = program.read
     f = Figures(program, dict(zip(program.constraints, read.kinds)), columns_of(program))
@@ -103,12 +107,12 @@ def figures_of(program: Program) -> Figures:
     for i, side in [*read.rhs.items(), *read.ranges.items()]:
         value = f.number(program.rows[i + 1], side)
         if i != OBJECTIVE and value:
-            f.sides.append(abs(value))
-            f.infinite += abs(value) >= INFINITE
+            f.sides.append(size(value))
+            f.infinite += size(value) >= INFINITE
     for name, low, high in zip(program.columns, read.low, read.high):
         for end in (low,) if low == high else (low, high):
             value = f.number(name, end) if end else 0
-            f.infinite += abs(value) >= INFINITE
+            f.infinite += size(value) >= INFINITE
     return f
 
 
@@ -122,14 +126,14 @@ def entries(f: Figures, program: Program) -> None:
     for j, k in costs:
         left[k] -= 1
         if program.columns[j] == TIED:
-            f.tied_by = abs(values[k][0])
+            f.tied_by = size(values[k][0])
         elif values[k][0]:
             f.costs += 1
-            f.cost_sizes.append(abs(values[k][0]))
+            f.cost_sizes.append(size(values[k][0]))
     for k, count in left.items():
         if count and values[k][0]:
             f.entries += count
-            f.sizes.append(abs(values[k][0]))
+            f.sizes.append(size(values[k][0]))
     if not all(held for _, held in values):
         f.lost += [(f"{program.rows[i + 1]} {program.columns[j]}", read.numbers[k].decode())
                    for i, j, k in zip(*read.entries()) if not values[k][1]]
