@@ -9,7 +9,7 @@ import os
 import re
 import sys
 import time
-from typing import Iterator, NamedTuple, Sequence
+from typing import Iterator, Mapping, NamedTuple, Sequence
 
 try:
     import tomllib
@@ -47,6 +47,13 @@ class Unfit(Exception):
 def read(*parts: str) -> bytes:
     with open(os.path.join(TOP, *parts), "rb") as f:
         return f.read()
+
+
+def filled(template: bytes, words: Mapping[str, str]) -> bytes:
+    """A text in which words stand for marks `@WORD@`."""
+    for word, text in words.items():
+        template = template.replace(f"@{word}@".encode(), text.encode())
+    return template
 
 
 def epoch() -> int:
@@ -151,14 +158,11 @@ class Project:
     def pages(self) -> Iterator[File]:
         """The man pages of the commands, with their words filled in."""
         drivers = [name for name, entry in self.scripts.items() if entry == DRIVER]
-        words = {"@VERSION@": self.version, "@DRIVERS@": ", ".join(drivers).replace("-", "\\-"),
-                 "@DATE@": time.strftime("%Y-%m-%d", time.gmtime(self.epoch)), **manual.parts()}
+        words = {"VERSION": self.version, "DRIVERS": ", ".join(drivers).replace("-", "\\-"),
+                 "DATE": time.strftime("%Y-%m-%d", time.gmtime(self.epoch)), **manual.parts()}
         for name in sorted(os.listdir(os.path.join(TOP, "packaging", "man"))):
             if name.removesuffix(".1") in self.scripts:
-                text = read("packaging", "man", name).decode()
-                for word, filled in words.items():
-                    text = text.replace(word, filled)
-                yield File(name, text.encode())
+                yield File(name, filled(read("packaging", "man", name), words))
 
     def linked_pages(self) -> Iterator[str]:
         """The commands whose page is that of the drivers."""
@@ -192,7 +196,15 @@ class Project:
             for name in self.scripts:
                 yield File(place(shell, "", name), text)
 
-    def examples(self) -> Iterator[File]:
-        """What users can try. Not among the documents, which small systems leave out."""
-        for name in sorted(os.listdir(os.path.join(TOP, "packaging", "examples"))):
-            yield File("examples/" + name, read("packaging", "examples", name))
+    def shared(self, share: str, zsh: str) -> Iterator[File]:
+        """What both packages have below PREFIX/share, beside man pages. The examples are not among
+        the documents, which small systems leave out."""
+        for file in self.configurations():
+            yield File(f"{share}/minizinc/solvers/{file.path}", file.data)
+        for file in self.completions(zsh):
+            yield File(f"{os.path.dirname(share)}/{file.path}", file.data)
+        for file in self.documents():
+            yield File(f"{share}/doc/{self.name}/{file.path}", file.data)
+        for name in os.listdir(os.path.join(TOP, "packaging", "examples")):
+            data = read("packaging", "examples", name)
+            yield File(f"{share}/{self.name}/examples/{name}", data)

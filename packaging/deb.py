@@ -9,7 +9,7 @@ import subprocess
 import tempfile
 import time
 
-from contents import File, Project, Unfit, read
+from contents import File, Project, Unfit, filled, read
 from sources import TOP
 
 ARCHITECTURE = "amd64"
@@ -21,10 +21,7 @@ STATES = {True: "The program nl-bridge is proved.",
 
 def template(file: str, /, **words: str) -> bytes:
     """A text of packaging/debian, with its words."""
-    text = read("packaging", "debian", file).decode()
-    for word, filled in words.items():
-        text = text.replace("{" + word + "}", filled)
-    return text.encode()
+    return filled(read("packaging", "debian", file), words)
 
 
 def zipped(data: bytes) -> bytes:
@@ -55,13 +52,8 @@ def files(project: Project) -> list[File]:
         module, _, function = entry.partition(":")
         text = template("command", module=module, function=function)
         inside.append(File(f"usr/bin/{name}", text, 0o755))
-    inside += [File(f"usr/share/minizinc/solvers/{f.path}", f.data)
-               for f in project.configurations()]
-    inside += [File(f"usr/{f.path}", f.data)
-               for f in project.completions("vendor-completions")]
+    inside += project.shared("usr/share", "vendor-completions")
     inside += [File(f"usr/share/man/man1/{f.path}.gz", zipped(f.data)) for f in project.pages()]
-    inside += [File(f"{documents}/{f.path}", f.data) for f in project.documents()]
-    inside += [File(f"usr/share/{project.name}/{f.path}", f.data) for f in project.examples()]
     inside += [File(f"usr/share/lintian/overrides/{project.name}", template("overrides")),
                File(f"{documents}/copyright", copyright_of()),
                File(f"{documents}/changelog.gz", changelog(project))]

@@ -26,15 +26,10 @@ def files(project: Project) -> list[File]:
     inside = list(project.modules())
     inside.append(File(f"{PACKAGE}/bin/bridge", project.program, 0o755))
     data = f"{name_of(project)}.data/data/share"
-    inside += [File(f"{data}/minizinc/solvers/{f.path}", f.data)
-               for f in project.configurations()]
-    inside += [File(f"{os.path.dirname(data)}/{f.path}", f.data)
-               for f in project.completions("site-functions")]
+    inside += project.shared(data, "site-functions")
     pages = {f.path: f.data for f in project.pages()}
     pages.update({name: b".so man1/bridge-cbc.1\n" for name in project.linked_pages()})
     inside += [File(f"{data}/man/man1/{name}", page) for name, page in sorted(pages.items())]
-    inside += [File(f"{data}/doc/{project.name}/{f.path}", f.data) for f in project.documents()]
-    inside += [File(f"{data}/{project.name}/{f.path}", f.data) for f in project.examples()]
     inside.append(File(f"{data}/{project.name}.txt", SHARED.encode()))
     return sorted(inside) + sorted(facts(project))
 
