@@ -104,8 +104,7 @@ class Project:
         self.table = tomllib.loads(read("drivers", "pyproject.toml").decode())["project"]
         self.name: str = self.table["name"]
         self.scripts: dict[str, str] = dict(sorted(self.table["scripts"].items()))
-        found = re.search(r'^VERSION = "(.*)"', read("drivers", PACKAGE, "__init__.py").decode(),
-                          re.M)
+        found = re.search(r'^VERSION = "(.*)"', read("drivers", PACKAGE, "__init__.py").decode(), re.M)
         if found is None:
             raise Unfit("bridge_drivers has no VERSION")
         self.version = found.group(1)
@@ -118,21 +117,17 @@ class Project:
     def maintainer(self) -> str:
         """The project's, or that of whoever builds packages for others, as Debian's tools ask."""
         own = self.table["maintainers"][0]
-        return f"{os.environ.get('DEBFULLNAME', own['name'])} " \
-               f"<{os.environ.get('DEBEMAIL', own['email'])}>"
+        return f"{os.environ.get('DEBFULLNAME', own['name'])} <{os.environ.get('DEBEMAIL', own['email'])}>"
 
     def glibc(self) -> tuple[int, int]:
         """The version of the C library that the program needs."""
-        return max((int(a), int(b))
-                   for a, b in re.findall(rb"GLIBC_(\d+)\.(\d+)", self.program))
+        return max((int(a), int(b)) for a, b in re.findall(rb"GLIBC_(\d+)\.(\d+)", self.program))
 
     def built(self) -> bytes:
         """What `nl-bridge version` tells of the program."""
-        facts = {"sha256": hashlib.sha256(self.program).hexdigest(),
-                 "toolchain": self.toolchain,
+        facts = {"sha256": hashlib.sha256(self.program).hexdigest(), "toolchain": self.toolchain,
                  "commit": said_by("git", "describe", "--always", "--dirty", "--abbrev=40",
-                                   "--exclude=*"),
-                 "proved": "yes" if self.proved else "no"}
+                                   "--exclude=*"), "proved": "yes" if self.proved else "no"}
         return (json.dumps(facts, indent=1, sort_keys=True) + "\n").encode()
 
     def modules(self) -> Iterator[File]:

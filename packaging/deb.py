@@ -15,8 +15,7 @@ from sources import TOP
 ARCHITECTURE = "amd64"
 MODULES = "usr/lib/python3/dist-packages"
 SOLVERS = "coinor-clp, glpk-utils, lp-solve, minizinc, python3-pulp, qsopt-ex"
-STATES = {True: "The program nl-bridge is proved.",
-          False: "A build for trials: no gate has proved the program."}
+STATES = {True: "The program nl-bridge is proved.", False: "A build for trials: no gate has proved the program."}
 
 
 def template(file: str, /, **words: str) -> bytes:
@@ -55,8 +54,7 @@ def files(project: Project) -> list[File]:
     inside += project.shared("usr/share", "vendor-completions")
     inside += [File(f"usr/share/man/man1/{f.path}.gz", zipped(f.data)) for f in project.pages()]
     inside += [File(f"usr/share/lintian/overrides/{project.name}", template("overrides")),
-               File(f"{documents}/copyright", copyright_of()),
-               File(f"{documents}/changelog.gz", changelog(project))]
+               File(f"{documents}/copyright", copyright_of()), File(f"{documents}/changelog.gz", changelog(project))]
     return sorted(inside)
 
 
@@ -66,16 +64,14 @@ def control(project: Project, inside: list[File]) -> list[File]:
     major, minor = project.glibc()
     fields = [f"Package: {project.name}", f"Version: {project.version}",
               f"Architecture: {ARCHITECTURE}", f"Maintainer: {project.maintainer()}",
-              f"Installed-Size: {size}", f"Depends: libc6 (>= {major}.{minor}), python3 (>= 3.9), "
-              "coinor-libclp1",
+              f"Installed-Size: {size}", f"Depends: libc6 (>= {major}.{minor}), python3 (>= 3.9), coinor-libclp1",
               "Recommends: coinor-cbc, python3-scipy", f"Suggests: {SOLVERS}", "Section: math",
               "Priority: optional", f"Description: {project.description()}"]
     sums = [f"{hashlib.md5(f.data).hexdigest()}  {f.path}\n" for f in inside]
     said = template("description", state=STATES[project.proved])
     return [File("DEBIAN/control", "".join(f"{field}\n" for field in fields).encode() + said),
             File("DEBIAN/md5sums", "".join(sums).encode()),
-            *(File(f"DEBIAN/{name}", template(name, name=project.name), 0o755)
-              for name in ("postinst", "prerm"))]
+            *(File(f"DEBIAN/{name}", template(name, name=project.name), 0o755) for name in ("postinst", "prerm"))]
 
 
 def put(folder: str, file: File) -> None:
@@ -105,13 +101,10 @@ def build(project: Project, folder: str) -> str:
         for page in project.linked_pages():
             os.symlink("bridge-cbc.1.gz", f"{tree}/usr/share/man/man1/{page}.gz")
         settle(tree, project.epoch)
-        words = ["dpkg-deb", "--root-owner-group", "-Zxz", "--build", tree,
-                 os.path.join(folder, name)]
-        environment = {**os.environ, "SOURCE_DATE_EPOCH": str(project.epoch),
-                       "DPKG_DEB_THREADS_MAX": "1"}
+        words = ["dpkg-deb", "--root-owner-group", "-Zxz", "--build", tree, os.path.join(folder, name)]
+        environment = {**os.environ, "SOURCE_DATE_EPOCH": str(project.epoch), "DPKG_DEB_THREADS_MAX": "1"}
         try:
-            ran = subprocess.run(words, cwd=TOP, capture_output=True, text=True, env=environment,
-                                 check=False)
+            ran = subprocess.run(words, cwd=TOP, capture_output=True, text=True, env=environment, check=False)
         except OSError as fault:
             raise Unfit(f"dpkg-deb could not be run: {fault.strerror}") from None
         if ran.returncode:

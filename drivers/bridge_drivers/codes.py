@@ -30,8 +30,7 @@ class Code(enum.IntEnum):
 
 
 class Status(enum.IntEnum):
-    """Exit statuses of all commands. A driver that is called with -AMPL has 0 wherever a .sol
-    stands."""
+    """Exit statuses of all commands. A driver that is called with -AMPL has 0 wherever a .sol stands."""
 
     DONE = 0
     FAILED = 1

@@ -14,8 +14,7 @@ MODEL = ("a MODEL is a stub (knap for knap.nl), an .nl file or an MPS file; what
          "packed (.gz, .bz2, .xz), a pipe, or - for standard input")
 FLAGS = {"json": ("json=1", "one object of JSON on standard output, and nothing else"),
          "overwrite": ("overwrite=1", "what stands where a file is to be written is replaced"),
-         "html": ("--html FILE", "a page with the tree as a picture"),
-         "svg": ("--svg FILE", "the picture alone")}
+         "html": ("--html FILE", "a page with the tree as a picture"), "svg": ("--svg FILE", "the picture alone")}
 SHELLS = ("bash", "fish", "zsh")
 WIDTH = 96
 
@@ -31,8 +30,7 @@ class Command(NamedTuple):
     example: str = ""
 
     def forms(self, count: int) -> list[list[str]]:
-        """What so many words behind it are called: those in brackets may be missing, `..` are more
-        of the last one."""
+        """What so many words behind it are called: those in brackets may be missing, `..` are more of the last one."""
         found = [re.sub(pattern, "", self.rest).split() for pattern in (r"\[.*?\]", r"[][]")]
         found = [[*names[:-1], *names[-2:-1] * (count - len(names) + 1)]
                  if names[-1:] == [".."] else names for names in found]
@@ -60,8 +58,7 @@ PROVED = (Status.DONE, Status.FAILED, Status.REFUSED, Status.BAD_WORDS, Status.U
 def wrapped(text: str, first: str, indent: int) -> str:
     """A text behind what it is about, its lines below each other."""
     return textwrap.fill(text, WIDTH, initial_indent=f"{first:{indent}}",
-                         subsequent_indent=" " * indent, break_on_hyphens=False,
-                         break_long_words=False) + "\n"
+                         subsequent_indent=" " * indent, break_on_hyphens=False, break_long_words=False) + "\n"
 
 
 def rows_of(commands: Iterable[Command]) -> str:
@@ -74,8 +71,7 @@ def status_text(statuses: Iterable[Status]) -> str:
 
 def usage() -> str:
     return (f"usage: {NAME} COMMAND ..\n\nof the proved program:\n{rows_of(COMMANDS)}\n"
-            f"around it:\n{rows_of(OWN)}\n{wrapped(MODEL, '', 0)}"
-            + wrapped(status_text(PROVED), "status: ", 8)
+            f"around it:\n{rows_of(OWN)}\n{wrapped(MODEL, '', 0)}" + wrapped(status_text(PROVED), "status: ", 8)
             + f"{NAME} help COMMAND says more of one; words and options in any order, -- ends "
             f"options\nexample: {NAME} verify knap.nl knap.certificate\n"
             f"Solvers are run by bridge-cbc and kin. More: man {NAME}\n")
@@ -87,12 +83,10 @@ def help_of(word: str) -> str:
     if not rows:
         return ""
     text = "".join(wrapped(c.text + (f": {c.more}" if c.more else ""),
-                           f"{'usage: ' if k == 0 else '       '}{NAME} {c.call()}  ", 47)
-                   for k, c in enumerate(rows))
+                           f"{'usage: ' if k == 0 else '       '}{NAME} {c.call()}  ", 47) for k, c in enumerate(rows))
     options = {name: said for c in rows for name, said in c.options}
     if options:
-        text += "\noptions:\n" + "".join(wrapped(said, f"  {name}", 16)
-                                         for name, said in options.items())
+        text += "\noptions:\n" + "".join(wrapped(said, f"  {name}", 16) for name, said in options.items())
     text += "\n" + wrapped(MODEL, "", 0) if any("MODEL" in c.rest for c in rows) else "\n"
     text += wrapped(status_text(PROVED), "status: ", 8)
     return text + "".join(f"example: {NAME} {c.example}\n" for c in rows if c.example)

@@ -53,14 +53,12 @@ class Completion:
     def values(self, line: str, files: str, folders: str, words: str) -> str:
         """A line of each option that has files, folders or known words."""
         made = {name: files if o.kind is FILE else folders if o.kind is FOLDER
-                else words % " ".join(o.kind.known) if o.kind.known else ""
-                for name, o in self.known.items()}
+                else words % " ".join(o.kind.known) if o.kind.known else "" for name, o in self.known.items()}
         return "\n".join(line % pair for pair in made.items() if pair[1])
 
     def after(self, line: str) -> str:
         """A line of each word of nl-bridge that known ones may follow."""
-        return "\n".join(line % (word, " ".join(after)) for word, after in self.behind.items()
-                         if after)
+        return "\n".join(line % (word, " ".join(after)) for word, after in self.behind.items() if after)
 
     @staticmethod
     def dashed(command: str) -> Mapping[str, str]:
@@ -75,24 +73,20 @@ class Completion:
         return {"values": self.values("    %s) %s ;;", files % "-f", files % "-d",
                                       made % "-W '%s'"),
                 "options": "\n".join(options), "commands": " ".join(sorted(self.texts)),
-                "behind": self.after("        %s) " + made % "-W '%s'" + " ;;"),
-                "ends": " ".join(ENDS)}
+                "behind": self.after("        %s) " + made % "-W '%s'" + " ;;"), "ends": " ".join(ENDS)}
 
     def zsh(self) -> dict[str, str]:
-        options = [f"        {command}) words_of=(\n"
-                   + described({name: o.text for name, o in known.items()}, " " * 12)
+        options = [f"        {command}) words_of=(\n" + described({name: o.text for name, o in known.items()}, " " * 12)
                    + "\n            ) ;;" for command, known in self.options.items()]
         return {"values": self.values(" " * 12 + "%s) %s ;;", "_files", "_files -/",
                                       "compadd -- %s"),
                 "options": "\n".join(options), "commands": described(self.texts, " " * 16),
-                "behind": self.after(" " * 12 + "%s) compadd -- %s ;;"),
-                "dashed": described(DASHED, " " * 8)}
+                "behind": self.after(" " * 12 + "%s) compadd -- %s ;;"), "dashed": described(DASHED, " " * 8)}
 
     def fish(self) -> dict[str, str]:
         lines = []
         for command, known in self.options.items():
-            words = {" ".join(f"{name}={word}" for word in o.kind.known or [""]): o.text
-                     for name, o in known.items()}
+            words = {" ".join(f"{name}={word}" for word in o.kind.known or [""]): o.text for name, o in known.items()}
             lines += [f"complete -c {command} -a {fished(word)} -d {fished(text)}"
                       for word, text in {**words, **self.dashed(command)}.items()]
         own = [f"complete -c nl-bridge -n __fish_use_subcommand -f -a {word} -d {fished(text)}"
@@ -102,8 +96,7 @@ class Completion:
 
     def text(self, shell: str) -> str:
         made = {"bash": self.bash, "fish": self.fish, "zsh": self.zsh}[shell]()
-        return text(f"completion.{shell}") % {**made,
-                                              "all": " ".join(["nl-bridge", *self.options])}
+        return text(f"completion.{shell}") % {**made, "all": " ".join(["nl-bridge", *self.options])}
 
 
 def place(shell: str, prefix: str, command: str, folder: str = "") -> str:

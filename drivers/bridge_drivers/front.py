@@ -102,8 +102,7 @@ def command(words: Sequence[str]) -> int:
 
 def done(call: Call) -> int:
     """The command itself, or the proved program's."""
-    own: dict[str, Callable[[Call], Report]] = {
-        "explain": explained, "stats": figures, "version": version}
+    own: dict[str, Callable[[Call], Report]] = {"explain": explained, "stats": figures, "version": version}
     wrong = wrong_words([call.word, *call.rest])
     if wrong:
         raise BadWords(wrong if call.word not in PROVED else f"bad words: {wrong}")
@@ -120,8 +119,7 @@ def done(call: Call) -> int:
 
 
 def is_model(rest: Sequence[str]) -> bool:
-    """Whether `verify` is about what the proved program does not read itself: an MPS file, or a
-    binary .nl file."""
+    """Whether `verify` is about what the proved program does not read itself: an MPS file, or a binary .nl file."""
     path = named(rest[0]) if len(rest) == 2 else ""
     return is_flow(path) or os.path.isfile(path) and (
         kinds.is_mps(path) or kinds.is_packed(path) or kinds.start_of(path)[:1] == b"b")
@@ -133,8 +131,7 @@ def helped(call: Call) -> int:
     if topic in ("", "help"):
         sys.stdout.write(commands.usage())
         return Status.DONE
-    text = commands.help_of(topic) or reasons.listed() * (topic == "refusals") \
-        or helped_driver(topic)
+    text = commands.help_of(topic) or reasons.listed() * (topic == "refusals") or helped_driver(topic)
     if not text:
         meant = near(topic, [*WORDS, "refusals", *certifier().options.known])
         raise BadWords(f"no help on {topic};{meant}".rstrip(";"))
@@ -150,8 +147,7 @@ def helped_driver(topic: str) -> str:
     if topic != name and name in solvers.NAMES:
         return Driver(name).told("-?")
     known = certifier().options.known
-    return certifier().told("-?") if topic == "bridge-certify" else \
-        known[topic].line() + "\n" if topic in known else ""
+    return certifier().told("-?") if topic == "bridge-certify" else known[topic].line() + "\n" if topic in known else ""
 
 
 def certifier() -> Driver:
@@ -241,8 +237,7 @@ def import_into(call: Call) -> Report:
         try:
             told.say(imported(bridge, path, call.rest[1], call.overwrite))
         except OSError as fault:
-            raise Failure(Code.FILE, f"{fault.filename}: {fault.strerror}",
-                          Status.UNWRITTEN) from None
+            raise Failure(Code.FILE, f"{fault.filename}: {fault.strerror}", Status.UNWRITTEN) from None
     return told
 
 
@@ -290,15 +285,13 @@ def plain(inputs: Inputs, name: str, word: str) -> str:
 
 
 def passed_on(place: Sequence[str], words: Sequence[str]) -> int:
-    """The proved program over these files, its texts as they are; what else there is to say of a
-    fault is added."""
+    """The proved program over these files, its texts as they are; what else there is to say of a fault is added."""
     with Inputs() as inputs:
         return ended(run(place, [words[0], *plain_files(inputs, words)], words), words)
 
 
 def run(place: Sequence[str], call: Sequence[str], words: Sequence[str]) -> int:
-    """Its status. A verdict is in colour on a terminal, and a file that cannot be read is told with
-    its cause."""
+    """Its status. A verdict is in colour on a terminal, and a file that cannot be read is told with its cause."""
     faulty = any(map(explaining.fault_at, explaining.files_of(call)))
     is_coloured = words[0] in VERDICTS and colour.is_wanted(sys.stdout)
     out, err = (subprocess.PIPE if wanted else None for wanted in (is_coloured, faulty))

@@ -23,8 +23,7 @@ DAMAGED = (EOFError, ValueError, zlib.error, lzma.LZMAError)
 
 
 class Kind(NamedTuple):
-    """What it is, and what takes it; `{path}` and `{stub}` stand for its name, with and without
-    its end."""
+    """What it is, and what takes it; `{path}` and `{stub}` stand for its name, with and without its end."""
 
     text: str
     help: str
@@ -34,8 +33,7 @@ ENDS = {end: kind for ends, kind in ((row[0], Kind(*row[1:])) for row in tables(
         for end in ends.split()}
 MPS, LP = ENDS[".mps"], ENDS[".lp"]
 STARTS = (*((mark, end) for end, (mark, _) in PACKERS.items()), (b"PK\x03\x04", ".zip"),
-          (b"certificate 1", ".certificate"), (ELF, ".elf"), (b"\xff\xfe", ".utf16"),
-          (b"\xfe\xff", ".utf16"))
+          (b"certificate 1", ".certificate"), (ELF, ".elf"), (b"\xff\xfe", ".utf16"), (b"\xfe\xff", ".utf16"))
 IS_MPS = re.compile(rb"(?:(?:\*[^\n]*|[^\S\n]*)\n)*(?:NAME\b|OBJSENSE\b|ROWS\b)")
 IS_LP = re.compile(rb"(?:(?:\\[^\n]*|[^\S\n]*|//[^\n]*)\n|/\*.*?\*/[^\S\n]*)*"
                    rb"(?:min|max)(?:imi[sz]e|imum)?\s*(?::|\n|\s)", re.I | re.S)

@@ -23,8 +23,7 @@ class Meaning(NamedTuple):
 
 TABLES = {title: [Meaning(*row) for row in rows] for title, rows in tables("reasons.txt").items()}
 MEANING: Mapping[str, Meaning] = {       # of the first table that has the reason
-    reason: row for rows in reversed(list(TABLES.values())) for row in rows
-    for reason in row.reasons.split(", ")}
+    reason: row for rows in reversed(list(TABLES.values())) for row in rows for reason in row.reasons.split(", ")}
 
 
 def meaning_of(reason: str) -> Meaning:
@@ -39,6 +38,5 @@ def listed() -> str:
         for row in rows:
             said = "; ".join(filter(None, (row.text, row.more)))
             said += f" => {row.help}" if row.help else ""
-            told += textwrap.fill(said, WIDTH, initial_indent=f"  {row.reasons}:  ",
-                                  subsequent_indent=" " * 6) + "\n"
+            told += textwrap.fill(said, WIDTH, initial_indent=f"  {row.reasons}:  ", subsequent_indent=" " * 6) + "\n"
     return told

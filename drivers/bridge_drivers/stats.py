@@ -64,8 +64,7 @@ class Figures:
         return str(-Fraction(self.program.objective_rhs))
 
     def rows(self, kind: str = "") -> list[str]:
-        return [name for name, letter in self.kinds.items()
-                if name != TIED_ROW and (not kind or letter == kind)]
+        return [name for name, letter in self.kinds.items() if name != TIED_ROW and (not kind or letter == kind)]
 
     def number(self, where: str, text: bytes) -> Exact:
         value, held = known(text)
@@ -80,8 +79,7 @@ def ends_of(sizes: Collection[Exact]) -> list[float | None]:
 
 
 def told(sizes: Collection[Exact]) -> str:
-    return " to ".join("beyond doubles" if end is None else f"{end:g}"
-                       for end in ends_of(sizes)) or "none"
+    return " to ".join("beyond doubles" if end is None else f"{end:g}" for end in ends_of(sizes)) or "none"
 
 
 def held_ends(sizes: Collection[Exact]) -> list[float | None] | None:
@@ -147,8 +145,7 @@ def columns_of(program: Program) -> dict[str, int]:
     binary = sum(whole and pair == (0, 1) for whole, pair in zip(read.whole, bounds))
     whole = len(program.whole)
     return {"continuous": len(bounds) - whole, "binary": binary, "integer": whole - binary,
-            "free": bounds.count((None, None)),
-            "fixed": sum(low is not None and low == high for low, high in bounds)}
+            "free": bounds.count((None, None)), "fixed": sum(low is not None and low == high for low, high in bounds)}
 
 
 def sense_line(f: Figures) -> str:
@@ -168,12 +165,10 @@ def row_name(row: str, names: Names) -> str:
 
 def lines_of(f: Figures, factors: dict[str, str], names: Names) -> list[str]:
     """What is printed, one figure a line."""
-    signs = ", ".join(f"{len(f.rows(kind))} {sign}"
-                      for kind, sign in (("L", "<="), ("G", ">="), ("E", "=")))
+    signs = ", ".join(f"{len(f.rows(kind))} {sign}" for kind, sign in (("L", "<="), ("G", ">="), ("E", "=")))
     kinds = ", ".join(f"{f.columns[kind]} {kind}" for kind in KINDS)
     lost = [f"{text[:45]} ({where})" for where, text in f.lost]
-    scaled = [f"{row_name(row, names)} by {factor}" for row, factor in factors.items()
-              if factor != "1"]
+    scaled = [f"{row_name(row, names)} by {factor}" for row, factor in factors.items() if factor != "1"]
     lines = [f"sense         {sense_line(f)}",
              f"columns       {sum(map(f.columns.__getitem__, KINDS))}: {kinds}; "
              f"{f.columns['free']} free, {f.columns['fixed']} fixed",
@@ -210,14 +205,12 @@ class Stats:
         if model.own is None:
             self.factors = factors_of(model.bridge, model.path, objective, self.figures.rows())
         else:
-            self.figures.lost = [(self.in_names(where), text)
-                                 for where, text in self.figures.lost]
+            self.figures.lost = [(self.in_names(where), text) for where, text in self.figures.lost]
 
     def in_names(self, where: str) -> str:
         """Rows and columns of an MPS file as they are called there."""
         lists = {"c": self.names.row, "x": self.names.column}
-        return " ".join(lists[word[0]](int(word[1:])) if word[1:].isdigit() else word
-                        for word in where.split())
+        return " ".join(lists[word[0]](int(word[1:])) if word[1:].isdigit() else word for word in where.split())
 
     def lines(self) -> list[str]:
         return lines_of(self.figures, self.factors, self.names) + self.notes

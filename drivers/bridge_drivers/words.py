@@ -41,9 +41,8 @@ class Words:
 
 
 def read(argv: Sequence[str]) -> Words:
-    """In any order: what is `name=value`, or begins with `-`, is an option, the first other word
-    the model, and what follows it options of the form `name value`. After `--` nothing begins
-    with `-`, and the first word is the model."""
+    """In any order: what is `name=value`, or begins with `-`, is an option, the first other word the model, and what
+    follows it options of the form `name value`. After `--` nothing begins with `-`, and the first word is the model."""
     words, left, is_plain = Words(), list(argv)[::-1], False
     if argv[:1] == ["help"] and not any(map(os.path.exists, ("help", "help.nl"))):
         words.ask, words.topic = "-?", argv[1] if len(argv) > 1 else ""

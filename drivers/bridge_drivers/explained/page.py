@@ -58,10 +58,8 @@ def sentence(text: str) -> str:
 
 def tree_of(drawn: Picture) -> Html:
     """The picture, its colours, and each part that is drawn, in full."""
-    rows = (filled("part", **part._asdict(), indent=0.5 + min(part.depth, 12))
-            for part in drawn.parts())
-    return filled("tree", width=drawn.size()[0] + AROUND, picture=Html(drawn.svg(False)),
-                  rows=joined(rows))
+    rows = (filled("part", **part._asdict(), indent=0.5 + min(part.depth, 12)) for part in drawn.parts())
+    return filled("tree", width=drawn.size()[0] + AROUND, picture=Html(drawn.svg(False)), rows=joined(rows))
 
 
 def point_of(point: Sequence[tuple[str, str]]) -> Html:
@@ -74,8 +72,7 @@ def sums_of(sums: Sequence[tuple[str, Sequence[str], str]]) -> Html:
     lines, and what these show."""
     widest = max((len(line) for _, lines, shows in sums for line in (*lines, shows)), default=1)
     size = f"clamp(.5rem, calc((100vw - 4.5rem) / {LETTER * widest:.1f}), .875rem)"
-    found = joined(filled("sum", head=head, size=size, lines="\n".join([*lines, shows]))
-                   for head, lines, shows in sums)
+    found = joined(filled("sum", head=head, size=size, lines="\n".join([*lines, shows])) for head, lines, shows in sums)
     return filled("sums", sums=found) if sums else found
 
 
@@ -93,7 +90,5 @@ def used_of(told: Explaining) -> Html:
     used = sorted(told.tally.rows.items(), key=lambda item: (-item[1], item[0]))
     leaves, more = max(told.tally.leaves, 1), len(used) - MOST_USED
     rows = joined(filled("use", row=told.wording.row(number), times=times,
-                         width=min(max(1, round(100 * times / leaves)), 100))
-                  for number, times in used[:MOST_USED])
-    return filled("used", rows=rows, more=filled("more", count=more) if more > 0 else "") \
-        if used else rows
+                         width=min(max(1, round(100 * times / leaves)), 100)) for number, times in used[:MOST_USED])
+    return filled("used", rows=rows, more=filled("more", count=more) if more > 0 else "") if used else rows

@@ -45,8 +45,7 @@ def cut(text: str, most: int = MOST_TEXT) -> str:
 
 
 class Picture:
-    """Of one certificate. `fails` is the place of the first leaf that does not close; `holds`: all
-    of them do."""
+    """Of one certificate. `fails` is the place of the first leaf that does not close; `holds`: all of them do."""
 
     def __init__(self, wording: Wording, fails: int | None = None, holds: bool = True) -> None:
         self.certificate, self.wording, self.fails = wording.certificate, wording, fails
@@ -143,15 +142,12 @@ class Picture:
         if node.is_leaf():
             closes = self.closes(place)
             if not closes:
-                return f"leaf {node.leaf} " + ("is not judged" if closes is None
-                                               else "does not close")
-            count, how = len(node.pairs), "rows contradict" if node.kind == WEIGHTS \
-                else "closes by duals"
+                return f"leaf {node.leaf} " + ("is not judged" if closes is None else "does not close")
+            count, how = len(node.pairs), "rows contradict" if node.kind == WEIGHTS else "closes by duals"
             return f"{how} ({count})" if count else "closes by bounds alone"
         if self.is_folded(place):
             return f"+ {node.size - 1} nodes, {node.leaves} leaves"
-        return {SPLIT: "split ", PLANE: "plane ", LEMMA: "lemma "}[node.kind] + \
-            self.wording.left_side(node)
+        return {SPLIT: "split ", PLANE: "plane ", LEMMA: "lemma "}[node.kind] + self.wording.left_side(node)
 
     def css_class(self, place: int) -> str:
         node = self.certificate.nodes[place]
@@ -210,8 +206,7 @@ class Picture:
             yield f'<text class="line" x="{d.x + WIDTH - 8}" y="{d.y + 18}">{line}</text>'
             for k, text in enumerate([self.part_text(d.place, MOST_PART), *texts]):
                 mark = ' class="part"' if k == 0 else ""
-                yield (f'<text{mark} x="{d.x + 8}" y="{d.y + 18 + 16 * k}">'
-                       f'{escape(cut(text))}</text>')
+                yield (f'<text{mark} x="{d.x + 8}" y="{d.y + 18 + 16 * k}">{escape(cut(text))}</text>')
             yield "</g>"
 
 
@@ -233,9 +228,7 @@ def bounds_of(bounds: Bounds) -> dict[int, Fraction | None]:
         else:
             below = certificate.children(place)[1 if node.kind == LEMMA else 0:]
             if all(child in values for child in below):
-                in_proof = any(above.kind == LEMMA and part == 0
-                               for above, part in certificate.steps(place))
+                in_proof = any(above.kind == LEMMA and part == 0 for above, part in certificate.steps(place))
                 worse = max if in_proof or bounds.goal.maximise else min
-                values[place] = worse((value for child in below
-                                       if (value := values[child]) is not None), default=None)
+                values[place] = worse((value for child in below if (value := values[child]) is not None), default=None)
     return values

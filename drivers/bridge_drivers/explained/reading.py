@@ -31,9 +31,8 @@ class Node:
 
 
 class Certificate(NamedTuple):
-    """`objective` is None under `infeasible`; `numbers` are those of the claim's line; `point` and
-    `ray` have the values that are not 0, None where the claim has none; `nodes` are in prefix
-    order."""
+    """`objective` is None under `infeasible`; `numbers` are those of the claim's line; `point` and `ray` have the
+    values that are not 0, None where the claim has none; `nodes` are in prefix order."""
 
     claim: str
     objective: int | None

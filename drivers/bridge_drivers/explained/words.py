@@ -1,5 +1,4 @@
-"""A certificate in words: what it claims, what its tree is made of, where and by how much it does
-not hold."""
+"""A certificate in words: what it claims, what its tree is made of, where and by how much it does not hold."""
 
 from __future__ import annotations
 
@@ -67,8 +66,7 @@ class Wording:
     """Names of a model in the sentences of one certificate. `bounds` are None where the program
     could not be read in exact numbers."""
 
-    def __init__(self, certificate: Certificate, names: Names, bounds: Bounds | None,
-                 constraints: int) -> None:
+    def __init__(self, certificate: Certificate, names: Names, bounds: Bounds | None, constraints: int) -> None:
         self.certificate, self.names, self.bounds = certificate, names, bounds
         self.constraints = constraints
 
@@ -154,15 +152,13 @@ class Wording:
         t = tally(c, self.constraints)
         told.append(f"tree      {counted(t.nodes, 'node')}: {counted(t.splits, 'split')}, "
                     f"{counted(t.planes, 'plane')}, {counted(t.lemmas, 'lemma')}, "
-                    f"{t.leaves} {'leaf' if t.leaves == 1 else 'leaves'} ({t.weights} by weights); "
-                    f"depth {t.depth}")
+                    f"{t.leaves} {'leaf' if t.leaves == 1 else 'leaves'} ({t.weights} by weights); depth {t.depth}")
         return told + self.rows_lines(t)
 
     def rows_lines(self, t: Tally) -> list[str]:
         """Which rows the leaves use, and how often."""
         used = sorted(t.rows.items(), key=lambda item: (-item[1], item[0]))
-        told = [f"uses      {self.row(i)} in {times} of {t.leaves} leaves"
-                for i, times in used[:MOST_LISTED]]
+        told = [f"uses      {self.row(i)} in {times} of {t.leaves} leaves" for i, times in used[:MOST_LISTED]]
         if len(used) > MOST_LISTED:
             told.append(f"uses      {len(used) - MOST_LISTED} more constraints")
         if t.added:
@@ -197,8 +193,7 @@ class Wording:
             ray, kind, number = wide.groups()
             what = "the objective" if number is None else self.thing(kind, int(number))
             where = "along the ray" if ray else "at the point"
-            return f"a sum of {what} {where}, or a side of it, passes 128 bits: numbers with fewer " \
-                   "digits are wanted"
+            return f"a sum of {what} {where}, or a side of it, passes 128 bits: numbers with fewer digits are wanted"
         if found is not None and self.bounds is not None:
             return self.point_fault(self.bounds, *found.groups())
         if verdict == "ray does not improve" and self.bounds is not None:
@@ -214,17 +209,14 @@ class Wording:
 
     def gap(self, place: int, value: Fraction) -> str:
         if self.certificate.nodes[place].kind == WEIGHTS:
-            return (f"its weights show {value}, and contradict each other only above 0: "
-                    f"{decimal(-value)} too little")
+            return (f"its weights show {value}, and contradict each other only above 0: {decimal(-value)} too little")
         goal = None if self.bounds is None else self.bounds.part(place).goal
         if goal is None or goal.target is None:
-            return f"its duals show that no point is better than {value}, which is not what is " \
-                   "claimed"
+            return f"its duals show that no point is better than {value}, which is not what is claimed"
         who = f"the lemma of line {goal.lemma} needs" if goal.lemma else "the claim needs"
         away = abs(value - goal.target)
         return (f"its duals show that no point of this part is better than {value}, and {who} "
-                f"{goal.target}: {decimal(away)}{share(away, goal.target)} too "
-                f"{'high' if goal.maximise else 'low'}")
+                f"{goal.target}: {decimal(away)}{share(away, goal.target)} too {'high' if goal.maximise else 'low'}")
 
     def no_side(self, place: int, kind: str, number: int) -> str:
         what, bounds = self.thing(kind, number, place), self.bounds
@@ -242,16 +234,14 @@ class Wording:
 
     def point_fault(self, bounds: Bounds, ray: str | None, kind: str, text: str, how: str) -> str:
         number = int(text)
-        what, point = self.thing(kind, number), (self.certificate.ray if ray else
-                                                 self.certificate.point) or {}
+        what, point = self.thing(kind, number), (self.certificate.ray if ray else self.certificate.point) or {}
         if kind == "row":
             value, row = bounds.activity(number, point), bounds.row(number)
             ends = row.low, row.high
         else:
             value, ends = point.get(number, Fraction(0)), bounds.ends(number)
         if how == "not whole":
-            return f"{what} is {value} at the point, {decimal(abs(round(value) - value))} from " \
-                   "a whole number"
+            return f"{what} is {value} at the point, {decimal(abs(round(value) - value))} from a whole number"
         if ray:
             return f"{what} changes by {value} along the ray, past a side that it has"
         is_below = ends[0] is not None and value < ends[0]
@@ -264,8 +254,7 @@ class Wording:
 def claim_words(certificate: Certificate, said: Said | None, bounds: Bounds | None) -> str:
     """The claim, where it holds or not."""
     said = said or claimed(certificate, bounds)
-    return certificate.claim if said is None else \
-        verdicts.in_words(said, bounds is not None and bounds.model.maximise)
+    return certificate.claim if said is None else verdicts.in_words(said, bounds is not None and bounds.model.maximise)
 
 
 def claimed(certificate: Certificate, bounds: Bounds | None) -> Said | None:
