@@ -9,7 +9,7 @@ from fractions import Fraction
 from html import escape
 from typing import Iterator, NamedTuple
 
-from ..texts import text
+from ..texts import text as text_of
 from .bounds import Bounds
 from .reading import DUALS, LEMMA, PLANE, ROOT, SPLIT, WEIGHTS
 from .words import Wording, short
@@ -173,7 +173,7 @@ class Picture:
         """The picture, as a file of its own on white, or as a part of a page, light or dark."""
         width, height = self.size()
         nodes = self.certificate.nodes
-        style = "".join(map(text, ("tree.css",) if alone else ("tree.css", "tree-dark.css")))
+        style = "".join(map(text_of, ("tree.css",) if alone else ("tree.css", "tree-dark.css")))
         said = f"the tree of the certificate: {len(nodes)} nodes, {nodes[0].leaves} leaves" \
             if nodes else "the certificate has no tree"
         return "\n".join([
