@@ -30,7 +30,7 @@ from imports import IMPORT, imports_of
 from made import TOP, asked, piped
 
 READING = TOP / "docs" / "verify" / "reading.md"
-HEADLINE = "command_parts/Promise:Answers"
+HEADLINE = "".join(re.findall(r"headline: `(.*?)`", READING.read_text())[:1])
 # each promise, and each row of commands that share one, that these name has a row there
 COMMANDS = (("bridge_tool", "Commands", "promise_of"), ("bridge_tool", "OneFile", "row_of"),
             ("bridge_tool", "Verify", "claim_row_of"))
