@@ -24,7 +24,6 @@ TESTS = ("call_tests", "command_tests")
 HANDED = re.compile(r"^pub use (?:\w+::)*(?:(\w+)|\{([^}]*)\});", re.M)
 OPENED = re.compile(r"^pub mod (\w+);", re.M)
 IMPL = re.compile(r"^impl(?:<[^{;]*?>)? (?:(?P<trait>[\w:]+)(?:<[^{]*?>)? for )?(?P<type>\w+)", re.M)
-FUNCTION = re.compile(r"^(?: {4})?(?:pub )?fn (\w+)")
 LABEL = re.compile(r"^\s*ensures(?: (\w+))? \{", re.M)
 MEMORY = re.compile(r"AllocError|Stop<|Answer>")
 
@@ -62,30 +61,20 @@ def handed_out(root: str) -> set[str]:
     return found - {""}
 
 
-def functions(text: str) -> Iterator[tuple[str, str, bool, str]]:
-    """Each function with a body: its type (or none), name, whether it says `pub`, and its signature with clauses."""
+def functions(text: str) -> Iterator[tuple[str, str, bool, str, str]]:
+    """Each function with a body: its type (or none), name, whether it says `pub`, its signature with clauses, and what stands
+    above it (`///`)."""
+    start = 0
     for block in re.split(r"\n(?=\S)", text):
         found = IMPL.match(block.lstrip("\n"))
-        inside = bool(found)
+        indent = 4 if found else 0
         kind, is_trait = (found["type"], bool(found["trait"])) if found else ("", False)
-        for at in re.finditer(r"^ {%d}(pub )?fn (\w+)" % (4 if inside else 0), block, re.M):
-            end = re.compile(r"^ {%d}\{|;$" % (4 if inside else 0), re.M).search(block, at.end())
-            yield kind, at[2], bool(at[1]) and not is_trait, block[at.start():end.start() if end else len(block)]
-
-
-def comments(text: str) -> dict[tuple[str, str], str]:
-    """What stands above each function (`///`), by its type (or none) and name."""
-    found, kind, above = {}, "", list[str]()
-    for line in text.splitlines():
-        if at := IMPL.match(line):
-            kind = at["type"]
-        if line.lstrip().startswith("///"):
-            above.append(line.strip(" /"))
-        elif at := FUNCTION.match(line):
-            found[kind if line[0] == " " else "", at[1]], above = " ".join(above), []
-        elif not line.strip():
-            above = []
-    return found
+        for at in re.finditer(r"^ {%d}(pub )?fn (\w+)" % indent, block, re.M):
+            end = re.compile(r"^ {%d}\{|;$" % indent, re.M).search(block, at.end())
+            above = text[:start + at.start()].rpartition("\n\n")[2].splitlines()
+            words = " ".join(line.strip(" /") for line in above if line.lstrip().startswith("///"))
+            yield kind, at[2], bool(at[1]) and not is_trait, block[at.start():end.start() if end else len(block)], words
+        start += len(block) + 1
 
 
 def calls(crate: str) -> list[Call]:
@@ -98,13 +87,11 @@ def calls(crate: str) -> list[Call]:
     found = []
     for path in sorted(source.rglob("*.rt")):
         module = path.relative_to(source).parts[0].removesuffix(".rt")
-        words = comments(path.read_text())
-        for kind, name, is_public, head in functions(path.read_text()):
+        for kind, name, is_public, head, words in functions(path.read_text()):
             if is_public and (path == root or module in opened or (kind or name) in handed):
                 labels = tuple(label or "its clause" for label in LABEL.findall(head))
                 result = head.split("->", 1)[1].split("\n")[0] if "->" in head else ""
-                found.append(Call(crate, f"{kind}::{name}" if kind else name, labels, bool(MEMORY.search(result)),
-                                  words.get((kind, name), "")))
+                found.append(Call(crate, f"{kind}::{name}" if kind else name, labels, bool(MEMORY.search(result)), words))
     return found
 
 

@@ -16,6 +16,8 @@ import shutil
 import subprocess
 import sys
 
+from map import rooms
+
 if {"-h", "--help"} & set(sys.argv[1:]):        # of the script that is called, also where there is no toolchain
     print(sys.modules["__main__"].__doc__)
     sys.exit()
@@ -23,17 +25,6 @@ KIT = os.path.dirname(os.path.dirname(os.path.realpath(shutil.which("rt") or sys
 TOP = os.path.dirname(os.path.dirname(os.path.abspath(__file__)))
 GATE = os.path.abspath(os.environ.get("GATE", f"{TOP}/../gate"))
 PARTS = ("src", "specs", "proofs")
-
-
-def uses() -> dict[str, list[str]]:
-    """The libraries that each crate uses, of crates.txt."""
-    found = {}
-    with open(f"{TOP}/crates.txt") as lines:
-        for line in lines:
-            name, colon, rest = line.split("#")[0].partition(":")
-            if colon:
-                found[name.split()[0]] = rest.split()
-    return found
 
 
 def below(used: dict[str, list[str]], crate: str, seen: list[str]) -> list[str]:
@@ -68,7 +59,7 @@ def library(crate: str) -> str:
 
 def words(crate: str) -> list[str]:
     """The words that name the crate and all libraries for rattle."""
-    used = uses()
+    used = rooms()[1]
     found = ["--crate-name", crate]
     found += ["src/main.rt" if os.path.exists(f"{TOP}/crates/{crate}/src/main.rt") else "src/lib.rt"]
     of_kit = ["std", *[it for it in used[crate] if it not in used]]

@@ -50,9 +50,7 @@ def imports_of(text: str) -> Iterator[Import]:
             words = part.split(" as ")
             name = words[0].strip()
             if name:
-                yield Import(
-                    number, found["module"], name, words[-1].strip(), "pub" in found["head"]
-                )
+                yield Import(number, found["module"], name, words[-1].strip(), "pub" in found["head"])
 
 
 @lru_cache(maxsize=None)
@@ -91,20 +89,12 @@ def is_there(module: str, name: str) -> bool:
     return path.is_file() and name in names_in(path)
 
 
-def used_words(text: str) -> set[str]:
-    lines = [line for line in text.splitlines() if not IMPORT.match(line)]
-    return set(WORD.findall("\n".join(lines)))
-
-
-def is_used(entry: Import, words: set[str], text: str) -> bool:
+def is_used(entry: Import, words: set[str], body: str) -> bool:
     if entry.passed_on:
         return True
     if "◌" in entry.known_as:
         return all(any(part in word for word in words) for part in entry.known_as.split("◌"))
-    return entry.known_as in words or re.search(
-        rf"(?<![\w-]){re.escape(entry.known_as)}(?![\w-])",
-        "\n".join(line for line in text.splitlines() if not IMPORT.match(line)),
-    ) is not None
+    return entry.known_as in words or re.search(rf"(?<![\w-]){re.escape(entry.known_as)}(?![\w-])", body) is not None
 
 
 def main(arguments: list[str]) -> int:
@@ -115,13 +105,14 @@ def main(arguments: list[str]) -> int:
             if path.suffix not in (".rt", ".antt") or "out" in path.parts:
                 continue
             text = path.read_text(encoding="utf-8")
-            words = used_words(text)
+            body = "\n".join(line for line in text.splitlines() if not IMPORT.match(line))
+            words = set(WORD.findall(body))
             for entry in imports_of(text):
                 place = f"{path.relative_to(TOP)}:{entry.line}"
                 if not is_there(entry.module, entry.name):
                     missing += 1
                     print(f"{place}: {entry.module} has no {entry.name}")
-                elif path.suffix == ".antt" and not is_used(entry, words, text):
+                elif path.suffix == ".antt" and not is_used(entry, words, body):
                     print(f"{place}: {entry.known_as} is not used")
     return 1 if missing else 0
 

@@ -11,6 +11,7 @@ It loads the kit's `rt plant` and changes some of its parts, so a new kit may wa
 """
 from __future__ import annotations
 
+import argparse
 import json
 import os
 import re
@@ -25,21 +26,6 @@ import check
 PLANT = f"{check.KIT}/bin/rt-plant"
 # Whether the unchanged call is planted beside the wrong ones.
 CONTROLS = "controls *= len(first) < most"
-
-
-def option(words: list[str], name: str, default: str) -> str:
-    if name not in words:
-        return default
-    at = words.index(name)
-    value = words[at + 1]
-    del words[at : at + 2]
-    return value
-
-
-def flag(words: list[str], name: str) -> bool:
-    found = name in words
-    words[:] = [it for it in words if it != name]
-    return found
 
 
 def loaded(is_first: bool) -> Any:
@@ -144,16 +130,19 @@ def judge_in_batches(module: Any, size: int, seconds: float) -> None:
 
 
 def main(words: list[str]) -> int:
-    only, minutes = option(words, "--only", ""), option(words, "--minutes", "240")
-    size, is_first = int(option(words, "--batch", "120")), flag(words, "--first")
-    if len(words) != 1:
-        sys.exit(__doc__)
-    module = loaded(is_first)
-    take_libraries(module, words[0])
-    choose(module, only)
-    judge_in_batches(module, size, 3600)
-    os.chdir(f"{check.TOP}/crates/{words[0]}")
-    status: int = module.main(words[0], "--all", "--minutes", minutes, "--max", "100000", "--jobs", "1")
+    parser = argparse.ArgumentParser(usage=__doc__, add_help=False)
+    parser.add_argument("crate")
+    parser.add_argument("--only", default="")
+    parser.add_argument("--minutes", default="240")
+    parser.add_argument("--batch", type=int, default=120)
+    parser.add_argument("--first", action="store_true")
+    said = parser.parse_args(words)
+    module = loaded(said.first)
+    take_libraries(module, said.crate)
+    choose(module, said.only)
+    judge_in_batches(module, said.batch, 3600)
+    os.chdir(f"{check.TOP}/crates/{said.crate}")
+    status: int = module.main(said.crate, "--all", "--minutes", said.minutes, "--max", "100000", "--jobs", "1")
     return status
 
 

@@ -5,9 +5,9 @@
     dev/statement.py --all                the definitions of every theorem, names and texts (the packages hold this text)
     dev/statement.py --lists              their names by theorem and file
     dev/statement.py --senses             the names that have two senses in the statement of a theorem
-    dev/statement.py --write              writes docs/verify/reading.md: what says each theorem, and how much that is
-    dev/statement.py --check              says whether docs/verify/reading.md is as --write makes it, and what a statement may
-                                          not rest on; status 1 where something is wrong
+    dev/statement.py --write              writes into docs/verify/reading.md how much says each theorem of its table
+    dev/statement.py --check              says whether it is as --write makes it, and what a statement may not rest on; status 1
+                                          where something is wrong
 
 A definition of `crates/CRATE/specs/FILE.antt` rests on those that its text names. Arithmetic (`ARITHMETIC`) is printed
 last, under a heading of its own, and counts as all else. Names of the toolchain's library are not
@@ -26,15 +26,24 @@ from graphlib import TopologicalSorter
 from pathlib import Path
 from typing import Any, TypeVar
 
+from imports import IMPORT, imports_of
 from made import TOP, asked, piped
-from theorems import ARITHMETIC, CLOSING, COMMANDS, DOUBTS, HEADLINE, LEGEND, OPENING, THEOREMS, Theorem
 
 READING = TOP / "docs" / "verify" / "reading.md"
+HEADLINE = "".join(re.findall(r"headline: `(.*?)`", READING.read_text())[:1])
+# each promise, and each row of commands that share one, that these name has a row there
+COMMANDS = (("bridge_tool", "Commands", "promise_of"), ("bridge_tool", "OneFile", "row_of"),
+            ("bridge_tool", "Verify", "claim_row_of"))
+ARITHMETIC = ("fractions", "exact_numbers/Fraction", "exact_numbers/Values")    # what numbers are
+# names that stand for two things in the statement of a theorem: never more
+TWO_SENSES = {"what a yes of an MPS file says": 2, "what an export is read as": 19, "export with names": 5, "return": 16,
+              "return with names": 18, "verify_mps, verify_fixed": 7, "check": 20, "import": 2, "nl": 2, "mps, fixed": 2,
+              "sol": 1, "make": 11}
+ROW = re.compile(r"^\| (?P<name>[^|]+) \| (?P<roots>(?:headline|`\w+/[^|]*)[^|]*) \| (?P<said>[^|]+) \| (?P<count>[^|]*) \|$", re.M)
 
 Key = tuple[str, str, str]  # crate, file, name
 T = TypeVar("T", bound=Any)
 
-USE = re.compile(r"^(?:unfoldable )?(?:pub )?use ([\w.]+?)\.\{(.*)\}$")
 OUTSIDE = re.compile(r"^(?:unfoldable )?(?:pub )?use |^\s*(?:module|infix|mutual|abbrev mutual)")
 MODULE = re.compile(r"^\s*(?:module|mutual|abbrev mutual)")
 HEAD = re.compile(r"^\s*(?:(?:abbrev|unfoldable)\s+)?(?:pub\s+)?(?:(?:record|data)\s+)?([^\s:({]+)")
@@ -46,6 +55,18 @@ FIELD = re.compile(r"(?:^\s+|[{;]\s*)[\w\-]+ = ", re.M)
 
 def is_comment(line: str) -> bool:
     return line.strip().startswith("--")
+
+
+@dataclass(frozen=True)
+class Theorem:
+    """A row of the reading list: what is promised, and the definitions that say it."""
+
+    name: str
+    roots: tuple[str, ...]
+
+
+THEOREMS = [Theorem(row["name"], tuple(HEADLINE if root == "headline" else root.strip("`") for root in row["roots"].split(", ")))
+            for row in ROW.finditer(READING.read_text())]
 
 
 @dataclass
@@ -102,13 +123,14 @@ class SpecFile:
 
     @classmethod
     def read(cls, path: Path) -> SpecFile:
+        text = path.read_text()
         file = cls(path.parent.parent.name, path.stem)
+        file.imports = {it.known_as: (it.module.split("."), it.name) for it in imports_of(text)}
         comment: list[str] = []
         current: Definition | None = None
-        for number, line in enumerate(path.read_text().splitlines(), start=1):
-            if found := USE.match(line):
+        for number, line in enumerate(text.splitlines(), start=1):
+            if IMPORT.match(line):
                 file.head += comment
-                file.add_imports(found[1].split("."), found[2])
                 comment = []
             elif is_comment(line):
                 (comment if current is None else current.lines).append(line.rstrip())
@@ -125,16 +147,11 @@ class SpecFile:
             file.owners.update((case, definition.key[2]) for case in definition.constructors())
         return file
 
-    def add_imports(self, path: list[str], names: str) -> None:
-        for name in names.split(", "):
-            own, _, other = name.strip().partition(" as ")
-            self.imports[other or own] = (path, own)
-
     def other_names(self, found: list[Definition]) -> list[str]:
         """A line for each name that these definitions use for what is called otherwise where it stands."""
         words = words_of(found)
         others = [(name, *there) for name, there in sorted(self.imports.items()) if name != there[1] and name in words]
-        return [f"-- here {name} is {'.'.join(path).removeprefix('Rattle.')}:{own}" for name, path, own in others]
+        return [f"-- here {name} is {'.'.join(path)}:{own}" for name, path, own in others]
 
     def types_of_code(self, found: list[Definition]) -> list[str]:
         """A line for each file of code that declares types which these definitions use."""
@@ -148,9 +165,9 @@ class SpecFile:
         words = words_of(found)
         types = set()
         for name, (path, own) in self.imports.items():
-            if name in words and path[2:4] == ["specs", "declared"]:
-                of_code = [part for part in path[4:] if not part.startswith("The")]
-                file = "/".join(["crates", path[1], "src", *(of_code[:-1] or ["lib"])]) + ".rt"
+            if name in words and path[1:3] == ["specs", "declared"]:
+                of_code = [part for part in path[3:] if not part.startswith("The")]
+                file = "/".join(["crates", path[0], "src", *(of_code[:-1] or ["lib"])]) + ".rt"
                 types.add((file, of_code[-1]))
         return types
 
@@ -187,9 +204,9 @@ class Statement:
         if name in file.definitions:
             return (file.crate, file.name, name)
         path, own = file.imports.get(name, ([], ""))
-        if len(path) < 4 or path[0] != "Rattle" or path[2] != "specs":
+        if len(path) < 3 or path[1] != "specs":
             return None
-        other = self.files.get((path[1], path[3]))
+        other = self.files.get((path[0], path[2]))
         return self.resolve(other, own) if other else None
 
     def rests_on(self, key: Key) -> set[Key]:
@@ -316,13 +333,14 @@ def whole_size(statement: Statement, keys: list[Key]) -> str:
 def printed(statement: Statement, roots: list[Key]) -> str:
     """The texts of all definitions, by file."""
     keys = statement.closure(roots)
-    lines = [*LEGEND, ""]
+    legend = next(part for part in READING.read_text().split("\n\n") if part.startswith("How to read them"))
+    lines = [legend, ""]
     files = statement.by_file(keys)
     arithmetic = [one for it, found in files.items() if is_arithmetic(it) for one in found]
     for (crate, file), found in files.items():
         own = statement.files[crate, file]
         if arithmetic and found[0] == arithmetic[0]:
-            lines += [f"######## {DOUBTS}: {size_of(arithmetic)}", ""]
+            lines += [f"######## Arithmetic: for who doubts the rational numbers: {size_of(arithmetic)}", ""]
         lines += [f"==== crates/{crate}/specs/{file}.antt: {size_of(found)}", *own.head, *own.other_names(found)]
         lines += [*own.types_of_code(found), ""]
         for it in found:
@@ -358,16 +376,16 @@ def all_texts() -> str:
 
 
 def reading(statement: Statement) -> str:
-    """The text of docs/verify/reading.md."""
-    lines = [*OPENING, "", "| theorem | definitions that say it | what they are | definitions, lines; files, crates; types of code |",
-             "|---|---|---|---|"]
-    for it in THEOREMS:
-        roots = ", ".join("headline" if root == HEADLINE else f"`{root}`" for root in it.roots)
-        keys = statement.of(it)
+    """The text of docs/verify/reading.md, with the figures of today."""
+    named = {it.name: it for it in THEOREMS}
+
+    def counted(row: re.Match[str]) -> str:
+        keys = statement.of(named[row["name"]])
         files, crates = len({key[:2] for key in keys}), len({key[0] for key in keys})
         count = f"{len(keys)}, {sum(len(statement[key].own_lines) for key in keys)}; {files}, {crates}; {len(types_of(statement, keys))}"
-        lines.append(f"| {it.name} | {roots} | {it.sentence} | {count} |")
-    return "\n".join([*lines, *CLOSING]) + "\n"
+        return f"{row[0][:row.start('count') - row.start()]}{count} |"
+
+    return ROW.sub(counted, READING.read_text())
 
 
 def without_row(statement: Statement) -> list[str]:
@@ -375,7 +393,7 @@ def without_row(statement: Statement) -> list[str]:
     rows = {root for it in THEOREMS for root in it.roots}
     named = {it for table in COMMANDS for it in statement.rests_on(table)}
     promised = {it for it in named if it[2].endswith(("_promise", "_row"))}
-    return [f"no theorem of dev/theorems.py has {crate}/{file}:{name}" for crate, file, name in sorted(promised)
+    return [f"no theorem of docs/verify/reading.md has {crate}/{file}:{name}" for crate, file, name in sorted(promised)
             if f"{crate}/{file}:{name}" not in rows]
 
 
@@ -390,8 +408,8 @@ def complaints(statement: Statement) -> list[str]:
                 if statement[lemma].is_lemma and not statement[lemma].is_proof():
                     found.add(f"{'/'.join(lemma)} is no proof, and {'/'.join(key)} cites it")
         named = senses(statement, statement.of(it))
-        if len(named) > it.two_senses and it != THEOREMS[-1]:
-            found.add(f"{len(named)} names have two senses in the statement of `{it.name}`, more than {it.two_senses}: "
+        if len(named) > TWO_SENSES.get(it.name, 0) and it != THEOREMS[-1]:
+            found.add(f"{len(named)} names have two senses in the statement of `{it.name}`, more than {TWO_SENSES.get(it.name, 0)}: "
                       f"{', '.join(named)} (dev/statement.py --senses)")
     return sorted(found)
 
@@ -407,7 +425,7 @@ def told_senses(statement: Statement) -> str:
 
 def checked(statement: Statement) -> list[str]:
     found = complaints(statement)
-    if not READING.exists() or READING.read_text() != reading(statement):
+    if READING.read_text() != reading(statement):
         found.append(f"{READING.relative_to(TOP)} is not as the definitions are: dev/statement.py --write")
     return found
 

@@ -9,7 +9,7 @@ import os
 import re
 import sys
 import time
-from typing import Iterator, NamedTuple, Sequence
+from typing import Iterator, Mapping, NamedTuple, Sequence
 
 try:
     import tomllib
@@ -47,6 +47,13 @@ class Unfit(Exception):
 def read(*parts: str) -> bytes:
     with open(os.path.join(TOP, *parts), "rb") as f:
         return f.read()
+
+
+def filled(template: bytes, words: Mapping[str, str]) -> bytes:
+    """A text in which words stand for marks `@WORD@`."""
+    for word, text in words.items():
+        template = template.replace(f"@{word}@".encode(), text.encode())
+    return template
 
 
 def epoch() -> int:
@@ -97,8 +104,7 @@ class Project:
         self.table = tomllib.loads(read("drivers", "pyproject.toml").decode())["project"]
         self.name: str = self.table["name"]
         self.scripts: dict[str, str] = dict(sorted(self.table["scripts"].items()))
-        found = re.search(r'^VERSION = "(.*)"', read("drivers", PACKAGE, "__init__.py").decode(),
-                          re.M)
+        found = re.search(r'^VERSION = "(.*)"', read("drivers", PACKAGE, "__init__.py").decode(), re.M)
         if found is None:
             raise Unfit("bridge_drivers has no VERSION")
         self.version = found.group(1)
@@ -111,21 +117,17 @@ class Project:
     def maintainer(self) -> str:
         """The project's, or that of whoever builds packages for others, as Debian's tools ask."""
         own = self.table["maintainers"][0]
-        return f"{os.environ.get('DEBFULLNAME', own['name'])} " \
-               f"<{os.environ.get('DEBEMAIL', own['email'])}>"
+        return f"{os.environ.get('DEBFULLNAME', own['name'])} <{os.environ.get('DEBEMAIL', own['email'])}>"
 
     def glibc(self) -> tuple[int, int]:
         """The version of the C library that the program needs."""
-        return max((int(a), int(b))
-                   for a, b in re.findall(rb"GLIBC_(\d+)\.(\d+)", self.program))
+        return max((int(a), int(b)) for a, b in re.findall(rb"GLIBC_(\d+)\.(\d+)", self.program))
 
     def built(self) -> bytes:
         """What `nl-bridge version` tells of the program."""
-        facts = {"sha256": hashlib.sha256(self.program).hexdigest(),
-                 "toolchain": self.toolchain,
+        facts = {"sha256": hashlib.sha256(self.program).hexdigest(), "toolchain": self.toolchain,
                  "commit": said_by("git", "describe", "--always", "--dirty", "--abbrev=40",
-                                   "--exclude=*"),
-                 "proved": "yes" if self.proved else "no"}
+                                   "--exclude=*"), "proved": "yes" if self.proved else "no"}
         return (json.dumps(facts, indent=1, sort_keys=True) + "\n").encode()
 
     def modules(self) -> Iterator[File]:
@@ -134,7 +136,7 @@ class Project:
         for folder, inner, names in os.walk(top):
             inner[:] = sorted(name for name in inner if name != "__pycache__")
             for name in sorted(names):
-                if name.endswith(".py") or name == "py.typed":
+                if not name.endswith(".pyc"):
                     path = os.path.join(folder, name)
                     yield File(os.path.relpath(path, os.path.dirname(top)), read(path))
         yield File(f"{PACKAGE}/built.json", self.built())
@@ -151,14 +153,11 @@ class Project:
     def pages(self) -> Iterator[File]:
         """The man pages of the commands, with their words filled in."""
         drivers = [name for name, entry in self.scripts.items() if entry == DRIVER]
-        words = {"@VERSION@": self.version, "@DRIVERS@": ", ".join(drivers).replace("-", "\\-"),
-                 "@DATE@": time.strftime("%Y-%m-%d", time.gmtime(self.epoch)), **manual.parts()}
+        words = {"VERSION": self.version, "DRIVERS": ", ".join(drivers).replace("-", "\\-"),
+                 "DATE": time.strftime("%Y-%m-%d", time.gmtime(self.epoch)), **manual.parts()}
         for name in sorted(os.listdir(os.path.join(TOP, "packaging", "man"))):
             if name.removesuffix(".1") in self.scripts:
-                text = read("packaging", "man", name).decode()
-                for word, filled in words.items():
-                    text = text.replace(word, filled)
-                yield File(name, text.encode())
+                yield File(name, filled(read("packaging", "man", name), words))
 
     def linked_pages(self) -> Iterator[str]:
         """The commands whose page is that of the drivers."""
@@ -192,7 +191,15 @@ class Project:
             for name in self.scripts:
                 yield File(place(shell, "", name), text)
 
-    def examples(self) -> Iterator[File]:
-        """What users can try. Not among the documents, which small systems leave out."""
-        for name in sorted(os.listdir(os.path.join(TOP, "packaging", "examples"))):
-            yield File("examples/" + name, read("packaging", "examples", name))
+    def shared(self, share: str, zsh: str) -> Iterator[File]:
+        """What both packages have below PREFIX/share, beside man pages. The examples are not among
+        the documents, which small systems leave out."""
+        for file in self.configurations():
+            yield File(f"{share}/minizinc/solvers/{file.path}", file.data)
+        for file in self.completions(zsh):
+            yield File(f"{os.path.dirname(share)}/{file.path}", file.data)
+        for file in self.documents():
+            yield File(f"{share}/doc/{self.name}/{file.path}", file.data)
+        for name in os.listdir(os.path.join(TOP, "packaging", "examples")):
+            data = read("packaging", "examples", name)
+            yield File(f"{share}/{self.name}/examples/{name}", data)

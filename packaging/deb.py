@@ -9,54 +9,18 @@ import subprocess
 import tempfile
 import time
 
-from contents import File, Project, Unfit, read
+from contents import File, Project, Unfit, filled, read
 from sources import TOP
 
 ARCHITECTURE = "amd64"
 MODULES = "usr/lib/python3/dist-packages"
 SOLVERS = "coinor-clp, glpk-utils, lp-solve, minizinc, python3-pulp, qsopt-ex"
-COMMAND = """#!/usr/bin/python3
-import signal
-if signal.getsignal(signal.SIGINT) is signal.default_int_handler:
-    signal.signal(signal.SIGINT, signal.SIG_DFL)        # an interrupt while modules are read
+STATES = {True: "The program nl-bridge is proved.", False: "A build for trials: no gate has proved the program."}
 
-from {module} import {function}
 
-{function}()
-"""
-DESCRIPTION = """ Reads text .nl files of AMPL, MiniZinc, Pyomo and JuMP and writes MPS, exactly;
- takes a solver's answer back as .sol, and checks what it claims.
- {state} The drivers for
- cbc and other solvers, with configurations for MiniZinc and a class for PuLP,
- are Python around it.
-"""
-STATES = {True: "The program nl-bridge is proved.",
-          False: "A build for trials: no gate has proved the program."}
-OVERRIDES = """# The program is byte for byte the one that was built, tried and summed.
-nl-bridge: unstripped-binary-or-object [usr/libexec/nl-bridge/bridge]
-"""
-INSTALLED = """#!/bin/sh
-set -e
-if [ "$1" = configure ] && [ -z "$DPKG_ROOT" ] && command -v py3compile >/dev/null; then
-    py3compile -p {name}
-fi
-"""
-REMOVED = """#!/bin/sh
-set -e
-if [ -z "$DPKG_ROOT" ] && command -v py3clean >/dev/null; then
-    py3clean -p {name}
-fi
-"""
-COPYRIGHT = """Format: https://www.debian.org/doc/packaging-manuals/copyright-format/1.0/
-Upstream-Name: bridge
-
-Files: *
-Copyright: {owner}
-License: MIT
-{licence}
-Comment: The program holds code of the library of the Rattle kit that compiled
- it, and of its crates itoa (MIT) and indexmap (MIT or Apache-2.0).
-"""
+def template(file: str, /, **words: str) -> bytes:
+    """A text of packaging/debian, with its words."""
+    return filled(read("packaging", "debian", file), words)
 
 
 def zipped(data: bytes) -> bytes:
@@ -69,7 +33,7 @@ def copyright_of() -> bytes:
     owner = next(line for line in lines if line.startswith("Copyright"))
     rest = "\n".join(lines[lines.index(owner) + 1:]).strip().split("\n")
     licence = "\n".join(" " + line if line else " ." for line in rest)
-    return COPYRIGHT.format(owner=owner.replace("Copyright (c) ", ""), licence=licence).encode()
+    return template("copyright", owner=owner.replace("Copyright (c) ", ""), licence=licence)
 
 
 def changelog(project: Project) -> bytes:
@@ -85,18 +49,12 @@ def files(project: Project) -> list[File]:
     inside.append(File(f"usr/libexec/{project.name}/bridge", project.program, 0o755))
     for name, entry in project.scripts.items():
         module, _, function = entry.partition(":")
-        text = COMMAND.format(module=module, function=function)
-        inside.append(File(f"usr/bin/{name}", text.encode(), 0o755))
-    inside += [File(f"usr/share/minizinc/solvers/{f.path}", f.data)
-               for f in project.configurations()]
-    inside += [File(f"usr/{f.path}", f.data)
-               for f in project.completions("vendor-completions")]
+        text = template("command", module=module, function=function)
+        inside.append(File(f"usr/bin/{name}", text, 0o755))
+    inside += project.shared("usr/share", "vendor-completions")
     inside += [File(f"usr/share/man/man1/{f.path}.gz", zipped(f.data)) for f in project.pages()]
-    inside += [File(f"{documents}/{f.path}", f.data) for f in project.documents()]
-    inside += [File(f"usr/share/{project.name}/{f.path}", f.data) for f in project.examples()]
-    inside += [File(f"usr/share/lintian/overrides/{project.name}", OVERRIDES.encode()),
-               File(f"{documents}/copyright", copyright_of()),
-               File(f"{documents}/changelog.gz", changelog(project))]
+    inside += [File(f"usr/share/lintian/overrides/{project.name}", template("overrides")),
+               File(f"{documents}/copyright", copyright_of()), File(f"{documents}/changelog.gz", changelog(project))]
     return sorted(inside)
 
 
@@ -106,16 +64,14 @@ def control(project: Project, inside: list[File]) -> list[File]:
     major, minor = project.glibc()
     fields = [f"Package: {project.name}", f"Version: {project.version}",
               f"Architecture: {ARCHITECTURE}", f"Maintainer: {project.maintainer()}",
-              f"Installed-Size: {size}", f"Depends: libc6 (>= {major}.{minor}), python3 (>= 3.9), "
-              "coinor-libclp1",
+              f"Installed-Size: {size}", f"Depends: libc6 (>= {major}.{minor}), python3 (>= 3.9), coinor-libclp1",
               "Recommends: coinor-cbc, python3-scipy", f"Suggests: {SOLVERS}", "Section: math",
               "Priority: optional", f"Description: {project.description()}"]
     sums = [f"{hashlib.md5(f.data).hexdigest()}  {f.path}\n" for f in inside]
-    said = DESCRIPTION.format(state=STATES[project.proved])
-    return [File("DEBIAN/control", ("\n".join(fields) + "\n" + said).encode()),
+    said = template("description", state=STATES[project.proved])
+    return [File("DEBIAN/control", "".join(f"{field}\n" for field in fields).encode() + said),
             File("DEBIAN/md5sums", "".join(sums).encode()),
-            File("DEBIAN/postinst", INSTALLED.format(name=project.name).encode(), 0o755),
-            File("DEBIAN/prerm", REMOVED.format(name=project.name).encode(), 0o755)]
+            *(File(f"DEBIAN/{name}", template(name, name=project.name), 0o755) for name in ("postinst", "prerm"))]
 
 
 def put(folder: str, file: File) -> None:
@@ -145,13 +101,10 @@ def build(project: Project, folder: str) -> str:
         for page in project.linked_pages():
             os.symlink("bridge-cbc.1.gz", f"{tree}/usr/share/man/man1/{page}.gz")
         settle(tree, project.epoch)
-        words = ["dpkg-deb", "--root-owner-group", "-Zxz", "--build", tree,
-                 os.path.join(folder, name)]
-        environment = {**os.environ, "SOURCE_DATE_EPOCH": str(project.epoch),
-                       "DPKG_DEB_THREADS_MAX": "1"}
+        words = ["dpkg-deb", "--root-owner-group", "-Zxz", "--build", tree, os.path.join(folder, name)]
+        environment = {**os.environ, "SOURCE_DATE_EPOCH": str(project.epoch), "DPKG_DEB_THREADS_MAX": "1"}
         try:
-            ran = subprocess.run(words, cwd=TOP, capture_output=True, text=True, env=environment,
-                                 check=False)
+            ran = subprocess.run(words, cwd=TOP, capture_output=True, text=True, env=environment, check=False)
         except OSError as fault:
             raise Unfit(f"dpkg-deb could not be run: {fault.strerror}") from None
         if ran.returncode:

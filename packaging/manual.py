@@ -1,5 +1,4 @@
-"""What the man pages say of commands, options and statuses, made of the tables that their help is
-made of."""
+"""What the man pages say of commands, options and statuses, made of the tables that their help is made of."""
 
 from __future__ import annotations
 
@@ -53,8 +52,7 @@ def drivers_options() -> list[Option]:
 
 def parts() -> dict[str, str]:
     """What stands for each mark of a page."""
-    return {"@COMMANDS@": of_commands(commands.COMMANDS), "@OWN@": of_commands(commands.OWN),
-            "@MODEL@": roff(commands.MODEL[:1].upper() + commands.MODEL[1:]) + ".",
-            "@STATUS@": of_statuses(STATUSES), "@OPTIONS@": of_options(drivers_options()),
-            "@CERTIFY@": of_options(OPTIONS),
-            "@DASHED@": "\n".join(item(word, text) for word, text in DASHED.items())}
+    return {"COMMANDS": of_commands(commands.COMMANDS), "OWN": of_commands(commands.OWN),
+            "MODEL": roff(commands.MODEL[:1].upper() + commands.MODEL[1:]) + ".",
+            "STATUS": of_statuses(STATUSES), "OPTIONS": of_options(drivers_options()), "CERTIFY": of_options(OPTIONS),
+            "DASHED": "\n".join(item(word, text) for word, text in DASHED.items())}

@@ -59,15 +59,13 @@ def note(before: str) -> None:
 
 def write_note(program: str, of: str, proved: str) -> None:
     """Beside a program, where `nl-bridge version` and the packages find it."""
-    facts = {"program": sum_of(program), "sources": of, "toolchain": said_by("rt", "--version"),
-             "proved": proved}
+    facts = {"program": sum_of(program), "sources": of, "toolchain": said_by("rt", "--version"), "proved": proved}
     with open(program + ".built", "w", encoding="ascii") as f:
         f.write(json.dumps(facts, indent=1) + "\n")
 
 
 def fault_of(program: str) -> tuple[Mapping[str, str], str]:
-    """The note beside a program, and why it does not say that it is of these sources; nothing
-    where it does."""
+    """The note beside a program, and why it does not say that it is of these sources; nothing where it does."""
     try:
         with open(program + ".built", encoding="ascii") as f:
             facts: dict[str, str] = json.load(f)

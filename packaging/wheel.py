@@ -4,7 +4,6 @@ from __future__ import annotations
 
 import base64
 import hashlib
-import os
 import time
 import zipfile
 
@@ -26,15 +25,10 @@ def files(project: Project) -> list[File]:
     inside = list(project.modules())
     inside.append(File(f"{PACKAGE}/bin/bridge", project.program, 0o755))
     data = f"{name_of(project)}.data/data/share"
-    inside += [File(f"{data}/minizinc/solvers/{f.path}", f.data)
-               for f in project.configurations()]
-    inside += [File(f"{os.path.dirname(data)}/{f.path}", f.data)
-               for f in project.completions("site-functions")]
+    inside += project.shared(data, "site-functions")
     pages = {f.path: f.data for f in project.pages()}
     pages.update({name: b".so man1/bridge-cbc.1\n" for name in project.linked_pages()})
     inside += [File(f"{data}/man/man1/{name}", page) for name, page in sorted(pages.items())]
-    inside += [File(f"{data}/doc/{project.name}/{f.path}", f.data) for f in project.documents()]
-    inside += [File(f"{data}/{project.name}/{f.path}", f.data) for f in project.examples()]
     inside.append(File(f"{data}/{project.name}.txt", SHARED.encode()))
     return sorted(inside) + sorted(facts(project))
 
@@ -47,16 +41,13 @@ def facts(project: Project) -> list[File]:
     """The folder dist-info."""
     folder = name_of(project) + ".dist-info"
     metadata = ["Metadata-Version: 2.1", f"Name: {project.name}", f"Version: {project.version}",
-                f"Summary: {project.description()}", "License: MIT",
-                f"Maintainer-email: {project.maintainer()}",
+                f"Summary: {project.description()}", "License: MIT", f"Maintainer-email: {project.maintainer()}",
                 f"Requires-Python: {project.table['requires-python']}"]
     for extra, needs in project.table["optional-dependencies"].items():
         metadata.append(f"Provides-Extra: {extra}")
         metadata += [f"Requires-Dist: {need}; extra == '{extra}'" for need in needs]
-    metadata += ["Description-Content-Type: text/markdown", "",
-                 read("drivers", project.table["readme"]).decode()]
-    wheel = ["Wheel-Version: 1.0", "Generator: packaging/build", "Root-Is-Purelib: false",
-             "Tag: " + tag(project), ""]
+    metadata += ["Description-Content-Type: text/markdown", "", read("drivers", project.table["readme"]).decode()]
+    wheel = ["Wheel-Version: 1.0", "Generator: packaging/build", "Root-Is-Purelib: false", "Tag: " + tag(project), ""]
     scripts = ["[console_scripts]", *(f"{a} = {b}" for a, b in project.scripts.items()), ""]
     return [File(f"{folder}/METADATA", "\n".join(metadata).encode()),
             File(f"{folder}/WHEEL", "\n".join(wheel).encode()),

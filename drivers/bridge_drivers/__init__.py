@@ -1,8 +1,7 @@
 """AMPL solver drivers around the program `bridge`, and what they do as calls of Python.
 
-A driver takes model.nl, lets `bridge` write MPS, runs a solver that reads MPS, and lets `bridge`
-make model.sol of the answer and check it. `solve`, `certify`, `verify` and `explain` are the calls
-that the commands are made of:
+A driver takes model.nl, lets `bridge` write MPS, runs a solver that reads MPS, and lets `bridge` make model.sol of the
+answer and check it. `solve`, `certify`, `verify` and `explain` are the calls that the commands are made of:
 
     from bridge_drivers import certify, verify
     report = certify("knap", certificate="knap.certificate")

@@ -37,8 +37,7 @@ CLAIMS = {Code.SOLVED: "point", Code.UNSURE: "point", Code.LIMIT_WITH_POINT: "po
           Code.INFEASIBLE_OR_UNBOUNDED: "either", Code.LIMIT: "nothing"}
 
 
-NO_SEARCH = ("prove=1 needs the library of CLP, which is not there (Debian: apt install "
-             "coinor-libclp1)")
+NO_SEARCH = ("prove=1 needs the library of CLP, which is not there (Debian: apt install coinor-libclp1)")
 
 
 class End(NamedTuple):
@@ -80,9 +79,8 @@ class Certifier:
         return sol
 
     def checked(self, answer: Answer) -> str:
-        """What `bridge check` says of the .sol, in words. It wants duals: where there are none,
-        zeros ask for feasibility alone, which fails where the file has constraints of which none is
-        exported."""
+        """What `bridge check` says of the .sol, in words. It wants duals: where there are none, zeros ask for
+        feasibility alone, which fails where the file has constraints of which none is exported."""
         command, name = "check", "bridge.sol"
         try:
             if self.alone:
@@ -92,8 +90,7 @@ class Certifier:
             elif answer.duals is None or not self.linear:
                 name, zeros = "check.sol", dict.fromkeys(self.program.constraints, "0")
                 self.returned(answer.with_duals(zeros), [], "check")
-            verdict: str = self.job.clock.timed("check", self.bridge.verdict, command, self.nl,
-                                                self.job.path(name))
+            verdict: str = self.job.clock.timed("check", self.bridge.verdict, command, self.nl, self.job.path(name))
         except Refused as fault:
             return fault.line().removeprefix(self.job.path(name) + ": ")
         words = verdict.split()
@@ -116,12 +113,10 @@ class Certifier:
         watch = Watch(seconds, self.job.clock.progress, not proves)
         pool = pool_of(options.jobs, options.cluster) if proves else None
         work = Certifying(self.bridge, self.nl, self.job.folder, self.program, options.objno - 1,
-                          watch, proves, self.relaxed, bool(options.bound), bool(options.shorten),
-                          pool)
+                          watch, proves, self.relaxed, bool(options.bound), bool(options.shorten), pool)
         claim = CLAIMS[answer.outcome.code]
         try:
-            verdict: Verdict = self.job.clock.timed("certify", certified, work, claim,
-                                                    self.given(answer))
+            verdict: Verdict = self.job.clock.timed("certify", certified, work, claim, self.given(answer))
         finally:
             if pool is not None:
                 pool.close()
@@ -189,8 +184,7 @@ class Certifier:
         said = verdicts.read(verdict.line) if verdict.is_proved() else None
         kept, last, options = self.kept(verdict), verdict.line, self.job.options
         lines = [*self.words(said, verdict.note), self.pool_note]
-        if options.prove and options.check and clp.library() is None \
-                and (said is None or not said.is_settled()):
+        if options.prove and options.check and clp.library() is None and (said is None or not said.is_settled()):
             lines.append(NO_SEARCH)
             if said is not None:
                 last = f"{WITHOUT}there was no search; without it: {last}"
@@ -199,13 +193,11 @@ class Certifier:
 
     @staticmethod
     def rounding(verdict: Verdict, answer: Answer, told: str) -> str:
-        """Why the numbers of a .sol say another thing than an exact optimum, where they are only
-        near to it."""
+        """Why the numbers of a .sol say another thing than an exact optimum, where they are only near to it."""
         said = verdicts.read(verdict.line)
         if said is None or said.word != "optimal" or told.split()[-1:] == [plain(str(said.value))]:
             return ""
-        what = [word for word, count in (("values", answer.loose), ("duals", answer.loose_duals))
-                if count]
+        what = [word for word, count in (("values", answer.loose), ("duals", answer.loose_duals)) if count]
         return f"; the exact {' and '.join(what)} are rounded to decimals in it" if what else ""
 
     def words(self, said: Said | None, note: str = "") -> list[str]:
@@ -230,8 +222,7 @@ class Certifier:
         if verdict.path is None:
             stays = f"; {target} stays as it was" if os.path.exists(target) else ""
             return Kept("no certificate is written" + stays)
-        keeper = Keeper(self.bridge, self.nl, self.program.maximise,
-                        bool(self.job.options.overwrite))
+        keeper = Keeper(self.bridge, self.nl, self.program.maximise, bool(self.job.options.overwrite))
         return keeper.kept(verdict.path, verdict.line, target)
 
     # words -----------------------------------------------------------------------

@@ -4,6 +4,8 @@ from __future__ import annotations
 
 import enum
 
+from .texts import tables
+
 
 class Code(enum.IntEnum):
     """AMPL reads 0-99 as solved, 100-199 solved?, 200-299 infeasible, 300-399 unbounded,
@@ -28,8 +30,7 @@ class Code(enum.IntEnum):
 
 
 class Status(enum.IntEnum):
-    """Exit statuses of all commands. A driver that is called with -AMPL has 0 wherever a .sol
-    stands."""
+    """Exit statuses of all commands. A driver that is called with -AMPL has 0 wherever a .sol stands."""
 
     DONE = 0
     FAILED = 1
@@ -44,19 +45,7 @@ class Status(enum.IntEnum):
     TERMINATED = 143
 
 
-STATUSES = {
-    Status.DONE: "done: a text, an answer, a verdict that is yes",
-    Status.FAILED: "another verdict; nothing is proved; no answer, or a fault",
-    Status.REFUSED: "the model, or another text, is refused",
-    Status.BAD_WORDS: "bad words or options",
-    Status.UNREAD: "a file could not be read",
-    Status.UNWRITTEN: "a file or standard output could not be written",
-    Status.NO_MEMORY: "want of memory",
-    Status.NOT_SETTLED: "strict=1 is not met",
-    Status.NOT_THERE: "the proved program or the solver is not there",
-    Status.INTERRUPTED: "interrupted (SIGINT)",
-    Status.TERMINATED: "ended (SIGTERM)",
-}
+STATUSES = {Status[name]: text for name, text in tables("statuses.txt")["statuses"]}
 # the status of a failure, by its code, where nothing else is said
 OF_CODES = {Code.REFUSED: Status.REFUSED, Code.BAD_OPTION: Status.BAD_WORDS,
             Code.NOT_FOUND: Status.NOT_THERE, Code.TAKES_NO_INTEGERS: Status.REFUSED}

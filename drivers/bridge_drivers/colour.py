@@ -21,8 +21,7 @@ def of(verdict: str) -> int:
 
 
 def is_wanted(stream: TextIO) -> bool:
-    return not os.environ.get("NO_COLOR") and os.environ.get("TERM") != "dumb" \
-        and is_terminal(stream)
+    return not os.environ.get("NO_COLOR") and os.environ.get("TERM") != "dumb" and is_terminal(stream)
 
 
 def tell(line: str, stream: TextIO, verdict: str = "") -> None:

@@ -9,111 +9,10 @@ from . import commands, solvers
 from .certify.command import OPTIONS
 from .commands import SHELLS
 from .options import COMMON, FILE, FOLDER, Option, Options
+from .texts import text
 
 DASHED = {"-AMPL": "called by a modelling system", "-s": "write the .sol",
           "-e": "no echo of options", "-=": "list the options", "-v": "versions", "-h": "help"}
-BASH = """# bash completion of nl-bridge and its drivers; made by `nl-bridge completion bash`
-
-_nl_bridge_value() {        # of the option before the sign =
-    case $1 in
-%(values)s
-    esac
-}
-
-_nl_bridge_options() {      # of a command
-    case $1 in
-%(options)s
-    esac
-}
-
-_nl_bridge() {
-    local command=${COMP_WORDS[0]##*/} cur=${COMP_WORDS[COMP_CWORD]}
-    local prev=${COMP_WORDS[COMP_CWORD-1]} name= end=
-    COMPREPLY=()
-    if [[ $cur == = ]]; then
-        name=$prev cur=
-    elif [[ $prev == = ]]; then
-        name=${COMP_WORDS[COMP_CWORD-2]}
-    elif [[ $cur == *=* ]]; then
-        name=${cur%%%%=*} cur=${cur#*=}
-    fi
-    if [[ -n $name ]]; then
-        _nl_bridge_value "$name"
-    elif [[ $command == nl-bridge && $COMP_CWORD -eq 1 ]]; then
-        COMPREPLY=($(compgen -W '%(commands)s' -- "$cur"))
-    elif [[ $command == nl-bridge ]]; then
-        case ${COMP_WORDS[1]} in
-%(behind)s
-        esac
-        compopt -o filenames 2>/dev/null
-        COMPREPLY+=($(compgen -f -- "$cur"))
-    elif [[ $COMP_CWORD -eq 1 && $cur != -* ]]; then
-        compopt -o filenames 2>/dev/null
-        for end in %(ends)s; do COMPREPLY+=($(compgen -f -X "!*$end" -- "$cur")); done
-        COMPREPLY+=($(compgen -d -- "$cur"))
-    else
-        compopt -o nospace 2>/dev/null
-        COMPREPLY=($(compgen -W "$(_nl_bridge_options "$command")" -- "$cur"))
-    fi
-}
-
-complete -F _nl_bridge %(all)s
-"""
-ZSH = """#compdef %(all)s
-# zsh completion of nl-bridge and its drivers; made by `nl-bridge completion zsh`
-
-_nl_bridge() {
-    local -a words_of dashed
-    if [[ $PREFIX == *=* ]]; then
-        local name=${PREFIX%%%%=*}
-        compset -P '*='
-        case $name in
-%(values)s
-        esac
-        return
-    fi
-    if [[ $service == nl-bridge ]]; then
-        if (( CURRENT == 2 )); then
-            words_of=(
-%(commands)s
-            )
-            _describe -t commands command words_of
-            return
-        fi
-        case $words[2] in
-%(behind)s
-        esac
-        _files
-        return
-    fi
-    if (( CURRENT == 2 )) && [[ $PREFIX != -* ]]; then
-        _files -g '*.(nl|mps)(|.gz|.bz2|.xz)'
-        return
-    fi
-    case $service in
-%(options)s
-    esac
-    dashed=(
-%(dashed)s
-    )
-    _describe -t values option words_of -S '='
-    [[ $service == bridge-certify ]] || _describe -o word dashed
-}
-
-_nl_bridge "$@"
-"""
-
-
-FISH = """# fish completion of nl-bridge and its drivers; made by `nl-bridge completion fish`
-
-for command in %(all)s
-    complete -c $command -e
-end
-complete -c nl-bridge -n __fish_use_subcommand -f
-%(commands)s
-%(behind)s
-%(options)s
-"""
 ENDS = [end + packed for end in (".nl", ".mps") for packed in ("", ".gz", ".bz2", ".xz")]
 
 
@@ -154,14 +53,12 @@ class Completion:
     def values(self, line: str, files: str, folders: str, words: str) -> str:
         """A line of each option that has files, folders or known words."""
         made = {name: files if o.kind is FILE else folders if o.kind is FOLDER
-                else words % " ".join(o.kind.known) if o.kind.known else ""
-                for name, o in self.known.items()}
+                else words % " ".join(o.kind.known) if o.kind.known else "" for name, o in self.known.items()}
         return "\n".join(line % pair for pair in made.items() if pair[1])
 
     def after(self, line: str) -> str:
         """A line of each word of nl-bridge that known ones may follow."""
-        return "\n".join(line % (word, " ".join(after)) for word, after in self.behind.items()
-                         if after)
+        return "\n".join(line % (word, " ".join(after)) for word, after in self.behind.items() if after)
 
     @staticmethod
     def dashed(command: str) -> Mapping[str, str]:
@@ -176,24 +73,20 @@ class Completion:
         return {"values": self.values("    %s) %s ;;", files % "-f", files % "-d",
                                       made % "-W '%s'"),
                 "options": "\n".join(options), "commands": " ".join(sorted(self.texts)),
-                "behind": self.after("        %s) " + made % "-W '%s'" + " ;;"),
-                "ends": " ".join(ENDS)}
+                "behind": self.after("        %s) " + made % "-W '%s'" + " ;;"), "ends": " ".join(ENDS)}
 
     def zsh(self) -> dict[str, str]:
-        options = [f"        {command}) words_of=(\n"
-                   + described({name: o.text for name, o in known.items()}, " " * 12)
+        options = [f"        {command}) words_of=(\n" + described({name: o.text for name, o in known.items()}, " " * 12)
                    + "\n            ) ;;" for command, known in self.options.items()]
         return {"values": self.values(" " * 12 + "%s) %s ;;", "_files", "_files -/",
                                       "compadd -- %s"),
                 "options": "\n".join(options), "commands": described(self.texts, " " * 16),
-                "behind": self.after(" " * 12 + "%s) compadd -- %s ;;"),
-                "dashed": described(DASHED, " " * 8)}
+                "behind": self.after(" " * 12 + "%s) compadd -- %s ;;"), "dashed": described(DASHED, " " * 8)}
 
     def fish(self) -> dict[str, str]:
         lines = []
         for command, known in self.options.items():
-            words = {" ".join(f"{name}={word}" for word in o.kind.known or [""]): o.text
-                     for name, o in known.items()}
+            words = {" ".join(f"{name}={word}" for word in o.kind.known or [""]): o.text for name, o in known.items()}
             lines += [f"complete -c {command} -a {fished(word)} -d {fished(text)}"
                       for word, text in {**words, **self.dashed(command)}.items()]
         own = [f"complete -c nl-bridge -n __fish_use_subcommand -f -a {word} -d {fished(text)}"
@@ -203,8 +96,7 @@ class Completion:
 
     def text(self, shell: str) -> str:
         made = {"bash": self.bash, "fish": self.fish, "zsh": self.zsh}[shell]()
-        form = {"bash": BASH, "fish": FISH, "zsh": ZSH}[shell]
-        return form % {**made, "all": " ".join(["nl-bridge", *self.options])}
+        return text(f"completion.{shell}") % {**made, "all": " ".join(["nl-bridge", *self.options])}
 
 
 def place(shell: str, prefix: str, command: str, folder: str = "") -> str:

@@ -73,16 +73,14 @@ def own_name() -> str:
 
 
 def run(name: str, command: Callable[[], int]) -> NoReturn:
-    """Ends the process with the command's status. Bytes of paths that are not UTF-8 are printed
-    as they are, controls of a terminal as `\\x1b`; a standard output that breaks or is closed is
-    told in one line, and so is a signal."""
+    """Ends the process with the command's status. Bytes of paths that are not UTF-8 are printed as they are, controls
+    of a terminal as `\\x1b`; a standard output that breaks or is closed is told in one line, and so is a signal."""
     gc.set_threshold(*COLLECTED)
     SIGNALS.take()
     fill()
     for stream in (sys.stdout, sys.stderr):
         if hasattr(stream, "reconfigure"):
-            stream.reconfigure(errors="surrogateescape" if stream.encoding.lower() == "utf-8"
-                               else "backslashreplace")
+            stream.reconfigure(errors="surrogateescape" if stream.encoding.lower() == "utf-8" else "backslashreplace")
     sys.stdout = cast(TextIO, Output(sys.stdout))
     sys.stderr = cast(TextIO, Shown(sys.stderr))
     try:
@@ -111,8 +109,7 @@ def fill() -> None:
 
 
 def close(line: str) -> None:
-    """Tells the line, and lets nothing be written to standard output any more, not even what
-    waits to be."""
+    """Tells the line, and lets nothing be written to standard output any more, not even what waits to be."""
     try:
         sys.stderr.write(line)
         sys.stderr.flush()

@@ -27,13 +27,11 @@ def writing(path: str) -> Iterator[None]:
     try:
         yield
     except OSError as fault:
-        raise Failure(Code.FILE, f"{fault.filename or path}: {fault.strerror}",
-                      Status.UNWRITTEN) from None
+        raise Failure(Code.FILE, f"{fault.filename or path}: {fault.strerror}", Status.UNWRITTEN) from None
 
 
 class Run:
-    """One run of bridge-NAME, which prints nothing. Tests put other things in the place of `bridge`
-    and the solver."""
+    """One run of bridge-NAME, which prints nothing. Tests put other things in the place of `bridge` and the solver."""
 
     make_solving = Solving
     own_options: Sequence[Option] = ()
@@ -75,8 +73,7 @@ class Run:
                 raise
             if self.is_put:             # such as a closed output: the .sol stands
                 return Status.FAILED
-            return self.failed(Failure(Code.FAULT, f"a fault of the driver: {fault!r} (outlev=2 "
-                                                   "shows where)"))
+            return self.failed(Failure(Code.FAULT, f"a fault of the driver: {fault!r} (outlev=2 shows where)"))
 
     def take_model(self) -> None:
         """Where there is none, `missing` says why, once options and an older .sol are seen to."""
@@ -161,8 +158,7 @@ class Run:
             folder = self.folder()
             try:
                 with SIGNALS.kept(False), writing(folder):
-                    return self.make_solving(self.solver, self.options, bridge, self.clock,
-                                             self.model, solver_path,
+                    return self.make_solving(self.solver, self.options, bridge, self.clock, self.model, solver_path,
                                              os.path.abspath(folder)).result()
             finally:
                 if not self.options.keep:
@@ -203,8 +199,7 @@ class Run:
     def deliver_sol(self, result: Result, lines: Sequence[str]) -> None:
         """Where it is asked for, and in a folder that is kept."""
         o = self.options
-        sol = bare(self.nl, result.code, o.objno - 1, lines) if result.sol is None \
-            else with_message(result.sol, lines)
+        sol = bare(self.nl, result.code, o.objno - 1, lines) if result.sol is None else with_message(result.sol, lines)
         if self.writes():
             self.put(sol)
         if self.kept_in:
@@ -237,11 +232,9 @@ class Run:
     def failed(self, fault: Failure) -> int:
         """With -AMPL a .sol with the code, and exit 0 with it."""
         self.fault = fault
-        if self.words.ampl and not self.is_mps and fault.code != Code.STOPPED \
-                and not self.options.failexit:
+        if self.words.ampl and not self.is_mps and fault.code != Code.STOPPED and not self.options.failexit:
             with contextlib.suppress(Failure, OSError, ValueError, IndexError):
-                self.put(bare(self.nl, fault.code, self.options.objno - 1,
-                              [f"{self.name}: {fault.text}"]))
+                self.put(bare(self.nl, fault.code, self.options.objno - 1, [f"{self.name}: {fault.text}"]))
                 return Status.DONE
         return fault.status
 
@@ -271,8 +264,7 @@ class Driver(Run):
 
     def usage(self) -> str:
         variable = self.name.replace("-", "_") + "_options"
-        return self.usage_text.format(name=self.name, title=self.solver.title, model=words.MODEL,
-                                      variable=variable)
+        return self.usage_text.format(name=self.name, title=self.solver.title, model=words.MODEL, variable=variable)
 
     def out(self) -> TextIO:
         return sys.stdout
@@ -285,8 +277,7 @@ class Driver(Run):
             return self.options.listing()
         if ask == "-?":
             listing = "".join(option.paragraph() for option in self.options.known.values())
-            return f"{self.usage()}\noptions:\n{listing}" + \
-                self.example_text.format(name=self.name)
+            return f"{self.usage()}\noptions:\n{listing}" + self.example_text.format(name=self.name)
         place = self.solver.place() or "not found"
         return f"{self.name} {VERSION} ({self.solver.title} {place})\n"
 
@@ -314,8 +305,7 @@ class Driver(Run):
                 colour.tell_all(lines, self.out())
         if o.failexit:
             unsure, last, answer = f"{lines[0]}; ", lines[-1], result.answer
-            if last in ("optimal 0", "feasible 0") and answer \
-                    and not answer.program.has_objective():
+            if last in ("optimal 0", "feasible 0") and answer and not answer.program.has_objective():
                 last = "satisfied"
             minizinc.tell(f"{self.name}: {unsure if result.code == Code.UNSURE else ''}{last}")
         if not self.words.ampl:

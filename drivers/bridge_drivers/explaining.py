@@ -17,8 +17,7 @@ from .names import Names, comment_of, with_name
 from .printable import in_a_line, printable
 from .reasons import OPCODE, meaning_of
 
-TOLD = re.compile(r"refused (?:file (\d+) ?)?(?:(line|row|column|objective) (\d+)|program)?: (.*)",
-                  re.S)
+TOLD = re.compile(r"refused (?:file (\d+) ?)?(?:(line|row|column|objective) (\d+)|program)?: (.*)", re.S)
 HEADS = b"COVLFSJGKkbrdx"
 BODIES = b"COVL"                        # segments that hold an expression
 HEAD_LINES = 10
@@ -66,8 +65,7 @@ def meaning(reason: str) -> str:
 
 
 def fault_at(path: str) -> str:
-    """Why a file cannot be read; nothing where it can, or is no plain file, of which nothing is
-    taken here."""
+    """Why a file cannot be read; nothing where it can, or is no plain file, of which nothing is taken here."""
     try:
         if os.path.isfile(path) or os.path.isdir(path) or not os.path.exists(path):
             with open(path, "rb"):
@@ -88,8 +86,7 @@ def unreadable(files: Sequence[str], shown: Mapping[str, str]) -> str:
 
 
 def counts_of(path: str) -> tuple[int | None, int | None]:
-    """How many variables and constraints an .nl file has, by its second line; None where that is
-    not told."""
+    """How many variables and constraints an .nl file has, by its second line; None where that is not told."""
     try:
         with open(path, "rb") as f:
             f.readline(1000)
@@ -158,9 +155,8 @@ def fault_of(reason: str, expression: str) -> str:
 
 
 class Refusal:
-    """One refusal: `words` are those of the call, `told` is its line, `shown` the paths that the
-    user knows files by. Names are looked for beside the first file as it is shown. `line` says all
-    of it."""
+    """One refusal: `words` are those of the call, `told` is its line, `shown` the paths that the user knows files by.
+    Names are looked for beside the first file as it is shown. `line` says all of it."""
 
     def __init__(self, words: Sequence[str], told: str, shown: Mapping[str, str]) -> None:
         self.command, self.told = "".join(words[:1]), told
@@ -188,8 +184,7 @@ class Refusal:
 
     def at_line(self, t: Told) -> str:
         is_mps = t.file == 1 and self.command in mps_faults.COMMANDS
-        if t.file == 1 and (is_mps and t.number == 1
-                            or self.is_model and t.reason == "bad first line"):
+        if t.file == 1 and (is_mps and t.number == 1 or self.is_model and t.reason == "bad first line"):
             kind = kinds.kind_of(self.files[0])
             if kind is not None and not (is_mps and kind is kinds.MPS):
                 return f"{t.reason}: it {kinds.told(self.files[0], kind, self.shown[0])}"
@@ -219,8 +214,7 @@ class Refusal:
         return f"{t.kind} {t.number}: "
 
     def more(self) -> list[str]:
-        """Further lines: the whole expression with the fault marked, the lines around, what
-        helps."""
+        """Further lines: the whole expression with the fault marked, the lines around, what helps."""
         t, lines = self.parts, []
         if t is None or not self.file():
             return []
@@ -260,13 +254,11 @@ def in_words(words: Sequence[str], told: str, shown: Mapping[str, str]) -> str:
     return Refusal(words, told, shown).line
 
 
-def object_of(words: Sequence[str], told: str,
-              shown: Mapping[str, str]) -> dict[str, object] | None:
+def object_of(words: Sequence[str], told: str, shown: Mapping[str, str]) -> dict[str, object] | None:
     """A refusal for programs; None where it is none."""
     t = parsed(told)
     if t is None or not words:
         return None
     refusal = Refusal(words, told, shown)
     return {"told": told, "reason": t.reason, "kind": t.kind or None,
-            "number": t.number if t.kind else None, "file": refusal.file() or None,
-            "more": refusal.more()}
+            "number": t.number if t.kind else None, "file": refusal.file() or None, "more": refusal.more()}

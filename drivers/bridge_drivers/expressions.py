@@ -120,8 +120,7 @@ class Expression:
             return Operator(-1, comment_of(line) or f"function {number}", wanted, is_fault)
         if words[0][:1] != b"o" or number == PIECEWISE:
             return None
-        wanted = -1 if number in LISTS else 3 if number in TRIPLES \
-            else 2 if number in PAIRS or number in COUNTS else 1
+        wanted = -1 if number in LISTS else 3 if number in TRIPLES else 2 if number in PAIRS or number in COUNTS else 1
         return Operator(number, NAMES.get(number, f"opcode {number}"), wanted, is_fault)
 
     def leaf(self, line: bytes) -> str:

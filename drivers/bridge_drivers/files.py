@@ -31,15 +31,12 @@ def naming(path: str) -> Iterator[None]:
 
 
 def is_special(path: str) -> bool:
-    """Whether it is there and is no plain file, or one that this process has open: a device, a
-    pipe, /dev/stdout."""
-    return os.path.exists(path) and (not os.path.isfile(path)
-                                     or OPEN.fullmatch(os.path.abspath(path)) is not None)
+    """Whether it is there and is no plain file, or one that this process has open: a device, a pipe, /dev/stdout."""
+    return os.path.exists(path) and (not os.path.isfile(path) or OPEN.fullmatch(os.path.abspath(path)) is not None)
 
 
 def added_to(path: str) -> BinaryIO:
-    """What is no plain file, opened behind what it has. Where this process has it open, its own
-    place in it goes on."""
+    """What is no plain file, opened behind what it has. Where this process has it open, its own place in it goes on."""
     found = OPEN.fullmatch(os.path.abspath(path))
     if found is None:
         return open(path, "ab")

@@ -15,7 +15,7 @@ from . import VERSION, colour, commands, console, explaining, interface, kinds, 
 from .bridge import BESIDE, PACKAGE, Missing, find, is_plain
 from .built import built, state
 from .codes import Code, Failure, Status
-from .commands import COMMANDS, NAME, OWN, SHELLS, VERDICTS, WORDS
+from .commands import COMMANDS, NAME, OWN, VERDICTS, WORDS
 from .importing import imported
 from .inputs import Inputs, is_flow, named
 from .interrupts import with_child
@@ -27,6 +27,7 @@ if TYPE_CHECKING:
 
 NUMBERS = ("K", "SEED", "SIZE")             # words of the table that are no files
 MODELS = ("NL", "FILE")                     # those that may be a stub
+PROVED = {command.word for command in COMMANDS}
 NUMBER, MOST = re.compile("0|[1-9][0-9]*"), 4294967295
 HELP = ("-h", "-?", "-=", "--help")
 
@@ -101,11 +102,11 @@ def command(words: Sequence[str]) -> int:
 
 def done(call: Call) -> int:
     """The command itself, or the proved program's."""
-    own: dict[str, Callable[[Call], Report]] = {
-        "explain": explained, "stats": figures, "version": version}
+    own: dict[str, Callable[[Call], Report]] = {"explain": explained, "stats": figures, "version": version}
+    wrong = wrong_words([call.word, *call.rest])
+    if wrong:
+        raise BadWords(wrong if call.word not in PROVED else f"bad words: {wrong}")
     if call.word == "completion":
-        if len(call.rest) != 1 or call.rest[0] not in SHELLS:
-            raise BadWords("completion takes " + ", ".join(SHELLS))
         print(completion(call.rest[0]), end="")
         return Status.DONE
     if call.word == "verify" and (call.json or is_model(call.rest)):
@@ -118,8 +119,7 @@ def done(call: Call) -> int:
 
 
 def is_model(rest: Sequence[str]) -> bool:
-    """Whether `verify` is about what the proved program does not read itself: an MPS file, or a
-    binary .nl file."""
+    """Whether `verify` is about what the proved program does not read itself: an MPS file, or a binary .nl file."""
     path = named(rest[0]) if len(rest) == 2 else ""
     return is_flow(path) or os.path.isfile(path) and (
         kinds.is_mps(path) or kinds.is_packed(path) or kinds.start_of(path)[:1] == b"b")
@@ -131,8 +131,7 @@ def helped(call: Call) -> int:
     if topic in ("", "help"):
         sys.stdout.write(commands.usage())
         return Status.DONE
-    text = commands.help_of(topic) or reasons.listed() * (topic == "refusals") \
-        or helped_driver(topic)
+    text = commands.help_of(topic) or reasons.listed() * (topic == "refusals") or helped_driver(topic)
     if not text:
         meant = near(topic, [*WORDS, "refusals", *certifier().options.known])
         raise BadWords(f"no help on {topic};{meant}".rstrip(";"))
@@ -148,8 +147,7 @@ def helped_driver(topic: str) -> str:
     if topic != name and name in solvers.NAMES:
         return Driver(name).told("-?")
     known = certifier().options.known
-    return certifier().told("-?") if topic == "bridge-certify" else \
-        known[topic].line() + "\n" if topic in known else ""
+    return certifier().told("-?") if topic == "bridge-certify" else known[topic].line() + "\n" if topic in known else ""
 
 
 def certifier() -> Driver:
@@ -198,36 +196,25 @@ def explained(call: Call) -> Report:
     """What a certificate says, where there are a model and one; else why a call is refused, that of
     `export` where there is a model alone."""
     rest = call.rest
-    if not rest:
-        raise BadWords("explain takes " + " or ".join(c.rest for c in OWN if c.word == "explain"))
-    if len(rest) > 1 and rest[0] in {command.word for command in COMMANDS}:
+    if len(rest) > 1 and rest[0] in PROVED:
         with Inputs() as inputs:
-            paths = [plain(inputs, *pair) for pair in zip(names_of(rest) or (), rest[1:])]
-            return interface.called([rest[0], *paths], rest)
-    if len(rest) == 1 or len(rest) == 2 and NUMBER.fullmatch(rest[1]):
+            return interface.called([rest[0], *plain_files(inputs, rest)], rest)
+    if len(rest) == 1 or NUMBER.fullmatch(rest[1]):
         return interface.explain(rest[0], objective=int((*rest, "0")[1]))
-    if len(rest) != 2:
-        raise BadWords("explain takes MODEL CERTIFICATE")
     return interface.explain(rest[0], rest[1], html=call.pages.get("html", ""),
                              svg=call.pages.get("svg", ""), overwrite=call.overwrite)
 
 
 def figures(call: Call) -> Report:
-    if not call.rest or len(call.rest) > 2 or not all(map(NUMBER.fullmatch, call.rest[1:])):
-        raise BadWords("stats takes MODEL [K]")
     return interface.figures(call.rest[0], objective=int((*call.rest, "0")[1]))
 
 
 def verified(call: Call) -> Report:
-    if len(call.rest) != 2:
-        raise BadWords("verify takes MODEL CERTIFICATE")
     return interface.verify(*call.rest)
 
 
 def version(call: Call) -> Report:
     """Program, sum, toolchain and drivers, one a line."""
-    if call.rest:
-        raise BadWords("version takes no more")
     place = find("", BESIDE)
     told = Report(NAME, program=place)
     digest = sum_of(place[0]) if len(place) == 1 else None
@@ -250,8 +237,7 @@ def import_into(call: Call) -> Report:
         try:
             told.say(imported(bridge, path, call.rest[1], call.overwrite))
         except OSError as fault:
-            raise Failure(Code.FILE, f"{fault.filename}: {fault.strerror}",
-                          Status.UNWRITTEN) from None
+            raise Failure(Code.FILE, f"{fault.filename}: {fault.strerror}", Status.UNWRITTEN) from None
     return told
 
 
@@ -265,22 +251,27 @@ def completion(shell: str) -> str:
 
 
 def wrong_words(words: Sequence[str]) -> str:
-    """Why the proved program does not take these words, by its table; nothing where it does."""
-    rows = [c for c in COMMANDS if c.word == words[0]]
-    names = names_of(words)
-    if names is None:
-        rows += [c for c in OWN if c.word == words[0]]
-        return f"{words[0]} takes " + " or ".join(row.rest for row in rows)
-    for name, word in zip(names, words[1:]):
+    """Why no command takes these words, by the table; nothing where one does."""
+    rows = [c for c in (*COMMANDS, *OWN) if c.word == words[0]]
+    takes = f"{words[0]} takes " + (" or ".join(row.rest for row in rows) or "no more")
+    found = [misfit(names, words[1:], takes) for row in rows for names in row.forms(len(words) - 1)]
+    return min(found, key=bool, default=takes)
+
+
+def misfit(names: Sequence[str], words: Sequence[str], takes: str) -> str:
+    """Why the words are not what they are called."""
+    for name, word in zip(names, words):
         if name in NUMBERS and not (NUMBER.fullmatch(word) and int(word) <= MOST):
             return f"{name} is a plain number up to {MOST}, not {word}"
+        if name == "COMMAND" and word not in PROVED or "|" in name and word not in name.split("|"):
+            return takes
     return ""
 
 
-def names_of(words: Sequence[str]) -> list[str] | None:
-    """What its table calls the words behind the command; None where no row is as long."""
-    forms = [form for c in COMMANDS if c.word == words[0] for form in c.forms()]
-    return next((form for form in forms if len(form) == len(words) - 1), None)
+def plain_files(inputs: Inputs, words: Sequence[str]) -> list[str]:
+    """The words behind a command of the proved program, files as plain ones."""
+    forms = [form for c in COMMANDS if c.word == words[0] for form in c.forms(len(words) - 1)]
+    return [plain(inputs, *pair) for pair in zip(forms[0] if forms else (), words[1:])]
 
 
 def plain(inputs: Inputs, name: str, word: str) -> str:
@@ -294,19 +285,13 @@ def plain(inputs: Inputs, name: str, word: str) -> str:
 
 
 def passed_on(place: Sequence[str], words: Sequence[str]) -> int:
-    """The proved program over these files, its texts as they are; what else there is to say of a
-    fault is added."""
-    wrong = wrong_words(words)
-    if wrong:
-        raise BadWords("bad words: " + wrong)
+    """The proved program over these files, its texts as they are; what else there is to say of a fault is added."""
     with Inputs() as inputs:
-        paths = [plain(inputs, *pair) for pair in zip(names_of(words) or (), words[1:])]
-        return ended(run(place, [words[0], *paths], words), words)
+        return ended(run(place, [words[0], *plain_files(inputs, words)], words), words)
 
 
 def run(place: Sequence[str], call: Sequence[str], words: Sequence[str]) -> int:
-    """Its status. A verdict is in colour on a terminal, and a file that cannot be read is told with
-    its cause."""
+    """Its status. A verdict is in colour on a terminal, and a file that cannot be read is told with its cause."""
     faulty = any(map(explaining.fault_at, explaining.files_of(call)))
     is_coloured = words[0] in VERDICTS and colour.is_wanted(sys.stdout)
     out, err = (subprocess.PIPE if wanted else None for wanted in (is_coloured, faulty))

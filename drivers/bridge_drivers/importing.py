@@ -37,8 +37,7 @@ def place(whole: bool, low: bytes, high: bytes) -> int:
 
 
 def imported(bridge: Bridge, mps: str, nl: str, overwrite: bool = False) -> str:
-    """Writes the .nl and the lists, all or none; a line on them. Refused where `bridge` refuses
-    the text."""
+    """Writes the .nl and the lists, all or none; a line on them. Refused where `bridge` refuses the text."""
     text, lists = bridge.text("import", mps), lists_of(bridge.text("mps", mps))
     stub = nl[:-3] if nl.endswith(".nl") else nl
     texts = {stub + ".nl": text, **{stub + end: b"".join(name + b"\n" for name in names)

@@ -1,5 +1,4 @@
-"""What a model may be, of every command: a stub, an .nl or MPS file, packed or not, a pipe, or
-standard input."""
+"""What a model may be, of every command: a stub, an .nl or MPS file, packed or not, a pipe, or standard input."""
 
 from __future__ import annotations
 

@@ -34,14 +34,12 @@ def solve(model: Path, solver: str = "cbc", *, prove: bool = False,
     `options` are those of the driver. Values and duals are in the report."""
     from .driver import Run
     given: Mapping[str, object] = {"wantsol": ALL_NUMBERS, "prove": prove or None,
-                                   "certificate": certificate, "timelim": timelim,
-                                   "solver": program, **options}
+                                   "certificate": certificate, "timelim": timelim, "solver": program, **options}
     return solved("bridge-" + solver, Run, solver, model, given)
 
 
 def certify(model: Path, *, solver: str = "cbc", certificate: Path | None = None,
-            timelim: float | None = None, program: Path | None = None,
-            **options: object) -> Report:
+            timelim: float | None = None, program: Path | None = None, **options: object) -> Report:
     """What is true of a model, as bridge-certify finds it by a driver and a search. The certificate
     is kept where it is named."""
     from .certify.command import Finding
@@ -50,8 +48,7 @@ def certify(model: Path, *, solver: str = "cbc", certificate: Path | None = None
     return solved("bridge-certify", Finding, solver, model, given)
 
 
-def solved(command: str, kind: type[Run], solver: str, model: Path,
-           options: Mapping[str, object]) -> Report:
+def solved(command: str, kind: type[Run], solver: str, model: Path, options: Mapping[str, object]) -> Report:
     from .solvers import NAMES
     told = Report(command)
     if solver not in NAMES:
@@ -76,8 +73,7 @@ def text_of(value: object) -> str:
 
 @contextlib.contextmanager
 def asked(told: Report, bridge: str) -> Iterator[tuple[Bridge, Inputs]]:
-    """The proved program, and room for files; a fault of the block becomes the error of this
-    report."""
+    """The proved program, and room for files; a fault of the block becomes the error of this report."""
     with Inputs() as inputs:
         try:
             told.program = place = find(bridge, BESIDE)
@@ -129,8 +125,7 @@ def explain(model: Path, certificate: Path | None = None, *, objective: int = 0,
             told.lines = [*found.notes, told.text]
         else:
             told.certificate = os.fspath(certificate)
-            files = Files(found.given.shown, told.certificate, os.fspath(html), os.fspath(svg),
-                          overwrite)
+            files = Files(found.given.shown, told.certificate, os.fspath(html), os.fspath(svg), overwrite)
             explained(found, files, told)
     return told.end()
 

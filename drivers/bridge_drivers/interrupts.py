@@ -80,8 +80,7 @@ class Signals:
 SIGNALS = Signals()
 
 
-def with_child(use: Callable[[subprocess.Popen[bytes]], T], argv: Sequence[str],
-               **words: Any) -> T:
+def with_child(use: Callable[[subprocess.Popen[bytes]], T], argv: Sequence[str], **words: Any) -> T:
     """What `use` makes of a process that is started. It has ended when this returns or raises."""
     with SIGNALS.kept(True):
         child = subprocess.Popen(argv, **words)

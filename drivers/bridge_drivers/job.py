@@ -49,8 +49,7 @@ class Clock:
     def note(self, argv: Sequence[str], folder: str = "") -> None:
         if self.tells:
             where = f"  (in {folder})" if folder else ""
-            print(f"{self.name}: {time.monotonic() - self.began:.2f} s: {shlex.join(argv)}{where}",
-                  flush=True)
+            print(f"{self.name}: {time.monotonic() - self.began:.2f} s: {shlex.join(argv)}{where}", flush=True)
 
     def summary(self) -> str:
         parts = "".join(f"{part} {seconds:.2f}, " for part, seconds in self.spent.items())
@@ -59,10 +58,9 @@ class Clock:
 
 
 class Job:
-    """What a solver's module works with: `program`, `options`, `solver` (its path), `extra`
-    (further words for it), and files in `folder`. `again`: it is asked once more, in another
-    way. `given` is the program as solvers get it, `status` how the last run ended.
-    `is_interrupted`: it was told to end. `read` tells what a line of its log says."""
+    """What a solver's module works with: `program`, `options`, `solver` (its path), `extra` (further words for it), and
+    files in `folder`. `again`: it is asked once more, in another way. `given` is the program as solvers get it,
+    `status` how the last run ended. `is_interrupted`: it was told to end. `read` tells what a line of its log says."""
 
     def __init__(self, program: Program, options: Options, folder: str, solver: str,
                  extra: Sequence[str], clock: Clock) -> None:

@@ -35,11 +35,9 @@ class Keeper:
                 data = f.read()
             self.places.write(target, data)
         except OSError as fault:
-            older = self.proved_by(verdicts.read(line), target) \
-                if isinstance(fault, FileExistsError) else ""
+            older = self.proved_by(verdicts.read(line), target) if isinstance(fault, FileExistsError) else ""
             if older:
-                return Kept(f"{target} stays as it is: it proves `{older}`; overwrite=1 replaces "
-                            "it", target)
+                return Kept(f"{target} stays as it is: it proves `{older}`; overwrite=1 replaces it", target)
             return Kept(f"the certificate is not kept: {target}: {fault.strerror}", None, True)
         return Kept(f"{target} is written: the certificate of `{line}`, {len(data)} bytes", target)
 

@@ -12,46 +12,28 @@ from typing import Any, BinaryIO, Callable, NamedTuple, cast
 
 from .codes import Code, Failure
 from .files import fill
+from .texts import tables
 
 ELF = b"\x7fELF"
 READ = 4096                     # bytes of a file's start that tell what it is
-PACKERS: dict[str, tuple[bytes, Callable[..., Any], str]] = {
-    ".gz": (b"\x1f\x8b", gzip.open, "gunzip"), ".bz2": (b"BZh", bz2.open, "bunzip2"),
-    ".xz": (b"\xfd7zXZ", lzma.open, "unxz")}
+PACKERS: dict[str, tuple[bytes, Callable[..., Any]]] = {
+    ".gz": (b"\x1f\x8b", gzip.open), ".bz2": (b"BZh", bz2.open), ".xz": (b"\xfd7zXZ", lzma.open)}
 MODELS = (".nl", ".mps")
 DAMAGED = (EOFError, ValueError, zlib.error, lzma.LZMAError)
 
 
 class Kind(NamedTuple):
-    """What it is, and what takes it; `{path}` and `{stub}` stand for its name, with and without
-    its end."""
+    """What it is, and what takes it; `{path}` and `{stub}` stand for its name, with and without its end."""
 
     text: str
     help: str
 
 
-MPS = Kind("an MPS file", "`bridge-certify {path}` and the drivers take it, "
-                          "`nl-bridge import {path} {stub}.nl` makes {stub}.nl of it")
-LP = Kind("an LP file, which no command here reads",
-          "save the model as .nl (AMPL `write g{stub}`, Pyomo, JuMP) or MPS (PuLP, JuMP, OR-Tools) "
-          "where it was made; what turns LP files into MPS may round numbers and lose the sense")
-AMPL = Kind("a text of AMPL", "in AMPL, `write g{stub};` writes {stub}.nl")
-MINIZINC = Kind("a text of MiniZinc", "`minizinc --solver bridge-cbc {path}`")
-ENDS = {
-    ".mps": MPS, ".lp": LP, ".mod": AMPL, ".dat": AMPL, ".run": AMPL, ".mzn": MINIZINC,
-    ".fzn": MINIZINC, ".dzn": MINIZINC,
-    **{end: Kind("a compressed file", f"`{tool} -k {{path}}` unpacks it")
-       for end, (_, _, tool) in PACKERS.items()},
-    ".zip": Kind("a compressed file", "`unzip {path}` unpacks it"),
-    ".sol": Kind("the answer to a model", "a driver takes the model"),
-    ".certificate": Kind("a certificate", "`nl-bridge verify MODEL.nl {path}` judges it"),
-    ".py": Kind("a text of Python", "`python3 {path}` runs it"),
-    ".elf": Kind("a program (ELF)", "no command takes it for a model"),
-    ".utf16": Kind("a text in UTF-16", "save it in UTF-8"),
-}
-STARTS = (*((mark, end) for end, (mark, _, _) in PACKERS.items()), (b"PK\x03\x04", ".zip"),
-          (b"certificate 1", ".certificate"), (ELF, ".elf"), (b"\xff\xfe", ".utf16"),
-          (b"\xfe\xff", ".utf16"))
+ENDS = {end: kind for ends, kind in ((row[0], Kind(*row[1:])) for row in tables("kinds.txt")["kinds"])
+        for end in ends.split()}
+MPS, LP = ENDS[".mps"], ENDS[".lp"]
+STARTS = (*((mark, end) for end, (mark, _) in PACKERS.items()), (b"PK\x03\x04", ".zip"),
+          (b"certificate 1", ".certificate"), (ELF, ".elf"), (b"\xff\xfe", ".utf16"), (b"\xfe\xff", ".utf16"))
 IS_MPS = re.compile(rb"(?:(?:\*[^\n]*|[^\S\n]*)\n)*(?:NAME\b|OBJSENSE\b|ROWS\b)")
 IS_LP = re.compile(rb"(?:(?:\\[^\n]*|[^\S\n]*|//[^\n]*)\n|/\*.*?\*/[^\S\n]*)*"
                    rb"(?:min|max)(?:imi[sz]e|imum)?\s*(?::|\n|\s)", re.I | re.S)
@@ -68,7 +50,7 @@ def opener(path: str) -> Callable[..., Any] | None:
     """What opens a packed file; None of another one."""
     with open(path, "rb") as f:
         start = f.read(6)
-    return next((opens for mark, opens, _ in PACKERS.values() if start.startswith(mark)), None)
+    return next((opens for mark, opens in PACKERS.values() if start.startswith(mark)), None)
 
 
 def is_packed(path: str) -> bool:

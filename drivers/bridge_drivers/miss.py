@@ -34,8 +34,7 @@ def missing(share: float, name: str, is_whole: bool = False) -> Miss:
 class Activities:
     """Sums of rows at values, and what of rows and bounds they miss."""
 
-    def __init__(self, program: Program, values: Mapping[str, str],
-                 whole: Collection[str]) -> None:
+    def __init__(self, program: Program, values: Mapping[str, str], whole: Collection[str]) -> None:
         self.program, self.read = program, program.read
         texts = in_order(values, program.columns)
         self.x = list(map(float, texts))
@@ -44,8 +43,7 @@ class Activities:
         self.terms = program.terms()
 
     def misses(self) -> Iterator[Miss]:
-        """Of rows and bounds that are missed. A bound is its own largest term, and 0 is measured
-        by 1."""
+        """Of rows and bounds that are missed. A bound is its own largest term, and 0 is measured by 1."""
         los, his = self.program.sides()
         broken = [(i, at, lo, hi) for i, (at, lo, hi)
                   in enumerate(zip(self.terms.activities(self.x), los, his)) if not lo <= at <= hi]

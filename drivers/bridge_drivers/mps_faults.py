@@ -18,8 +18,7 @@ BEYOND = {**dict.fromkeys(("SOS", "SOS1", "SOS2", "SETS"), "special ordered sets
           "OBJNAME": "objectives that are not the first N row"}
 KINDS = ("LO", "UP", "FX", "FR", "MI", "PL", "BV", "LI", "UI")
 BARE = ("FR", "MI", "PL", "BV")         # kinds of bounds that have no number
-PLAIN = {"column again": (0, "the lines of a column must stand together"),
-         "repeated row": (-1, "a line before has it"),
+PLAIN = {"column again": (0, "the lines of a column must stand together"), "repeated row": (-1, "a line before has it"),
          "bad marker": (-1, "'INTORG' or 'INTEND' is wanted")}     # which word, and what of it
 NUMBER = re.compile(r"[-+]?(\d+\.?\d*|\.\d+)([eEdD][-+]?\d+)?")
 
@@ -83,8 +82,7 @@ def section(line: Line) -> str:
 
 def kind(line: Line) -> str:
     is_semi = line.words[0].upper() in ("SC", "SI")
-    return of(line.words[0], "semi-continuous columns are not read" if is_semi
-              else "not " + either(KINDS))
+    return of(line.words[0], "semi-continuous columns are not read" if is_semi else "not " + either(KINDS))
 
 
 def decimal(line: Line) -> str:
@@ -94,8 +92,7 @@ def decimal(line: Line) -> str:
     word = next((word for word in places if not NUMBER.fullmatch(word)), "")
     if not word:
         return of(places[0], "more than 38 digits") if places else ""
-    return of(word, "no decimal number" + ("; a point stands before decimals" if "," in word
-                                           else ""))
+    return of(word, "no decimal number" + ("; a point stands before decimals" if "," in word else ""))
 
 
 def row(line: Line) -> str:

@@ -48,8 +48,7 @@ def reading(bridge: Bridge, path: str, form: str = "") -> Reading:
         raise both_refused(bridge, path, replies)
     notes = []
     if len(taken) > 1 and replies[FREE].out != replies[FIXED].out:
-        notes.append("it is read in free form; in fixed columns it is another program, which "
-                     "format=fixed reads")
+        notes.append("it is read in free form; in fixed columns it is another program, which format=fixed reads")
     return Reading(taken[0], replies[taken[0]].out, notes)
 
 

@@ -1,9 +1,8 @@
-"""The one reader of MPS text, in the one written form of `bridge export`, `bridge mps` and `bridge
-fixed`: one entry a line, words parted by one blank, a set's name on each line, the lines of a
-column together.
+"""The one reader of MPS text, in the one written form of `bridge export`, `bridge mps` and `bridge fixed`: one entry a
+line, words parted by one blank, a set's name on each line, the lines of a column together.
 
-Names and numbers are kept apart from entries, which are whole numbers by place. Nothing that is
-proved rests on it: it is made for solvers and for the search.
+Names and numbers are kept apart from entries, which are whole numbers by place. Nothing that is proved rests on it: it
+is made for solvers and for the search.
 """
 
 from __future__ import annotations
@@ -67,8 +66,7 @@ class Text:
         for name, part in parts(text):
             getattr(self, "read_" + name.lower())(part)
         self.numbers = list(known)
-        self.column = array("i", itertools.chain.from_iterable(
-            (j,) * count for j, count in enumerate(self.counts)))
+        self.column = array("i", itertools.chain.from_iterable((j,) * count for j, count in enumerate(self.counts)))
 
     def read_objsense(self, part: Part) -> None:
         self.maximise = part.text[part.start:part.stop] == b" MAX\n"
@@ -98,8 +96,7 @@ class Text:
             self.take(names[start:], rows[start:], values[start:], is_whole)
         self.low, self.high = [None] * len(self.columns), [None] * len(self.columns)
 
-    def take(self, names: Sequence[bytes], rows: Sequence[bytes], values: Sequence[bytes],
-             is_whole: bool) -> None:
+    def take(self, names: Sequence[bytes], rows: Sequence[bytes], values: Sequence[bytes], is_whole: bool) -> None:
         """Those of columns that are whole, or are not."""
         counts = Counter(names)
         if self.columns and self.columns[-1] in counts:
@@ -126,8 +123,7 @@ class Text:
             for kind in BARE:
                 lines = lines.replace(b"\n %s " % kind, b"\n %s  " % kind)
             words = lines.replace(b"\n", b"").split(b" ")
-            for kind, first, third, fourth in zip(words[1::4], words[2::4], words[3::4],
-                                                  words[4::4]):
+            for kind, first, third, fourth in zip(words[1::4], words[2::4], words[3::4], words[4::4]):
                 name = third if first else fourth
                 if name != last:
                     at, last = (at + 1) % len(columns), name

@@ -21,21 +21,18 @@ def program_of(text: bytes) -> Program:
     read = Text(text)
     own, names = exported(read), Names("", len(read.columns), len(read.constraints))
     objective = [read.objective] if read.objective else []
-    names.lists = {".row": list(map(shown, read.constraints + objective)),
-                   ".col": list(map(shown, read.columns))}
+    names.lists = {".row": list(map(shown, read.constraints + objective)), ".col": list(map(shown, read.columns))}
     return Program(b"\n".join(lines(own)) + b"\n", own, names, notes_of(read))
 
 
 def exported(read: Text) -> Text:
-    """The same as it is exported: without other N rows, ranges as those of rows G and L, and all
-    bounds set."""
+    """The same as it is exported: without other N rows, ranges as those of rows G and L, and all bounds set."""
     own = copy.copy(read)
     own.objective = b"obj"
     own.constraints = [b"c%d" % i for i in range(len(read.constraints))]
     own.columns = [b"x%d" % j for j in range(len(read.columns))]
     own.kinds, own.ranges = list(read.kinds), {}
-    own.rhs = {i: text for i, text in read.rhs.items() if i >= 0
-               or i == OBJECTIVE and exact(text)}
+    own.rhs = {i: text for i, text in read.rhs.items() if i >= 0 or i == OBJECTIVE and exact(text)}
     for i, text in read.ranges.items():
         if i < 0 or read.kinds[i] == "E" and not exact(text):
             continue
@@ -99,8 +96,7 @@ def bound_lines(column: bytes, low: bytes | None, high: bytes | None) -> Iterato
 
 def notes_of(read: Text) -> list[str]:
     """On columns whose bounds other readers take otherwise."""
-    bare = [shown(name) for name, whole, low, high
-            in zip(read.columns, read.whole, read.low, read.high)
+    bare = [shown(name) for name, whole, low, high in zip(read.columns, read.whole, read.low, read.high)
             if whole and low is None and high is None]
     below = [shown(read.columns[j]) for j in read.without_low()]
     told = []

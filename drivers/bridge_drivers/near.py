@@ -5,14 +5,10 @@ from __future__ import annotations
 import difflib
 from typing import Iterable
 
-# what other programs call it
-ELSEWHERE = {"gap": "mipgap", "gaprel": "mipgap", "ratio": "mipgap", "tolerance": "mipgap",
-             "timeout": "timelim", "time": "timelim", "seconds": "timelim", "limit": "timelim",
-             "quiet": "wantsol=8", "silent": "wantsol=8", "verbose": "outlev=1", "log": "outlev=1",
-             "o": "certificate", "out": "certificate", "output": "certificate",
-             "print": "wantsol=2", "values": "wantsol=2", "solution": "wantsol=2",
-             "optimal": "prove", "certify": "prove", "objective": "objno", "tmp": "keep",
-             "solve": "explain", "convert": "export", "judge": "verify"}
+from .texts import tables
+
+ELSEWHERE = {word: ours for ours, words in tables("elsewhere.txt")["what other programs call it"]
+             for word in words.split()}
 
 
 def near(word: str, known: Iterable[str]) -> str:

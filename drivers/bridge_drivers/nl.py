@@ -21,8 +21,7 @@ LONG = re.compile(rb"(?<![^\sn])-?\d+\.\d+(?:[eE][-+]?\d+)?(?!\S)")
 
 
 class Header(NamedTuple):
-    """What a .sol without values repeats of the first two lines, and how many objectives there
-    are."""
+    """What a .sol without values repeats of the first two lines, and how many objectives there are."""
 
     options: list[str]
     constraints: int
@@ -47,8 +46,7 @@ def header(path: str) -> Header:
     options = [str(int(w)) for w in first[1:1 + count]]
     if len(options) != count or not 0 <= count <= 9:
         raise ValueError("options")
-    return Header(options, int(second[1]), int(second[0]),
-                  int(second[2]) if len(second) > 2 else 0)
+    return Header(options, int(second[1]), int(second[0]), int(second[2]) if len(second) > 2 else 0)
 
 
 def prepared(path: str, target: str, shorter: bool, is_told: bool = True) -> Prepared:
@@ -67,8 +65,7 @@ def prepared(path: str, target: str, shorter: bool, is_told: bool = True) -> Pre
         try:
             text = text_of_binary(data)
         except (struct.error, IndexError, ValueError) as fault:
-            raise Damaged(f"{path}: the binary .nl file ends too soon or is damaged "
-                          f"({fault})") from None
+            raise Damaged(f"{path}: the binary .nl file ends too soon or is damaged ({fault})") from None
         note = "the binary .nl file was turned into text, which is not proved"
     else:
         text, count = shortest_numbers(data)
@@ -89,8 +86,7 @@ def long_numbers(data: bytes) -> list[str]:
         text = match.group()
         if digits_of(text) >= MOST_DIGITS:
             short = shortest(float(text))
-            told = f"{text.decode()} in the .nl looks like a printed double: shortest=1 reads " \
-                   f"such numbers as {short}"
+            told = f"{text.decode()} in the .nl looks like a printed double: shortest=1 reads such numbers as {short}"
             return [told] if len(short) < len(text) - 2 else []
     return []
 

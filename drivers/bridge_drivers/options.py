@@ -16,8 +16,7 @@ T = TypeVar("T")
 
 
 class Text:
-    """A text of any kind, called by what it is. `known` are all that it may be, where they are
-    few."""
+    """A text of any kind, called by what it is. `known` are all that it may be, where they are few."""
 
     known: Sequence[str] = ()
 
@@ -116,8 +115,7 @@ class Options:
     """The options of one run. Those that all drivers have are attributes; a solver's own are
     in `own`, by name. `given` lists what was said, for the echo. `is_written`: a .sol is."""
 
-    bound = common(1, SWITCH, "0: for integer programs no proved bound is looked for without "
-                              "prove=1")
+    bound = common(1, SWITCH, "0: for integer programs no proved bound is looked for without prove=1")
     bridge = common("", Text("words"), "what starts the proved program (also $BRIDGE)")
     certificate = common("", FILE, "where an accepted certificate is kept")
     check = common(1, SWITCH, "1: ask bridge what it can prove of the answer; 0: do not")
@@ -125,28 +123,23 @@ class Options:
     extra = common("", str, "further words for the solver, in quotes")
     failexit = common(0, SWITCH, "1: where there is no answer, write no .sol and end with another "
                                  "status than 0 (MiniZinc)")
-    format = common("", Words("free", "fixed"), "how the lines of an MPS file are read, where both "
-                                                "can be")
+    format = common("", Words("free", "fixed"), "how the lines of an MPS file are read, where both can be")
     jobs = common(0, COUNT, "processes that search (prove=1); 0: as many as processors may be used")
     json = common(0, SWITCH, "1: standard output gets one object of JSON, and nothing else")
     keep = common("", FOLDER, "where the files in between are kept")
     objno = common(1, Range(int, 1), "which objective")
     outlev = common(0, Range(int, 0, 2), "1: the solver's log, 2: also the commands and times")
-    only = common("", Words("mps"), "mps: write the MPS text that this solver reads beside the "
-                                    "model, and stop")
-    overwrite = common(0, SWITCH, "1: a certificate, and the text of only=mps, replaces what "
-                                  "stands at its place")
+    only = common("", Words("mps"), "mps: write the MPS text that this solver reads beside the model, and stop")
+    overwrite = common(0, SWITCH, "1: a certificate, and the text of only=mps, replaces what stands at its place")
     prove = common(0, SWITCH, "1: search a certificate that the answer is optimal (timelim holds "
                               "for it too; 60 seconds where there is none)")
     relax = common(0, SWITCH, "1: integer variables as continuous ones")
-    round = common(1, SWITCH, "1: values of integer variables within 1e-5 of a whole number are "
-                              "written as that number")
+    round = common(1, SWITCH, "1: values of integer variables within 1e-5 of a whole number are written as that number")
     shortest = common(0, SWITCH, "1: numbers of the .nl with 16 digits or more become the shortest "
                                  "ones with the same double")
     shorten = common(0, SWITCH, "1: after a certificate, a shorter one is looked for in the time "
                                 "that is left (prove=1)")
-    solution = common("", FILE, "where names and values are written; as JSON where it ends with "
-                                ".json")
+    solution = common("", FILE, "where names and values are written; as JSON where it ends with .json")
     solver = common("", FILE, "the solver's program, where it is not on the PATH")
     strict = common(0, SWITCH, "1: what is not proved optimal, infeasible or unbounded is not "
                                "solved (code 100, exit status 7); sets prove=1")

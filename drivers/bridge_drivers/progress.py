@@ -95,12 +95,10 @@ def detailed(known: Mapping[str, float]) -> str:
     names. A bound by cuts that are still being made is no claim yet."""
     known = {name: value for name, value in known.items()
              if math.isfinite(value) and not (name == "bound" and "cuts" in known)}
-    parts = [f"{name} {value:.10g}" for name, value in known.items()
-             if name in ("incumbent", "bound", "objective")]
+    parts = [f"{name} {value:.10g}" for name, value in known.items() if name in ("incumbent", "bound", "objective")]
     if "incumbent" in known and "bound" in known:
         parts.append(f"gap {gap(known['incumbent'], known['bound']):.3g} %")
-    parts += [f"{value:.0f} {name}" for name, value in known.items()
-              if name in ("nodes", "open", "iterations", "cuts")]
+    parts += [f"{value:.0f} {name}" for name, value in known.items() if name in ("nodes", "open", "iterations", "cuts")]
     return ", ".join(parts)
 
 

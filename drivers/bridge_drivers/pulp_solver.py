@@ -3,9 +3,8 @@
     from bridge_drivers.pulp_solver import BridgeCmd
     problem.solve(BridgeCmd("bridge-cbc", prove=True))
 
-PuLP writes MPS, which the driver takes as it stands. Its message, with what is certified, is then
-in `message`, with PuLP's names. PuLP writes 13 digits of each number; what is certified is of those
-numbers.
+PuLP writes MPS, which the driver takes as it stands. Its message, with what is certified, is then in `message`, with
+PuLP's names. PuLP writes 13 digits of each number; what is certified is of those numbers.
 """
 
 from __future__ import annotations
@@ -27,8 +26,7 @@ WORDS = (("relax=1", "mip=False"), ("prove=1", "prove=True"), ("timelim=", "time
          ("mipgap=", "gapRel="), ("solver=PATH", "options=['solver=PATH']"),
          ("bridge=PATH", "bridge='PATH'"))              # a driver's, and what they are here
 STATUSES = (                    # of codes below the first number
-    (100, pulp.LpStatusOptimal, pulp.LpSolutionOptimal),
-    (200, pulp.LpStatusNotSolved, pulp.LpSolutionNoSolutionFound),
+    (100, pulp.LpStatusOptimal, pulp.LpSolutionOptimal), (200, pulp.LpStatusNotSolved, pulp.LpSolutionNoSolutionFound),
     (290, pulp.LpStatusInfeasible, pulp.LpSolutionInfeasible),
     (300, pulp.LpStatusUndefined, pulp.LpSolutionNoSolutionFound),
     (400, pulp.LpStatusUnbounded, pulp.LpSolutionUnbounded),
@@ -48,8 +46,7 @@ class BridgeCmd(pulp.LpSolver_CMD):
                  gapRel: float | None = None, threads: int | None = None,
                  keepFiles: bool = False, prove: bool = False) -> None:
         super().__init__(path=driver, keepFiles=keepFiles, mip=mip, msg=msg,
-                         options=list(options), timeLimit=timeLimit, gapRel=gapRel,
-                         threads=threads)
+                         options=list(options), timeLimit=timeLimit, gapRel=gapRel, threads=threads)
         self.bridge, self.prove, self.message = bridge, prove, ""
 
     def defaultPath(self) -> str:
@@ -91,8 +88,7 @@ class BridgeCmd(pulp.LpSolver_CMD):
         """One that no kept file of another run has."""
         for number in itertools.count(1):
             free = name if number == 1 else f"{name}-{number}"
-            if not self.keepFiles or not any(map(os.path.exists,
-                                                 self.create_tmp_files(free, *FILES))):
+            if not self.keepFiles or not any(map(os.path.exists, self.create_tmp_files(free, *FILES))):
                 return free
         raise AssertionError
 
@@ -133,8 +129,7 @@ class BridgeCmd(pulp.LpSolver_CMD):
         with open(path, encoding="utf-8") as f:
             text = f.read()
         with open(path, "w", encoding="utf-8") as f:
-            f.write(completed(text, lp.sense == pulp.LpMaximize, objective,
-                              lp.objective.constant))
+            f.write(completed(text, lp.sense == pulp.LpMaximize, objective, lp.objective.constant))
         return dict(names)
 
     def answered(self, mps: str) -> Report:
@@ -146,8 +141,7 @@ class BridgeCmd(pulp.LpSolver_CMD):
     def given(self) -> dict[str, Any]:
         options: dict[str, Any] = {"format": "free", "prove": self.prove, "bridge": self.bridge,
                                    "relax": not self.mip, "timelim": self.timeLimit,
-                                   "mipgap": self.optionsDict.get("gapRel"),
-                                   "threads": self.optionsDict.get("threads")}
+                                   "mipgap": self.optionsDict.get("gapRel"), "threads": self.optionsDict.get("threads")}
         said = dict(word.partition("=")[::2] for word in self.options)
         said = {"program" if name == "solver" else name: value for name, value in said.items()}
         return {**{name: value for name, value in options.items() if value}, **said}

@@ -13,7 +13,7 @@ from collections import Counter
 from dataclasses import dataclass, field
 from fractions import Fraction
 from functools import lru_cache
-from typing import Union
+from typing import Collection, Union
 
 from .bridge import Bridge
 from .files import fill
@@ -40,58 +40,51 @@ def is_held(value: Fraction) -> bool:
 
 
 @dataclass
-class Range:
-    """Least and greatest of absolute values."""
-
-    low: Exact | None = None
-    high: Exact | None = None
-
-    def take(self, value: Exact) -> None:
-        size = -value if value < 0 else value
-        self.low = size if self.low is None else min(self.low, size)
-        self.high = size if self.high is None else max(self.high, size)
-
-    def doubles(self) -> list[float | None]:
-        """Both; nothing where there are none."""
-        return [double_of(end) for end in (self.low, self.high) if end is not None]
-
-    def ends(self) -> list[float | None] | None:
-        found = self.doubles()
-        return found if found and None not in found else None
-
-    def line(self) -> str:
-        return " to ".join("beyond doubles" if end is None else f"{end:g}"
-                           for end in self.doubles()) or "none"
-
-
-@dataclass
 class Figures:
-    """What is counted of a text. `columns` are counts by kind, `kinds` the letters of rows by
-    name; `lost` the numbers that doubles do not hold, with where they stand."""
+    """What is counted of a program. `columns` are counts by kind, `kinds` the letters of rows by
+    name; `sizes` and its kin absolute values, of which the least and the greatest are told; `lost`
+    the numbers that doubles do not hold, with where they stand."""
 
-    maximise: bool = False
-    constant: str = "0"
-    kinds: dict[str, str] = field(default_factory=dict)
-    columns: dict[str, int] = field(default_factory=dict)
-    ranged: int = 0
+    program: Program
+    kinds: dict[str, str]
+    columns: dict[str, int]
     entries: int = 0
     costs: int = 0
     tied_by: Exact | None = None
-    sizes: Range = field(default_factory=Range)
-    cost_sizes: Range = field(default_factory=Range)
-    sides: Range = field(default_factory=Range)
+    sizes: list[Exact] = field(default_factory=list)
+    cost_sizes: list[Exact] = field(default_factory=list)
+    sides: list[Exact] = field(default_factory=list)
     infinite: int = 0
     lost: list[tuple[str, str]] = field(default_factory=list)
 
+    def sense(self) -> str:
+        return "maximise" if self.program.maximise else "minimise"
+
+    def constant(self) -> str:
+        return str(-Fraction(self.program.objective_rhs))
+
     def rows(self, kind: str = "") -> list[str]:
-        return [name for name, letter in self.kinds.items()
-                if name != TIED_ROW and (not kind or letter == kind)]
+        return [name for name, letter in self.kinds.items() if name != TIED_ROW and (not kind or letter == kind)]
 
     def number(self, where: str, text: bytes) -> Exact:
         value, held = known(text)
         if not held:
             self.lost.append((where, text.decode()))
         return value
+
+
+def ends_of(sizes: Collection[Exact]) -> list[float | None]:
+    """The least and the greatest in doubles, None beyond them; nothing where there are none."""
+    return [double_of(end) for end in (min(sizes), max(sizes))] if sizes else []
+
+
+def told(sizes: Collection[Exact]) -> str:
+    return " to ".join("beyond doubles" if end is None else f"{end:g}" for end in ends_of(sizes)) or "none"
+
+
+def held_ends(sizes: Collection[Exact]) -> list[float | None] | None:
+    ends = ends_of(sizes)
+    return ends if ends and None not in ends else None
 
 
 @lru_cache(maxsize=1 << 16)
@@ -101,21 +94,23 @@ def known(text: bytes) -> tuple[Exact, bool]:
     return value.numerator if value.denominator == 1 else value, is_held(value)
 
 
+def size(value: Exact) -> Exact:
+    return -value if value < 0 else value
+
+
 def figures_of(program: Program) -> Figures:
     read = program.read
-    f = Figures(program.maximise, program.objective_rhs,
-                dict(zip(program.constraints, read.kinds)), columns_of(program),
-                len(read.ranges))
+    f = Figures(program, dict(zip(program.constraints, read.kinds)), columns_of(program))
     entries(f, program)
     for i, side in [*read.rhs.items(), *read.ranges.items()]:
         value = f.number(program.rows[i + 1], side)
         if i != OBJECTIVE and value:
-            f.sides.take(value)
-            f.infinite += not -INFINITE < value < INFINITE
+            f.sides.append(size(value))
+            f.infinite += size(value) >= INFINITE
     for name, low, high in zip(program.columns, read.low, read.high):
         for end in (low,) if low == high else (low, high):
             value = f.number(name, end) if end else 0
-            f.infinite += not -INFINITE < value < INFINITE
+            f.infinite += size(value) >= INFINITE
     return f
 
 
@@ -129,15 +124,14 @@ def entries(f: Figures, program: Program) -> None:
     for j, k in costs:
         left[k] -= 1
         if program.columns[j] == TIED:
-            factor = values[k][0]
-            f.tied_by = -factor if factor < 0 else factor
+            f.tied_by = size(values[k][0])
         elif values[k][0]:
             f.costs += 1
-            f.cost_sizes.take(values[k][0])
+            f.cost_sizes.append(size(values[k][0]))
     for k, count in left.items():
         if count and values[k][0]:
             f.entries += count
-            f.sizes.take(values[k][0])
+            f.sizes.append(size(values[k][0]))
     if not all(held for _, held in values):
         f.lost += [(f"{program.rows[i + 1]} {program.columns[j]}", read.numbers[k].decode())
                    for i, j, k in zip(*read.entries()) if not values[k][1]]
@@ -151,16 +145,15 @@ def columns_of(program: Program) -> dict[str, int]:
     binary = sum(whole and pair == (0, 1) for whole, pair in zip(read.whole, bounds))
     whole = len(program.whole)
     return {"continuous": len(bounds) - whole, "binary": binary, "integer": whole - binary,
-            "free": bounds.count((None, None)),
-            "fixed": sum(low is not None and low == high for low, high in bounds)}
+            "free": bounds.count((None, None)), "fixed": sum(low is not None and low == high for low, high in bounds)}
 
 
 def sense_line(f: Figures) -> str:
-    line = "maximise" if f.maximise else "minimise"
+    line = f.sense()
     if not f.costs:
         line += ", no objective but a constant"
-    if f.constant != "0" and f.tied_by is None:
-        line += f", constant {-Fraction(f.constant)}"
+    if f.constant() != "0" and f.tied_by is None:
+        line += f", constant {f.constant()}"
     if f.tied_by is not None:
         line += f"; tied to column z by row zdef, times {f.tied_by}"
     return line
@@ -172,19 +165,17 @@ def row_name(row: str, names: Names) -> str:
 
 def lines_of(f: Figures, factors: dict[str, str], names: Names) -> list[str]:
     """What is printed, one figure a line."""
-    signs = ", ".join(f"{len(f.rows(kind))} {sign}"
-                      for kind, sign in (("L", "<="), ("G", ">="), ("E", "=")))
+    signs = ", ".join(f"{len(f.rows(kind))} {sign}" for kind, sign in (("L", "<="), ("G", ">="), ("E", "=")))
     kinds = ", ".join(f"{f.columns[kind]} {kind}" for kind in KINDS)
     lost = [f"{text[:45]} ({where})" for where, text in f.lost]
-    scaled = [f"{row_name(row, names)} by {factor}" for row, factor in factors.items()
-              if factor != "1"]
+    scaled = [f"{row_name(row, names)} by {factor}" for row, factor in factors.items() if factor != "1"]
     lines = [f"sense         {sense_line(f)}",
              f"columns       {sum(map(f.columns.__getitem__, KINDS))}: {kinds}; "
              f"{f.columns['free']} free, {f.columns['fixed']} fixed",
-             f"rows          {len(f.rows())}: {signs}; {f.ranged} with two sides",
+             f"rows          {len(f.rows())}: {signs}; {len(f.program.read.ranges)} with two sides",
              f"entries       {f.entries} in rows, {f.costs} in the objective",
-             f"coefficients  {f.sizes.line()} in rows, {f.cost_sizes.line()} in the objective",
-             f"sides         {f.sides.line()}"]
+             f"coefficients  {told(f.sizes)} in rows, {told(f.cost_sizes)} in the objective",
+             f"sides         {told(f.sides)}"]
     if f.infinite:
         lines.append(f"infinite      {f.infinite} sides and bounds from 1e20 on: none to highs, to "
                      "cbc and clp from 1e25, to lp_solve from 1e30")
@@ -214,14 +205,12 @@ class Stats:
         if model.own is None:
             self.factors = factors_of(model.bridge, model.path, objective, self.figures.rows())
         else:
-            self.figures.lost = [(self.in_names(where), text)
-                                 for where, text in self.figures.lost]
+            self.figures.lost = [(self.in_names(where), text) for where, text in self.figures.lost]
 
     def in_names(self, where: str) -> str:
         """Rows and columns of an MPS file as they are called there."""
         lists = {"c": self.names.row, "x": self.names.column}
-        return " ".join(lists[word[0]](int(word[1:])) if word[1:].isdigit() else word
-                        for word in where.split())
+        return " ".join(lists[word[0]](int(word[1:])) if word[1:].isdigit() else word for word in where.split())
 
     def lines(self) -> list[str]:
         return lines_of(self.figures, self.factors, self.names) + self.notes
@@ -229,14 +218,13 @@ class Stats:
     def object(self) -> dict[str, object]:
         """The same for programs: counts, and ranges in doubles."""
         f = self.figures
-        return {"sense": "maximise" if f.maximise else "minimise",
-                "constant": None if f.tied_by is not None else str(-Fraction(f.constant)),
+        return {"sense": f.sense(), "constant": None if f.tied_by is not None else f.constant(),
                 "tied_by": None if f.tied_by is None else str(f.tied_by),
                 "columns": sum(map(f.columns.__getitem__, KINDS)), **f.columns,
                 "rows": len(f.rows()), "at_most": len(f.rows("L")), "at_least": len(f.rows("G")),
-                "equations": len(f.rows("E")), "two_sides": f.ranged, "entries": f.entries,
-                "costs": f.costs, "coefficients": f.sizes.ends(),
-                "cost_coefficients": f.cost_sizes.ends(), "sides": f.sides.ends(),
+                "equations": len(f.rows("E")), "two_sides": len(f.program.read.ranges), "entries": f.entries,
+                "costs": f.costs, "coefficients": held_ends(f.sizes),
+                "cost_coefficients": held_ends(f.cost_sizes), "sides": held_ends(f.sides),
                 "infinite": f.infinite, "not_doubles": len(f.lost),
                 "scaled_rows": {row_name(row, self.names): factor
                                 for row, factor in self.factors.items() if factor != "1"}}

@@ -47,9 +47,8 @@ class Subject(NamedTuple):
 
 @contextlib.contextmanager
 def subject(bridge: Bridge, inputs: Inputs, word: str) -> Iterator[Subject]:
-    """With `verify` of this bridge being that of the model. Refused where an MPS file is none,
-    Damaged where what is packed or binary cannot be read, Absent or OSError where there is no
-    model."""
+    """With `verify` of this bridge being that of the model. Refused where an MPS file is none, Damaged where what is
+    packed or binary cannot be read, Absent or OSError where there is no model."""
     given = inputs.model(word)
     bridge.shown[given.path] = given.shown
     if not given.is_mps:
@@ -60,5 +59,4 @@ def subject(bridge: Bridge, inputs: Inputs, word: str) -> Iterator[Subject]:
     with tempfile.TemporaryDirectory(prefix="nl-bridge-") as folder:
         read = reading(bridge, given.path)
         program = judged(bridge, given.path, folder, read)
-        yield Subject(bridge, given, given.path, program,
-                      [*given.notes, *read.notes, *program.notes])
+        yield Subject(bridge, given, given.path, program, [*given.notes, *read.notes, *program.notes])

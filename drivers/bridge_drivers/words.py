@@ -7,21 +7,10 @@ import re
 from dataclasses import dataclass, field
 from typing import Sequence
 
-USAGE = """usage: {name} MODEL [-AMPL] [option=value ..]
+from .texts import parts
 
-  reads MODEL, runs {title}, and tells the answer. {model}
-  -AMPL   called by a modelling system: stub.sol is always written, the outcome in it
-  -s      without -AMPL: write stub.sol         -e  do not echo options
-  -=      list the options                      -v  versions
-  --      what follows is no option             -h  this text; help OPTION: one option
-  Options may also stand in the variable {variable}.
-"""
-MODEL = """A MODEL is a stub (knap for knap.nl), an .nl
-  file or an MPS file (of which no .sol is made), packed or not (.gz, .bz2, .xz), a pipe, or - for
-  standard input, which is called stdin."""
-EXAMPLE = """
-example: {name} knap prove=1 timelim=60
-"""
+USAGE, MODEL, EXAMPLE = parts("usage.txt").values()
+MODEL = MODEL.rstrip("\n")
 NAMED = re.compile(r"[A-Za-z]\w*=")
 ASKS = {"-v": "-v", "--version": "-v", "-=": "-=", "-?": "-?", "-h": "-?", "--help": "-?"}
 
@@ -41,9 +30,8 @@ class Words:
 
 
 def read(argv: Sequence[str]) -> Words:
-    """In any order: what is `name=value`, or begins with `-`, is an option, the first other word
-    the model, and what follows it options of the form `name value`. After `--` nothing begins
-    with `-`, and the first word is the model."""
+    """In any order: what is `name=value`, or begins with `-`, is an option, the first other word the model, and what
+    follows it options of the form `name value`. After `--` nothing begins with `-`, and the first word is the model."""
     words, left, is_plain = Words(), list(argv)[::-1], False
     if argv[:1] == ["help"] and not any(map(os.path.exists, ("help", "help.nl"))):
         words.ask, words.topic = "-?", argv[1] if len(argv) > 1 else ""

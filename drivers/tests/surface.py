@@ -141,7 +141,7 @@ class Options_(unittest.TestCase):
                     "explain m c --html", "verify m c --html x"):
             self.assertRaises(front.BadWords, front.read, bad.split())
         for bad in ("explain", "explain m c d"):
-            self.assertRaises(front.BadWords, front.explained, front.read(bad.split()))
+            self.assertRaises(front.BadWords, front.done, front.read(bad.split()))
 
 
 class Models(Case):

@@ -31,8 +31,7 @@ class Goal(NamedTuple):
 
 
 class Part(NamedTuple):
-    """What is true at a node: bounds of the variables that were split, and rows that were
-    added."""
+    """What is true at a node: bounds of the variables that were split, and rows that were added."""
 
     ends: dict[int, tuple[End, End]]
     added: list[Row]
@@ -110,8 +109,7 @@ class Bounds:
         return ends[0] if self.is_lower(place, part, value) else ends[1]
 
     def shown(self, place: int, part: Part) -> End:
-        """The bound that a leaf's numbers show; None where a side or bound is missing that they ask
-        for."""
+        """The bound that a leaf's numbers show; None where a side or bound is missing that they ask for."""
         total, left = self.left(place, part)
         for j, cost in left.items():
             end = self.side(place, part, cost, part.ends.get(j) or self.ends(j))

@@ -48,8 +48,7 @@ class Explaining:
         self.wording = Wording(self.certificate, self.names, self.bounds, constraints)
         self.tally = tally(self.certificate, constraints)
         self.fails = None if holds else self.wording.failing_leaf(verdict)
-        self.claim = claim_words(self.certificate, verdicts.read(verdict) if holds else None,
-                                 self.bounds)
+        self.claim = claim_words(self.certificate, verdicts.read(verdict) if holds else None, self.bounds)
 
     def exact(self, given: Subject) -> Bounds | None:
         """The program in exact numbers; None, with a note, where it is not to be had."""
@@ -78,8 +77,7 @@ class Explaining:
 
     def lines(self) -> list[str]:
         word = "holds of" if self.holds else "does not hold of"
-        told = [f"{self.files.certificate} {word} {self.shown}: {self.verdict}",
-                f"claim     {self.said()}"]
+        told = [f"{self.files.certificate} {word} {self.shown}: {self.verdict}", f"claim     {self.said()}"]
         if not self.holds:
             told += self.wording.failure(self.verdict)
         told += self.wording.lines()
@@ -96,8 +94,7 @@ class Explaining:
                 "tree": {key: getattr(t, key) for key in TALLIED} if c.nodes else None,
                 "uses": {self.wording.row(i): times for i, times in sorted(t.rows.items())},
                 "failure": None if self.holds else self.wording.failure(self.verdict)[0][10:],
-                "leaf": None if node is None else node.leaf,
-                "line": None if node is None else node.line,
+                "leaf": None if node is None else node.leaf, "line": None if node is None else node.line,
                 "path": [] if self.fails is None else self.wording.path(self.fails)}
 
     def tree(self) -> Picture | None:
@@ -122,7 +119,7 @@ class Explaining:
         nodes = self.certificate.nodes
         places = [d.place for d in drawn.drawn if nodes[d.place].is_leaf()] if drawn else []
         return [(f"line {nodes[found.place].line}, leaf {nodes[found.place].leaf}: "
-                 + (", ".join(self.wording.cuts(found.place)) or "all points"), found.lines,
+                 + (", ".join(self.wording.path(found.place, False)) or "all points"), found.lines,
                  found.shows) for found in sums(self.wording, places)]
 
 

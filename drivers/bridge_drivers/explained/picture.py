@@ -9,6 +9,7 @@ from fractions import Fraction
 from html import escape
 from typing import Iterator, NamedTuple
 
+from ..texts import text as text_of
 from .bounds import Bounds
 from .reading import DUALS, LEMMA, PLANE, ROOT, SPLIT, WEIGHTS
 from .words import Wording, short
@@ -19,29 +20,6 @@ MOST_PATH = 40                  # levels down to a leaf that fails, which are sh
 SECONDS = 5.0                   # in which bounds are worked out
 WIDTH, HEIGHT, ACROSS, DOWN, MARGIN = 204, 58, 240, 70, 12
 MOST_TEXT, MOST_PART = 27, 21   # characters of a line in a node, of its first, which is bold
-STYLE = """
-.tree text { font: 12px system-ui, sans-serif; fill: #1b1f24; }
-.tree .part { font-weight: 600; }
-.tree text.line { fill: #59636e; text-anchor: end; font-size: 10px; }
-.tree rect { fill: #f6f8fa; stroke: #8c959f; stroke-width: 1; }
-.tree path { fill: none; stroke: #8c959f; stroke-width: 1.2; }
-.tree .duals rect { fill: #dafbe1; stroke: #2da44e; }
-.tree .weights rect { fill: #ddf4ff; stroke: #218bff; }
-.tree .folded rect { stroke-dasharray: 5 3; }
-.tree .fails rect { fill: #ffebe9; stroke: #cf222e; stroke-width: 2; }
-.tree .proof { stroke-dasharray: 2 3; }
-"""
-DARK = """
-@media (prefers-color-scheme: dark) {
-  .tree text { fill: #e6edf3; }
-  .tree text.line { fill: #9198a1; }
-  .tree rect { fill: #21262d; stroke: #6e7681; }
-  .tree path { stroke: #6e7681; }
-  .tree .duals rect { fill: #12361f; stroke: #3fb950; }
-  .tree .weights rect { fill: #0c2d4d; stroke: #388bfd; }
-  .tree .fails rect { fill: #4a1414; stroke: #f85149; }
-}
-"""
 
 
 class Drawn(NamedTuple):
@@ -67,8 +45,7 @@ def cut(text: str, most: int = MOST_TEXT) -> str:
 
 
 class Picture:
-    """Of one certificate. `fails` is the place of the first leaf that does not close; `holds`: all
-    of them do."""
+    """Of one certificate. `fails` is the place of the first leaf that does not close; `holds`: all of them do."""
 
     def __init__(self, wording: Wording, fails: int | None = None, holds: bool = True) -> None:
         self.certificate, self.wording, self.fails = wording.certificate, wording, fails
@@ -165,15 +142,12 @@ class Picture:
         if node.is_leaf():
             closes = self.closes(place)
             if not closes:
-                return f"leaf {node.leaf} " + ("is not judged" if closes is None
-                                               else "does not close")
-            count, how = len(node.pairs), "rows contradict" if node.kind == WEIGHTS \
-                else "closes by duals"
+                return f"leaf {node.leaf} " + ("is not judged" if closes is None else "does not close")
+            count, how = len(node.pairs), "rows contradict" if node.kind == WEIGHTS else "closes by duals"
             return f"{how} ({count})" if count else "closes by bounds alone"
         if self.is_folded(place):
             return f"+ {node.size - 1} nodes, {node.leaves} leaves"
-        return {SPLIT: "split ", PLANE: "plane ", LEMMA: "lemma "}[node.kind] + \
-            self.wording.left_side(node)
+        return {SPLIT: "split ", PLANE: "plane ", LEMMA: "lemma "}[node.kind] + self.wording.left_side(node)
 
     def css_class(self, place: int) -> str:
         node = self.certificate.nodes[place]
@@ -199,12 +173,13 @@ class Picture:
         """The picture, as a file of its own on white, or as a part of a page, light or dark."""
         width, height = self.size()
         nodes = self.certificate.nodes
+        style = "".join(map(text_of, ("tree.css",) if alone else ("tree.css", "tree-dark.css")))
         said = f"the tree of the certificate: {len(nodes)} nodes, {nodes[0].leaves} leaves" \
             if nodes else "the certificate has no tree"
         return "\n".join([
             f'<svg xmlns="http://www.w3.org/2000/svg" class="tree" width="{width}" '
             f'height="{height}" viewBox="0 0 {width} {height}" role="img" aria-label="{said}">',
-            f"<title>{said}</title>", f"<style>{STYLE + ('' if alone else DARK)}</style>",
+            f"<title>{said}</title>", f"<style>\n{style}</style>",
             *([f'<path d="M0 0H{width}V{height}H0Z" style="fill: #fff; stroke: none"/>'] if alone
               else []), *self.lines(), *self.boxes(),
             *([f'<text x="{MARGIN}" y="{HEIGHT // 2}">{said}</text>'] if not nodes else []),
@@ -231,8 +206,7 @@ class Picture:
             yield f'<text class="line" x="{d.x + WIDTH - 8}" y="{d.y + 18}">{line}</text>'
             for k, text in enumerate([self.part_text(d.place, MOST_PART), *texts]):
                 mark = ' class="part"' if k == 0 else ""
-                yield (f'<text{mark} x="{d.x + 8}" y="{d.y + 18 + 16 * k}">'
-                       f'{escape(cut(text))}</text>')
+                yield (f'<text{mark} x="{d.x + 8}" y="{d.y + 18 + 16 * k}">{escape(cut(text))}</text>')
             yield "</g>"
 
 
@@ -254,9 +228,7 @@ def bounds_of(bounds: Bounds) -> dict[int, Fraction | None]:
         else:
             below = certificate.children(place)[1 if node.kind == LEMMA else 0:]
             if all(child in values for child in below):
-                in_proof = any(above.kind == LEMMA and part == 0
-                               for above, part in certificate.steps(place))
+                in_proof = any(above.kind == LEMMA and part == 0 for above, part in certificate.steps(place))
                 worse = max if in_proof or bounds.goal.maximise else min
-                values[place] = worse((value for child in below
-                                       if (value := values[child]) is not None), default=None)
+                values[place] = worse((value for child in below if (value := values[child]) is not None), default=None)
     return values

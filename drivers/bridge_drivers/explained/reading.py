@@ -18,22 +18,21 @@ class Node:
     number among the leaves; `size` and `leaves` count what is below it, itself among it."""
 
     __slots__ = ("kind", "line", "parent", "part", "depth", "column", "at", "pairs", "leaf",
-                 "size", "leaves", "deepest")
+                 "size", "leaves")
 
     def __init__(self, kind: str, line: int, parent: int, part: int, depth: int) -> None:
         self.kind, self.line, self.parent, self.part, self.depth = kind, line, parent, part, depth
         self.column, self.at = -1, ""
         self.pairs: list[tuple[int, str]] = []
-        self.leaf, self.size, self.leaves, self.deepest = -1, 1, 0, depth
+        self.leaf, self.size, self.leaves = -1, 1, 0
 
     def is_leaf(self) -> bool:
         return self.kind in (DUALS, WEIGHTS)
 
 
 class Certificate(NamedTuple):
-    """`objective` is None under `infeasible`; `numbers` are those of the claim's line; `point` and
-    `ray` have the values that are not 0, None where the claim has none; `nodes` are in prefix
-    order."""
+    """`objective` is None under `infeasible`; `numbers` are those of the claim's line; `point` and `ray` have the
+    values that are not 0, None where the claim has none; `nodes` are in prefix order."""
 
     claim: str
     objective: int | None
@@ -126,5 +125,4 @@ def tree_from(lines: Lines) -> list[Node]:
             above = nodes[node.parent]
             above.size += node.size
             above.leaves += node.leaves
-            above.deepest = max(above.deepest, node.deepest)
     return nodes

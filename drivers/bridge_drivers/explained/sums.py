@@ -38,8 +38,7 @@ def both(value: Fraction) -> str:
     if value.denominator == 1:
         return str(value)
     text = short(value)
-    return str(value) if text == BEYOND else \
-        f"{value} {text}" if text.startswith(ABOUT) else f"{value} = {text}"
+    return str(value) if text == BEYOND else f"{value} {text}" if text.startswith(ABOUT) else f"{value} = {text}"
 
 
 def terms_of(bounds: Bounds, wording: Wording, place: int, part: Part) -> Iterator[Term]:

@@ -1,5 +1,4 @@
-"""A certificate in words: what it claims, what its tree is made of, where and by how much it does
-not hold."""
+"""A certificate in words: what it claims, what its tree is made of, where and by how much it does not hold."""
 
 from __future__ import annotations
 
@@ -13,7 +12,7 @@ from ..names import Names
 from ..printable import some
 from ..values import double_of, exact_decimal
 from ..verdicts import Said, decimal, share
-from .bounds import Bounds, Part
+from .bounds import Bounds
 from .reading import LEMMA, PLANE, SPLIT, WEIGHTS, Certificate, Node
 
 MOST_TERMS = 6                  # of a form that is told
@@ -67,8 +66,7 @@ class Wording:
     """Names of a model in the sentences of one certificate. `bounds` are None where the program
     could not be read in exact numbers."""
 
-    def __init__(self, certificate: Certificate, names: Names, bounds: Bounds | None,
-                 constraints: int) -> None:
+    def __init__(self, certificate: Certificate, names: Names, bounds: Bounds | None, constraints: int) -> None:
         self.certificate, self.names, self.bounds = certificate, names, bounds
         self.constraints = constraints
 
@@ -131,14 +129,10 @@ class Wording:
             return f"{how}: {self.left_side(node)} {at}"
         return f"{self.left_side(node)} {at}" + (" (plane)" if node.kind == PLANE else "")
 
-    def path(self, place: int) -> list[str]:
+    def path(self, place: int, with_lines: bool = True) -> list[str]:
         """The cuts from the root to a node, each with its line."""
-        return [f"{self.cut(node, part)} (line {node.line})"
+        return [self.cut(node, part) + (f" (line {node.line})" if with_lines else "")
                 for node, part in self.certificate.steps(place)]
-
-    def cuts(self, place: int) -> list[str]:
-        """The same without lines."""
-        return [self.cut(node, part) for node, part in self.certificate.steps(place)]
 
     # what holds ----------------------------------------------------------------------
 
@@ -158,15 +152,13 @@ class Wording:
         t = tally(c, self.constraints)
         told.append(f"tree      {counted(t.nodes, 'node')}: {counted(t.splits, 'split')}, "
                     f"{counted(t.planes, 'plane')}, {counted(t.lemmas, 'lemma')}, "
-                    f"{t.leaves} {'leaf' if t.leaves == 1 else 'leaves'} ({t.weights} by weights); "
-                    f"depth {t.depth}")
+                    f"{t.leaves} {'leaf' if t.leaves == 1 else 'leaves'} ({t.weights} by weights); depth {t.depth}")
         return told + self.rows_lines(t)
 
     def rows_lines(self, t: Tally) -> list[str]:
         """Which rows the leaves use, and how often."""
         used = sorted(t.rows.items(), key=lambda item: (-item[1], item[0]))
-        told = [f"uses      {self.row(i)} in {times} of {t.leaves} leaves"
-                for i, times in used[:MOST_LISTED]]
+        told = [f"uses      {self.row(i)} in {times} of {t.leaves} leaves" for i, times in used[:MOST_LISTED]]
         if len(used) > MOST_LISTED:
             told.append(f"uses      {len(used) - MOST_LISTED} more constraints")
         if t.added:
@@ -183,107 +175,86 @@ class Wording:
 
     def failure(self, verdict: str) -> list[str]:
         """Why the verdict is none of the claim, and by how much."""
-        found = FAULT.fullmatch(verdict)
-        if found is not None:
-            place = self.certificate.place_of_leaf(int(found.group(1)))
-            node = self.certificate.nodes[place]
-            told = [f"fails     leaf {node.leaf} (line {node.line}): {self.fault(place, found)}"]
-            cuts = self.path(place)
-            return told + [f"path      {k + 1}. {text}" for k, text in enumerate(cuts)] + (
-                [] if cuts else ["path      it is the whole tree"])
-        found = POINT_FAULT.fullmatch(verdict)
-        if found is not None and self.bounds is not None:
-            return ["fails     " + self.point_fault(*found.groups())]
-        found = WIDE.fullmatch(verdict)
-        if found is not None:
-            return ["fails     " + self.wide(*found.groups())]
-        if verdict == "ray does not improve" and self.bounds is not None:
-            return ["fails     along the ray the objective changes by "
-                    f"{self.bounds.change(self.certificate.ray or {})}, which is no better"]
-        return ["fails     " + verdict]
+        place, found = self.failing_leaf(verdict), FAULT.fullmatch(verdict)
+        if place is None or found is None:
+            return ["fails     " + self.at_point(verdict)]
+        node = self.certificate.nodes[place]
+        cuts = [f"path      {k}. {text}" for k, text in enumerate(self.path(place), 1)]
+        return [f"fails     leaf {node.leaf} (line {node.line}): {self.fault(place, found)}",
+                *(cuts or ["path      it is the whole tree"])]
 
-    def wide(self, ray: str | None, kind: str | None, number: str | None) -> str:
-        what = "the objective" if number is None else \
-            self.row(int(number)) if kind == "row" else self.names.variable(int(number))
-        where = "along the ray" if ray else "at the point"
-        return f"a sum of {what} {where}, or a side of it, passes 128 bits: numbers with fewer " \
-               "digits are wanted"
+    def thing(self, kind: str, number: int, place: int = -1) -> str:
+        return self.row(number, place) if kind == "row" else self.names.variable(number)
+
+    def at_point(self, verdict: str) -> str:
+        """What is wrong at the point, or along the ray."""
+        wide, found = WIDE.fullmatch(verdict), POINT_FAULT.fullmatch(verdict)
+        if wide is not None:
+            ray, kind, number = wide.groups()
+            what = "the objective" if number is None else self.thing(kind, int(number))
+            where = "along the ray" if ray else "at the point"
+            return f"a sum of {what} {where}, or a side of it, passes 128 bits: numbers with fewer digits are wanted"
+        if found is not None and self.bounds is not None:
+            return self.point_fault(self.bounds, *found.groups())
+        if verdict == "ray does not improve" and self.bounds is not None:
+            change = self.bounds.change(self.certificate.ray or {})
+            return f"along the ray the objective changes by {change}, which is no better"
+        return verdict
 
     def fault(self, place: int, found: re.Match[str]) -> str:
         _, gap, value, wide, kind, number = found.groups()
-        if gap:
-            return self.gap(place, Fraction(value))
         if wide:
             return "a sum passes 128 bits: numbers with fewer digits are wanted"
-        return self.no_side(place, kind, int(number))
+        return self.gap(place, Fraction(value)) if gap else self.no_side(place, kind, int(number))
 
     def gap(self, place: int, value: Fraction) -> str:
         if self.certificate.nodes[place].kind == WEIGHTS:
-            return (f"its weights show {value}, and contradict each other only above 0: "
-                    f"{decimal(-value)} too little")
-        part = self.part(place)
-        shows = f"its duals show that {{}} is better than {value}"
-        if part is None or part.goal.target is None:
-            return shows.format("no point") + ", which is not what is claimed"
-        goal, what = part.goal, "no point of this part"
-        wanted = f"the lemma of line {goal.lemma} needs" if goal.lemma else "the claim needs"
-        assert goal.target is not None
+            return (f"its weights show {value}, and contradict each other only above 0: {decimal(-value)} too little")
+        goal = None if self.bounds is None else self.bounds.part(place).goal
+        if goal is None or goal.target is None:
+            return f"its duals show that no point is better than {value}, which is not what is claimed"
+        who = f"the lemma of line {goal.lemma} needs" if goal.lemma else "the claim needs"
         away = abs(value - goal.target)
-        sense = "too high" if goal.maximise else "too low"
-        return (f"{shows.format(what)}, and {wanted} {goal.target}: {decimal(away)}"
-                f"{share(away, goal.target)} {sense}")
-
-    def part(self, place: int) -> Part | None:
-        return None if self.bounds is None else self.bounds.part(place)
+        return (f"its duals show that no point of this part is better than {value}, and {who} "
+                f"{goal.target}: {decimal(away)}{share(away, goal.target)} too {'high' if goal.maximise else 'low'}")
 
     def no_side(self, place: int, kind: str, number: int) -> str:
-        what = self.row(number, place) if kind == "row" else self.names.variable(number)
-        part = self.part(place)
-        if part is None or self.bounds is None:
+        what, bounds = self.thing(kind, number, place), self.bounds
+        if bounds is None:
             return f"a number asks for a side that {what} has not"
+        part = bounds.part(place)
         if kind == "row":
             value = Fraction(dict(self.certificate.nodes[place].pairs)[number])
-            said = f"the number {value} of {what} asks for its"
+            said, thing = f"the number {value} of {what} asks for its", "side"
         else:
-            value = self.bounds.left(place, part)[1].get(number, Fraction(0))
-            said = f"the numbers leave {what} the cost {value}, which asks for its"
-        side = "lower" if self.bounds.is_lower(place, part, value) else "upper"
-        thing = "side" if kind == "row" else "bound"
+            value = bounds.left(place, part)[1].get(number, Fraction(0))
+            said, thing = f"the numbers leave {what} the cost {value}, which asks for its", "bound"
+        side = "lower" if bounds.is_lower(place, part, value) else "upper"
         return f"{said} {side} {thing}, and there is none"
 
-    def point_fault(self, ray: str | None, kind: str, text: str, how: str) -> str:
-        assert self.bounds is not None
+    def point_fault(self, bounds: Bounds, ray: str | None, kind: str, text: str, how: str) -> str:
         number = int(text)
-        what = self.row(number) if kind == "row" else self.names.variable(number)
-        values = (self.certificate.ray if ray else self.certificate.point) or {}
-        if how == "not whole":
-            value = values.get(number, Fraction(0))
-            return f"{what} is {value} at the point, {decimal(abs(round(value) - value))} from " \
-                   "a whole number"
+        what, point = self.thing(kind, number), (self.certificate.ray if ray else self.certificate.point) or {}
         if kind == "row":
-            value, row = self.bounds.activity(number, values), self.bounds.row(number)
+            value, row = bounds.activity(number, point), bounds.row(number)
             ends = row.low, row.high
         else:
-            value, ends = values.get(number, Fraction(0)), self.bounds.ends(number)
+            value, ends = point.get(number, Fraction(0)), bounds.ends(number)
+        if how == "not whole":
+            return f"{what} is {value} at the point, {decimal(abs(round(value) - value))} from a whole number"
         if ray:
             return f"{what} changes by {value} along the ray, past a side that it has"
-        low, high = ends
-        if low is not None and value < low:
-            return f"{what} is {value} at the point, and at least {low}: {decimal(low - value)} " \
-                   "too little"
-        assert high is not None
-        return f"{what} is {value} at the point, and at most {high}: {decimal(value - high)} " \
-               "too much"
+        is_below = ends[0] is not None and value < ends[0]
+        end = ends[0] if is_below else ends[1]
+        assert end is not None
+        return f"{what} is {value} at the point, and at {'least' if is_below else 'most'} {end}: " \
+               f"{decimal(abs(value - end))} too {'little' if is_below else 'much'}"
 
 
 def claim_words(certificate: Certificate, said: Said | None, bounds: Bounds | None) -> str:
     """The claim, where it holds or not."""
-    maximise = bounds.model.maximise if bounds is not None else False
-    if said is None:
-        said = claimed(certificate, bounds)
-    if said is None:
-        return certificate.claim
-    return verdicts.in_words(said, maximise)
+    said = said or claimed(certificate, bounds)
+    return certificate.claim if said is None else verdicts.in_words(said, bounds is not None and bounds.model.maximise)
 
 
 def claimed(certificate: Certificate, bounds: Bounds | None) -> Said | None:
