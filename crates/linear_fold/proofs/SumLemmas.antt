@@ -1,5 +1,5 @@
 -- Sums of parts: the order of two, their signs, and running sums over the end of a stack.
-use Rattle.std.proofs.Common.{◌≡◌, ◌≢◌, ℕ, zero, suc, ◌+◌, ◌*◌, ◌-◌, ◌<◌, ◌≤◌, ◌/◌, ◌==◌, ◌∙◌, sym, ap, ap₂, refl, subst, subst₂, arith, Bool, get_or, true, false, if◌then◌else◌, ◌&&◌, ℤ, pos, ◌+ℤ◌, ◌*ℤ◌, neg_ℤ, unsigned_abs, Result, Ok, Err, Some, List, [], ◌∷◌, ◌++◌, map, length, reverse, take, length-append, ⊎_elim}
+use Rattle.std.proofs.Common.{◌≡◌, ◌≢◌, ℕ, zero, suc, ◌+◌, ◌*◌, ◌-◌, ◌<◌, ◌≤◌, ◌/◌, ◌==◌, ◌∙◌, sym, ap, ap₂, refl, subst, subst₂, arith, Bool, get_or, true, false, if◌then◌else◌, ◌&&◌, ℤ, pos, negsuc, ◌+ℤ◌, ◌*ℤ◌, neg_ℤ, unsigned_abs, Result, Ok, Err, Some, List, [], ◌∷◌, ◌++◌, map, length, reverse, take, length-append, ⊎_elim}
 use Rattle.std.proofs.lemmas.List.{reverse-append, take-take, take_all}
 use Rattle.std.proofs.Math.Bool.{and-true}
 use Rattle.std.proofs.Math.Seq.{take-append_seam}
