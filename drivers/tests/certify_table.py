@@ -20,8 +20,8 @@ The models, from two packages of Debian (examples of the one, samples of the oth
 The first makes text .nl files of them, as GLPK reads them, by `bridge import`; MPS files need no
 such, as /usr/share/coin/Data/Sample/*.mps. The second runs
 `bridge-certify` with that limit for the solver, and again for the search: lines come in the order
-of the files, with processor seconds of all processes and of the search alone. Needs BRIDGE (or the
-program of the gate), glpsol, cbc and CLP's library.
+of the files, with processor seconds of all processes and of the driver itself, and the MB that this
+one had. Needs BRIDGE (or the program of the gate), glpsol, cbc and CLP's library.
 """
 
 from __future__ import annotations
@@ -34,9 +34,10 @@ import sys
 import tempfile
 import threading
 import time
+from collections import Counter
 from concurrent.futures import ThreadPoolExecutor
 from fractions import Fraction
-from typing import NamedTuple
+from typing import Dict, Iterable, NamedTuple
 
 HERE = os.path.dirname(os.path.abspath(__file__))
 sys.path[:0] = [os.path.join(HERE, ".."), HERE]
@@ -50,7 +51,16 @@ from bridge_drivers.subjects import subject             # noqa: E402
 SOURCES = ("/usr/share/doc/glpk-utils/examples/*.mod", "/usr/share/doc/glpk-utils/examples/*.mps",
            "/usr/share/coin/Data/Sample/*.mps")
 HEAD = ("model", "columns", "whole", "rows", "plan", "nodes", "pairs", "digits", "bytes",
-        "seconds", "clock", "search", "line")
+        "seconds", "clock", "search", "memory", "line")
+SETTLED = ("optimal", "infeasible", "unbounded")
+RUN = """
+import resource, runpy, sys
+sys.argv[:] = sys.argv[1:]
+try:
+    runpy.run_path(sys.argv[0], run_name="__main__")
+finally:
+    print(resource.getrusage(resource.RUSAGE_SELF).ru_maxrss // 1024, flush=True)
+"""
 NODES = ("split", "plane", "lemma", "duals", "weights")
 READ_SECONDS = 60               # of glpsol, for one model
 MARGIN = 120                    # seconds beyond both limits
@@ -173,48 +183,58 @@ def line(bridge: list[str], path: str, seconds: str, folder: str) -> list[str]:
     certificate = os.path.join(folder, name + ".certificate")
     program = os.path.join(HERE, "..", "bin", "bridge-certify")
     words = [f"timelim={seconds}", "stats=1", "certificate=" + certificate]
-    told, spent, clock = ended([sys.executable, program, path, *words],
+    told, spent, clock = ended([sys.executable, "-c", RUN, program, path, *words],
                                2 * float(seconds) + MARGIN)
-    plan, search = "", ""
+    plan = search = memory = ""
+    if told[-1].isdigit():
+        memory = told.pop()
     if os.path.exists(certificate):
         plan, _, search = told.pop().rpartition("; ")
         plan, search = plan.partition(",")[0], search.split(" ")[0]
     return [name, *shape(bridge, path), plan, *figures(certificate), f"{spent:.1f}", f"{clock:.1f}",
-            search, told[-1]]
+            search, memory, told[-1]]
 
 
 # for the page ------------------------------------------------------------------------
 
 
-def summary(rows: list[dict[str, str]]) -> list[str]:
-    """Models by the kind of their last line; those by name that are not proved exactly."""
-    kinds: dict[str, list[dict[str, str]]] = {}
-    for row in rows:
-        words = row["line"].split()
-        kinds.setdefault("not proved" if words[0] == "not" else words[0], []).append(row)
-    out = ["| last line | models |", "|---|---|"]
-    out += [f"| `{kind}` | {len(found)} |" for kind, found in sorted(kinds.items())]
-    rest = [row for kind in ("within", "bound", "feasible", "not proved")
-            for row in kinds.get(kind, [])]
-    others = [row for kind in kinds for row in kinds[kind]
-              if kind not in ("optimal", "infeasible", "unbounded") and row not in rest]
-    if rest + others:
-        out += ["", "| left | columns (whole) | rows | what is known |", "|---|---|---|---|"]
-        out += [f"| {row['model']} | {row['columns']} ({row['whole']}) | {row['rows']} "
-                f"| {row['line']} |" for row in rest + others]
-    return out
+Row = Dict[str, str]
 
 
-def largest(rows: list[dict[str, str]], count: int = 8) -> list[str]:
-    """Of the exact ones the texts with the most nodes."""
-    exact = [row for row in rows if row["line"].split()[0] in ("optimal", "infeasible")
-             and row["nodes"]]
-    exact.sort(key=lambda row: -int(row["nodes"]))
-    out = ["| model | columns (whole) | rows | nodes | bytes | seconds | last line |",
-           "|---|---|---|---|---|---|---|"]
-    return out + [f"| {row['model']} | {row['columns']} ({row['whole']}) | {row['rows']} "
-                  f"| {row['nodes']} | {row['bytes']} | {row['seconds']} | `{row['line']}` |"
-                  for row in exact[:count]]
+def table(heads: list[str], lines: Iterable[Iterable[object]]) -> None:
+    print("\n".join([f"| {' | '.join(heads)} |", "|---" * len(heads) + "|",
+                     *(f"| {' | '.join(map(str, line))} |" for line in lines)]))
+
+
+def shown(rows: list[Row], heads: list[str]) -> None:
+    """Each model with its last line, long numbers as doubles."""
+    def cell(row: Row, head: str) -> str:
+        if head == "columns (whole)":
+            return f"{row['columns']} ({row['whole']})"
+        if head != "last line":
+            return row[head]
+        return "`" + " ".join(
+            word if len(word) < 16 or not word[-1].isdigit()
+            else f"{float(Fraction(word)):.10g}.." for word in row["line"].split()) + "`"
+    table(heads, ([cell(row, head) for head in heads] for row in rows))
+
+
+def readme(tables: list[str], count: int = 8) -> None:
+    """Models by the kind of their last line; those that are not proved exactly; of the others the
+    texts with the most nodes."""
+    rows = read(tables)
+    kinds = Counter(" ".join(row["line"].split()[:1 + row["line"].startswith("not ")])
+                    for row in rows)
+    print(f"{len(rows)} models.\n")
+    table(["last line", "models"], ((f"`{kind}`", n) for kind, n in sorted(kinds.items())))
+    exact = [row for row in rows if row["line"].split()[0] in SETTLED]
+    print()
+    shown([row for row in rows if row not in exact],
+          ["model", "columns (whole)", "rows", "last line"])
+    print()
+    exact.sort(key=lambda row: -int(row["nodes"] or 0))
+    shown(exact[:count], ["model", "columns (whole)", "rows", "nodes", "bytes", "seconds",
+                          "last line"])
 
 
 def read(tables: list[str]) -> list[dict[str, str]]:
@@ -228,16 +248,8 @@ def read(tables: list[str]) -> list[dict[str, str]]:
 
 
 def sizes(tables: list[str]) -> None:
-    """Each model with its last line, long numbers as doubles."""
-    heads = ["model", "columns (whole)", "rows", "nodes", "bytes", "seconds", "clock", "search",
-             "last line"]
-    print(f"| {' | '.join(heads)} |\n|{'---|' * len(heads)}")
-    for row in read(tables):
-        told = " ".join(word if len(word) < 16 or not word[-1].isdigit()
-                        else f"{float(Fraction(word)):.10g}.." for word in row["line"].split())
-        print(f"| {row['model']} | {row['columns']} ({row['whole']}) | {row['rows']} "
-              f"| {row['nodes']} | {row['bytes']} | {row['seconds']} | {row['clock']} "
-              f"| {row['search']} | `{told}` |")
+    shown(read(tables), ["model", "columns (whole)", "rows", "nodes", "bytes", "seconds", "search",
+                         "memory", "last line"])
 
 
 def seeds(tables: list[str]) -> None:
@@ -245,20 +257,15 @@ def seeds(tables: list[str]) -> None:
     rows = read(tables)
     found = {row["model"][:-1]: [r for r in rows if r["model"][:-1] == row["model"][:-1]]
              for row in rows}
-    heads = ["family", "models", "proved", "nodes", "bytes", "seconds", "clock", "left"]
-    print(f"| {' | '.join(heads)} |\n|{'---|' * len(heads)}")
+    lines = []
     for name, group in [*found.items(), ("all", rows)]:
-        left = [r for r in group if r["line"].split()[0] not in ("optimal", "infeasible")]
-        sums = [sum(float(r[head] or 0) for r in group)
-                for head in ("nodes", "bytes", "seconds", "clock")]
-        told = ", ".join(f"`{r['line']}`" for r in left) if name != "all" else ""
-        print(f"| {name} | {len(group)} | {len(group) - len(left)} | {sums[0]:.0f} | {sums[1]:.0f} "
-              f"| {sums[2]:.1f} | {sums[3]:.0f} | {told} |")
-
-
-def readme(tables: list[str]) -> None:
-    rows = read(tables)
-    print("\n".join([f"{len(rows)} models.", "", *summary(rows), "", *largest(rows)]))
+        left = [r for r in group if r["line"].split()[0] not in SETTLED]
+        nodes, size, seconds = (sum(float(r[head] or 0) for r in group)
+                                for head in ("nodes", "bytes", "seconds"))
+        told = ", ".join(f"{r['model']} `{r['line']}`" for r in left) if name != "all" else ""
+        lines.append((name, len(group), len(group) - len(left), f"{nodes:.0f}", f"{size:.0f}",
+                      f"{seconds:.1f}", told))
+    table(["family", "models", "proved", "nodes", "bytes", "seconds", "left"], lines)
 
 
 def main() -> None:

@@ -40,7 +40,7 @@ class Step(NamedTuple):
 
 
 def is_small(p: Model) -> bool:
-    return p.m <= MOST_ROWS and sum(map(len, p.rows)) + p.n <= MOST_NUMBERS
+    return p.m <= MOST_ROWS and p.terms.count() + p.n <= MOST_NUMBERS
 
 
 class Simplex:
