@@ -155,6 +155,15 @@ class Programs(Case):
         self.assertGreater(closed, 20)
 
     @NEEDS_CLP
+    def test_whole_equations_that_nearly_depend(self) -> None:
+        """Where no search in doubles closes, the relaxation in fractions does."""
+        for model in models(10):
+            if model.name.startswith("whole_singular"):
+                for claim in ("infeasible", "nothing"):
+                    verdict = certified(self.work(model.text(), False), claim)
+                    self.assertEqual(verdict.line, f"optimal {model.best}", (model.name, claim))
+
+    @NEEDS_CLP
     def test_linear_ones_without_an_answer(self) -> None:
         """What is true of them, as where a solver stopped without a point."""
         for name, line in (("product", "optimal 19"), ("thirds", "optimal 1/3"),

@@ -223,6 +223,9 @@ class Claims(Case):
         self.assertIn("objective 250/13 (integer variables relaxed)", self.sol().message[0])
         if HAS_CLP:
             self.assertRegex(line, r"^bound \S+$")
+            run["files"]["answer.sol"][7] = "c0 = -24/13"       # shows no bound: others do
+            self.assertEqual(self.last("esolver", "knap", "relax=1", run=run), line)
+            self.assertAlmostEqual(float(self.sol().duals[0]), 24 / 13)
             self.assertRegex(self.last("cbc", "knap", "bound=1"), "^(within 19|optimal) 17$")
 
     def test_without_clp(self) -> None:

@@ -33,6 +33,7 @@ class Contradicting(Judging):
                 yield from self.where_it_fits(self.by_simplex)
             yield self.contradiction()
         except (NoClp, Stopped) as fault:
+            yield from self.in_the_end()
             yield Verdict(f"{WITHOUT}{fault}")
         except Better as better:
             yield from self.from_point(better.point)
@@ -60,20 +61,34 @@ class Contradicting(Judging):
 
     # in whole numbers --------------------------------------------------------------
 
+    def in_the_end(self) -> Iterator[Verdict]:
+        """Of a small integer program whose search ends without a tree, in the time that is left:
+        what its relaxation has in fractions."""
+        if self.linear or not simplex.is_small(self.model):
+            return
+        try:
+            for verdict in self.where_it_fits(self.by_simplex):
+                yield verdict._replace(duals={})
+        except Stopped:
+            pass
+
     def by_simplex(self, given: Given = Given()) -> Iterator[Verdict]:
-        """What is true of a small linear program, from the basis that is given."""
+        """What is true of a small linear program, from the basis that is given; of an integer one
+        where the point is whole, or there is none."""
         p = self.model
         self.watch.progress.tell("the simplex method in fractions")
         ended = self.settled(given)
-        if ended.claim == "unbounded" and ended.point is not None:
+        is_point = ended.point is not None and p.fits(ended.point)
+        if ended.claim == "unbounded" and is_point:
             yield self.without_end(ended.point, ended.ray)
         is_infeasible = ended.claim == "infeasible"
         leaf = Closer(p, None).of_fractions(ended.rows, is_infeasible)
         if is_infeasible:
             yield self.one_leaf(leaf, "infeasible", None)
-        if ended.claim == "optimal" and ended.point is not None:
-            self.know_point(ended.point)
+        if ended.claim == "optimal":
             self.know_leaf(leaf)
+        if ended.claim == "optimal" and is_point:
+            self.know_point(ended.point)
             yield from self.at_optimum(ended.point, leaf)
 
     def settled(self, given: Given) -> simplex.Ended:

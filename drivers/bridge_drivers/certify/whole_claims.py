@@ -57,15 +57,16 @@ class WholeClaims(LinearClaims):
     def without_exact(self, x: Sequence[float | Fraction], by: Fraction) -> Verdict:
         """Where no exact point has the answer's whole variables, which miss rows by that share: a
         contradiction, or whatever the search finds. An answer that breaks rows by rounding alone
-        is meant, but for planes of whole numbers: only with `proves` more is tried, and no worse
-        point takes its place."""
+        is meant, but for planes of whole numbers and a relaxation whose optimum is whole: only with
+        `proves` more is tried, and no worse point takes its place."""
         p, verdict = self.model, Verdict(WITHOUT + NO_EXACT)
         if 0 < by <= ROUNDING:
             verdict = Verdict(f"{WITHOUT}rows of whole variables are missed by {float(by):.2g} of "
                               "their largest term, which is rounding")
         is_asked, are_whole = self.proves or self.contradicted or not by, p.scale == p.unit == 1
-        found = self.best(self.infeasible() if is_asked else self.planes() if are_whole else
-                          iter(()))
+        found = self.best(self.infeasible() if is_asked else itertools.chain(
+            self.planes() if are_whole else (),
+            (end for end in self.in_the_end() if end.claim() == "optimal")))
         is_worse = found.point is not None and found.claim() != "optimal" and \
             p.value(found.point) > p.value([Fraction(v) for v in x])
         if found.is_proved() and (self.contradicted or not is_worse):
@@ -85,6 +86,7 @@ class WholeClaims(LinearClaims):
         if plans.best is not None:
             yield self.by_tree(plans.best, point)
         told = plans.told() or [str(NoClp())]
+        yield from self.in_the_end()
         if self.proves or self.bounded:
             self.know_root()
         yield from self.told()
@@ -145,6 +147,7 @@ class WholeClaims(LinearClaims):
         else:
             if self.relaxation()[1] is State.INFEASIBLE:
                 yield from self.infeasible()
+            yield from self.in_the_end()
             self.know_root()
         self.know_trivial()
         yield from self.told()
