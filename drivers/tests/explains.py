@@ -11,12 +11,11 @@ import xml.etree.ElementTree as xml
 from fractions import Fraction as F
 
 import reports
-from support import NEEDS_PROGRAM, PROGRAM, Case, content
+from support import NEEDS_PROGRAM, Case, bridge, content
 from models import MODELS, text_of as model_text
 from tables import rows_of
 
 from bridge_drivers import BridgeError, interface
-from bridge_drivers.bridge import Bridge
 from bridge_drivers.explained import reading, sums
 from bridge_drivers.explained.command import Explaining, Files
 from bridge_drivers.inputs import Input
@@ -98,11 +97,10 @@ class Explained(Case):
     def object(self, name: str = "knap", words: str = "example knap.certificate") -> Explaining:
         self.put(model(name))
         self.put(certificate(words), ".certificate")
-        bridge = Bridge(PROGRAM, lambda argv: None)
         files = Files(self.stub + ".nl", self.stub + ".certificate")
-        reply = bridge.call("verify", *files[:2])
+        reply = bridge().call("verify", *files[:2])
         given = Input(files.model, files.model, self.stub, False)
-        return Explaining(Subject(bridge, given, given.path), files,
+        return Explaining(Subject(bridge(), given, given.path), files,
                           reply.out.decode().strip(), reply.status == 0)
 
     def test_lines(self) -> None:

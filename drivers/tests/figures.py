@@ -5,7 +5,7 @@ from __future__ import annotations
 import unittest
 from fractions import Fraction as F
 
-from support import NEEDS_PROGRAM, PROGRAM, Case
+from support import NEEDS_PROGRAM, Case, bridge
 from tables import rows_of
 
 from bridge_drivers import importing, stats
@@ -27,8 +27,7 @@ class Importing(Case):
     def test_against_the_program(self) -> None:
         """The kinds of the .nl are those of the names, and so are the bounds."""
         self.put(TEXTS["kinds"], ".mps")
-        bridge = Bridge(PROGRAM, lambda argv: None)
-        line = importing.imported(bridge, self.stub + ".mps", self.stub + ".nl")
+        line = importing.imported(bridge(), self.stub + ".mps", self.stub + ".nl")
         self.assertEqual(line, f"{self.stub}.nl is written, with the names of 2 constraints and 6 "
                                f"variables in {self.stub}.row and {self.stub}.col")
         with open(self.stub + ".nl", encoding="ascii") as f:

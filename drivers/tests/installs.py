@@ -6,12 +6,9 @@ import importlib
 import json
 import os
 import re
-import subprocess
-import sys
 import unittest
 
 from support import BIN, DRIVERS, NEEDS_PROGRAM, Case, driven
-from models import MODELS
 
 from bridge_drivers import VERSION
 
@@ -19,19 +16,11 @@ MINIZINC = os.path.join(DRIVERS, "minizinc")
 
 
 class Installing(Case):
-    def install(self, *words: str) -> "subprocess.CompletedProcess[str]":
-        return subprocess.run([sys.executable, os.path.join(DRIVERS, "install"), *words],
-                              capture_output=True, text=True, check=False,
-                              env={**os.environ, "HOME": self.folder})
-
     @NEEDS_PROGRAM
     def test_another_program(self) -> None:
         """It is taken into the folder, and configurations name what can be run; also again."""
         prefix = os.path.join(self.folder, "a prefix")
-        program = self.script("bridge", "echo bad words >&2; exit 3")
-        for words in (["--bridge", program], []):
-            ran = self.install(prefix, *words)
-            self.assertEqual(ran.returncode, 0, ran.stderr)
+        self.calls("installs", "prefix")
         folder = os.path.join(prefix, "share", "minizinc", "solvers")
         self.assertEqual(sorted(os.listdir(folder)), sorted(os.listdir(MINIZINC)))
         for name in os.listdir(folder):
@@ -39,7 +28,6 @@ class Installing(Case):
                 words = json.load(f)["executable"]
             self.assertTrue(os.access(words[0], os.X_OK), words)
             self.assertEqual(words[1:], ["failexit=1", "shortest=1"])
-        self.put(MODELS["knap"].text)
         ended = driven("cbc", self.stub, "-AMPL", "solver=/bin/true", "outlev=2",
                        place=os.path.join(prefix, "bin"), BRIDGE="")
         self.assertIn(os.path.join(prefix, "lib", "bridge-drivers", "bin", "bridge"),

@@ -7,11 +7,11 @@ import shutil
 import unittest
 from fractions import Fraction as F
 
-from support import NEEDS_CLP, NEEDS_MPS, PROGRAM, Case, content, driven
+from support import NEEDS_CLP, NEEDS_MPS, PROGRAM, Case, bridge, content, driven
 from tables import rows_of
 
 from bridge_drivers import kinds, mps_file, solvers
-from bridge_drivers.bridge import Bridge, Refused
+from bridge_drivers.bridge import Refused
 from bridge_drivers.importing import lists_of
 from bridge_drivers.mps_mended import BOM, mended
 from bridge_drivers.mps_text import program_of
@@ -19,10 +19,6 @@ from plain import Plain, random_text
 from mps_models import BLANK, FAULTS, FIXED_TEXT, MODELS
 
 SOLVERS = [name for name in solvers.NAMES if solvers.load(name).place()]
-
-
-def bridge() -> Bridge:
-    return Bridge(PROGRAM, lambda argv: None)
 
 
 class Texts(unittest.TestCase):
@@ -251,9 +247,9 @@ class OlderProgram(Case):
         program = self.script("older", "case $1 in verify_*) echo 'bad words' >&2; exit 3;; esac\n"
                               f"exec {PROGRAM[0]} \"$@\"")
         self.put(FIXED_TEXT.encode(), ".mps")
-        read = mps_file.reading(Bridge([program], lambda argv: None), self.stub + ".mps")
+        read = mps_file.reading(bridge([program]), self.stub + ".mps")
         with self.assertRaises(Refused) as caught:
-            mps_file.judged(Bridge([program], lambda argv: None), self.stub + ".mps", self.folder,
+            mps_file.judged(bridge([program]), self.stub + ".mps", self.folder,
                             read)
         self.assertEqual(caught.exception.line(), "this bridge does not know the command "
                                                   "`verify_mps` (bad words)")

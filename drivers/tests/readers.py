@@ -10,10 +10,9 @@ from unittest import mock
 
 from models import MODELS
 from plain import Plain, random_text
-from support import NEEDS_PROGRAM, PROGRAM, Case
+from support import NEEDS_PROGRAM, Case, bridge
 
 from bridge_drivers import mps_reader, terms
-from bridge_drivers.bridge import Bridge
 from bridge_drivers.certify.model import Model
 from bridge_drivers.miss import Activities, miss
 from bridge_drivers.mps_reader import Text
@@ -22,10 +21,6 @@ from bridge_drivers.mps_text import program_of
 SEEDS = 150
 NEEDS_NUMPY = unittest.skipUnless(terms.numpy(), "no NumPy")
 WIDE = (3, 10 ** 6, 10 ** 40)
-
-
-def bridge() -> Bridge:
-    return Bridge(PROGRAM, lambda argv: None)
 
 
 def over(numbers, unit):

@@ -17,7 +17,7 @@ import tempfile
 import unittest
 from fractions import Fraction as F
 from pathlib import Path
-from typing import Callable, NamedTuple
+from typing import Callable, NamedTuple, Sequence
 from unittest import mock
 
 HERE = os.path.dirname(os.path.abspath(__file__))
@@ -64,6 +64,10 @@ def knows(command: str) -> bool:
 NEEDS_PROGRAM = unittest.skipUnless(knows("verify"), "no bridge that knows `verify`")
 NEEDS_MPS = unittest.skipUnless(knows("verify_mps"), "no bridge that knows `verify_mps`")
 NEEDS_CLP = unittest.skipUnless(HAS_CLP, "no library of CLP")
+
+
+def bridge(program: Sequence[str] = PROGRAM) -> Bridge:
+    return Bridge(list(program), lambda argv: None)
 
 
 class Ended(NamedTuple):
