@@ -78,18 +78,17 @@ class Contradicting(Judging):
         p = self.model
         self.watch.progress.tell("the simplex method in fractions")
         ended = self.settled(given)
-        is_point = ended.point is not None and p.fits(ended.point)
-        if ended.claim == "unbounded" and is_point:
-            yield self.without_end(ended.point, ended.ray)
+        point = ended.point if ended.point is not None and p.fits(ended.point) else None
+        if ended.claim == "unbounded" and point is not None:
+            yield self.without_end(point, ended.ray)
         is_infeasible = ended.claim == "infeasible"
         leaf = Closer(p, None).of_fractions(ended.rows, is_infeasible)
         if is_infeasible:
             yield self.one_leaf(leaf, "infeasible", None)
-        if ended.claim == "optimal":
+        if ended.claim == "optimal" and point is not None:
+            self.know_point(point)
             self.know_leaf(leaf)
-        if ended.claim == "optimal" and is_point:
-            self.know_point(ended.point)
-            yield from self.at_optimum(ended.point, leaf)
+            yield from self.at_optimum(point, leaf)
 
     def settled(self, given: Given) -> simplex.Ended:
         """What is not soon done in whole numbers QSopt_ex has a try at, where it is there."""

@@ -86,9 +86,9 @@ class WholeClaims(LinearClaims):
         if plans.best is not None:
             yield self.by_tree(plans.best, point)
         told = plans.told() or [str(NoClp())]
-        yield from self.in_the_end()
         if self.proves or self.bounded:
             self.know_root()
+        yield from self.in_the_end()
         yield from self.told()
         yield Verdict(WITHOUT + told[-1], point)
 
@@ -147,8 +147,8 @@ class WholeClaims(LinearClaims):
         else:
             if self.relaxation()[1] is State.INFEASIBLE:
                 yield from self.infeasible()
-            yield from self.in_the_end()
             self.know_root()
+            yield from self.in_the_end()
         self.know_trivial()
         yield from self.told()
         yield Verdict(WITHOUT + "there is no point")
