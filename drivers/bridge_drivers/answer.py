@@ -74,8 +74,7 @@ class Answer:
         """Whole columns at the whole numbers that they are near."""
         if not self.whole:
             return values
-        return [self.near_whole(v) if whole else v
-                for v, whole in zip(values, self.program.read.whole)]
+        return [self.near_whole(v) if whole else v for v, whole in zip(values, self.program.read.whole)]
 
     def near_whole(self, value: Number) -> Number:
         if not abs(float(value)) < float("inf"):
@@ -91,12 +90,10 @@ class Answer:
     def notes(self) -> list[str]:
         notes = []
         if self.apart:
-            notes.append(f"{self.apart} integer variables are not within {NEAR_WHOLE:g} of a "
-                         "whole number")
+            notes.append(f"{self.apart} integer variables are not within {NEAR_WHOLE:g} of a whole number")
         loose = self.loose + self.loose_duals
         if loose:
-            notes.append(f"{loose} exact values have no decimal of at most 38 digits; the "
-                         "nearest ones are written")
+            notes.append(f"{loose} exact values have no decimal of at most 38 digits; the nearest ones are written")
         return notes
 
     def without_duals(self) -> Answer:
@@ -110,13 +107,10 @@ class Answer:
         other.given_costs, other.loose_duals = None, 0
         return other
 
-    def at(self, values: Sequence[Number], duals: Mapping[str, Fraction], code: Code,
-           is_own: bool = True) -> Answer:
-        """At other values of columns. Near its own ones its duals, costs and basis still stand, and
-        given duals in their place where they are near all of them; at another point given ones
-        alone."""
-        outcome = replace(self.outcome, values=Named(self.program.columns, values),
-                          objective=None, code=code)
+    def at(self, values: Sequence[Number], duals: Mapping[str, Fraction], code: Code, is_own: bool = True) -> Answer:
+        """At other values of columns. Near its own ones its duals, costs and basis still stand, and given duals in
+        their place where they are near all of them; at another point given ones alone."""
+        outcome = replace(self.outcome, values=Named(self.program.columns, values), objective=None, code=code)
         if not is_own:
             known = {row: duals[row] for row in self.program.constraints if row in duals}
             lacks = len(known) < len(self.program.constraints) or self.is_integer()
@@ -160,8 +154,7 @@ class Answer:
         return Answer(self.program, Outcome(code, self.outcome.text), self.options)
 
     def objective(self) -> str | None:
-        """The objective for the message: the solver's fraction, else a double of 10 digits at
-        the written values."""
+        """The objective for the message: the solver's fraction, else a double of 10 digits at the written values."""
         if self.values is None:
             return None
         figure = self.outcome.objective

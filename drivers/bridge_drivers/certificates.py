@@ -127,8 +127,7 @@ class Certifier:
         if claim == "point" and not self.relaxed and not verdict.is_proved() and size > LARGE:
             stands = self.as_it_stands(work, answer)
             if stands.is_proved():
-                return stands._replace(by_doubles=verdict.by_doubles, note=verdict.note,
-                                       is_open=verdict.is_open)
+                return stands._replace(by_doubles=verdict.by_doubles, note=verdict.note, is_open=verdict.is_open)
         return verdict
 
     def as_it_stands(self, work: Certifying, answer: Answer) -> Verdict:
@@ -152,8 +151,7 @@ class Certifier:
     def numbers(self, answer: Answer) -> tuple[list[str], list[str]]:
         """The values and duals of an answer as they are written."""
         if self.alone:
-            values, duals = (list(part.given) if part is not None else []
-                             for part in (answer.values, answer.duals))
+            values, duals = (list(part.given) if part is not None else [] for part in (answer.values, answer.duals))
         else:
             duals, values = numbers_of(self.returned(answer, [], "numbers"))
         return values, duals if self.linear else []

@@ -14,8 +14,7 @@ BEYOND = {**dict.fromkeys(("SOS", "SOS1", "SOS2", "SETS"), "special ordered sets
           **dict.fromkeys(("QUADOBJ", "QMATRIX", "QSECTION"), "quadratic objectives"),
           "QCMATRIX": "quadratic rows", "CSECTION": "cones", "INDICATORS": "indicator rows",
           "GENCONS": "general constraints", "PWLOBJ": "piecewise-linear objectives",
-          "LAZYCONS": "lazy rows", "USERCUTS": "cuts",
-          "OBJNAME": "objectives that are not the first N row"}
+          "LAZYCONS": "lazy rows", "USERCUTS": "cuts", "OBJNAME": "objectives that are not the first N row"}
 KINDS = ("LO", "UP", "FX", "FR", "MI", "PL", "BV", "LI", "UI")
 BARE = ("FR", "MI", "PL", "BV")         # kinds of bounds that have no number
 PLAIN = {"column again": (0, "the lines of a column must stand together"), "repeated row": (-1, "a line before has it"),

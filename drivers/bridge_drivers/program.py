@@ -1,6 +1,5 @@
-"""The program of an MPS text in the form that `bridge export` writes, which all stages take: its
-names beside what `mps_reader` reads of it. Columns are x0, x1, .. in order, and then perhaps z, the
-tied objective."""
+"""The program of an MPS text in the form that `bridge export` writes, which all stages take: its names beside what
+`mps_reader` reads of it. Columns are x0, x1, .. in order, and then perhaps z, the tied objective."""
 
 from __future__ import annotations
 
@@ -44,12 +43,11 @@ class Objective:
 
 
 class Program:
-    """`read` has all numbers by place. `rows` are the names in order, the objective's first,
-    `kinds` their letters (N, E, L, G); `columns` the names in order, `whole` those that are
-    integer. `objective` are its columns and which numbers, `costs` its coefficients as texts,
-    `objective_rhs` is minus its constant. `names` are those of a file that has its own, with
-    `notes` on what other readers take otherwise; else `is_exported`: `bridge export` wrote it,
-    which scales rows and leaves those without sides out."""
+    """`read` has all numbers by place. `rows` are the names in order, the objective's first, `kinds` their letters (N,
+    E, L, G); `columns` the names in order, `whole` those that are integer. `objective` are its columns and which
+    numbers, `costs` its coefficients as texts, `objective_rhs` is minus its constant. `names` are those of a file that
+    has its own, with `notes` on what other readers take otherwise; else `is_exported`: `bridge export` wrote it, which
+    scales rows and leaves those without sides out."""
 
     def __init__(self, text: bytes, read: Text | None = None, names: Names | None = None,
                  notes: Sequence[str] = ()) -> None:
@@ -67,19 +65,16 @@ class Program:
     @cached_property
     def costs(self) -> dict[str, str]:
         numbers = self.read.numbers
-        return {self.columns[j]: numbers[k].decode() for j, k in zip(*self.objective)
-                if numbers[k] != b"0"}
+        return {self.columns[j]: numbers[k].decode() for j, k in zip(*self.objective) if numbers[k] != b"0"}
 
     def has_objective(self) -> bool:
         """Whether the objective is anything but the constant 0."""
-        return self.objective_rhs != "0" or \
-            any(self.read.numbers[k] != b"0" for k in self.objective.numbers)
+        return self.objective_rhs != "0" or any(self.read.numbers[k] != b"0" for k in self.objective.numbers)
 
     def at(self, x: Sequence[float]) -> Objective:
         """The objective at values of all columns."""
         columns, costs = self.cost_doubles
-        return Objective(-float(self.objective_rhs),
-                         list(map(mul, costs, map(x.__getitem__, columns))))
+        return Objective(-float(self.objective_rhs), list(map(mul, costs, map(x.__getitem__, columns))))
 
     @cached_property
     def cost_doubles(self) -> tuple[array[int], array[float]]:
@@ -115,8 +110,7 @@ class Program:
         """Of the columns."""
         texts = self.read.bounds()
         known = {text: float(text) for part in texts for text in set(part) if text}
-        low, high = ([known.get(text, end) for text in part] for part, end in
-                     zip(texts, (-INFINITE, INFINITE)))
+        low, high = ([known.get(text, end) for text in part] for part, end in zip(texts, (-INFINITE, INFINITE)))
         return low, high
 
     def free_name(self) -> bytes:
@@ -158,7 +152,6 @@ def given(program: Program, relaxed: bool = False) -> Program:
 def hollow(program: Program) -> str | None:
     """A whole column without a whole number between its bounds."""
     for name, low, high in zip(program.columns, *program.read.bounds()) if program.whole else ():
-        if low and high and name in program.whole and \
-                math.floor(exact(high)) < math.ceil(exact(low)):
+        if low and high and name in program.whole and math.floor(exact(high)) < math.ceil(exact(low)):
             return name
     return None

@@ -32,17 +32,15 @@ class At(enum.Enum):
 
 @dataclass(frozen=True)
 class Found:
-    """`said` is what the solver's status says by itself, `is_gap` that it stopped at a gap that was
-    asked for. `claim` is the first word of what is proved of the file. `linear`: without whole
-    variables, or relaxed.
+    """`said` is what the solver's status says by itself, `is_gap` that it stopped at a gap that was asked for. `claim`
+    is the first word of what is proved of the file. `linear`: without whole variables, or relaxed.
 
-    `kind` says what the proved point is beside the answer (nothing: the same up to the digits that
-    are printed), `mended` that its objective is another one all the same, `closes` that the
-    proved bound is at the objective of that point, or of the answer where none is proved, up to
-    1e-6; `within_gap` up to the gap that was asked for. `is_beyond`: the answer is better than the
-    bound. `contradicted`: no point has its whole values. `by_doubles`: its duals in doubles,
-    rounded to the safe side, say the same as `closes`. `is_open`: the time ended before it was
-    known whether there is a ray."""
+    `kind` says what the proved point is beside the answer (nothing: the same up to the digits that are printed),
+    `mended` that its objective is another one all the same, `closes` that the proved bound is at the objective of that
+    point, or of the answer where none is proved, up to 1e-6; `within_gap` up to the gap that was asked for.
+    `is_beyond`: the answer is better than the bound. `contradicted`: no point has its whole values. `by_doubles`: its
+    duals in doubles, rounded to the safe side, say the same as `closes`. `is_open`: the time ended before it was known
+    whether there is a ray."""
 
     said: Code
     claim: str = ""

@@ -21,14 +21,12 @@ CLOSE = Fraction(1, 10 ** 6)    # of the objective: a bound that is at it
 DIGITS = 1e-5               # of values that are the same: a solver may print six digits
 WORDS = {Code.SOLVED: "optimal solution", Code.UNSURE: "feasible solution",
          Code.INFEASIBLE: "infeasible", Code.UNBOUNDED: "unbounded",
-         Code.LIMIT_WITH_POINT: "stopped with a feasible solution",
-         Code.LIMIT: "stopped without a feasible solution"}
+         Code.LIMIT_WITH_POINT: "stopped with a feasible solution", Code.LIMIT: "stopped without a feasible solution"}
 IN_GAP = "solution within the gap that was asked for"
 
 
 class Facts(NamedTuple):
-    """Of a run: what the answer's values miss, the gap that was asked for, and the options that
-    decide on codes."""
+    """Of a run: what the answer's values miss, the gap that was asked for, and the options that decide on codes."""
 
     missed: Miss = NONE
     gap: float = 0.0
@@ -37,9 +35,8 @@ class Facts(NamedTuple):
 
 
 class Settled(NamedTuple):
-    """`text` says the code in words; None where the solver's own words hold. `kind` is what the
-    point is beside the solver's: `a`, `a better`, `another`, nothing where it is the same. `lacks`
-    is what code 0 is not earned for."""
+    """`text` says the code in words; None where the solver's own words hold. `kind` is what the point is beside the
+    solver's: `a`, `a better`, `another`, nothing where it is the same. `lacks` is what code 0 is not earned for."""
 
     code: Code
     answer: Answer
@@ -87,8 +84,7 @@ def found(answer: Answer, verdict: Verdict, facts: Facts, proved: Proved | None)
     share, room = facts.missed.share, OWN if linear else ROUNDING
     kind = proved.kind if proved else ""
     mended = bool(program.whole) and proved is not None and not kind and proved.is_apart
-    misses = Misses.MUCH if facts.missed.is_much() else \
-        Misses.LITTLE if share > room else Misses.NOTHING
+    misses = Misses.MUCH if facts.missed.is_much() else Misses.LITTLE if share > room else Misses.NOTHING
     return Found(
         outcome.code, verdict.claim(), linear, outcome.is_gap, kind, mended,
         said is not None and closes(answer, proved, said),
@@ -151,16 +147,14 @@ def proved_duals(answer: Answer, verdict: Verdict) -> dict[str, Fraction]:
 
 
 def at_point(answer: Answer, verdict: Verdict, proved: Proved, ruling: Ruling) -> Settled:
-    """At the point that was proved. A solver's `optimal` stands beside one that is feasible with
-    the same objective."""
+    """At the point that was proved. A solver's `optimal` stands beside one that is feasible with the same objective."""
     code, own, kind = ruling.code, answer.outcome.code, proved.kind
     duals = proved_duals(answer, verdict) if code == Code.SOLVED else {}
     moved = answer.at(proved.values, duals, code, not kind)
     if ruling.lacks == STRICT:
         return Settled(code, moved, STRICT, kind, ruling.lacks)
     is_own = not kind and (code == own or bool(ruling.lacks) or answer.outcome.is_gap)
-    words = IN_GAP if code == Code.SOLVED and verdict.claim() == "within" and \
-        answer.outcome.is_gap else WORDS[code]
+    words = IN_GAP if code == Code.SOLVED and verdict.claim() == "within" and answer.outcome.is_gap else WORDS[code]
     return Settled(code, moved, None if is_own else words, kind, ruling.lacks)
 
 

@@ -36,9 +36,8 @@ LEAST = 1e-15               # of the largest term: less is not told by doubles
 
 @dataclass
 class Result:
-    """A message, its .sol (None: one without values is to be made), what wantsol prints, the
-    figures of a certificate, and how the message ends. `is_final`: it is what strict=1 wants, or
-    that is not asked for."""
+    """A message, its .sol (None: one without values is to be made), what wantsol prints, the figures of a certificate,
+    and how the message ends. `is_final`: it is what strict=1 wants, or that is not asked for."""
 
     code: Code
     lines: list[str]
@@ -50,9 +49,8 @@ class Result:
 
 
 class Solving:
-    """`nl` is the path of the model's text, `solver_path` that of the solver, `folder` one for
-    files. Of an MPS file no .sol is made, rows and columns are its own, and certificates are judged
-    by `verify_mps` or `verify_fixed`."""
+    """`nl` is the path of the model's text, `solver_path` that of the solver, `folder` one for files. Of an MPS file no
+    .sol is made, rows and columns are its own, and certificates are judged by `verify_mps` or `verify_fixed`."""
 
     make_job = Job
 
@@ -78,8 +76,7 @@ class Solving:
         except Refused as fault:
             return self.refused(fault, form.path)
         if program.whole and not self.solver.integers and not self.options.relax:
-            raise Failure(Code.TAKES_NO_INTEGERS,
-                          f"{self.solver.title} takes no integer variables, and the model has "
+            raise Failure(Code.TAKES_NO_INTEGERS, f"{self.solver.title} takes no integer variables, and the model has "
                           f"{len(program.whole)}; relax=1 drops that they are whole")
         if self.options.only:
             return self.only_written(program)
@@ -92,8 +89,7 @@ class Solving:
         job.read = lambda line: self.solver.said(line, program)
         if self.options.keep:
             job.write("model.mps", program.text)
-        return self.told(job, form.path, self.answered(job),
-                         [*self.model.notes, *form.notes, *program.notes])
+        return self.told(job, form.path, self.answered(job), [*self.model.notes, *form.notes, *program.notes])
 
     def prepared(self, target: str) -> Prepared:
         """The model as the proved program reads it: an MPS file as it stands."""
@@ -102,8 +98,7 @@ class Solving:
             return prepared(self.nl, target, bool(self.options.shortest), is_told)
         if self.options.objno != 1:
             raise Failure(Code.REFUSED, f"{self.model.shown}: objno={self.options.objno}: no such "
-                          "objective: the first N row of an MPS file is its objective, and its "
-                          "only one")
+                          "objective: the first N row of an MPS file is its objective, and its only one")
         return Prepared(self.nl, [])
 
     def exported(self, nl: str) -> Program:
@@ -124,16 +119,14 @@ class Solving:
         line, strict = fault.line(), bool(self.options.strict)
         if fault.told.endswith(": empty interval"):
             return Result(Code.UNSURE if strict else Code.INFEASIBLE,
-                          [f"infeasible: {line}", WITHOUT + "bridge refuses the model for this"],
-                          is_final=not strict)
+                          [f"infeasible: {line}", WITHOUT + "bridge refuses the model for this"], is_final=not strict)
         if fault.told.endswith(": no such objective"):
             line = (f"{self.model.shown}: objno={self.options.objno}: no such objective: the file "
                     f"has {header(nl).objectives}, and objno counts from 1")
         raise Failure(Code.REFUSED, line, Status.REFUSED if fault.status == 2 else Status.FAILED)
 
     def only_written(self, program: Program) -> Result:
-        """With only=mps: the text that the solver reads, beside the model, and how it is called
-        with it."""
+        """With only=mps: the text that the solver reads, beside the model, and how it is called with it."""
         path = f"{self.model.stub}.{self.solver.name}.mps"
         Places([self.nl], bool(self.options.overwrite)).write(path, self.solver.text(
             given(program, bool(self.options.relax))))
@@ -152,8 +145,7 @@ class Solving:
         answer = self.asked_twice(job)
         if answer.outcome.code == Code.INFEASIBLE_OR_UNBOUNDED or answer.missed.is_much():
             other = self.in_another_way(job, of_answer(answer.outcome))
-            if other is not None and other.outcome.code != Code.INFEASIBLE_OR_UNBOUNDED \
-                    and not other.missed.is_much():
+            if other is not None and other.outcome.code != Code.INFEASIBLE_OR_UNBOUNDED and not other.missed.is_much():
                 answer = other
         if answer.outcome.code == Code.INFEASIBLE_OR_UNBOUNDED and self.options.failexit:
             # MiniZinc would say that it is infeasible
@@ -175,24 +167,20 @@ class Solving:
             job.again = again
             job.remove_answers()
             outcome = self.solver.solve(job)
-            answer = Answer(job.program, interrupted(outcome) if job.is_interrupted else outcome,
-                            self.options)
+            answer = Answer(job.program, interrupted(outcome) if job.is_interrupted else outcome, self.options)
             answer.missed                   # a value may be none
             return answer
         except (Unclear, BadValue, LookupError, ValueError, ArithmeticError) as fault:
             if job.is_interrupted:
                 raise Interrupted(signal.SIGINT) from None
-            ended = f"; it was ended by {signal.Signals(-job.status).name}" if job.status < 0 \
-                else ""
-            raise Failure(Code.NO_ANSWER, f"{self.solver.title} gave no usable answer: "
-                                          f"{fault}{ended}") from None
+            ended = f"; it was ended by {signal.Signals(-job.status).name}" if job.status < 0 else ""
+            raise Failure(Code.NO_ANSWER, f"{self.solver.title} gave no usable answer: {fault}{ended}") from None
         except OSError as fault:
             raise Failure(Code.NOT_FOUND, f"{fault.filename or self.solver_path} could not be "
                           f"run or written: {fault.strerror}") from None
 
     def in_another_way(self, job: Job, was: str) -> Answer | None:
-        """None where it was asked so before, or gives no answer. `was` says what the first answer
-        was."""
+        """None where it was asked so before, or gives no answer. `was` says what the first answer was."""
         if job.again or not self.solver.again or job.is_interrupted:
             return None
         try:
@@ -209,8 +197,7 @@ class Solving:
         """What is told first: the solver's words, with what there is to say of them, or others that
         what was proved puts in their place."""
         title = self.solver.named(job.log)
-        line = f"{title}: {self.words(answer.outcome)}{more}" if text is None \
-            else f"{title}, corrected: {text}"
+        line = f"{title}: {self.words(answer.outcome)}{more}" if text is None else f"{title}, corrected: {text}"
         figure = answer.objective()
         if figure is not None:
             line += f"; objective {figure}"
@@ -224,8 +211,7 @@ class Solving:
         outcome, missed = answer.outcome, answer.missed
         lines = [*notes, *outcome.notes, *self.solver.far_notes(job.program)]
         if missed.is_much():
-            lines.append(f"its point misses {certifier.named(missed.name)} by {missed.share:.2g} "
-                         "of the largest term")
+            lines.append(f"its point misses {certifier.named(missed.name)} by {missed.share:.2g} of the largest term")
         try:
             verdict, before = self.verdict(certifier, answer), len(lines)
             if verdict.contradicted and outcome.code == Code.SOLVED:
@@ -248,8 +234,7 @@ class Solving:
         if self.options.outlev and verdict.figures:
             print(f"certificate: {verdict.figures}", flush=True)
         end = certifier.ended(verdict)
-        more = (proved_gap(verdict) if outcome.is_gap else "") + (
-            f" (code 100: {found.lacks})" if found.lacks else "")
+        more = (proved_gap(verdict) if outcome.is_gap else "") + (f" (code 100: {found.lacks})" if found.lacks else "")
         return Result(found.code, [self.headline(job, answer, found.text, more), *lines,
                                    *answer.notes(), *end.lines], sol, answer, verdict.figures, end,
                       not self.options.strict or is_final(verdict))
@@ -275,10 +260,8 @@ class Solving:
         lines.append(self.check_line(certifier, answer, verdict, told))
         return answer, sol
 
-    def returned(self, certifier: Certifier, answer: Answer, lines: list[str],
-                 before: int) -> tuple[Answer, bytes]:
-        """The .sol; without duals, which a line at that place says, where they are too wide for
-        it."""
+    def returned(self, certifier: Certifier, answer: Answer, lines: list[str], before: int) -> tuple[Answer, bytes]:
+        """The .sol; without duals, which a line at that place says, where they are too wide for it."""
         try:
             return answer, certifier.returned(answer, lines)
         except Refused as fault:
@@ -308,16 +291,14 @@ class Solving:
         duals, own = proved_duals(answer, verdict), answer.outcome.duals
         shows = ("yes",) if verdict.claim() == "optimal" else ("yes", "gap")
         if answer.outcome.code != Code.SOLVED or own is None or told.startswith(shows) \
-                or told.endswith(" is broken") or not duals \
-                or all(own[row] == y for row, y in duals.items()):
+                or told.endswith(" is broken") or not duals or all(own[row] == y for row, y in duals.items()):
             return None
         assert answer.outcome.values is not None
         values = in_order(answer.outcome.values, answer.program.columns)
         other = answer.at(values, duals, answer.outcome.code, False)
         return other if other.duals is not None else None
 
-    def check_line(self, certifier: Certifier, answer: Answer, verdict: Verdict,
-                   told: str) -> str:
+    def check_line(self, certifier: Certifier, answer: Answer, verdict: Verdict, told: str) -> str:
         """What the proved program says of the numbers that are passed on. Where these round a
         point that is proved, what they miss is told as rounding."""
         if told.endswith(" is broken"):

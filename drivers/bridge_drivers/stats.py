@@ -169,8 +169,7 @@ def lines_of(f: Figures, factors: dict[str, str], names: Names) -> list[str]:
     kinds = ", ".join(f"{f.columns[kind]} {kind}" for kind in KINDS)
     lost = [f"{text[:45]} ({where})" for where, text in f.lost]
     scaled = [f"{row_name(row, names)} by {factor}" for row, factor in factors.items() if factor != "1"]
-    lines = [f"sense         {sense_line(f)}",
-             f"columns       {sum(map(f.columns.__getitem__, KINDS))}: {kinds}; "
+    lines = [f"sense         {sense_line(f)}", f"columns       {sum(map(f.columns.__getitem__, KINDS))}: {kinds}; "
              f"{f.columns['free']} free, {f.columns['fixed']} fixed",
              f"rows          {len(f.rows())}: {signs}; {len(f.program.read.ranges)} with two sides",
              f"entries       {f.entries} in rows, {f.costs} in the objective",

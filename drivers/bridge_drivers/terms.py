@@ -1,6 +1,5 @@
-"""Terms of rows by place, as arrays: by NumPy where it is there and they are many, in lists else.
-Both give the same numbers: sums of doubles are made in the order of the terms, sums of whole
-numbers are exact."""
+"""Terms of rows by place, as arrays: by NumPy where it is there and they are many, in lists else. Both give the same
+numbers: sums of doubles are made in the order of the terms, sums of whole numbers are exact."""
 
 from __future__ import annotations
 
@@ -49,8 +48,7 @@ class Terms:
         return [sum([a * x[j] for j, a in row]) for row in self.rows]
 
     def without(self, values: List[int], y: Mapping[int, int], by: int = 1) -> List[int]:
-        """Values of columns minus `by` times the sum of rows under multipliers. The values given
-        are lost."""
+        """Values of columns minus `by` times the sum of rows under multipliers. The values given are lost."""
         for i, v in y.items():
             share = v * by
             for j, a in self.rows[i]:
@@ -103,8 +101,7 @@ class Arrays(Terms):
     """The same by NumPy: the k-th term has the coefficient `table[number[k]]` in `row[k]` and
     `column_of[k]`, of `m` rows."""
 
-    def __init__(self, m: int, n: int, row: Any, column: Any, number: Any,
-                 table: Sequence[Any]) -> None:
+    def __init__(self, m: int, n: int, row: Any, column: Any, number: Any, table: Sequence[Any]) -> None:
         self.m, self.n = m, n
         self.row, self.column_of, self.number, self.table = row, column, number, table
         self.parts: List[Tuple[int, Any]] = []
@@ -132,8 +129,7 @@ class Arrays(Terms):
         return [v - by * w for v, w in zip(values, sums)]
 
     def sizes(self, weights: Sequence[int]) -> List[int]:
-        other = Arrays(self.m, self.n, self.row, self.column_of, self.number,
-                       list(map(abs, self.table)))
+        other = Arrays(self.m, self.n, self.row, self.column_of, self.number, list(map(abs, self.table)))
         return other.sums(weights)
 
     def doubles(self) -> Any:
@@ -173,8 +169,7 @@ class Arrays(Terms):
                 found[i].append((place[j], a))
         return list(found.values())
 
-    def chosen(self, part: Any, count: int,
-               wanted: Sequence[int]) -> Iterable[Tuple[int, int, int]]:
+    def chosen(self, part: Any, count: int, wanted: Sequence[int]) -> Iterable[Tuple[int, int, int]]:
         """Rows, columns and coefficients of terms whose place in this part is wanted."""
         np = numpy()
         inside = np.zeros(count, bool)
@@ -210,8 +205,7 @@ class Arrays(Terms):
 
 
 def limbs(x: Sequence[int], bits: int) -> Iterable[Tuple[int, List[int]]]:
-    """Whole numbers as sums of such of so many bits times powers of two, whose exponents stand
-    first."""
+    """Whole numbers as sums of such of so many bits times powers of two, whose exponents stand first."""
     shift, mask = 0, (1 << bits) - 1
     rest = list(x)
     while True:
@@ -229,8 +223,7 @@ def entries_of(entries: Entries, row: int) -> Line:
         columns, numbers = (array("i", [part[at] for at in chosen]) for part in entries[1:])
     else:
         chosen = np.flatnonzero(np.frombuffer(entries[0], np.int32) == row)
-        columns, numbers = (array("i", np.frombuffer(part, np.int32)[chosen].tobytes())
-                            for part in entries[1:])
+        columns, numbers = (array("i", np.frombuffer(part, np.int32)[chosen].tobytes()) for part in entries[1:])
     return Line(columns, numbers)
 
 

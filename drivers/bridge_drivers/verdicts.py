@@ -112,8 +112,7 @@ def better(maximise: bool) -> str:
 
 
 def limit_words(bound: Fraction, maximise: bool, steps: Multiples | None, which: str = "") -> str:
-    """`no point has more than 59.6, and at whole points the objective goes by 1: none has more
-    than 59`."""
+    """`no point has more than 59.6, and at whole points the objective goes by 1: none has more than 59`."""
     more = "more" if maximise else "less"
     text = f"no point has {more} than {which}{decimal(bound)}"
     if steps is not None and steps.beside(bound, maximise) != bound:

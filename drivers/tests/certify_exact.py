@@ -102,8 +102,7 @@ class Programs(Case):
     def work(self, text: bytes, proves: bool = True) -> Certifying:
         self.put(text)
         bridge, path = Bridge(PROGRAM, lambda argv: None), self.stub + ".nl"
-        return Certifying(bridge, path, self.folder, Program(bridge.text("export", path)), 0,
-                          Watch(60.0), proves)
+        return Certifying(bridge, path, self.folder, Program(bridge.text("export", path)), 0, Watch(60.0), proves)
 
     def claim(self, text: bytes, is_there: bool, wanted: str) -> str:
         work = self.work(text)
@@ -137,15 +136,13 @@ class Programs(Case):
 
     @NEEDS_CLP
     def test_doubles_where_solvers_are_misled(self) -> None:
-        """What CLP's point and duals say of nearly singular ones, tiny rays and far ends, where
-        they close, is so."""
+        """What CLP's point and duals say of nearly singular ones, tiny rays and far ends, where they close, is so."""
         closed = 0
         for model in filter(Misleading.is_linear, models(12)):
             work = self.work(model.text())
             work.load()
             p, clp = work.model, work.model.relaxation()
-            if clp.solve() is not State.OPTIMAL or \
-                    not doubles.closes(p, clp.values(), dict(enumerate(clp.duals()))):
+            if clp.solve() is not State.OPTIMAL or not doubles.closes(p, clp.values(), dict(enumerate(clp.duals()))):
                 continue
             closed += 1
             self.assertFalse(model.best is None or model.is_endless, model.name)

@@ -59,8 +59,7 @@ class Fractions(TestCase):
         """Values that are told again from their digits, and ones that have too few."""
         rng = random.Random(3)
         for _ in range(50):
-            wanted = [F(rng.randint(-999, 999), rng.choice((1, 7, 7, 91, 360)))
-                      for _ in range(4)]
+            wanted = [F(rng.randint(-999, 999), rng.choice((1, 7, 7, 91, 360))) for _ in range(4)]
             values = [round(v * 2 ** 80) for v in wanted]
             found = sparse.near(values, 80, 1)
             self.assertEqual([F(v, found.den) for v in found.numbers], wanted)
@@ -69,8 +68,7 @@ class Fractions(TestCase):
     def test_combined(self) -> None:
         for count in (1, 2, 3, 5, 8):
             digits = [[k + 1, -k] for k in range(count)]
-            wanted = [sum(row[c] << 8 * (count - 1 - k) for k, row in enumerate(digits))
-                      for c in (0, 1)]
+            wanted = [sum(row[c] << 8 * (count - 1 - k) for k, row in enumerate(digits)) for c in (0, 1)]
             self.assertEqual(sparse.combined(digits, 8), wanted)
 
 
@@ -80,8 +78,7 @@ class Squares(TestCase):
         """The system and its transpose."""
         rng = random.Random(4)
         for n in (1, 2, 5, 40):
-            rows = [[(j, rng.randint(-50, 50)) for j in range(n) if j == i or rng.random() < 0.2]
-                    for i in range(n)]
+            rows = [[(j, rng.randint(-50, 50)) for j in range(n) if j == i or rng.random() < 0.2] for i in range(n)]
             rows = [[(j, a or 1) for j, a in row] for row in rows]
             square = sparse.Square(sparse.tools(), rows, 20_000)
             side = [rng.randint(-9, 9) for _ in range(n)]
@@ -112,8 +109,7 @@ class Bases(TestCase):
         p = two()
         found = bases.optimum(p, points.Basis([0, 1], [0, 1]), [1.3, 0.04])
         self.assertEqual(found.point, OPTIMUM)
-        self.assertEqual({i: F(y, found.den) for i, y in found.duals.items()},
-                         {0: F(12, 13), 1: F(-10, 13)})
+        self.assertEqual({i: F(y, found.den) for i, y in found.duals.items()}, {0: F(12, 13), 1: F(-10, 13)})
         self.assertEqual(width(found.point), 5)
         for columns, rows, x, why in (([0], [0], [1.3, 0.0], "row 1 is broken"),
                                       ([1], [0], [0.0, 2.0], "column 0 could be better"),
@@ -142,12 +138,10 @@ class Shorts(TestCase):
     def test_bounds(self) -> None:
         p = two()
         self.assertEqual(short.trivial(p), 0)
-        self.assertIsNone(short.trivial(p.with_costs([F(1), F(-1)]).with_bounds([0, 0],
-                                                                                [None, None])))
+        self.assertIsNone(short.trivial(p.with_costs([F(1), F(-1)]).with_bounds([0, 0], [None, None])))
         self.assertEqual(short.shortened(p, F(1, 10 ** 12)), 0)
         self.assertEqual(short.shortened(p, F(10, 3)), F("3.333333333"))
-        found = max(short.roundings(Closer(p, None), [12 / 13, -10 / 13]),
-                    key=lambda one: one.bound())
+        found = max(short.roundings(Closer(p, None), [12 / 13, -10 / 13]), key=lambda one: one.bound())
         self.assertLess(0, F(71, 26) - found.bound())
         self.assertLess(F(71, 26) - found.bound(), F(1, 10 ** 9))
 
@@ -252,18 +246,14 @@ class Linear(Certified):
 
     def test_families(self) -> None:
         """Decimals: equations with columns of their own, and inequalities."""
-        self.within(made("staircase", 757),
-                    "; rounding is taken up by columns of 80 equations alone")
-        self.within(made("staircase", 1000),
-                    "; rounding is taken up by columns of 108 equations alone")
+        self.within(made("staircase", 757), "; rounding is taken up by columns of 80 equations alone")
+        self.within(made("staircase", 1000), "; rounding is taken up by columns of 108 equations alone")
         self.within(made("diet", 100_000), "")
         with without_scipy():
-            self.within(made("staircase", 757),
-                        "; rounding is taken up by columns of 80 equations alone")
+            self.within(made("staircase", 757), "; rounding is taken up by columns of 80 equations alone")
 
     def test_basis_of_equations(self) -> None:
-        """Equations of which none has a column of its own: what rounding leaves goes through a
-        basis of them."""
+        """Equations of which none has a column of its own: what rounding leaves goes through a basis of them."""
         p = Model(self.exported(made("decimal_flow", 300)), {}, 18)
         clp = p.relaxation()
         self.assertIs(clp.solve(), State.OPTIMAL)
@@ -316,8 +306,7 @@ class Linear(Certified):
         """Parallel equations that miss each other by 5e-9, which CLP takes for one: a contradiction
         is told, and no bound."""
         terms = {0: "2.5", 1: "0.1"}
-        text = nl([real(0, 5), real(0, 9)],
-                  [("7.699999995", "7.699999995", terms), ("7.7", "7.7", terms)],
+        text = nl([real(0, 5), real(0, 9)], [("7.699999995", "7.699999995", terms), ("7.7", "7.7", terms)],
                   [("min", 0, {0: 5, 1: 1})])
         _, verdict = self.verdict(text)
         self.assertEqual(verdict.line, "infeasible")

@@ -90,8 +90,7 @@ class Systems(TestCase):
             x = [F(rng.randint(-9, 9), rng.randint(1, 5)) for _ in range(n)]
             system = []
             for _ in range(n + 1):
-                terms = {j: F(rng.randint(-3, 3), rng.randint(1, 3)) for j in range(n)
-                         if rng.random() < 0.6}
+                terms = {j: F(rng.randint(-3, 3), rng.randint(1, 3)) for j in range(n) if rng.random() < 0.6}
                 system.append((terms, sum(a * x[j] for j, a in terms.items())))
             found = exact.solved(system)
             for terms, side in system:
@@ -115,8 +114,7 @@ class Models(TestCase):
         self.assertEqual([s and F(s, p.unit) for s in p.side_hi], [3, None, 5])
         self.assertEqual((p.value([F(1), F(1), F(0)]), p.step()), (F(-7, 2), None))
         self.assertTrue(p.fits([F(2, 3), F(1), F(0)]))
-        for x in ([F(2, 3), F(1, 2), F(0)], [F(1), F(1), F(0)], [F(0), F(0), F(0)],
-                  [F(-9), F(3), F(0)]):
+        for x in ([F(2, 3), F(1, 2), F(0)], [F(1), F(1), F(0)], [F(0), F(0), F(0)], [F(-9), F(3), F(0)]):
             self.assertFalse(p.fits(x), x)
 
     def test_step(self) -> None:
@@ -154,8 +152,7 @@ class Models(TestCase):
         """More than rounding is much there."""
         for side, is_much in (("3.000001", True), ("3.00000000001", True),
                               ("2.9999999999999", False), ("3.0000000000000004", False)):
-            text = "NAME nl\nROWS\n N obj\n G c0\nCOLUMNS\n x0 c0 1\n x1 c0 1\nRHS\n" \
-                   f" RHS c0 {side}\n"
+            text = f"NAME nl\nROWS\n N obj\n G c0\nCOLUMNS\n x0 c0 1\n x1 c0 1\nRHS\n RHS c0 {side}\n"
             program, x = Program(text.encode() + b"ENDATA\n"), {"x0": "1", "x1": "2"}
             self.assertEqual(miss.miss(program, x, ["x0", "x1"]).is_much(), is_much)
             self.assertFalse(miss.miss(program, x, ["x0"]).is_much())
@@ -173,8 +170,7 @@ class Leaves(TestCase):
         p = self.model
         closer = Closer(p, F(-13, 2))
         found = closer.close({0: -0.66666667, 2: 0.0}, False, self.box)
-        self.assertEqual({i: F(v, found.leaf.den) for i, v in found.leaf.numbers.items()},
-                         {0: F(-2, 3)})
+        self.assertEqual({i: F(v, found.leaf.den) for i, v in found.leaf.numbers.items()}, {0: F(-2, 3)})
         bound = closer.judge(found.leaf, self.box)
         self.assertEqual(F(bound.bound, bound.scale), F(-37, 6))
         self.assertIsNone(Closer(p, F(-6)).close({0: -0.66666667}, False, self.box))
@@ -257,15 +253,13 @@ class Lattices(TestCase):
         reduction = directions.Reduction(rows)
         self.assertTrue(reduction.run())
         for given, back in zip(rows, zip(*reduction.back)):
-            self.assertEqual(given, [sum(s * row[c] for s, row in zip(back, reduction.rows))
-                                     for c in range(4)])
+            self.assertEqual(given, [sum(s * row[c] for s, row in zip(back, reduction.rows)) for c in range(4)])
         self.assertFalse(directions.Reduction([[1, 2], [2, 4]]).run())
 
     def test_parity(self) -> None:
         rows = [equations.Equality(0, {0: F(12), 1: F(21), 2: F(33)}, F(500))]
         self.assertEqual(equations.multipliers(rows), [F(1, 3)])
-        rows = [equations.Equality(0, {0: F(2), 1: F(4)}, F(6)),
-                equations.Equality(1, {0: F(1, 2), 1: F(-1)}, F(1, 2))]
+        rows = [equations.Equality(0, {0: F(2), 1: F(4)}, F(6)), equations.Equality(1, {0: F(1, 2), 1: F(-1)}, F(1, 2))]
         u = equations.multipliers(rows)
         self.assertEqual((sum(v * row.side for v, row in zip(u, rows))).denominator, 2)
         for j in (0, 1):

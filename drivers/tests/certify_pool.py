@@ -1,6 +1,5 @@
-"""Searches that are worked in portions, judged by `bridge verify`: here by this process, portions
-of few nodes; by processes of this machine; by a cluster of Dask; and what is left where the time is
-over."""
+"""Searches that are worked in portions, judged by `bridge verify`: here by this process, portions of few nodes; by
+processes of this machine; by a cluster of Dask; and what is left where the time is over."""
 
 from __future__ import annotations
 
@@ -151,8 +150,7 @@ class Portions(Pooled):
 
     def test_other_claims(self) -> None:
         """A contradiction and a point, where all but the first nodes are worked apart."""
-        for made, line in ((families.made("pigeons", 5), "infeasible"),
-                           (families.made("split", 2), "infeasible"),
+        for made, line in ((families.made("pigeons", 5), "infeasible"), (families.made("split", 2), "infeasible"),
                            (random_model(random.Random(11), True), "optimal")):
             pool = Here(3)
             work = self.work(made, pool=pool)
@@ -169,8 +167,7 @@ def killing(given: portion.Portion) -> portion.Outcome:
 
 class OfThisMachine(Pooled):
     def test_processes(self) -> None:
-        """One is killed: its portion is worked by another. Where all are, this process goes on
-        alone, and says so."""
+        """One is killed: its portion is worked by another. Where all are, this process goes on alone, and says so."""
         made = random_model(random.Random(11), False)
         for kills in (0, 1, 99):
             pool, left = Processes(2), [kills]
@@ -185,8 +182,7 @@ class OfThisMachine(Pooled):
                     for _ in range(2):          # each of both, before they take a portion
                         executor.submit(killing, None)
                 return executor
-            with mock.patch.object(pool, "executor", submitted), \
-                    mock.patch("bridge_drivers.certify.crowd.AT_HOME", 3):
+            with mock.patch.object(pool, "executor", submitted), mock.patch("bridge_drivers.certify.crowd.AT_HOME", 3):
                 self.assertTrue(plans.goes(plans.begun("plain"), SECONDS), plans.told())
             self.assertEqual(bool(pool.fault), kills == 99, pool.fault)
             head = text.head("optimal", 0, None, found.point)
@@ -237,8 +233,7 @@ class OfThisMachine(Pooled):
     def test_ends(self) -> None:
         """An interrupt of a terminal ends the search, and tells so; a signal or the end of the
         first process ends all."""
-        for number, told in ((signal.SIGINT, "not proved: interrupted"), (signal.SIGTERM, "15"),
-                             (signal.SIGKILL, "")):
+        for number, told in ((signal.SIGINT, "not proved: interrupted"), (signal.SIGTERM, "15"), (signal.SIGKILL, "")):
             child, others = self.started()
             self.assertEqual(len(others), 2)
             (os.killpg if number == signal.SIGINT else os.kill)(child.pid, number)
@@ -267,8 +262,7 @@ class OfACluster(Pooled):
     def cluster(self, *paths: str) -> tuple[str, list[subprocess.Popen]]:
         """Its address, and a worker for each path where Python looks."""
         place = os.path.join(self.folder, "scheduler.json")
-        self.start("dask_scheduler", "--host", "127.0.0.1", "--port", "0", "--no-dashboard",
-                   "--scheduler-file", place)
+        self.start("dask_scheduler", "--host", "127.0.0.1", "--port", "0", "--no-dashboard", "--scheduler-file", place)
         self.until(lambda: os.path.exists(place) and os.path.getsize(place) > 0)
         with open(place, encoding="utf-8") as f:
             address = json.load(f)["address"]
@@ -342,8 +336,7 @@ def long(path: str, folder: str) -> None:
     SIGNALS.take()
     crowd.AT_HOME = 3
     bridge, pool = Bridge(PROGRAM, lambda argv: None), Processes(2)
-    work = Certifying(bridge, path, folder, Program(bridge.text("export", path)), 0, Watch(600.0),
-                      pool=pool)
+    work = Certifying(bridge, path, folder, Program(bridge.text("export", path)), 0, Watch(600.0), pool=pool)
     try:
         print(certified(work, "infeasible").line)
     except Interrupted as fault:

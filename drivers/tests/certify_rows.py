@@ -52,11 +52,9 @@ class Rows(Case):
                 continue
             made += 1
             self.assertIsNotNone(lemmas.proved(p, found, Spool()))
-            for point in itertools.product((F(0), F(1, 2), F(1)), *(range(t + 1)
-                                                                    for t in tops[1:])):
+            for point in itertools.product((F(0), F(1, 2), F(1)), *(range(t + 1) for t in tops[1:])):
                 if p.fits(list(map(F, point))):
-                    self.assertLessEqual(sum(a * point[j] for j, a in found.terms.items()),
-                                         found.at)
+                    self.assertLessEqual(sum(a * point[j] for j, a in found.terms.items()), found.at)
         self.assertGreater(made, 20)
 
 
@@ -92,5 +90,4 @@ ENDATA
         self.assertEqual(near[(1, -1)], {(2, -1)})
         q = p.with_rows([({1: 1, 2: 1}, None, 1)])
         found = list(cliques.cliques(q, [0.5, 0.5, 0.5]))
-        self.assertEqual([(c.depth, c.terms, c.at) for c in found],
-                         [(0.5, {0: 1, 1: 1, 2: 1}, 1)])
+        self.assertEqual([(c.depth, c.terms, c.at) for c in found], [(0.5, {0: 1, 1: 1, 2: 1}, 1)])

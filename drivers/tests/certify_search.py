@@ -48,8 +48,7 @@ class Certified(Case):
     def plans(self, text: bytes, value: F) -> tuple[Certifying, Plans]:
         work = self.work(text)
         work.load()
-        return work, Plans(work.model, work.model.sign * value, work.exact, self.folder,
-                           work.watch)
+        return work, Plans(work.model, work.model.sign * value, work.exact, self.folder, work.watch)
 
 
 class Models(Certified):
@@ -57,8 +56,7 @@ class Models(Certified):
         for name, model in CLAIMED.items():
             with self.subTest(name):
                 verdict = self.found(model.text)
-                self.assertEqual(verdict.line, "infeasible" if model.value is None else
-                                 f"optimal {model.value}")
+                self.assertEqual(verdict.line, "infeasible" if model.value is None else f"optimal {model.value}")
                 self.assertEqual(verdict.value, model.value)
 
     def test_random(self) -> None:
@@ -72,23 +70,19 @@ class Models(Certified):
             for _ in range(rng.randint(1, 4)):
                 terms = {j: rng.randint(-6, 6) or 1 for j in range(n)}
                 at = rng.randint(-6, 12)
-                rows.append(rng.choice([(None, at, terms), (at, None, terms),
-                                        (at, at + 3, terms)]))
-            costs = {j: rng.choice([rng.randint(-9, 9) or 1, f"{rng.randint(1, 5)}.5"])
-                     for j in range(n)}
+                rows.append(rng.choice([(None, at, terms), (at, None, terms), (at, at + 3, terms)]))
+            costs = {j: rng.choice([rng.randint(-9, 9) or 1, f"{rng.randint(1, 5)}.5"]) for j in range(n)}
             sense, constant = rng.choice(["min", "max"]), rng.randint(0, 3)
             best = self.best(low, top, rows, sense, costs, constant)
             made = nl([whole(*ends) for ends in zip(low, top)], rows, [(sense, constant, costs)])
-            self.assertEqual(self.found(made).line,
-                             "infeasible" if best is None else f"optimal {best}", k)
+            self.assertEqual(self.found(made).line, "infeasible" if best is None else f"optimal {best}", k)
 
     @staticmethod
     def best(low, top, rows, sense, costs, constant) -> F | None:
         values = []
         for x in itertools.product(*(range(a, b + 1) for a, b in zip(low, top))):
             sums = [sum(a * x[j] for j, a in terms.items()) for _, _, terms in rows]
-            if all((lo is None or s >= lo) and (hi is None or s <= hi)
-                   for s, (lo, hi, _) in zip(sums, rows)):
+            if all((lo is None or s >= lo) and (hi is None or s <= hi) for s, (lo, hi, _) in zip(sums, rows)):
                 values.append(constant + sum(F(c) * x[j] for j, c in costs.items()))
         return (max if sense == "max" else min)(values, default=None)
 
@@ -98,14 +92,12 @@ class Models(Certified):
         for k in range(40):
             n = rng.randint(2, 4)
             columns = [real(*rng.choice([(0, None), (None, None), ("-1.5", 3), (0, "2.5")]))
-                       if j < n // 2 else whole(*rng.choice([(-2, 3), ("-1.5", "2.5"), (0, None)]))
-                       for j in range(n)]
+                       if j < n // 2 else whole(*rng.choice([(-2, 3), ("-1.5", "2.5"), (0, None)])) for j in range(n)]
             rows = []
             for _ in range(rng.randint(0, 3)):
                 terms = {j: rng.choice([1, 2, -1, 3, -2, "0.5", 7]) for j in range(n)}
                 at = rng.randint(-4, 8)
-                rows.append(rng.choice([(None, at, terms), (at, None, terms), (at, at, terms),
-                                        (at, at + 2, terms)]))
+                rows.append(rng.choice([(None, at, terms), (at, None, terms), (at, at, terms), (at, at + 2, terms)]))
             costs = {j: rng.choice([1, -2, 3, "0.25"]) for j in range(n)}
             work = self.work(nl(columns, rows, [(rng.choice(["min", "max"]), 0, costs)]))
             verdict = certified(work, "either")
@@ -124,8 +116,7 @@ class Models(Certified):
         """In the second that a run without `prove` has: what is optimal, else that the point is
         feasible; a bound where it is wanted; the bound of a relaxation."""
         for name, x, line in (("knap", (1, 1, 0), "optimal 17"), ("knap", (0, 1, 0), "optimal 17"),
-                              ("at_bound", (1, 1, 2), "optimal 2"),
-                              ("at_bound", (1, 0, 1), "optimal 2"),
+                              ("at_bound", (1, 1, 2), "optimal 2"), ("at_bound", (1, 0, 1), "optimal 2"),
                               ("at_bound", (1, 1, 1), "optimal 2")):
             work = self.work(CLAIMED[name].text, False)
             verdict = certified(work, "point", Given(x))
@@ -143,8 +134,7 @@ class Models(Certified):
         """An objective column that is off by the digits of a solver, or by more, where an equation
         gives it by the others: the good point stays, with a search and without."""
         made = nl([whole(0, 9), whole(0, 9), whole(0, 10 ** 7)],
-                  [(0, 0, {0: 123457, 1: 98765, 2: -1}), (None, 11, {0: 1, 1: 1})],
-                  [("max", 0, {2: 1})])
+                  [(0, 0, {0: 123457, 1: 98765, 2: -1}), (None, 11, {0: 1, 1: 1})], [("max", 0, {2: 1})])
         best = 9 * 123457 + 2 * 98765
         for off in (-3, 4, 5000):
             for proves in (True, False):
@@ -176,8 +166,7 @@ class Spines(Certified):
         self.assertEqual(verdict.line, f"bound {value}")
 
     def test_cuts(self) -> None:
-        cycles = [(1, None, {(i + 5 * k): 1, (i + 1) % 5 + 5 * k: 1})
-                  for k in range(3) for i in range(5)]
+        cycles = [(1, None, {(i + 5 * k): 1, (i + 1) % 5 + 5 * k: 1}) for k in range(3) for i in range(5)]
         made = nl([BINARY] * 15, cycles, [("min", 0, dict.fromkeys(range(15), 1))])
         weights = (35, 27, 23, 19, 15, 15, 12, 8, 6, 3)
         knapsack = nl([BINARY] * 10, [(None, 39, dict(enumerate(weights))),
@@ -202,8 +191,7 @@ class Spines(Certified):
 
     def test_thin(self) -> None:
         """Wide columns under an equation with large numbers."""
-        made = nl([whole(0, 10 ** 5)] * 4,
-                  [(89643481, 89643481, {0: 12223, 1: 12224, 2: 36674, 3: 61119})],
+        made = nl([whole(0, 10 ** 5)] * 4, [(89643481, 89643481, {0: 12223, 1: 12224, 2: 36674, 3: 61119})],
                   [("min", 0, dict.fromkeys(range(4), 1))])
         verdict = self.found(made)
         self.assertEqual(verdict.line, "infeasible")
@@ -222,8 +210,7 @@ class Spines(Certified):
             self.assertEqual(work.by_tree(plans.best).line, "infeasible")
 
     def test_no_point(self) -> None:
-        """Numbers that no sum of coins makes: forms of a lattice, also where a solver has
-        nothing."""
+        """Numbers that no sum of coins makes: forms of a lattice, also where a solver has nothing."""
         for size in (4, 5):
             for claim in ("infeasible", "nothing"):
                 work = self.work(families.made("frobenius", size))
@@ -354,8 +341,7 @@ class Limits(Certified):
         with mock.patch.object(work.bridge, "call", lambda *words: late(*words)
                                if words[0] == "verify" else call(*words)):
             verdict = certified(work, "point", Given([F(1), F(1), F(0)]))
-        self.assertEqual(verdict.line,
-                         "not proved: time: bridge verify was ended before its verdict")
+        self.assertEqual(verdict.line, "not proved: time: bridge verify was ended before its verdict")
 
     def test_interrupt_and_progress(self) -> None:
         """An interrupt ends the search and no more; lines of progress where it takes long."""
@@ -376,8 +362,7 @@ class Limits(Certified):
         finally:
             signal.signal(signal.SIGINT, old)
         self.assertRegex(verdict.line, "^(not proved: interrupted|feasible|within)")
-        self.assertRegex(lines[-1],
-                         r"^bridge-certify: certificate, \d+ of 20 s, \d+ nodes, \d+ open$")
+        self.assertRegex(lines[-1], r"^bridge-certify: certificate, \d+ of 20 s, \d+ nodes, \d+ open$")
 
 
 class Commands(Certified):

@@ -64,8 +64,7 @@ finally:
 NODES = ("split", "plane", "lemma", "duals", "weights")
 READ_SECONDS = 60               # of glpsol, for one model
 MARGIN = 120                    # seconds beyond both limits
-LINEAR = ("transport", "flow", "assignment", "covering", "staircase", "diet", "dense",
-          "decimal_flow")
+LINEAR = ("transport", "flow", "assignment", "covering", "staircase", "diet", "dense", "decimal_flow")
 SIZES = (1000, 10_000, 100_000, 1_000_000)
 OTHERS = (("parallel", (2, 3, 6)), ("knapsack", (20, 30, 40)), ("lots", (8, 12, 17, 20)),
           ("packing", (6, 8, 10)), ("stock", (3, 4, 6)), ("pigeons", (5, 6, 8)),
@@ -76,8 +75,7 @@ OTHERS = (("parallel", (2, 3, 6)), ("knapsack", (20, 30, 40)), ("lots", (8, 12, 
 
 
 def mps_of(path: str, folder: str) -> bytes | None:
-    """The free MPS text that glpsol writes of a model, with its sense, which its LP text tells
-    alone."""
+    """The free MPS text that glpsol writes of a model, with its sense, which its LP text tells alone."""
     target, other = os.path.join(folder, "model.mps"), os.path.join(folder, "model.lp")
     if os.path.exists(target):
         os.unlink(target)
@@ -90,8 +88,7 @@ def mps_of(path: str, folder: str) -> bytes | None:
         if os.path.exists(target):
             with open(target, "rb") as f, open(other, "rb") as lp:
                 text, is_max = f.read(), b"\nMaximize\n" in lp.read()
-            return re.sub(rb"^(NAME.*\n)", rb"\1OBJSENSE\n MAX\n", text, 1, re.M) if is_max \
-                else text
+            return re.sub(rb"^(NAME.*\n)", rb"\1OBJSENSE\n MAX\n", text, 1, re.M) if is_max else text
     return None
 
 
@@ -128,8 +125,7 @@ def written_families(target: str, most: int) -> None:
 
 def shape(bridge: list[str], path: str) -> list[str]:
     try:
-        with Inputs() as inputs, subject(Bridge(bridge, lambda argv: None), inputs,
-                                         path) as model:
+        with Inputs() as inputs, subject(Bridge(bridge, lambda argv: None), inputs, path) as model:
             p = model.program()
     except (Refused, kinds.Damaged):
         return ["", "", ""]
@@ -154,8 +150,7 @@ def figures(path: str) -> list[str]:
 
 
 class Ended(NamedTuple):
-    """What a process wrote, the processor seconds of it and of all that it ran, and those of the
-    clock."""
+    """What a process wrote, the processor seconds of it and of all that it ran, and those of the clock."""
 
     told: list[str]
     seconds: float
@@ -165,8 +160,7 @@ class Ended(NamedTuple):
 def ended(words: list[str], limit: float) -> Ended:
     began = time.monotonic()
     with tempfile.TemporaryFile() as out:
-        child = subprocess.Popen(words, stdin=subprocess.DEVNULL, stdout=out,
-                                 stderr=subprocess.STDOUT)
+        child = subprocess.Popen(words, stdin=subprocess.DEVNULL, stdout=out, stderr=subprocess.STDOUT)
         timer = threading.Timer(limit, child.kill)
         timer.start()
         _, status, used = os.wait4(child.pid, 0)
@@ -174,8 +168,7 @@ def ended(words: list[str], limit: float) -> Ended:
         timer.cancel()
         out.seek(0)
         told = out.read().decode("utf-8", "replace").strip().split("\n")
-    return Ended(["no end"] if child.returncode < 0 else told, used.ru_utime + used.ru_stime,
-                 time.monotonic() - began)
+    return Ended(["no end"] if child.returncode < 0 else told, used.ru_utime + used.ru_stime, time.monotonic() - began)
 
 
 def line(bridge: list[str], path: str, seconds: str, folder: str) -> list[str]:
@@ -183,8 +176,7 @@ def line(bridge: list[str], path: str, seconds: str, folder: str) -> list[str]:
     certificate = os.path.join(folder, name + ".certificate")
     program = os.path.join(HERE, "..", "bin", "bridge-certify")
     words = [f"timelim={seconds}", "stats=1", "certificate=" + certificate]
-    told, spent, clock = ended([sys.executable, "-c", RUN, program, path, *words],
-                               2 * float(seconds) + MARGIN)
+    told, spent, clock = ended([sys.executable, "-c", RUN, program, path, *words], 2 * float(seconds) + MARGIN)
     plan = search = memory = ""
     if told[-1].isdigit():
         memory = told.pop()
@@ -223,18 +215,15 @@ def readme(tables: list[str], count: int = 8) -> None:
     """Models by the kind of their last line; those that are not proved exactly; of the others the
     texts with the most nodes."""
     rows = read(tables)
-    kinds = Counter(" ".join(row["line"].split()[:1 + row["line"].startswith("not ")])
-                    for row in rows)
+    kinds = Counter(" ".join(row["line"].split()[:1 + row["line"].startswith("not ")]) for row in rows)
     print(f"{len(rows)} models.\n")
     table(["last line", "models"], ((f"`{kind}`", n) for kind, n in sorted(kinds.items())))
     exact = [row for row in rows if row["line"].split()[0] in SETTLED]
     print()
-    shown([row for row in rows if row not in exact],
-          ["model", "columns (whole)", "rows", "last line"])
+    shown([row for row in rows if row not in exact], ["model", "columns (whole)", "rows", "last line"])
     print()
     exact.sort(key=lambda row: -int(row["nodes"] or 0))
-    shown(exact[:count], ["model", "columns (whole)", "rows", "nodes", "bytes", "seconds",
-                          "last line"])
+    shown(exact[:count], ["model", "columns (whole)", "rows", "nodes", "bytes", "seconds", "last line"])
 
 
 def read(tables: list[str]) -> list[dict[str, str]]:
@@ -242,8 +231,7 @@ def read(tables: list[str]) -> list[dict[str, str]]:
     for path in tables:
         with open(path, encoding="utf-8") as f:
             words = [text.rstrip("\n").split("\t") for text in f]
-        rows += [dict(zip(HEAD, row)) for row in words if len(row) == len(HEAD)
-                 and row[0] != HEAD[0]]
+        rows += [dict(zip(HEAD, row)) for row in words if len(row) == len(HEAD) and row[0] != HEAD[0]]
     return rows
 
 
@@ -255,16 +243,13 @@ def sizes(tables: list[str]) -> None:
 def seeds(tables: list[str]) -> None:
     """A line a family, whose models are named by a letter at the end; then all of them."""
     rows = read(tables)
-    found = {row["model"][:-1]: [r for r in rows if r["model"][:-1] == row["model"][:-1]]
-             for row in rows}
+    found = {row["model"][:-1]: [r for r in rows if r["model"][:-1] == row["model"][:-1]] for row in rows}
     lines = []
     for name, group in [*found.items(), ("all", rows)]:
         left = [r for r in group if r["line"].split()[0] not in SETTLED]
-        nodes, size, seconds = (sum(float(r[head] or 0) for r in group)
-                                for head in ("nodes", "bytes", "seconds"))
+        nodes, size, seconds = (sum(float(r[head] or 0) for r in group) for head in ("nodes", "bytes", "seconds"))
         told = ", ".join(f"{r['model']} `{r['line']}`" for r in left) if name != "all" else ""
-        lines.append((name, len(group), len(group) - len(left), f"{nodes:.0f}", f"{size:.0f}",
-                      f"{seconds:.1f}", told))
+        lines.append((name, len(group), len(group) - len(left), f"{nodes:.0f}", f"{size:.0f}", f"{seconds:.1f}", told))
     table(["family", "models", "proved", "nodes", "bytes", "seconds", "left"], lines)
 
 

@@ -38,8 +38,7 @@ class Forecasts(Case):
 
     def test_misses(self) -> None:
         """A plan that goes on longer than it said counts as twice that."""
-        turns = Turns(SimpleNamespace(watch=SimpleNamespace(spent=lambda: 10.0),
-                                      value=SimpleNamespace(value=1),
+        turns = Turns(SimpleNamespace(watch=SimpleNamespace(spent=lambda: 10.0), value=SimpleNamespace(value=1),
                                       goes=lambda plan, seconds: False))
         plan = self.plan(0.9999, 10.0)
         turns.turn(plan, plan, 0.0)

@@ -33,8 +33,7 @@ class Fish(Case):
                  "nl-bridge completion f", "nl-bridge help bridge-cer")
         code = f"source {path}; " + "; ".join(f"complete -C '{call}'; echo END" for call in calls)
         ran = subprocess.run(["fish", "--no-config", "-c", code], cwd=self.folder,
-                             capture_output=True, text=True, check=False,
-                             env={**os.environ, "HOME": self.folder})
+                             capture_output=True, text=True, check=False, env={**os.environ, "HOME": self.folder})
         answers = [[line.split("\t")[0] for line in part.strip().split("\n")]
                    for part in ran.stdout.split("END\n")[:-1]]
         self.assertEqual((answers, ran.stderr), (

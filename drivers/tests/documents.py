@@ -1,9 +1,8 @@
 """The documents for users: the table of statuses is that of the code, and commands are run.
 
-A block that begins with `$ ` is a transcript: what each command prints is what stands below it. A
-block of `sh` is run line by line, each with status 0 or that of a comment `# status N`, and prints
-the verdict that its comment names. `<!-- not run: WHY -->` before a block leaves it out. Each
-document has a folder of its own with the examples.
+A block that begins with `$ ` is a transcript: what each command prints is what stands below it. A block of `sh` is run
+line by line, each with status 0 or that of a comment `# status N`, and prints the verdict that its comment names. `<!--
+not run: WHY -->` before a block leaves it out. Each document has a folder of its own with the examples.
 """
 
 from __future__ import annotations
@@ -23,8 +22,7 @@ from bridge_drivers.codes import STATUSES
 from bridge_drivers.options import COMMON
 
 DOCUMENTS = ("README.md", "drivers/README.md", "drivers/SYSTEMS.md", "drivers/REPORT.md",
-             "drivers/SEARCH.md", "docs/user/commands.md", "docs/user/formats.md",
-             "docs/user/refusals.md")
+             "drivers/SEARCH.md", "docs/user/commands.md", "docs/user/formats.md", "docs/user/refusals.md")
 BLOCK = re.compile(r"(?ms)^(?:<!-- not run: ([^\n]+) -->\n)?```(\w*)\n(.*?)^```$")
 VERDICT = re.compile(r"#\s+((?:optimal|within|feasible|bound) [\d/ -]+|infeasible|unbounded)$")
 STATUS = re.compile(r"# status (\d+)$")
@@ -66,8 +64,7 @@ class Tables(unittest.TestCase):
 
 
 def plain(text: str) -> str:
-    """Without what may differ: versions of solvers, sizes of certificates, what goes on where the
-    machine is slow."""
+    """Without what may differ: versions of solvers, sizes of certificates, what goes on where the machine is slow."""
     text = re.sub(r"^bridge-\w+: \w+, \d+ of \d+ s.*\n", "", text, flags=re.M)
     text = re.sub(r"\b(CBC|GLPK) [\d.]+", r"\1 X", text)
     return re.sub(r"\d+ bytes$", "X bytes", text, flags=re.M).rstrip()
@@ -88,8 +85,7 @@ class Commands(Case):
         self.environment = {**os.environ, "HOME": self.folder, "BRIDGE": PROGRAM[0],
                             "PYTHONPATH": os.path.join(TOP, "drivers"),
                             "MZN_SOLVER_PATH": os.path.join(TOP, "drivers", "minizinc"),
-                            "PATH": os.path.join(TOP, "drivers", "bin") + os.pathsep
-                            + os.environ["PATH"]}
+                            "PATH": os.path.join(TOP, "drivers", "bin") + os.pathsep + os.environ["PATH"]}
 
     def called(self, command: str) -> "subprocess.CompletedProcess[str]":
         return subprocess.run(["bash", "-c", command], cwd=self.folder, capture_output=True,
@@ -113,8 +109,7 @@ class Commands(Case):
             if self.lacks(command):
                 continue
             ran = self.called(command)
-            self.assertEqual(plain(ran.stdout + ran.stderr), plain("\n".join(told)),
-                             f"{name}: {command}")
+            self.assertEqual(plain(ran.stdout + ran.stderr), plain("\n".join(told)), f"{name}: {command}")
 
     def shell(self, name: str, lines: list[str]) -> None:
         for line in filter(None, lines):
@@ -122,8 +117,7 @@ class Commands(Case):
                 continue
             ran = self.called(line)
             status = STATUS.search(line)
-            self.assertEqual(ran.returncode, int(status[1]) if status else 0,
-                             f"{name}: {line}\n{ran.stderr}")
+            self.assertEqual(ran.returncode, int(status[1]) if status else 0, f"{name}: {line}\n{ran.stderr}")
             verdict = VERDICT.search(line)
             if verdict:
                 self.assertIn(verdict[1], ran.stdout.rstrip("\n").split("\n"), f"{name}: {line}")
@@ -135,8 +129,7 @@ class Commands(Case):
             elif block.kind == "sh" and not block.why:
                 self.shell(name, block.lines)
             elif not block.why:
-                ours = [line for line in block.lines if line.startswith(COMMANDS)
-                        and ":" not in line.split()[0]]
+                ours = [line for line in block.lines if line.startswith(COMMANDS) and ":" not in line.split()[0]]
                 self.assertEqual(ours, [], f"{name}: neither run nor marked")
 
 

@@ -36,8 +36,7 @@ def model(name: str) -> bytes:
 
 
 def certificate(words: str) -> bytes:
-    """Its lines behind the first, with ` / ` between; an example; `no TEXT`, which is none; or
-    `tree DEPTH CLAIM`."""
+    """Its lines behind the first, with ` / ` between; an example; `no TEXT`, which is none; or `tree DEPTH CLAIM`."""
     kind, _, rest = words.partition(" ")
     if kind in ("example", "no"):
         return content(words.removeprefix("no "))
@@ -67,8 +66,7 @@ class Texts(Case):
                           ("duals", 9, 1, 0, 2, 0, 1, 1), ("duals", 11, 1, 1, 2, 1, 1, 1),
                           ("plane", 12, 0, 1, 1, -1, 3, 2), ("weights", 14, 4, 0, 2, 2, 1, 1),
                           ("duals", 16, 4, 1, 2, 3, 1, 1)])
-        self.assertEqual((c.children(0), c.children(4), c.children(6), c.path(6)),
-                         ([1, 4], [5, 6], [], [0, 4, 6]))
+        self.assertEqual((c.children(0), c.children(4), c.children(6), c.path(6)), ([1, 4], [5, 6], [], [0, 4, 6]))
         self.assertEqual((c.nodes[5].pairs, c.place_of_leaf(3)), ([(0, ".5")], 6))
 
     def test_what_ends_too_soon(self) -> None:
@@ -88,8 +86,7 @@ class Explained(Case):
             told = interface.explain(self.stub, self.stub + ".certificate")
         except BridgeError as fault:
             told = fault.report
-        self.assertEqual(reports.faults(json.loads(json.dumps(told.object())), reports.schema()),
-                         [])
+        self.assertEqual(reports.faults(json.loads(json.dumps(told.object())), reports.schema()), [])
         self.status = told.status
         more = told.refusal["more"] if told.refusal else []
         return "\n".join([*told.lines, *more]).replace(self.stub, "m").split("\n")
@@ -100,16 +97,13 @@ class Explained(Case):
         files = Files(self.stub + ".nl", self.stub + ".certificate")
         reply = bridge().call("verify", *files[:2])
         given = Input(files.model, files.model, self.stub, False)
-        return Explaining(Subject(bridge(), given, given.path), files,
-                          reply.out.decode().strip(), reply.status == 0)
+        return Explaining(Subject(bridge(), given, given.path), files, reply.out.decode().strip(), reply.status == 0)
 
     def test_lines(self) -> None:
-        """Of each the model, names of variables, the certificate, the status, and lines in their
-        order."""
+        """Of each the model, names of variables, the certificate, the status, and lines in their order."""
         for name, names, given, status, *wanted in rows_of("explains", "case"):
             lines = self.explain(name, given, names.replace("-", ""))
-            self.assertEqual((self.status, [line for line in lines if line in wanted]),
-                             (int(status), wanted), lines)
+            self.assertEqual((self.status, [line for line in lines if line in wanted]), (int(status), wanted), lines)
 
     def test_sums(self) -> None:
         """Their lines add up to what the program tells of a leaf, in one width, nothing cut."""
@@ -123,8 +117,7 @@ class Explained(Case):
             for one in sums.sums(told.wording, [
                     d.place for d in told.tree().drawn
                     if told.certificate.nodes[d.place].is_leaf()]):
-                products = [F(line.split(")")[-1].split("=")[0].strip()) for line in one.lines
-                            if "\u00d7" in line]
+                products = [F(line.split(")")[-1].split("=")[0].strip()) for line in one.lines if "\u00d7" in line]
                 total = told.bounds.shown(one.place, told.bounds.part(one.place))
                 self.assertEqual((sum(products), F(one.lines[-1].split("=")[0])), (total, total))
                 self.assertEqual(len({len(line) for line in one.lines}), 1)
@@ -200,8 +193,7 @@ class Explained(Case):
         page = told.page()
         self.assertNotRegex(page, r"""(?i)<script|<link|<img|url\(|src=|href=""")
         probe = ("<script>document.title = [document.documentElement.scrollWidth <= innerWidth, "
-                 "[...document.querySelectorAll('pre')].filter("
-                 "it => it.scrollWidth <= it.clientWidth).length, "
+                 "[...document.querySelectorAll('pre')].filter(it => it.scrollWidth <= it.clientWidth).length, "
                  "document.querySelectorAll('svg rect').length, "
                  "document.querySelector('.fails rect').getBoundingClientRect().width > 100, "
                  "innerWidth].join(' ')</script></body>")
@@ -210,9 +202,6 @@ class Explained(Case):
         self.assertGreater(blocks, 1)
         for width in (1280, 500):
             ran = subprocess.run([BROWSER, "--headless=new", "--no-sandbox", "--disable-gpu",
-                                  f"--user-data-dir={self.folder}/profile",
-                                  f"--window-size={width},900", "--dump-dom",
-                                  f"file://{self.stub}.html"], capture_output=True, text=True,
-                                 timeout=120, check=False)
-            self.assertIn(f"<title>true {blocks} {boxes} true {width}</title>", ran.stdout,
-                          ran.stderr)
+                                  f"--user-data-dir={self.folder}/profile", f"--window-size={width},900", "--dump-dom",
+                                  f"file://{self.stub}.html"], capture_output=True, text=True, timeout=120, check=False)
+            self.assertIn(f"<title>true {blocks} {boxes} true {width}</title>", ran.stdout, ran.stderr)

@@ -32,16 +32,14 @@ def transport(size: int, rnd: random.Random) -> bytes:
     demand = [s - rnd.randint(0, 9) for s in supply]
     rows = [(None, supply[i], {i * k + j: 1 for j in range(k)}) for i in range(k)]
     rows += [(demand[j], None, {i * k + j: 1 for i in range(k)}) for j in range(k)]
-    return nl([real(0, None)] * (k * k), rows,
-              [("min", 0, {j: rnd.randint(1, 99) for j in range(k * k)})])
+    return nl([real(0, None)] * (k * k), rows, [("min", 0, {j: rnd.randint(1, 99) for j in range(k * k)})])
 
 
 def assignment(size: int, rnd: random.Random) -> bytes:
     k = max(2, round(math.sqrt(size / 2)))
     rows = [(1, 1, {i * k + j: 1 for j in range(k)}) for i in range(k)]
     rows += [(1, 1, {i * k + j: 1 for i in range(k)}) for j in range(k)]
-    return nl([real(0, None)] * (k * k), rows,
-              [("min", 0, {j: rnd.randint(1, 999) for j in range(k * k)})])
+    return nl([real(0, None)] * (k * k), rows, [("min", 0, {j: rnd.randint(1, 999) for j in range(k * k)})])
 
 
 def network(size: int, rnd: random.Random, number: Callable[[float, float], object]) -> bytes:
@@ -63,8 +61,7 @@ def network(size: int, rnd: random.Random, number: Callable[[float, float], obje
         costs[j] = number(200, 300) if j < nodes else number(1, 60)
     unit = 1 if isinstance(columns[-1][2], int) else 100
     sides = [v if unit == 1 else f"{v / 100:.2f}" for v in need]
-    return nl(columns, [(side, side, row) for side, row in zip(sides, rows)],
-              [("min", 0, costs)])
+    return nl(columns, [(side, side, row) for side, row in zip(sides, rows)], [("min", 0, costs)])
 
 
 def flow(size: int, rnd: random.Random) -> bytes:
@@ -82,8 +79,7 @@ def covering(size: int, rnd: random.Random) -> bytes:
     for _ in range(m):
         inside = [j for j in range(3 * m) if rnd.random() < 1 / 3] or [0]
         rows.append((1, None, dict.fromkeys(inside, 1)))
-    return nl([real(0, 1)] * (3 * m), rows, [("min", 0, {j: rnd.randint(1, 20)
-                                                         for j in range(3 * m)})])
+    return nl([real(0, 1)] * (3 * m), rows, [("min", 0, {j: rnd.randint(1, 20) for j in range(3 * m)})])
 
 
 def staircase(size: int, rnd: random.Random) -> bytes:
@@ -119,8 +115,7 @@ def staircase(size: int, rnd: random.Random) -> bytes:
 
 def blend(m: int, n: int, rnd: random.Random) -> bytes:
     """At least so much of m things, by n others at least cost."""
-    rows = [(cents(rnd, 50, 150), None, {j: cents(rnd, 0, 9) for j in range(n)})
-            for _ in range(m)]
+    rows = [(cents(rnd, 50, 150), None, {j: cents(rnd, 0, 9) for j in range(n)}) for _ in range(m)]
     return nl([real(0, None)] * n, rows, [("min", 0, {j: cents(rnd, 2, 20) for j in range(n)})])
 
 
@@ -147,13 +142,11 @@ def uneven(size: int, rnd: random.Random) -> bytes:
     rows = []
     for i in range(m):
         inside = sorted({i, i + m, *rnd.sample(range(n), min(n, 2 + i % 3))})
-        terms = {j: scaled(rnd.uniform(1, 9) * (1 if j % 3 else -1), up[i] + by[j])
-                 for j in inside}
+        terms = {j: scaled(rnd.uniform(1, 9) * (1 if j % 3 else -1), up[i] + by[j]) for j in inside}
         side = scaled(rnd.uniform(5, 90), up[i])
         rows.append((side, side, terms) if i % 4 == 0 else (None, side, terms))
     columns = [real(0, scaled(rnd.uniform(3, 80), -by[j])) for j in range(n)]
-    return nl(columns, rows, [("max", 0, {j: scaled(rnd.uniform(0.5, 9), by[j])
-                                          for j in range(n)})])
+    return nl(columns, rows, [("max", 0, {j: scaled(rnd.uniform(0.5, 9), by[j]) for j in range(n)})])
 
 
 def parallel(size: int, rnd: random.Random) -> bytes:
@@ -185,10 +178,8 @@ def lots(size: int, rnd: random.Random) -> bytes:
         terms = {t: 1, size + t: -1}
         if t:
             terms[size + t - 1] = 1
-        rows += [(need[t], need[t], terms),
-                 (None, 0, {t: 1, 2 * size + t: -rnd.randint(60, 90)})]
-        costs.update({t: rnd.randint(1, 3), size + t: cents(rnd, 0.3, 2),
-                      2 * size + t: rnd.randint(80, 160)})
+        rows += [(need[t], need[t], terms), (None, 0, {t: 1, 2 * size + t: -rnd.randint(60, 90)})]
+        costs.update({t: rnd.randint(1, 3), size + t: cents(rnd, 0.3, 2), 2 * size + t: rnd.randint(80, 160)})
     return nl(columns, rows, [("min", 0, costs)])
 
 
@@ -214,8 +205,7 @@ def frobenius(size: int, rnd: random.Random) -> bytes:
     while True:
         coins = sorted(rnd.sample(range(12000, 13000), size))
         if math.gcd(*coins) == 1:
-            return nl([whole(0, None)] * size,
-                      [(greatest(coins), greatest(coins), dict(enumerate(coins)))],
+            return nl([whole(0, None)] * size, [(greatest(coins), greatest(coins), dict(enumerate(coins)))],
                       [("min", 0, dict.fromkeys(range(size), 1))])
 
 

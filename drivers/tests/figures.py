@@ -18,8 +18,7 @@ TEXTS = {name: text.encode() for name, text in rows_of("figures", "text")}
 
 class Importing(Case):
     def test_order(self) -> None:
-        """Continuous, binary, integer, each in the order of the columns; constraints, then the
-        objective."""
+        """Continuous, binary, integer, each in the order of the columns; constraints, then the objective."""
         self.assertEqual(importing.lists_of(TEXTS["kinds"]), importing.Lists(
             [b"both", b"cap", b"cost"], [b"c", b"'MARKER'", b"b", b"v", b"i", b"low"]))
 
@@ -36,8 +35,7 @@ class Importing(Case):
         at = lines.index("b") + 1
         self.assertEqual(lines[at:at + 6], ["2 0", "2 0", "0 0 1", "0 0 1", "0 0 9", "1 -1"])
         bounds = Names(self.stub)
-        self.assertEqual([bounds.column(j) for j in range(6)],
-                         ["c", "'MARKER'", "b", "v", "i", "low"])
+        self.assertEqual([bounds.column(j) for j in range(6)], ["c", "'MARKER'", "b", "v", "i", "low"])
 
 
 class Figures(unittest.TestCase):

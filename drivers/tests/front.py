@@ -26,8 +26,7 @@ def started(*words: "str | bytes", **others) -> "subprocess.CompletedProcess[byt
 
 class Table(Case):
     def test_faults_of_words_and_files(self) -> None:
-        """The proved program tells the fault, and what is added says which word or file, and
-        why."""
+        """The proved program tells the fault, and what is added says which word or file, and why."""
         self.script("faulty", FAULTY)
         self.calls("front", "fault")
 
@@ -45,20 +44,15 @@ class Table(Case):
 
 
 class Ends(Case):
-    def run_front(self, *words: "str | bytes", bridge: str
-                  ) -> "subprocess.CompletedProcess[bytes]":
+    def run_front(self, *words: "str | bytes", bridge: str) -> "subprocess.CompletedProcess[bytes]":
         """Over a script in the place of the program."""
         program = f"'{self.script('bridge program', bridge)}'"
-        return started(os.path.join(BIN, "nl-bridge"), *words,
-                       env={**os.environ, "BRIDGE": program})
+        return started(os.path.join(BIN, "nl-bridge"), *words, env={**os.environ, "BRIDGE": program})
 
     def test_passed_on(self) -> None:
-        """Words, status, signals and texts are the program's own; for a path that is not UTF-8 it
-        gets a link."""
-        ran = self.run_front("export", b"a b.nl", "0",
-                             bridge='printf "%s." "$@"; echo told >&2; exit 6\n')
-        self.assertEqual((ran.returncode, ran.stdout, ran.stderr),
-                         (6, b"export.a b.nl.0.", b"told\n"))
+        """Words, status, signals and texts are the program's own; for a path that is not UTF-8 it gets a link."""
+        ran = self.run_front("export", b"a b.nl", "0", bridge='printf "%s." "$@"; echo told >&2; exit 6\n')
+        self.assertEqual((ran.returncode, ran.stdout, ran.stderr), (6, b"export.a b.nl.0.", b"told\n"))
         ran = self.run_front("make", "1", "1", bridge="kill -PIPE $$\nexit 9\n")
         self.assertEqual(ran.returncode, -13)
         path = os.fsencode(self.folder) + b"/\xff"
@@ -75,8 +69,7 @@ class Ends(Case):
                                       ("bridge-cbc", full, "No space left on device"),
                                       ("bridge-cbc", write, "Broken pipe")):
                 ran = started(os.path.join(BIN, command), "-=", stdout=out)
-                self.assertEqual((ran.returncode, ran.stderr.decode()),
-                                 (5, f"{command}: standard output: {why}\n"))
+                self.assertEqual((ran.returncode, ran.stderr.decode()), (5, f"{command}: standard output: {why}\n"))
         os.close(write)
 
     def test_closed_streams(self) -> None:
@@ -99,8 +92,7 @@ class Ends(Case):
             f.write(MODELS["nonlinear"].text)
         ran = started(DRIVER, folder + b"/m", b"solver=/bin/true")
         self.assertEqual(ran.returncode, 2)
-        self.assertTrue(ran.stderr.endswith(b"/\xff/m.nl line 12: constraint 0: (x0 * x1) is "
-                                            b"nonlinear\n"), ran.stderr)
+        self.assertTrue(ran.stderr.endswith(b"/\xff/m.nl line 12: constraint 0: (x0 * x1) is nonlinear\n"), ran.stderr)
 
     def test_minizinc_is_told(self) -> None:
         """On its own standard error: where it writes its next line over what was appended, and
@@ -109,8 +101,7 @@ class Ends(Case):
         os.symlink(os.path.realpath(sys.executable), parent)
         for told, is_error, words in (("optimal 7", False, []), ("refused", True, []),
                                       ("refused", True, ["-v"]), ("optimal 7", False, ["-v"])):
-            child = [sys.executable, "-c", f"from bridge_drivers import minizinc; "
-                                           f"minizinc.tell({told!r}, {is_error})"]
+            child = [sys.executable, "-c", f"from bridge_drivers import minizinc; minizinc.tell({told!r}, {is_error})"]
             code = (f"import os, subprocess; os.write(2, b'before\\n'); subprocess.run({child!r}, "
                     "stderr=subprocess.DEVNULL); os.write(2, b'%[NL DEBUG] SOLVED\\n')")
             for mode in ("wb", "ab"):

@@ -30,16 +30,13 @@ class Installing(Case):
             self.assertEqual(words[1:], ["failexit=1", "shortest=1"])
         ended = driven("cbc", self.stub, "-AMPL", "solver=/bin/true", "outlev=2",
                        place=os.path.join(prefix, "bin"), BRIDGE="")
-        self.assertIn(os.path.join(prefix, "lib", "bridge-drivers", "bin", "bridge"),
-                      ended.stdout.replace("'", ""))
+        self.assertIn(os.path.join(prefix, "lib", "bridge-drivers", "bin", "bridge"), ended.stdout.replace("'", ""))
 
     def test_below_home_and_away_again(self) -> None:
         """Other files stay."""
         self.calls("installs", "home")
-        found = {os.path.join(place, name) for place, inner, names in os.walk(self.folder)
-                 for name in [*inner, *names]}
-        own = [os.path.join(self.folder, name)
-               for name in (".local", ".local/bin", ".local/bin/bridge-other")]
+        found = {os.path.join(place, name) for place, inner, names in os.walk(self.folder) for name in [*inner, *names]}
+        own = [os.path.join(self.folder, name) for name in (".local", ".local/bin", ".local/bin/bridge-other")]
         self.assertEqual(sorted(found), own)
 
 

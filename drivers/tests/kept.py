@@ -1,5 +1,4 @@
-"""Certificates that are kept: nothing that stands there is lost, and what cannot be written is
-told."""
+"""Certificates that are kept: nothing that stands there is lost, and what cannot be written is told."""
 
 from __future__ import annotations
 
@@ -36,15 +35,12 @@ class Covers(unittest.TestCase):
             assert found is not None, line
             return found
         for new, old, wanted in rows_of("kept", "covers"):
-            self.assertEqual(verdicts.covers(said(new), said(old), True), wanted == "yes",
-                             (new, old))
+            self.assertEqual(verdicts.covers(said(new), said(old), True), wanted == "yes", (new, old))
         self.assertTrue(verdicts.covers(said("feasible 6"), said("feasible 7"), False))
 
     def test_lines(self) -> None:
-        self.assertEqual(verdicts.read("within 19 35/2 of objective 2"),
-                         Said("within", F(35, 2), F(19), 2))
-        self.assertEqual(verdicts.read("unbounded of objective 1"),
-                         Said("unbounded", None, None, 1))
+        self.assertEqual(verdicts.read("within 19 35/2 of objective 2"), Said("within", F(35, 2), F(19), 2))
+        self.assertEqual(verdicts.read("unbounded of objective 1"), Said("unbounded", None, None, 1))
         for line in ("leaf 0 gap 17", "optimal", "optimal x", "not proved: x", "feasible 1/0"):
             self.assertIsNone(verdicts.read(line))
 
@@ -52,8 +48,7 @@ class Covers(unittest.TestCase):
 class InWords(unittest.TestCase):
     """Claims in words: which number is the bound, from which side, and by how much."""
 
-    def words(self, line: str, maximise: bool = True,
-              steps: "verdicts.Multiples | None" = None) -> str:
+    def words(self, line: str, maximise: bool = True, steps: "verdicts.Multiples | None" = None) -> str:
         said = verdicts.read(line)
         assert said is not None
         return verdicts.in_words(said, maximise, steps)
@@ -115,24 +110,20 @@ class Keeping(Case):
 
     def test_other_files(self) -> None:
         """What is no certificate, or cannot be judged in time, stays; an empty file does not."""
-        for there, says, stays in ((b"letters\n", "", True), (OPTIMAL + b"\n", None, True),
-                                   (b"", "", False)):
+        for there, says, stays in ((b"letters\n", "", True), (OPTIMAL + b"\n", None, True), (b"", "", False)):
             self.put(there, ".certificate")
             kept = self.keep("optimal 17", says)
-            self.assertEqual((kept.failed, self.bytes_of(".certificate")),
-                             (stays, there if stays else OPTIMAL))
+            self.assertEqual((kept.failed, self.bytes_of(".certificate")), (stays, there if stays else OPTIMAL))
             self.assertIn(STANDS if stays else f"{self.target} is written: the certificate of "
                           f"`optimal 17`, {len(OPTIMAL)} bytes", kept.line)
 
     def test_what_cannot_be_written(self) -> None:
         """No empty or partial file is left."""
-        for target, why in (("/nonexistent/x", "No such file or directory"),
-                            (self.folder, "Is a directory"),
+        for target, why in (("/nonexistent/x", "No such file or directory"), (self.folder, "Is a directory"),
                             ("/dev/full", "No space left on device")):
             with mock.patch.object(Keeping, "target", target):
                 kept = self.keep("optimal 17", "")
-            self.assertEqual(kept, Kept(f"the certificate is not kept: {target}: {why}", None,
-                                        True))
+            self.assertEqual(kept, Kept(f"the certificate is not kept: {target}: {why}", None, True))
         self.put(OPTIMAL[:-8], ".certificate")
         os.chmod(self.target, 0o444)
         kept = self.keep("optimal 17", "", True)
@@ -143,12 +134,10 @@ class Keeping(Case):
     def test_standard_output(self) -> None:
         """Where it is a file, the certificate is added to it."""
         code = ("import os, sys; sys.path[:0] = sys.argv[1:2]; from bridge_drivers.files import "
-                "write; print('before'); write('/dev/stdout', open(sys.argv[2], 'rb').read()); "
-                "print('behind')")
+                "write; print('before'); write('/dev/stdout', open(sys.argv[2], 'rb').read()); print('behind')")
         self.put(OPTIMAL, ".certificate")
         with open(self.stub, "wb") as out:
-            subprocess.run([sys.executable, "-c", code, os.path.join(HERE, ".."), self.target],
-                           stdout=out, check=True)
+            subprocess.run([sys.executable, "-c", code, os.path.join(HERE, ".."), self.target], stdout=out, check=True)
         self.assertEqual(self.bytes_of(), b"before\n" + OPTIMAL + b"behind\n")
 
     def test_links_and_modes(self) -> None:
@@ -185,11 +174,9 @@ class Certify(Case):
             signal.signal(signal.SIGXFSZ, signal.SIG_IGN)
             resource.setrlimit(resource.RLIMIT_FSIZE, (64, 64))
         ended = subprocess.run([sys.executable, CERTIFY, self.stub, "bridge=" + " ".join(PROGRAM)],
-                               stdin=subprocess.DEVNULL, capture_output=True, text=True,
-                               check=False, preexec_fn=small)
+                               stdin=subprocess.DEVNULL, capture_output=True, text=True, check=False, preexec_fn=small)
         self.assertNotEqual(ended.returncode, 0)
-        self.assertRegex(ended.stderr + ended.stdout,
-                         r"/\S+( could not be run or written)?: File too large")
+        self.assertRegex(ended.stderr + ended.stdout, r"/\S+( could not be run or written)?: File too large")
         self.assertNotIn("None", ended.stderr + ended.stdout)
 
 

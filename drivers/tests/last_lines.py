@@ -82,8 +82,7 @@ class Claims(Case):
             self.assertEqual("point was found; objective" in self.sol().text, bool(kind))
             self.assertIn(f"{kind} point was found; objective " if kind else "", self.sol().text)
             self.judge_claim(name, self.sol())
-            self.assertEqual([str(float(y)) for y in self.sol().duals],
-                             list(MODELS[name].duals or []))
+            self.assertEqual([str(float(y)) for y in self.sol().duals], list(MODELS[name].duals or []))
 
     def test_strict(self) -> None:
         """A status of its own where the question is left open."""
@@ -97,10 +96,8 @@ class Claims(Case):
     @NEEDS_CLP
     def test_a_ray_that_there_was_no_time_for(self) -> None:
         """A point alone earns no code 0 where the objective may have no end."""
-        open_end = nl([("I", 0, None)] * 3, [(None, 18, {0: 10, 1: 7, 2: -12})],
-                      [("max", 0, {0: 10, 1: 7, 2: 12})])
-        for text, wanted in ((MODELS["knap"].text, (0, "optimal 17")),
-                             (open_end, (100, "feasible 17"))):
+        open_end = nl([("I", 0, None)] * 3, [(None, 18, {0: 10, 1: 7, 2: -12})], [("max", 0, {0: 10, 1: 7, 2: 12})])
+        for text, wanted in ((MODELS["knap"].text, (0, "optimal 17")), (open_end, (100, "feasible 17"))):
             self.put(text)
             with mock.patch("bridge_drivers.certify.points.ray", side_effect=Over("time")):
                 line = self.last("cbc", "knap")
@@ -140,8 +137,7 @@ class Claims(Case):
     def test_each_verdict_of_the_check(self) -> None:
         """What the line before the last makes of each line of `check`."""
         wide = "exact values do not fit 128 bits "
-        rounding = "no row or bound is missed by more than 1e-15 of its largest term, which is " \
-                   "rounding"
+        rounding = "no row or bound is missed by more than 1e-15 of its largest term, which is rounding"
         for verdict, linear, whole in (
                 ("yes 19/2", "yes 9.5", "feasible, objective exactly 9.5"),
                 ("gap 9 17/2", "gap 9 8.5", "feasible, objective exactly 9"),
@@ -169,8 +165,7 @@ class Claims(Case):
             with mock.patch.dict(Injected.says, {command: lacks}):
                 self.assertEqual(self.last("cbc", "product"), line)
         with mock.patch.dict(Injected.says, {"return": lacks}):
-            self.assertIn("return: this bridge does not know the command `return`",
-                          self.last("cbc", "product"))
+            self.assertIn("return: this bridge does not know the command `return`", self.last("cbc", "product"))
             self.assertEqual(self.sol().code, 507)
 
     def test_seconds(self) -> None:
@@ -187,8 +182,7 @@ class Claims(Case):
         self.put(MODELS["diet"].text)
         good = stored.runs("lp_solve")["diet"]
         bad = self.changed("lp_solve", "diet", "x0 4", "x0 3")
-        late = mock.patch("bridge_drivers.certificates.certified",
-                          lambda *_: Verdict("not proved: time"))
+        late = mock.patch("bridge_drivers.certificates.certified", lambda *_: Verdict("not proved: time"))
         with mock.patch("bridge_drivers.certificates.LARGE", 1), late:
             for run, line in ((good, "optimal 22/5"), (bad, "not proved: time")):
                 self.assertEqual(self.last("lp_solve", "diet", run=run), line)
@@ -197,8 +191,7 @@ class Claims(Case):
         self.put(MODELS["product"].text)
         reply = Reply(1, b"leaf 0 gap 20\n", "")
         with mock.patch.dict(Injected.says, {"verify": lambda text: reply}):
-            self.assertEqual(self.last("cbc", "product"),
-                             "not proved: bridge verify says `leaf 0 gap 20`")
+            self.assertEqual(self.last("cbc", "product"), "not proved: bridge verify says `leaf 0 gap 20`")
 
     def test_duals_that_do_not_fit(self) -> None:
         """They are left out, which a line tells; the values are checked without them."""
@@ -210,8 +203,7 @@ class Claims(Case):
             line = self.last("clp", "product")
         sol = self.sol()
         self.assertRegex(sol.message[1], "^duals are left out: .*dual too wide")
-        self.assertEqual((line, len(sol.values), sol.duals, sol.suffixes),
-                         ("optimal 19", 2, [], {}))
+        self.assertEqual((line, len(sol.values), sol.duals, sol.suffixes), ("optimal 19", 2, [], {}))
 
     def test_bound_and_relax(self) -> None:
         self.put(MODELS["knap"].text)
@@ -232,8 +224,7 @@ class Claims(Case):
         """What a solver's own answer gives."""
         self.without_clp()
         for name, line in (("infeasible", "infeasible"), ("whole_infeasible", "infeasible"),
-                           ("product", "optimal 19"), ("knap", "feasible 17"),
-                           ("mixed", "feasible 173/4")):
+                           ("product", "optimal 19"), ("knap", "feasible 17"), ("mixed", "feasible 173/4")):
             self.put(MODELS[name].text)
             self.assertEqual(self.last("cbc", name), line)
         for name, line in (("knap", "not proved: there was no search; without it: feasible 17"),
@@ -249,11 +240,9 @@ class Claims(Case):
         self.put(text.replace(b"6.4", b"6.4000000000000004"))
         self.assertRegex(self.last("cbc", "diet"), r"^optimal \d{17,}/\d+")
         self.assertEqual(self.last("cbc", "diet", "shortest=1"), "optimal 22/5")
-        self.assertIn("2 numbers of the .nl file were read in their shortest spelling",
-                      self.sol().text)
+        self.assertIn("2 numbers of the .nl file were read in their shortest spelling", self.sol().text)
 
     def test_binary(self) -> None:
         shutil.copy(os.path.join(HERE, "binary", "mixed.bin.nl"), self.stub + ".nl")
         self.assertRegex(self.last("cbc", "mixed"), "^(feasible|optimal) 173/4$")
-        self.assertEqual(self.sol().message[1],
-                         "the binary .nl file was turned into text, which is not proved")
+        self.assertEqual(self.sol().message[1], "the binary .nl file was turned into text, which is not proved")

@@ -35,8 +35,7 @@ class Words(Case):
 
 @NEEDS_PROGRAM
 class Failures(Case):
-    def failure(self, code: int, status: int, text: str, driver: str, name: str,
-                *words: str) -> None:
+    def failure(self, code: int, status: int, text: str, driver: str, name: str, *words: str) -> None:
         """With -AMPL a .sol and 0, without it none, with failexit none and the status."""
         for more, wanted, written in (["-AMPL"], 0, True), ([], status, False), \
                 (["-AMPL", "failexit=1"], status, False):

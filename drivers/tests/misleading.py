@@ -1,6 +1,5 @@
-"""Small models that mislead solvers in doubles, each with what is true of it by an exact method of
-its own: all points of a small box with all vertices of what two continuous variables leave, in
-fractions; or by how it is made."""
+"""Small models that mislead solvers in doubles, each with what is true of it by an exact method of its own: all points
+of a small box with all vertices of what two continuous variables leave, in fractions; or by how it is made."""
 
 from __future__ import annotations
 
@@ -20,8 +19,7 @@ CLOSE = F(1, 10 ** 9)           # of the largest term of the objective
 
 
 class Misleading(NamedTuple):
-    """Continuous columns come first. `best` is None where there is no point; `is_endless`: there
-    is no best one."""
+    """Continuous columns come first. `best` is None where there is no point; `is_endless`: there is no best one."""
 
     name: str
     columns: Sequence[Column]
@@ -66,8 +64,7 @@ def misses(low: Number | None, high: Number | None, parts: Sequence[F], rounding
     lo, hi = (None if end is None else F(end) for end in (low, high))
     at = sum(parts, F(0))
     size = max(map(abs, [*parts, lo or F(0), hi or F(0)]))
-    return lo is not None and lo - at > rounding * size \
-        or hi is not None and at - hi > rounding * size
+    return lo is not None and lo - at > rounding * size or hi is not None and at - hi > rounding * size
 
 
 # the exact method -------------------------------------------------------------------
@@ -75,8 +72,7 @@ def misses(low: Number | None, high: Number | None, parts: Sequence[F], rounding
 Half = Tuple[List[F], F]                                # coefficients of columns, at most this
 
 
-def best_of(columns: Sequence[Column], rows: Sequence[Row], sense: str,
-            costs: Mapping[int, Number]) -> F | None:
+def best_of(columns: Sequence[Column], rows: Sequence[Row], sense: str, costs: Mapping[int, Number]) -> F | None:
     """Over all points of the whole columns, each with the vertices of the continuous ones."""
     free = sum(kind == "C" for kind, _, _ in columns)
     boxes = [range(int(lo), int(hi) + 1) for _, lo, hi in columns[free:]]
@@ -85,13 +81,11 @@ def best_of(columns: Sequence[Column], rows: Sequence[Row], sense: str,
         halves = list(halves_of(columns, rows, free, whole))
         at = [F(costs.get(j, 0)) for j in range(len(columns))]
         start = sum(c * v for c, v in zip(at[free:], whole))
-        values += [start + sum(c * v for c, v in zip(at, vertex))
-                   for vertex in vertices(free, halves)]
+        values += [start + sum(c * v for c, v in zip(at, vertex)) for vertex in vertices(free, halves)]
     return (max if sense == "max" else min)(values, default=None)
 
 
-def halves_of(columns: Sequence[Column], rows: Sequence[Row], free: int,
-              whole: Sequence[int]) -> Iterator[Half]:
+def halves_of(columns: Sequence[Column], rows: Sequence[Row], free: int, whole: Sequence[int]) -> Iterator[Half]:
     for low, high, terms in rows:
         rest = sum(F(a) * whole[j - free] for j, a in terms.items() if j >= free)
         part = [F(terms.get(j, 0)) for j in range(free)]
@@ -109,8 +103,7 @@ def vertices(free: int, halves: Sequence[Half]) -> Iterator[Point]:
     """Of what lies in all halves, a bounded part of at most two dimensions."""
     for chosen in itertools.combinations(halves, free):
         point = crossing(chosen)
-        if point is not None and all(sum(a * v for a, v in zip(part, point)) <= side
-                                     for part, side in halves):
+        if point is not None and all(sum(a * v for a, v in zip(part, point)) <= side for part, side in halves):
             yield point
 
 

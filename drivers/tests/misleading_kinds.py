@@ -75,8 +75,7 @@ def large_numbers(rng: random.Random) -> Parts:
     large = {j: rng.choice([-1, 1]) * (size + rng.randint(0, 3)) for j in range(n)}
     at = sum(a * rng.randint(0, int(columns[j][2])) for j, a in large.items())
     sense = rng.choice(["min", "max"])
-    rows: list[Row] = [rng.choice([(at + 1, None, large), (None, at - 1, large),
-                                   (at, at + rng.randint(0, 1), large)])]
+    rows: list[Row] = [rng.choice([(at + 1, None, large), (None, at - 1, large), (at, at + rng.randint(0, 1), large)])]
     return columns, rows, sense, costs_of(rng, n)
 
 
@@ -137,8 +136,7 @@ def sized(rng: random.Random, least: int, most: int) -> F:
 
 
 def matrix(rng: random.Random, n: int) -> list[list[F]]:
-    """Rows of small whole numbers, the last of which is that of others but for little in one
-    coefficient."""
+    """Rows of small whole numbers, the last of which is that of others but for little in one coefficient."""
     rows = [[F(rng.randint(-9, 9)) for _ in range(n)] for _ in range(n - 1)]
     weights = [rng.randint(-3, 3) for _ in rows]
     last = [sum((w * row[j] for w, row in zip(weights, rows)), F(0)) for j in range(n)]
@@ -191,10 +189,8 @@ def nearly_parallel(rng: random.Random) -> Misleading:
     x = [F(rng.randint(-9, 9)) for _ in range(n)]
     y = [F(rng.randint(0, 5)) for _ in range(n - 1)] + [F(rng.randint(1, 5))]
     costs = [sum(w * row[j] for w, row in zip(y, rows)) for j in range(n)]
-    made: list[Row] = [(None, decimal(sum(a * v for a, v in zip(row, x))), terms_of(row))
-                       for row in rows]
-    return Misleading("", [("C", None, None)] * n, made, "max", terms_of(costs),
-                      sum(c * v for c, v in zip(costs, x)))
+    made: list[Row] = [(None, decimal(sum(a * v for a, v in zip(row, x))), terms_of(row)) for row in rows]
+    return Misleading("", [("C", None, None)] * n, made, "max", terms_of(costs), sum(c * v for c, v in zip(costs, x)))
 
 
 def tiny_rays(rng: random.Random) -> Misleading:
@@ -207,8 +203,7 @@ def tiny_rays(rng: random.Random) -> Misleading:
     if n > 1:
         rows = [(None, 100, {j: rng.randint(1, 3) for j in range(1, n)})]
     best = sum(c * F(columns[j][2] or 0) for j, c in costs.items())
-    return Misleading("", columns, rows, "max", {j: decimal(c) for j, c in costs.items()},
-                      best, end is None)
+    return Misleading("", columns, rows, "max", {j: decimal(c) for j, c in costs.items()}, best, end is None)
 
 
 def whole_rays(rng: random.Random) -> Misleading:
@@ -220,8 +215,7 @@ def whole_rays(rng: random.Random) -> Misleading:
     rows: list[Row] = [(rng.choice([None, 0]), 0, {0: a, 1: -b})]       # at b and a times t
     costs = {0: cost + gain, 1: -cost * b / a} if a in (1, 2, 4, 5) else {0: gain}
     best = gain * end * b if end is not None else F(0)
-    return Misleading("", columns, rows, "max", terms_of([costs.get(j, F(0)) for j in (0, 1)]),
-                      best, end is None)
+    return Misleading("", columns, rows, "max", terms_of([costs.get(j, F(0)) for j in (0, 1)]), best, end is None)
 
 
 def two_rows(rng: random.Random) -> Misleading:
@@ -244,11 +238,9 @@ def two_rows(rng: random.Random) -> Misleading:
 
 def far_ends(rng: random.Random) -> Parts:
     """Ends and sides that are large, some of them none to a solver."""
-    columns: list[Column] = [("C", 0, f"{rng.randint(1, 9)}e{rng.choice([9, 15, 20, 26, 30, 31])}")
-                             for _ in range(2)]
+    columns: list[Column] = [("C", 0, f"{rng.randint(1, 9)}e{rng.choice([9, 15, 20, 26, 30, 31])}") for _ in range(2)]
     rows: list[Row] = [(None, f"{rng.randint(1, 9)}e{rng.randint(5, 30)}",
-                        {0: rng.randint(1, 3), 1: rng.randint(0, 3)})
-                       for _ in range(rng.randint(1, 2))]
+                        {0: rng.randint(1, 3), 1: rng.randint(0, 3)}) for _ in range(rng.randint(1, 2))]
     return columns, rows, "max", {0: rng.randint(1, 3), 1: rng.choice([-1, 0, 1])}
 
 
@@ -267,8 +259,7 @@ def crossing_bounds(rng: random.Random) -> Parts:
     else:
         g = rng.randint(1, 4)
         lo, hi = ends(4)
-        rows = [(decimal(F(lo) * g), decimal(F(hi) * g),
-                 {j: g * rng.choice([-3, -2, 1, 2]) for j in range(n)})]
+        rows = [(decimal(F(lo) * g), decimal(F(hi) * g), {j: g * rng.choice([-3, -2, 1, 2]) for j in range(n)})]
     return columns, rows, rng.choice(["min", "max"]), {j: rng.randint(-5, 9) for j in range(n)}
 
 
@@ -318,14 +309,12 @@ KINDS: Sequence[Callable[[random.Random], Union[Misleading, Parts]]] = (
     crossing_bounds, cut_offs, drops, whole_singular, whole_rays, two_rows)
 
 
-def counted(columns: Sequence[Column], rows: Sequence[Row], sense: str,
-            costs: Mapping[int, Number]) -> Misleading:
+def counted(columns: Sequence[Column], rows: Sequence[Row], sense: str, costs: Mapping[int, Number]) -> Misleading:
     """By all points and vertices."""
     boxed: list[Column] = [(kind, int(-(-F(lo) // 1)), int(F(hi))) if kind == "I" else
                            (kind, lo, hi) for kind, lo, hi in columns]
     empty = any(kind == "I" and lo > hi for kind, lo, hi in boxed)
-    return Misleading("", columns, rows, sense, costs,
-                      None if empty else best_of(boxed, rows, sense, costs))
+    return Misleading("", columns, rows, sense, costs, None if empty else best_of(boxed, rows, sense, costs))
 
 
 def models(each: int = EACH) -> Iterator[Misleading]:

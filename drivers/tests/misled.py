@@ -1,15 +1,14 @@
 #!/usr/bin/env python3
-"""Models that mislead solvers in doubles (misleading_kinds.py) through drivers: what ends with code
-0 and is wrong, and what a solver answered rightly and exactly and the driver lost.
+"""Models that mislead solvers in doubles (misleading_kinds.py) through drivers: what ends with code 0 and is wrong, and
+what a solver answered rightly and exactly and the driver lost.
 
     misled.py [DRIVER ..] [KIND ..] [option=value ..]   all six drivers, where they are; all kinds
 
-BRIDGE names the program. Each model goes through each driver as it comes, and with `prove=1`;
-`prove=0` or `prove=1` says which alone, `each=2` takes two models of each kind. `second=5` makes
-five of the second that a run without `prove=1` has for its certificate, `time=60` sixty of the ten
-that a run has: on a machine that does much else. `workers=2` runs two at a time. `log=FILE` gets a
-line for each run, and what stands there is not run again. A line for each wrong or lost answer, and
-one for each driver: how many end with which code. The status is 1 where one is wrong.
+BRIDGE names the program. Each model goes through each driver as it comes, and with `prove=1`; `prove=0` or `prove=1`
+says which alone, `each=2` takes two models of each kind. `second=5` makes five of the second that a run without
+`prove=1` has for its certificate, `time=60` sixty of the ten that a run has: on a machine that does much else.
+`workers=2` runs two at a time. `log=FILE` gets a line for each run, and what stands there is not run again. A line for
+each wrong or lost answer, and one for each driver: how many end with which code. The status is 1 where one is wrong.
 """
 
 from __future__ import annotations
@@ -88,8 +87,7 @@ def told(model: Misleading, sol: Sol) -> Judged:
         wrong = "there is a point"
     elif last == "unbounded" and not model.is_endless:
         wrong = "there is a best point" if model.best is not None else "there is no point"
-    return Judged(sol.code, f"{wrong} ({last})" if wrong else "", "" if wrong else lost(model, sol),
-                  last)
+    return Judged(sol.code, f"{wrong} ({last})" if wrong else "", "" if wrong else lost(model, sol), last)
 
 
 def lost(model: Misleading, sol: Sol) -> str:
@@ -103,8 +101,7 @@ def lost(model: Misleading, sol: Sol) -> str:
     if own.code == Code.SOLVED and own.values is not None and sol.code != 0:
         names = [f"x{j}" for j in range(len(model.columns))]
         point = [F(own.values[name]) for name in names]
-        point = [F(round(v)) if kind == "I" else v
-                 for v, (kind, _, _) in zip(point, model.columns)]
+        point = [F(round(v)) if kind == "I" else v for v, (kind, _, _) in zip(point, model.columns)]
         return f"its point is optimal ({last})" if model.is_exact(point) else ""
     return ""
 
@@ -121,8 +118,7 @@ def main() -> int:
     options = [f"timelim={own['time']}", *(f"{name}={value}" for name, value in given.items())]
     certificates.ONE_LEAF = float(own["second"])
     kinds = [w for w in words if w not in solvers.NAMES]
-    chosen = [m for m in models(int(own["each"]))
-              if not kinds or m.name.rstrip("0123456789") in kinds]
+    chosen = [m for m in models(int(own["each"])) if not kinds or m.name.rstrip("0123456789") in kinds]
     print(f"{len(chosen)} models, {sum(m.best is None for m in chosen)} without a point, "
           f"{sum(m.is_endless for m in chosen)} without an end", flush=True)
     wrong = 0
@@ -141,8 +137,7 @@ def run(driver: str, chosen: list[Misleading], options: list[str], workers: int,
         known: dict[str, Judged], log: TextIO) -> int:
     """How many are wrong."""
     start, key = time.monotonic(), f"{driver} {options[0]} {{}}".format
-    with tempfile.TemporaryDirectory(prefix="misled-") as folder, \
-            ProcessPoolExecutor(workers) as pool:
+    with tempfile.TemporaryDirectory(prefix="misled-") as folder, ProcessPoolExecutor(workers) as pool:
         jobs = {pool.submit(judged, folder, driver, model, options): key(model.name)
                 for model in chosen if key(model.name) not in known}
         for job in as_completed(jobs):
@@ -155,10 +150,8 @@ def run(driver: str, chosen: list[Misleading], options: list[str], workers: int,
                 print(f"{name}: code {found.code}, {word}: {text}", flush=True)
     codes = collections.Counter(found.code for found in every.values())
     shares = ", ".join(f"code {code}: {count}" for code, count in sorted(codes.items()))
-    wrong, gone = (sum(map(bool, part)) for part in zip(*((f.wrong, f.lost)
-                                                          for f in every.values())))
-    print(f"{key('all')}: {shares}; {wrong} wrong, {gone} lost; {time.monotonic() - start:.0f} s",
-          flush=True)
+    wrong, gone = (sum(map(bool, part)) for part in zip(*((f.wrong, f.lost) for f in every.values())))
+    print(f"{key('all')}: {shares}; {wrong} wrong, {gone} lost; {time.monotonic() - start:.0f} s", flush=True)
     return wrong
 
 

@@ -90,8 +90,7 @@ def end(word: str) -> Text | None:
 
 def terms_of(words: str) -> dict[int, str]:
     """Coefficients by column."""
-    pairs = (word.split("*") if "*" in word else (str(j), word)
-             for j, word in enumerate(words.split()))
+    pairs = (word.split("*") if "*" in word else (str(j), word) for j, word in enumerate(words.split()))
     return {int(j): a for j, a in pairs if a != "_"}
 
 
@@ -107,8 +106,7 @@ def text_of(cells: Iterable[str]) -> bytes:
                 columns += [(kind, end(lo), end(hi))] * int(times[0][1:] if times else 1)
         elif word in ("max", "min"):
             constant = before.split()[1:]
-            objectives.append((word, constant if len(constant) > 1 else constant[0],
-                               terms_of(terms)))
+            objectives.append((word, constant if len(constant) > 1 else constant[0], terms_of(terms)))
         elif re.fullmatch(r"(\S+) (\S+) ", before):
             rows.append((end(word), end(words[0]), terms_of(terms)))
         elif re.fullmatch(r"C\d+", word):
@@ -124,8 +122,7 @@ def model_of(code: str, *cells: str) -> Model:
     return Model(text_of(cells), int(number), F(objective[0]) if objective else None,
                  said["duals"].split() if "duals" in said else None,
                  terms_of(said["costs"]) if "costs" in said else None,
-                 not {"B", "I"} & set(cells[0].split()), said.get("options", "").split(),
-                 said.get("word", ""))
+                 not {"B", "I"} & set(cells[0].split()), said.get("options", "").split(), said.get("word", ""))
 
 
 MODELS = {name: model_of(*cells) for name, *cells in rows_of("models")}

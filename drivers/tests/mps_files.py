@@ -41,8 +41,7 @@ class Texts(unittest.TestCase):
             " FX BND x2 2\n LO BND x3 0\n UP BND x3 7\n FR BND x4\nENDATA\n"))
         names = program_of(written.encode()).names
         assert names is not None
-        self.assertEqual((names.row(1), names.column(4), names.objective(0)),
-                         ("l", "f", "objective 0 (cost)"))
+        self.assertEqual((names.row(1), names.column(4), names.objective(0)), ("l", "f", "objective 0 (cost)"))
 
     def test_notes(self) -> None:
         """On what other readers take otherwise, and on nothing else."""
@@ -58,8 +57,7 @@ class Texts(unittest.TestCase):
 
     def test_nothing_but_an_objective(self) -> None:
         p = program_of(b"ROWS\n N o\nCOLUMNS\nRHS\n RHS o 0\nENDATA\n")
-        self.assertEqual((p.columns, p.constraints, p.objective_rhs, p.has_objective()),
-                         ([], [], "0", False))
+        self.assertEqual((p.columns, p.constraints, p.objective_rhs, p.has_objective()), ([], [], "0", False))
 
     def test_names_that_look_like_other_words(self) -> None:
         """A column 'MARKER', and names with spaces that are none to bridge."""
@@ -77,13 +75,11 @@ class Mended(unittest.TestCase):
                 " RHS c1 4\nBOUNDS\n" + "".join(f" {b}\n" for b in bounds) + "ENDATA\n").encode()
 
     def test_what_stays(self) -> None:
-        """Also where columns and rows have such names; bounds that no number can have stay for the
-        refusal."""
+        """Also where columns and rows have such names; bounds that no number can have stay for the refusal."""
         for given in (self.text("UP BND x 3", "LO BND inf 1"), self.text("UP inf 3"),
                       self.text("UP BND x -inf"), self.text("LO BND x inf"),
                       self.text("FX BND x inf"), self.text("UP BND x infant"),
-                      self.text(head="NAME p\nOBJSENSE\n MAXIMIZE\n"),
-                      self.text(head="NAME p\nOBJNAME\n other\n")):
+                      self.text(head="NAME p\nOBJSENSE\n MAXIMIZE\n"), self.text(head="NAME p\nOBJNAME\n other\n")):
             self.assertEqual(mended(given), (given, []))
 
     def test_what_is_mended(self) -> None:
@@ -92,8 +88,7 @@ class Mended(unittest.TestCase):
             for label in (" BND", ""):
                 got, notes = mended(self.text(f"UP{label} x {word}", f"UP{label} inf 3",
                                               f"LO{label} x -{word.lstrip('+')}"))
-                self.assertEqual(got, self.text(f"PL{label} x", f"UP{label} inf 3",
-                                                f"MI{label} x"))
+                self.assertEqual(got, self.text(f"PL{label} x", f"UP{label} inf 3", f"MI{label} x"))
                 self.assertEqual(notes[0], "2 bounds of infinity are read as none")
         self.assertEqual(mended(self.text("UP x inf"))[1][0], "a bound of infinity is read as none")
         plain = self.text()
@@ -103,8 +98,7 @@ class Mended(unittest.TestCase):
                    self.text(head=f"NAME p\nOBJSENSE\n {short}\n"))
                   for word, short in (("MAXIMISE", "MAX"), ("Minimise", "Min")))):
             got, notes = mended(given)
-            self.assertEqual((got, notes[-1]),
-                             (wanted, "what is judged is the text with these changes"))
+            self.assertEqual((got, notes[-1]), (wanted, "what is judged is the text with these changes"))
 
 
 class Kinds(Case):
@@ -164,8 +158,7 @@ class Read(Case):
 
     def test_refusals(self) -> None:
         """The word that is at fault, and what helps with it alone."""
-        self.assertRegex(self.refused(BLANK),
-                         "^m.mps line 8: bad line of .*: names with blanks are not read$")
+        self.assertRegex(self.refused(BLANK), "^m.mps line 8: bad line of .*: names with blanks are not read$")
         for text, line in FAULTS:
             self.assertEqual(self.refused(text), f"m.mps line {line}")
 
@@ -249,7 +242,5 @@ class OlderProgram(Case):
         self.put(FIXED_TEXT.encode(), ".mps")
         read = mps_file.reading(bridge([program]), self.stub + ".mps")
         with self.assertRaises(Refused) as caught:
-            mps_file.judged(bridge([program]), self.stub + ".mps", self.folder,
-                            read)
-        self.assertEqual(caught.exception.line(), "this bridge does not know the command "
-                                                  "`verify_mps` (bad words)")
+            mps_file.judged(bridge([program]), self.stub + ".mps", self.folder, read)
+        self.assertEqual(caught.exception.line(), "this bridge does not know the command `verify_mps` (bad words)")

@@ -57,8 +57,7 @@ MODELS = {
 BLANK = FIXED_TEXT.replace("    ONE       COST", "    MY ONE    COST")
 EMPTY_INTERVAL = sections("N o / G r", "x o 1 r 1 / low o 1", "BOUNDS LO B low 3 / UP B low 2")
 WHOLE_ROW = sections("N o / E row", "M / col o 1 row 1 / W", "RHS row 1.5")
-FAULTY = "NAME t\nROWS\n N o\n L cap\nCOLUMNS\n x o 1\n x cap 2\nRHS\n RHS cap 9\nBOUNDS\n" \
-         " UP b x 4\nENDATA\n"
+FAULTY = "NAME t\nROWS\n N o\n L cap\nCOLUMNS\n x o 1\n x cap 2\nRHS\n RHS cap 9\nBOUNDS\n UP b x 4\nENDATA\n"
 FAULTS = [(FIXED_TEXT.replace("ENDATA", "SOS"),
            "18: bad section `SOS`: special ordered sets are not read"),
           *((FAULTY.replace(old, new), line) for old, new, line in rows_of("mps", "fault"))]

@@ -39,8 +39,7 @@ class Built(Case):
         ran = subprocess.run(["sha256sum", "-c", "SHA256SUMS"], cwd=self.out, capture_output=True)
         self.assertEqual((ran.returncode, ran.stderr), (0, b""))
         own = hashlib.sha256(Path(PROGRAM[0]).read_bytes()).hexdigest()
-        self.assertTrue(Path(self.out, "SHA256SUMS").read_text().startswith(
-            f"# {own}  bridge, the program in them\n"))
+        self.assertTrue(Path(self.out, "SHA256SUMS").read_text().startswith(f"# {own}  bridge, the program in them\n"))
         told = subprocess.run(["dpkg-deb", "-f", deb], capture_output=True, text=True).stdout
         for pattern in (r"(?m)^Depends: .*\bcoinor-libclp1\b", "Description: UNPROVED bridge",
                         "no gate has proved the program", r"(?m)^Recommends: .*\bcoinor-cbc\b",
@@ -75,8 +74,7 @@ class Built(Case):
 
 
 def paths_of(folder: str) -> set[str]:
-    return {os.path.join(place, name) for place, inner, names in os.walk(folder)
-            for name in [*inner, *names]}
+    return {os.path.join(place, name) for place, inner, names in os.walk(folder) for name in [*inner, *names]}
 
 
 @unittest.skipUnless(IS_NEW, "a Python before 3.11")
@@ -87,5 +85,4 @@ class Links(unittest.TestCase):
         documents = [File("README.md", b"[a](docs/user/) [b](docs/user/x.md#part) [c](gone.md) "
                                        b"[d](https://x.example/y)"),
                      File("docs/user/x.md", b"[up](../../README.md) [e](#here) [f](../gone.md)")]
-        self.assertEqual(dead_links(documents), ["gone.md (README.md)", "../gone.md "
-                                                 "(docs/user/x.md)"])
+        self.assertEqual(dead_links(documents), ["gone.md (README.md)", "../gone.md (docs/user/x.md)"])

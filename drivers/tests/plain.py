@@ -63,8 +63,7 @@ class Plain:
             high = self.high[column]
             if low is None and (high is None or high >= 0):
                 low = F(0)
-            low, high = (None if end is None or abs(end) >= F(10) ** 1000 else end
-                         for end in (low, high))
+            low, high = (None if end is None or abs(end) >= F(10) ** 1000 else end for end in (low, high))
             found[column] = low, high
         return found
 
@@ -104,12 +103,10 @@ def random_text(seed: int, most: int = 8) -> bytes:
         if chance.random() < .3:
             lines.append(f" M{marks} 'MARKER' '{('INTORG', 'INTEND')[marks % 2]}'")
             marks += 1
-        lines += [f" {column} {row} {number(chance)}"
-                  for _, row in chance.sample(rows, chance.randint(1, len(rows)))]
+        lines += [f" {column} {row} {number(chance)}" for _, row in chance.sample(rows, chance.randint(1, len(rows)))]
     lines += [f" M{marks} 'MARKER' 'INTEND'"] if marks % 2 else []
     lines += ["RHS", *(f" RHS {row} {number(chance)}" for _, row in rows if chance.random() < .6)]
-    ranges = [f" RNG {row} {number(chance)}" for kind, row in rows
-              if kind != "N" and chance.random() < .3]
+    ranges = [f" RNG {row} {number(chance)}" for kind, row in rows if kind != "N" and chance.random() < .3]
     lines += ["RANGES", *ranges] if ranges else []
     bounds = [f" {kind} BND {column}" + (f" {number(chance)}" if kind in LEFT else "")
               for column in columns for kind in chance.choice(TYPES).split()]

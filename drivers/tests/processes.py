@@ -68,17 +68,14 @@ class Processes(Case):
         mark = os.path.join(self.folder, "started")
         slow = self.script("cbc", f"echo $$ >{mark}; exec sleep 60")
         self.put(b"older", ".certificate")
-        for command, number, status in (("bridge-cbc", signal.SIGTERM, 143),
-                                        ("bridge-cbc", signal.SIGINT, 130),
+        for command, number, status in (("bridge-cbc", signal.SIGTERM, 143), ("bridge-cbc", signal.SIGINT, 130),
                                         ("bridge-certify", signal.SIGINT, 130)):
             words = ["-AMPL", "-e"] if command == "bridge-cbc" else []
             child = self.started("solver=" + slow, *words, mark=mark, command=command)
             child.send_signal(number)
             _, err = child.communicate(timeout=60)
-            self.assertEqual((child.returncode, f"{command}: interrupted\n" in err),
-                             (status, True), err)
-            self.assertEqual((os.path.exists(self.stub + ".sol"), self.bytes_of(".certificate")),
-                             (False, b"older"))
+            self.assertEqual((child.returncode, f"{command}: interrupted\n" in err), (status, True), err)
+            self.assertEqual((os.path.exists(self.stub + ".sol"), self.bytes_of(".certificate")), (False, b"older"))
             with open(mark) as f:
                 pid = int(f.read())
             self.assertRaises(ProcessLookupError, os.kill, pid, 0)
@@ -138,5 +135,4 @@ class MiniZinc(Case):
             self.assertEqual((status, lines), (0, ["% bridge-cbc: optimal 5"]))
             status, lines = self.told("var 0.0..5.0: x; solve maximize x;", mode)
             self.assertEqual((status, len(lines)), (1, 1), lines)
-            self.assertRegex(lines[0], "^% bridge-cbc: .*: missing segment .*: add a constraint on "
-                                       "two variables")
+            self.assertRegex(lines[0], "^% bridge-cbc: .*: missing segment .*: add a constraint on two variables")

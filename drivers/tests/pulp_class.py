@@ -1,5 +1,4 @@
-"""The PuLP solver class; skipped without PuLP, without a solver, or without a bridge that judges
-MPS files."""
+"""The PuLP solver class; skipped without PuLP, without a solver, or without a bridge that judges MPS files."""
 
 from __future__ import annotations
 
@@ -26,8 +25,7 @@ class Texts(unittest.TestCase):
         text = "*SENSE:Maximize\nNAME          MODEL\nROWS\n N  OBJ\nCOLUMNS\nRHS\nBOUNDS\nENDATA\n"
         self.assertEqual(pulp_solver.completed(text, True, "OBJ", 2.5).split("\n"),
                          ["*SENSE:Maximize", "NAME          MODEL", "OBJSENSE", " MAX", "ROWS",
-                          " N  OBJ", "COLUMNS", "RHS", "    RHS       OBJ  -2.5", "BOUNDS",
-                          "ENDATA", ""])
+                          " N  OBJ", "COLUMNS", "RHS", "    RHS       OBJ  -2.5", "BOUNDS", "ENDATA", ""])
         self.assertEqual(pulp_solver.completed(text, False, "OBJ", 0), text)
 
 
@@ -56,8 +54,7 @@ class Solves(Case):
     def test_linear(self) -> None:
         for solver in SOLVERS:
             x, y = pulp.LpVariable("x", 0), pulp.LpVariable("y", 0, 4)
-            problem = problem_of(3 * x + 2 * y + 5, (3 * x + y <= 10, "first"),
-                                 (x + y <= 7, "second"), sense=-1)
+            problem = problem_of(3 * x + 2 * y + 5, (3 * x + y <= 10, "first"), (x + y <= 7, "second"), sense=-1)
             command = self.solve(solver, problem)
             self.assertEqual(pulp.LpStatus[problem.status], "Optimal")
             self.assertEqual((x.value(), y.value(), pulp.value(problem.objective)), (2, 4, 19))
@@ -91,14 +88,12 @@ class Solves(Case):
             problem += x + 2 * y <= 9, "room"
             self.solve(solver, problem)
             self.assertEqual([v.dj for v in (x, y)], [0.0, 0.0])
-            self.assertEqual({n: c.slack for n, c in problem.constraints.items()},
-                             {"both": 0, "apart": 0, "room": 3.5})
+            self.assertEqual({n: c.slack for n, c in problem.constraints.items()}, {"both": 0, "apart": 0, "room": 3.5})
             problem += x <= 1
             self.solve(solver, problem)
             self.assertEqual(pulp.LpStatus[problem.status], "Infeasible")
             self.assertEqual([(v.varValue, v.dj) for v in (x, y)], [(None, None)] * 2)
-            self.assertEqual({(c.slack, c.pi) for c in problem.constraints.values()},
-                             {(None, None)})
+            self.assertEqual({(c.slack, c.pi) for c in problem.constraints.values()}, {(None, None)})
 
     def test_names_in_verdicts(self) -> None:
         """PuLP's own, also where the MPS file cannot have them."""
@@ -143,8 +138,7 @@ class Manners(unittest.TestCase):
             problem = problem_of(1 * pulp.LpVariable("x", low, high))
             problem.solve(command)
             self.assertEqual(pulp.LpStatus[problem.status], "Infeasible")
-            self.assertEqual(command.message, f"infeasible: x has the lower bound {low} and the "
-                                              f"upper bound {high}")
+            self.assertEqual(command.message, f"infeasible: x has the lower bound {low} and the upper bound {high}")
 
     def test_what_is_not_there(self) -> None:
         problem = problem_of(1 * pulp.LpVariable("x", 0, 1))
@@ -152,12 +146,9 @@ class Manners(unittest.TestCase):
             problem.solve(pulp_solver.BridgeCmd("/nonexistent", msg=False))
         self.assertFalse(pulp_solver.BridgeCmd("/nonexistent").available())
         for name in SOLVERS:
-            self.assertEqual(pulp_solver.BridgeCmd("/x/bridge-" + name).available(),
-                             shutil.which(name))
-        with self.assertRaisesRegex(pulp.PulpSolverError, "was not found: install it or give "
-                                                          "options=.'solver=PATH'."):
-            problem.solve(pulp_solver.BridgeCmd(msg=False, options=["solver=/no"],
-                                                bridge="/bin/true"))
+            self.assertEqual(pulp_solver.BridgeCmd("/x/bridge-" + name).available(), shutil.which(name))
+        with self.assertRaisesRegex(pulp.PulpSolverError, "was not found: install it or give options=.'solver=PATH'."):
+            problem.solve(pulp_solver.BridgeCmd(msg=False, options=["solver=/no"], bridge="/bin/true"))
 
     def test_words(self) -> None:
         command = pulp_solver.BridgeCmd("d", mip=False, timeLimit=2.5, gapRel=0.1, threads=3,
@@ -171,8 +162,6 @@ class Manners(unittest.TestCase):
         for last, solution in (("feasible 3", found), ("within 2 3", found), ("bound 3", none),
                                ("not proved: time", none)):
             self.assertEqual(pulp_solver.statuses_of(100, last), (pulp.LpStatusNotSolved, solution))
-        told = {code: pulp.LpStatus[pulp_solver.statuses_of(code)[0]]
-                for code in (0, 100, 200, 290, 300, 400, 450)}
+        told = {code: pulp.LpStatus[pulp_solver.statuses_of(code)[0]] for code in (0, 100, 200, 290, 300, 400, 450)}
         self.assertEqual(told, {0: "Optimal", 100: "Not Solved", 200: "Infeasible",
-                                290: "Undefined", 300: "Unbounded", 400: "Not Solved",
-                                450: "Not Solved"})
+                                290: "Undefined", 300: "Unbounded", 400: "Not Solved", 450: "Not Solved"})

@@ -1,5 +1,4 @@
-"""The calls of Python: the examples of PYTHON.md, what they raise, and that nothing is written that
-was not named."""
+"""The calls of Python: the examples of PYTHON.md, what they raise, and that nothing is written that was not named."""
 
 from __future__ import annotations
 
@@ -69,8 +68,7 @@ class Calls(Case):
             self.checked(explain("knap", "knap.certificate"))
             self.checked(figures("knap"))
         self.assertEqual((sorted(os.listdir(".")), out.getvalue()), (before, ""))
-        self.assertEqual((report.code, report.values, report.value),
-                         (0, {"a": "1", "b": "1", "z": "0"}, F(17)))
+        self.assertEqual((report.code, report.values, report.value), (0, {"a": "1", "b": "1", "z": "0"}, F(17)))
         solve("knap", "cbc", wantsol=1)
         self.assertEqual(sorted(os.listdir(".")), sorted([*before, "knap.sol"]))
 

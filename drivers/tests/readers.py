@@ -43,8 +43,7 @@ class Reading(unittest.TestCase):
                   if row in rows or row == plain.objective()}
         self.assertEqual(found, wanted)
         *sides, scale = read.sides()
-        self.assertEqual(list(zip(*(over(part, scale) for part in sides))),
-                         list(plain.sides().values()))
+        self.assertEqual(list(zip(*(over(part, scale) for part in sides))), list(plain.sides().values()))
         self.same_program(plain, Plain(own.text), rows, columns)
         self.same_model(plain, Model(own, {}, len(rows)), rows, columns)
 
@@ -66,12 +65,9 @@ class Reading(unittest.TestCase):
         self.assertEqual([sign * c for c in p.cost], costs)
         self.assertEqual(sign * p.constant, -plain.rhs.get(plain.objective(), 0))
         self.assertEqual([{columns[j]: F(a, p.scale) for j, a in row} for row in p.rows],
-                         [{j: a for (i, j), a in plain.entries.items() if i == row and a}
-                          for row in rows])
-        self.assertEqual(list(zip(over(p.lo, p.unit), over(p.hi, p.unit))),
-                         list(plain.bounds().values()))
-        self.assertEqual(list(zip(over(p.side_lo, p.unit), over(p.side_hi, p.unit))),
-                         list(plain.sides().values()))
+                         [{j: a for (i, j), a in plain.entries.items() if i == row and a} for row in rows])
+        self.assertEqual(list(zip(over(p.lo, p.unit), over(p.hi, p.unit))), list(plain.bounds().values()))
+        self.assertEqual(list(zip(over(p.side_lo, p.unit), over(p.side_hi, p.unit))), list(plain.sides().values()))
 
     def test_random_ones(self) -> None:
         for seed in range(SEEDS):
@@ -103,8 +99,7 @@ class Reading(unittest.TestCase):
                 b" FR BND x1\n FR BND z\nENDATA\n")
         for sense, sign in ((b"", 1), (b"OBJSENSE\n MAX\n", -1)):
             p = Model(text % sense, {}, 1)
-            self.assertEqual((p.n, p.rows, p.cost, p.constant),
-                             (2, [[(1, 1)]], [2 * sign, -sign], 5 * sign))
+            self.assertEqual((p.n, p.rows, p.cost, p.constant), (2, [[(1, 1)]], [2 * sign, -sign], 5 * sign))
 
     def test_rows_times_factors(self) -> None:
         text = (b"NAME nl\nROWS\n N obj\n L c1\n G c2\nCOLUMNS\n x0 c1 3\n x0 c2 0.5\n x1 c1 1\n"
@@ -128,8 +123,7 @@ class Examples(Case):
                 places = [int(row[1:]) for row in plain.constraints()]
                 p = Model(reply.out, {}, max([-1, *places]) + 1)
                 p.terms = terms.Terms(p.n, [p.rows[i] for i in places])
-                p.side_lo, p.side_hi = ([part[i] for i in places] for part in
-                                        (p.side_lo, p.side_hi))
+                p.side_lo, p.side_hi = ([part[i] for i in places] for part in (p.side_lo, p.side_hi))
                 Reading().same_model(plain, p, plain.constraints(), list(plain.low))
 
 
@@ -158,10 +152,8 @@ class Arrays(unittest.TestCase):
                 y = {i: chance.randint(-size, size) for i in range(0, len(one.rows), 2)}
                 self.assertEqual(one.without(one.n * [7], y, 3), other.without(one.n * [7], y, 3))
             weights = [chance.randint(1, wide) for _ in range(one.n)]
-            self.assertEqual((one.lengths, one.sizes(weights)),
-                             (other.lengths, other.sizes(weights)))
-            self.assertEqual([sorted(column) for column in one.columns],
-                             [other.column(j) for j in range(one.n)])
+            self.assertEqual((one.lengths, one.sizes(weights)), (other.lengths, other.sizes(weights)))
+            self.assertEqual([sorted(column) for column in one.columns], [other.column(j) for j in range(one.n)])
             rows, columns = range(0, len(one.rows), 2), range(0, one.n, 2)
             self.assertEqual(one.inside(rows, columns), other.inside(rows, columns))
             self.assertEqual(one.of_rows(rows), other.of_rows(rows))

@@ -68,8 +68,7 @@ def main() -> None:
             print(f"{driver}: not installed, its stored runs stay")
             continue
         names = [n for n in MODELS if is_solved(n) and (MODELS[n].linear or solver.integers)]
-        stored.save(driver, {name: run(driver, MODELS[name].text, MODELS[name].options)
-                             for name in names})
+        stored.save(driver, {name: run(driver, MODELS[name].text, MODELS[name].options) for name in names})
         print(f"{driver}: {len(names)} runs stored")
 
 

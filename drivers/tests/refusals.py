@@ -15,8 +15,7 @@ from bridge_drivers.expressions import Expression
 from bridge_drivers.names import Names
 
 HEAD = b"g3 1 1 0\n 3 1 1 0 0\n" + b" 0 0\n" * 8
-PRODUCT = HEAD + (b"C0\no54\n3\no2\nn5\nv1\no2\nv0\no0\nv1\nn3\nv2\nO0 0\nn0\nr\n1 4\n"
-                  b"b\n0 0 1\n0 0 1\n0 0 1\n")
+PRODUCT = HEAD + (b"C0\no54\n3\no2\nn5\nv1\no2\nv0\no0\nv1\nn3\nv2\nO0 0\nn0\nr\n1 4\nb\n0 0 1\n0 0 1\n0 0 1\n")
 
 
 def in_words(text: str, names: Names | None = None, mark: int = -1) -> str:
@@ -33,8 +32,7 @@ class Expressions(unittest.TestCase):
         for text, words, *more in rows_of("refusals", "expression"):
             columns, mark = (int(more[k]) if k < len(more) else -k for k in (0, 1))
             self.assertEqual(in_words(text, Names("", columns) if columns else None, mark), words)
-        self.assertEqual(in_words("o54 1000 " + " ".join(terms)),
-                         "(x0 + x1 + x2 + x3 + x4 + x5 + ..)")
+        self.assertEqual(in_words("o54 1000 " + " ".join(terms)), "(x0 + x1 + x2 + x3 + x4 + x5 + ..)")
         self.assertIn(" + >>(x7 * x8)<< + ..", in_words("o54 1000 " + " ".join(marked), mark=502))
         lines = [b"f0 2\t#gamma\n", b"v0 # speed of sound\n", b"h3:abc\n"]
         self.assertEqual(Expression(Names("")).text(lines), "gamma(speed of sound, 'abc')")
@@ -60,12 +58,10 @@ class Refusals(Case):
             self.assertEqual(self.line("refused " + told, *words.replace("NL", nl).split()), line)
         for number, place in ((2, "header"), (23, "objective 0"), (26, "constraint 0"),
                               (25, "sides of constraints"), (29, "variable 1"), (27, "bounds")):
-            self.assertIn(f"m.nl line {number}: {place}: ",
-                          self.line(f"refused line {number}: x", *export))
+            self.assertIn(f"m.nl line {number}: {place}: ", self.line(f"refused line {number}: x", *export))
         self.put(PRODUCT.replace(b"o2\nv0", b"o6\nv0"))
         self.assertEqual(self.line("refused line 17: refused opcode 6", *export),
-                         "m.nl line 17: constraint 0: less(x0, (x1 + 3)) is not linear (refused "
-                         "opcode 6)")
+                         "m.nl line 17: constraint 0: less(x0, (x1 + 3)) is not linear (refused opcode 6)")
 
     def test_names_beside_the_model(self) -> None:
         self.put(PRODUCT)
@@ -96,8 +92,7 @@ class Refusals(Case):
         self.assertEqual(line, nl + " line 17: constraint 0 (Cap\\x1b]0;title\\x07): "
                                "(a\\x1b[31m\\x9b1m * (b\\x0dc + 3)) is nonlinear")
         self.assertEqual(explaining.in_words(["export", nl], told, {nl: "m\x1b[1m.nl"}),
-                         "m\\x1b[1m.nl line 17: constraint 0: (\\x1b[2Jspeed * (x1 + 3)) is "
-                         "nonlinear")
+                         "m\\x1b[1m.nl line 17: constraint 0: (\\x1b[2Jspeed * (x1 + 3)) is nonlinear")
         more = "\n".join(explaining.Refusal(["export", nl], told, {}).more())
         self.assertIn("\\x1b[2Jspeed", more)
         self.assertNotRegex(line + more, "[\x00-\x08\x0b-\x1f\x7f-\x9f]")
@@ -105,8 +100,7 @@ class Refusals(Case):
     def test_more(self) -> None:
         """The whole expression, what helps, the lines around."""
         self.put(PRODUCT)
-        more = explaining.Refusal(["export", self.stub + ".nl"], "refused line 17: nonlinear",
-                                  {}).more()
+        more = explaining.Refusal(["export", self.stub + ".nl"], "refused line 17: nonlinear", {}).more()
         self.assertEqual(more[0], "in: ((5 * x1) + >>(x0 * (x1 + 3))<< + x2)")
         self.assertTrue(more[1].startswith("what helps: "))
         self.assertEqual(more[4], ">     17 o2")
@@ -143,12 +137,10 @@ class Kinds(Case):
 
     def test_in_a_refusal(self) -> None:
         self.put(b"NAME\nROWS\n")
-        self.assertEqual(explaining.in_words(["export", self.stub + ".nl"],
-                                             "refused line 1: bad first line",
+        self.assertEqual(explaining.in_words(["export", self.stub + ".nl"], "refused line 1: bad first line",
                                              {self.stub + ".nl": "m.nl"}),
                          "m.nl line 1: bad first line: it is an MPS file: `bridge-certify m.nl` "
-                         "and the drivers take it, `nl-bridge import m.nl m-2.nl` makes m-2.nl of "
-                         "it")
+                         "and the drivers take it, `nl-bridge import m.nl m-2.nl` makes m-2.nl of it")
 
 
 WORKED = ("refusals", "export")     # the second has what is wide

@@ -32,8 +32,7 @@ def faults(value: Any, rule: dict[str, Any], place: str = "$") -> list[str]:
     assert set(rule) <= KNOWN, rule
     kinds = rule.get("type", list(TYPES))
     kinds = [kinds] if isinstance(kinds, str) else kinds
-    if not any(isinstance(value, TYPES[k]) and not (isinstance(value, bool) and k != "boolean")
-               for k in kinds):
+    if not any(isinstance(value, TYPES[k]) and not (isinstance(value, bool) and k != "boolean") for k in kinds):
         return [f"{place} is {value!r}"]
     told = []
     if "enum" in rule and value not in rule["enum"]:
@@ -54,8 +53,7 @@ def faults(value: Any, rule: dict[str, Any], place: str = "$") -> list[str]:
         told += [f"{place} lacks {key}" for key in rule.get("required", ()) if key not in value]
         for key, one in value.items():
             known = rule.get("properties", {}).get(key, rule.get("additionalProperties", {}))
-            told += [f"{place} has {key}"] if known is False else faults(one, known,
-                                                                        f"{place}.{key}")
+            told += [f"{place} has {key}"] if known is False else faults(one, known, f"{place}.{key}")
     return told
 
 
@@ -68,8 +66,7 @@ class Schema(unittest.TestCase):
                            ("value", {"exact": "1.5", "double": 1.5}), ("lines", "x"),
                            ("code", 600), ("sums", {}), ("other", 1), ("seconds", True)):
             self.assertNotEqual(faults({**good, key: value}, schema()), [], key)
-        self.assertEqual(faults({k: v for k, v in good.items() if k != "bound"}, schema()),
-                         ["$ lacks bound"])
+        self.assertEqual(faults({k: v for k, v in good.items() if k != "bound"}, schema()), ["$ lacks bound"])
 
     def test_numbers(self) -> None:
         self.assertEqual(report.number(F(173, 4)), {"exact": "173/4", "double": 43.25})
@@ -79,8 +76,7 @@ class Schema(unittest.TestCase):
     def test_claims(self) -> None:
         told = report.Report("c")
         told.take_line("within 19 35/2 of objective 2")
-        self.assertEqual((told.claim, told.value, told.bound, told.objective),
-                         ("within", F(35, 2), F(19), 2))
+        self.assertEqual((told.claim, told.value, told.bound, told.objective), ("within", F(35, 2), F(19), 2))
         said = told.object()
         self.assertEqual((said["claim"], said["objective"], said["value"]["exact"],
                           said["bound"]["double"]), ("within", 2, "35/2", 19.0))
@@ -95,8 +91,7 @@ class Objects(Case):
         return self.is_report(ran(*words), words[0])
 
     def test_of_nl_bridge(self) -> None:
-        """What is told beside what `python_calls` looks at: sums, the program, figures, what is
-        refused."""
+        """What is told beside what `python_calls` looks at: sums, the program, figures, what is refused."""
         self.calls("reports", "front")
         certificate = self.stub + ".certificate"
         told = self.call("nl-bridge", "verify", self.stub, certificate, "json=1")
@@ -116,8 +111,7 @@ class Objects(Case):
                              "wantsol=2", "outlev=1", f"certificate={self.stub}.new", "overwrite=1")
             if told["code"] != 503:
                 self.assertEqual(told["values"], {"a": "1", "b": "1", "z": "0"})
-                self.assertEqual((told["code"], told["claim"], told["certificate"]),
-                                 (0, "optimal", self.stub + ".new"))
+                self.assertEqual((told["code"], told["claim"], told["certificate"]), (0, "optimal", self.stub + ".new"))
                 self.assertEqual(self.sol().message, told["lines"])
 
     @unittest.skipUnless(solvers.load("cbc").place(), "no cbc")

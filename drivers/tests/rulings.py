@@ -28,8 +28,7 @@ def all_of_them() -> Iterator[Found]:
 
 class Rules(unittest.TestCase):
     def test_what_holds_of_all(self) -> None:
-        """With all codes of the table of last lines, and no others: of a claim, the answer was
-        checked."""
+        """With all codes of the table of last lines, and no others: of a claim, the answer was checked."""
         found: "dict[str, set[int]]" = {}
         for f in all_of_them():
             got = ruled(f)
@@ -48,8 +47,7 @@ class Rules(unittest.TestCase):
             # of an integer program: an exact point, which nothing speaks against
             if earned and not f.linear and f.checked:
                 self.assertEqual(got.at, At.PROVED)
-                self.assertFalse(f.claim != "optimal" and (f.kind or f.mended)
-                                 and not f.within_gap)
+                self.assertFalse(f.claim != "optimal" and (f.kind or f.mended) and not f.within_gap)
                 if not f.within_gap and not f.by_doubles:
                     self.assertFalse(f.claim == "feasible" and f.is_open)
             # a point that misses the model is none

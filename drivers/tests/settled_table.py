@@ -40,10 +40,8 @@ class Table(Case):
 
     def test_points(self) -> None:
         for code in ALL:
-            self.judge(self.settled(code, "optimal 5", 5), SOLVED, 5,
-                       "" if code in WITH_POINT else "a")
-            self.judge(self.settled(code, "optimal 7", 7), SOLVED, 7,
-                       "a better" if code in WITH_POINT else "a")
+            self.judge(self.settled(code, "optimal 5", 5), SOLVED, 5, "" if code in WITH_POINT else "a")
+            self.judge(self.settled(code, "optimal 7", 7), SOLVED, 7, "a better" if code in WITH_POINT else "a")
         for line in ("feasible", "within 9"):
             for point, kind, code, wanted in (
                     (5, "", SOLVED, SOLVED), (7, "a better", SOLVED, UNSURE),
@@ -54,8 +52,7 @@ class Table(Case):
                 self.judge(self.settled(code, f"{line} {point}", point), wanted, point, kind)
 
     def test_bounds(self) -> None:
-        """Without an exact point a whole one is not solved; a linear one where its value is at the
-        bound."""
+        """Without an exact point a whole one is not solved; a linear one where its value is at the bound."""
         for line, code, wanted, value in (
                 ("bound 5", SOLVED, UNSURE, 5), ("bound 6", SOLVED, UNSURE, 5),
                 ("bound 4", SOLVED, UNSURE, 5), ("bound 5", STOPPED, STOPPED, 5),
@@ -63,10 +60,8 @@ class Table(Case):
                 ("bound 5", INFEASIBLE, INFEASIBLE, None)):
             self.judge(self.settled(code, line), wanted, value)
         answer = Answer(Program(LINEAR), Outcome(SOLVED, "told", {"x0": 5.0}), Options())
-        for line, wanted in (("bound 5", SOLVED), ("bound 5.000004", SOLVED), ("bound 6", UNSURE),
-                             ("bound 4", UNSURE)):
-            found = settled(answer, Verdict(line.replace("5.000004", "1250001/250000"), None,
-                                            "kept"))
+        for line, wanted in (("bound 5", SOLVED), ("bound 5.000004", SOLVED), ("bound 6", UNSURE), ("bound 4", UNSURE)):
+            found = settled(answer, Verdict(line.replace("5.000004", "1250001/250000"), None, "kept"))
             self.judge(found, wanted, 5)
             self.assertEqual(bool(found.lacks), wanted is UNSURE)
 
@@ -79,13 +74,10 @@ class Table(Case):
             self.judge(found, wanted, 5)
         for gap, wanted in ((0.5, SOLVED), (0.01, UNSURE)):
             answer.outcome.is_gap, answer.outcome.code = True, UNSURE
-            found = settled(answer, Verdict("within 6 5", [F(5)], "kept", "", F(5)),
-                            Facts(gap=gap))
+            found = settled(answer, Verdict("within 6 5", [F(5)], "kept", "", F(5)), Facts(gap=gap))
             self.judge(found, wanted, 5)
-        for line, point, words in (("within 8 7", 7, IN_GAP), ("optimal 7", 7, WORDS[SOLVED]),
-                                   ("within 6 5", 5, None)):
-            found = settled(answer, Verdict(line, [F(point)], "kept", "", F(point)),
-                            Facts(gap=0.5))
+        for line, point, words in (("within 8 7", 7, IN_GAP), ("optimal 7", 7, WORDS[SOLVED]), ("within 6 5", 5, None)):
+            found = settled(answer, Verdict(line, [F(point)], "kept", "", F(point)), Facts(gap=0.5))
             self.assertEqual((found.code, found.text), (SOLVED, words))
 
     def test_small_objectives(self) -> None:

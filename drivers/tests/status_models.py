@@ -35,8 +35,7 @@ def knapsacks(columns: int, rows: int, linear: bool = False) -> bytes:
               [("max", 0, {j: rng.randint(10, 99) for j in range(columns)})])
 
 
-def real(name: str, driver: str, size: str, options: str, codes: str, told: str,
-         interrupt: str = "0") -> Real:
+def real(name: str, driver: str, size: str, options: str, codes: str, told: str, interrupt: str = "0") -> Real:
     columns, rows = map(int, size.split())
     return Real(name, driver, (columns, rows), [options] if options else [],
                 [int(code) for code in codes.split()], told, float(interrupt))

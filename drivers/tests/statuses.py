@@ -26,8 +26,7 @@ TABLES = {"cbc": statuses.COIN, "clp": statuses.COIN, "lp_solve": statuses.LP_SO
 VALUES = "Actual values of the variables:"
 REPORTS = {                             # sentences of GLPK that say no status of an answer
     "OPTIMAL LP SOLUTION FOUND", "OPTIMAL SOLUTION FOUND", "INTEGER OPTIMAL SOLUTION FOUND",
-    "INTEGER OPTIMAL SOLUTION FOUND BY MIP PREPROCESSOR",
-    "OPTIMAL SOLUTION FOUND BY LP PREPROCESSOR"}
+    "INTEGER OPTIMAL SOLUTION FOUND BY MIP PREPROCESSOR", "OPTIMAL SOLUTION FOUND BY LP PREPROCESSOR"}
 
 
 def found(pattern: str) -> str:
@@ -63,8 +62,7 @@ class Strings(unittest.TestCase):
 
     def test_lp_solve(self) -> None:
         """What stands after a run, in the order of its codes."""
-        texts = self.between(found("/usr/bin/lp_solve"), "Suboptimal solution",
-                             "lp_solve failed")
+        texts = self.between(found("/usr/bin/lp_solve"), "Suboptimal solution", "lp_solve failed")
         self.assertEqual(texts, {row.words for row in statuses.LP_SOLVE})
 
     def test_glpk(self) -> None:
@@ -84,8 +82,7 @@ class Strings(unittest.TestCase):
             self.skipTest("no SciPy that tells HiGHS's statuses")
         codes = {"INFEASIBLE": Code.INFEASIBLE, "OPTIMAL": Code.SOLVED,
                  "UNBOUNDED": Code.UNBOUNDED, "REACHED_TIME_LIMIT": Code.LIMIT,
-                 "UNBOUNDED_OR_INFEASIBLE": Code.INFEASIBLE_OR_UNBOUNDED,
-                 "REACHED_ITERATION_LIMIT": Code.LIMIT}
+                 "UNBOUNDED_OR_INFEASIBLE": Code.INFEASIBLE_OR_UNBOUNDED, "REACHED_ITERATION_LIMIT": Code.LIMIT}
         for name, number in json.loads(ran.stdout).items():
             row = statuses.row_of(statuses.HIGHS, str(number))
             self.assertIsNotNone(row, name)
@@ -145,8 +142,7 @@ class Each(Case):
             for row in table:
                 for has_point in (True, False):
                     with self.subTest(driver=driver, status=row.words, point=has_point):
-                        code, line = self.code_of(driver, model,
-                                                  changed(driver, run, row, has_point))
+                        code, line = self.code_of(driver, model, changed(driver, run, row, has_point))
                         self.assertEqual(code, self.wanted(driver, row, has_point), line)
 
     @staticmethod
@@ -168,8 +164,7 @@ class Each(Case):
             run = changed(driver, stored.runs(driver)[model], row, True)
             if driver == "glpsol":
                 lines = run["files"]["answer.txt"]
-                lines[:] = [line.replace(" f ", " q ") if line.startswith("s ") else line
-                            for line in lines]
+                lines[:] = [line.replace(" f ", " q ") if line.startswith("s ") else line for line in lines]
             code, line = self.code_of(driver, model, run)
             self.assertEqual(code, 100)
             told = {"glpsol": "q", "highs": "told (HiGHS Status Quite done: told)"}
@@ -199,8 +194,7 @@ class Each(Case):
             with self.subTest(run=real.name):
                 self.put(real.text())
                 run = runs[real.name]
-                ended = self.replay(real.driver, "", self.stub, "-AMPL", "-e", *real.options,
-                                    run=run)
+                ended = self.replay(real.driver, "", self.stub, "-AMPL", "-e", *real.options, run=run)
                 if not real.codes:
                     self.assertEqual(ended.returncode, Status.INTERRUPTED)
                     self.assertIn(real.told, ended.stderr)

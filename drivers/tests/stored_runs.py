@@ -45,8 +45,7 @@ class StoredRuns(Case):
 
     def test_reduced_costs(self) -> None:
         """Those that duals of a certificate leave."""
-        program = Program(b"NAME nl\nROWS\n N obj\n L c0\nCOLUMNS\n x0 obj 2\n x0 c0 3\n x1 c0 -1\n"
-                          b"ENDATA\n")
+        program = Program(b"NAME nl\nROWS\n N obj\n L c0\nCOLUMNS\n x0 obj 2\n x0 c0 3\n x1 c0 -1\nENDATA\n")
         answer = Answer(program, Outcome(Code.SOLVED, "", {"x0": 0, "x1": 0}), Options())
         moved = answer.at([0, 0], {"c0": F(1, 2)}, Code.SOLVED, False)
         self.assertEqual(moved.costs, {"x0": "0.5", "x1": "0.5"})
@@ -79,8 +78,7 @@ class StoredRuns(Case):
         self.put(MODELS["product"].text)
         kept = os.path.join(self.folder, "kept")
         texts = {}
-        for driver, name in (("glpsol", "glpsol.mps"), ("cbc", "coin.mps"),
-                             ("lp_solve", "lp_solve.mps")):
+        for driver, name in (("glpsol", "glpsol.mps"), ("cbc", "coin.mps"), ("lp_solve", "lp_solve.mps")):
             self.replay(driver, "product", self.stub, f"keep={kept}-{driver}")
             with open(os.path.join(f"{kept}-{driver}", name)) as f:
                 texts[driver] = f.read()

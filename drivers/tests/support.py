@@ -55,8 +55,7 @@ def knows(command: str) -> bool:
     """Whether the program is there and knows the command: then it misses the files."""
     words = [command] + ["/nonexistent"] * (1 if command in ("export", "import") else 2)
     try:
-        return bool(PROGRAM) and subprocess.run([*PROGRAM, *words],
-                                                capture_output=True).returncode == 4
+        return bool(PROGRAM) and subprocess.run([*PROGRAM, *words], capture_output=True).returncode == 4
     except OSError:
         return False
 
@@ -91,8 +90,7 @@ def ran(command: str, *words: str, place: str = BIN, given: str = os.devnull, fo
     """How a command as a process of its own ended; a file is given to it."""
     with open(given, "rb") as stream:
         ended = subprocess.run([sys.executable, os.path.join(place, command), *words], text=True,
-                               stdin=stream, capture_output=True, cwd=folder,
-                               env={**os.environ, **environment})
+                               stdin=stream, capture_output=True, cwd=folder, env={**os.environ, **environment})
     return Ended(ended.returncode, ended.stdout, ended.stderr)
 
 
@@ -152,8 +150,7 @@ class Sol:
 
 
 class Injected(Bridge):
-    """`bridge`, but for replies in `says`: a function of the last file's text by command, which
-    may answer None."""
+    """`bridge`, but for replies in `says`: a function of the last file's text by command, which may answer None."""
 
     says: dict[str, Callable[[str], "Reply | None"]] = {}
 
@@ -236,12 +233,10 @@ class Case(unittest.TestCase):
             return called(lambda: OfflineDriver(driver).main(list(words)))
 
     def calls(self, table: str, kind: str, driver: str = FIRST) -> None:
-        """The rows of a table: `put` with a file and its content, `remove`, or a call with its
-        status and what comes of it. DIR is the folder of the test, `m` a model in it, DRIVER
-        a driver."""
+        """The rows of a table: `put` with a file and its content, `remove`, or a call with its status and what comes of
+        it. DIR is the folder of the test, `m` a model in it, DRIVER a driver."""
         for row in rows_of(table, kind):
-            first, second, *rest = (cell.replace("DRIVER", driver).replace("VERSION", VERSION)
-                                    for cell in row)
+            first, second, *rest = (cell.replace("DRIVER", driver).replace("VERSION", VERSION) for cell in row)
             if first == "remove":
                 os.unlink(self.spelled(second))
                 continue
@@ -264,8 +259,7 @@ class Case(unittest.TestCase):
         return re.sub(r"(?<![^ =])m(?=[ .]|$)", self.stub, words.replace("DIR", self.folder))
 
     def of_words(self, words: list[str]) -> Ended:
-        """A call of a table: a command, behind its environment; `replay` is a driver over the
-        stored run of a model."""
+        """A call of a table: a command, behind its environment; `replay` is a driver over the stored run of a model."""
         environment = {}
         while re.match("[A-Za-z_-]+=", words[0]):
             name, _, environment[name] = words.pop(0).partition("=")
@@ -274,25 +268,21 @@ class Case(unittest.TestCase):
         if "/" in words[0]:             # of a clone
             words[0] = os.path.join("..", "..", words[0])
         given = words.pop() if "<" in words else os.devnull
-        return ran(*(word for word in words if word != "<"), given=given, folder=self.folder,
-                   **environment)
+        return ran(*(word for word in words if word != "<"), given=given, folder=self.folder, **environment)
 
     def is_report(self, ended: Ended, command: str) -> dict:
-        """What is printed, which is as its schema wants it; a refusal stands on standard error,
-        too."""
+        """What is printed, which is as its schema wants it; a refusal stands on standard error, too."""
         import reports
         found: dict = json.loads(ended.stdout)
         self.assertEqual(reports.faults(found, reports.schema()), [])
-        self.assertEqual((found["status"], found["command"], found["version"]),
-                         (ended.returncode, command, VERSION))
+        self.assertEqual((found["status"], found["command"], found["version"]), (ended.returncode, command, VERSION))
         if ended.returncode in (2, 3, 4):
             self.assertTrue(ended.stderr.rstrip().endswith(found["text"]), ended.stderr)
         return found
 
     def comes(self, told: str, text: str) -> None:
-        """Of a call: `code: N` of its .sol, `no: FILE`, `there: FILE`, `file: NAME CONTENT`,
-        `in: FILE TEXT`, `same: FILE FILE`, `all: TEXT`, `ends: TEXT`, `not: TEXT`, or a part of
-        what it prints."""
+        """Of a call: `code: N` of its .sol, `no: FILE`, `there: FILE`, `file: NAME CONTENT`, `in: FILE TEXT`, `same:
+        FILE FILE`, `all: TEXT`, `ends: TEXT`, `not: TEXT`, or a part of what it prints."""
         kind, _, rest = told.partition(": ")
         if kind == "code":
             self.assertEqual(self.sol().code, int(rest), text)

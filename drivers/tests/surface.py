@@ -149,8 +149,7 @@ class Models(Case):
 
     def test_files(self) -> None:
         nl, mps = MODELS["knap"].text, b"NAME\nROWS\n N o\nCOLUMNS\nRHS\nENDATA\n"
-        packers = (("", lambda data: data), (".gz", gzip.compress), (".bz2", bz2.compress),
-                   (".xz", lzma.compress))
+        packers = (("", lambda data: data), (".gz", gzip.compress), (".bz2", bz2.compress), (".xz", lzma.compress))
         for data, end in ((nl, ".nl"), (mps, ".mps")):
             for packed, pack in packers:
                 self.put(pack(data), end + packed)
@@ -195,7 +194,6 @@ class Statuses(Case):
 
     @NEEDS_PROGRAM
     def test_each(self) -> None:
-        """By calls that end so; a refusal points to `explain`, and a word that is not known to one
-        that is near."""
+        """By calls that end so; a refusal points to `explain`, and a word that is not known to one that is near."""
         for kind in ("status", "refusal", "meant", *(["certify"] if HAS_CBC else [])):
             self.calls("surface", kind)

@@ -1,6 +1,5 @@
-"""Rows of `tables/NAME.txt`: cells between ` | `, with remarks behind `# `. In a table of several
-kinds of rows the first cell is the kind. Behind four blanks the line before goes on; `\\n` and
-`\\x1b` are what they are in Python."""
+"""Rows of `tables/NAME.txt`: cells between ` | `, with remarks behind `# `. In a table of several kinds of rows the
+first cell is the kind. Behind four blanks the line before goes on; `\\n` and `\\x1b` are what they are in Python."""
 
 from __future__ import annotations
 

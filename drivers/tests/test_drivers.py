@@ -3,10 +3,9 @@
 
     test_drivers.py [NAME ..]       names of tests, as unittest takes them; all where there are none
 
-They need no solver and no network: stored runs take the place of solvers. Where BRIDGE names the
-program, drivers run over it; where solvers, CLP's library or PuLP are installed too, each small
-model runs through them. What is skipped is told. Nothing is written into this folder. The status is
-1 where a test fails.
+They need no solver and no network: stored runs take the place of solvers. Where BRIDGE names the program, drivers run
+over it; where solvers, CLP's library or PuLP are installed too, each small model runs through them. What is skipped is
+told. Nothing is written into this folder. The status is 1 where a test fails.
 """
 
 from __future__ import annotations

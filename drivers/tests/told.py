@@ -77,8 +77,7 @@ class Told(Case):
                 self.searched.append(plans.folder)
                 whole(plans)
         for name, size in FAMILIES:
-            for way, patch in (("", contextlib.nullcontext()),
-                               ("no time", mock.patch(PLANS + "RESERVE", 1.0)),
+            for way, patch in (("", contextlib.nullcontext()), ("no time", mock.patch(PLANS + "RESERVE", 1.0)),
                                ("over", mock.patch(PLANS + "Plans.try_all", once))):
                 with self.subTest(family=name, size=size, way=way), patch:
                     self.searched: list[str] = []

@@ -36,8 +36,7 @@ class Decimals(Case):
             if exact and isinstance(value, F):
                 self.assertEqual(F(got), value)
             else:
-                self.assertLessEqual(abs(F(got) - F(value)), max(abs(F(value)) / 10 ** 16,
-                                                                 F(1, 10 ** 380)))
+                self.assertLessEqual(abs(F(got) - F(value)), max(abs(F(value)) / 10 ** 16, F(1, 10 ** 380)))
         self.assertEqual(values.text_of(3), ("3", True))
         for bad in (float("inf"), float("nan"), F(10 ** 400, 7)):
             self.assertRaises(values.BadValue, values.text_of, bad)
@@ -48,10 +47,8 @@ class Texts(Case):
         p = Program(b"NAME nl\nOBJSENSE\n MAX\nROWS\n N obj\n L c0\nCOLUMNS\n x0 obj 2\n"
                     b" M0 'MARKER' 'INTORG'\n x1 c0 1\n x2 obj 5\n x2 c0 1\n"
                     b" M1 'MARKER' 'INTEND'\n z c0 1\nRHS\n RHS obj -3\n RHS c0 1\nENDATA\n")
-        self.assertEqual((p.rows, p.columns, p.whole),
-                         (["obj", "c0"], ["x0", "x1", "x2", "z"], {"x1", "x2"}))
-        self.assertEqual((p.maximise, p.costs, p.objective_rhs),
-                         (True, {"x0": "2", "x2": "5"}, "-3"))
+        self.assertEqual((p.rows, p.columns, p.whole), (["obj", "c0"], ["x0", "x1", "x2", "z"], {"x1", "x2"}))
+        self.assertEqual((p.maximise, p.costs, p.objective_rhs), (True, {"x0": "2", "x2": "5"}, "-3"))
         self.assertEqual(p.at([1, 9, 0.5, 9]).value, 7.5)
         self.assertTrue(p.free_name().startswith(b"NAME nl FREE\nOBJSENSE"))
         self.assertNotIn(b"OBJSENSE", p.without_sense())
@@ -62,11 +59,9 @@ class Texts(Case):
         text = b"NAME nl\nROWS\n N obj\n G c0\nCOLUMNS\n x0 obj 1e31\n x0 c0 1e32\n" \
                b" x1 obj 1\n x2e30 obj 1\nRHS\n RHS obj -1e40\n RHS c0 -1e30\n" \
                b"RANGES\n RNG c0 100000000000000000000.5\n" \
-               b"BOUNDS\n LO BND x0 0\n UP BND x0 99999999999999999999\n FX BND x1 1e25\n" \
-               b" FR BND x2e30\nENDATA\n"
+               b"BOUNDS\n LO BND x0 0\n UP BND x0 99999999999999999999\n FX BND x1 1e25\n FR BND x2e30\nENDATA\n"
         p = Program(text)
-        self.assertEqual([p.far(size) for size in (1e20, 1e21, 1e25, 1e30, 1e31)],
-                         [4, 2, 2, 1, 0])
+        self.assertEqual([p.far(size) for size in (1e20, 1e21, 1e25, 1e30, 1e31)], [4, 2, 2, 1, 0])
 
     def test_refusals(self) -> None:
         for status, told, line in rows_of("units", "refusal"):
@@ -76,10 +71,8 @@ class Texts(Case):
         self.put(MODELS["knap"].text)
         text = sol.bare(self.stub + ".nl", 501, 2, ["bridge-cbc: no"])
         self.assertEqual(text.decode().split("\n"),
-                         ["bridge-cbc: no", "", "Options", "3", "1", "1", "0", "1", "0", "3", "0",
-                          "objno 2 501", ""])
-        self.assertEqual(sol.with_message(text, ["a", "b"]),
-                         text.replace(b"bridge-cbc: no", b"a\nb"))
+                         ["bridge-cbc: no", "", "Options", "3", "1", "1", "0", "1", "0", "3", "0", "objno 2 501", ""])
+        self.assertEqual(sol.with_message(text, ["a", "b"]), text.replace(b"bridge-cbc: no", b"a\nb"))
         for broken in (b"", b"g3 1 1", b"g3 1 1 0\nx y\n", b"gx\n1 1\n"):
             self.put(broken)
             self.assertRaises((ValueError, IndexError), sol.bare, self.stub + ".nl", 501, 0, [""])
@@ -93,8 +86,7 @@ class Files(Case):
             target = self.stub + ".nl"
             got = nl.prepared(os.path.join(BINARY, name), target, False)
             self.assertIn("not proved", got.notes[0])
-            with open(got.path, "rb") as a, \
-                    open(os.path.join(BINARY, name[:-7] + ".text.nl"), "rb") as b:
+            with open(got.path, "rb") as a, open(os.path.join(BINARY, name[:-7] + ".text.nl"), "rb") as b:
                 self.assertEqual(a.read(), b.read(), name)
             with open(os.path.join(BINARY, name), "rb") as f:
                 data = f.read()
@@ -105,8 +97,7 @@ class Files(Case):
 
     def test_big_endian(self) -> None:
         """The other byte order, and an S segment."""
-        head = b"b3 1 1 0\n 1 0 0 0 0\n 0 0\n 0 0\n 0 0 0\n 0 0 2 1\n" + \
-            b" 0 0 0 0 0\n 0 0\n 0 0\n 0 0 0 0 0\n"
+        head = b"b3 1 1 0\n 1 0 0 0 0\n 0 0\n 0 0\n 0 0 0\n 0 0 2 1\n" + b" 0 0 0 0 0\n 0 0\n 0 0\n 0 0 0 0 0\n"
         body = b"b0" + struct.pack(">dd", 0.5, 0.1 + 0.2) + \
             b"S" + struct.pack(">iii", 4, 1, 4) + b"rc\0\0" + struct.pack(">id", 0, 2.0)
         self.assertEqual(binary_nl.text_of_binary(head + body).decode().split("\n")[10:],
@@ -121,8 +112,7 @@ class Files(Case):
     def test_is_ours(self) -> None:
         """iproute2's `bridge` is passed over on the PATH."""
         first, other, ours = (os.path.join(self.folder, n) for n in ("first", "other", "ours"))
-        for folder, script in ((first, "echo bad words >&2; exit 255"),
-                               (other, "echo usage >&2; exit 3"),
+        for folder, script in ((first, "echo bad words >&2; exit 255"), (other, "echo usage >&2; exit 3"),
                                (ours, "echo bad words >&2; exit 3")):
             os.mkdir(folder)
             with open(os.path.join(folder, "bridge"), "w") as f:
@@ -132,8 +122,7 @@ class Files(Case):
         with mock.patch.dict(os.environ, {"PATH": path, "BRIDGE": ""}):
             self.assertEqual(bridge.find("", []), [os.path.join(ours, "bridge")])
             self.assertEqual(bridge.find("a 'b c'", []), ["a", "b c"])
-            self.assertEqual(bridge.find("", [os.path.join(other, "bridge")]),
-                             [os.path.join(other, "bridge")])
+            self.assertEqual(bridge.find("", [os.path.join(other, "bridge")]), [os.path.join(other, "bridge")])
         with mock.patch.dict(os.environ, {"PATH": other, "BRIDGE": ""}):
             self.assertRaisesRegex(bridge.Missing, "is another program", bridge.find, "", [])
         missing = bridge.Bridge(["/nonexistent/bridge"], lambda argv: None)
@@ -151,16 +140,13 @@ class Shown(Case):
     def test_line(self) -> None:
         shown = progress.Progress("bridge-cbc")
         shown.begin("cbc", 60)
-        shown.tell(progress.detailed({"incumbent": 45.0, "bound": 50.0, "nodes": 100.0,
-                                      "open": 12.0}))
+        shown.tell(progress.detailed({"incumbent": 45.0, "bound": 50.0, "nodes": 100.0, "open": 12.0}))
         self.assertEqual(shown.line(), "bridge-cbc: cbc, 0 of 60 s, incumbent 45, bound 50, "
                                        "gap 10 %, 100 nodes, 12 open")
-        self.assertEqual(progress.detailed({"incumbent": 4.0, "bound": float("-inf")}),
-                         "incumbent 4")
+        self.assertEqual(progress.detailed({"incumbent": 4.0, "bound": float("-inf")}), "incumbent 4")
         shown.begin("certificate")
         self.assertEqual(shown.line(), "bridge-cbc: certificate, 0 s")
-        self.assertEqual([progress.gap(*pair) for pair in ((0, 0), (0, 3), (-4, -5))],
-                         [0, 100, 20])
+        self.assertEqual([progress.gap(*pair) for pair in ((0, 0), (0, 3), (-4, -5))], [0, 100, 20])
 
     def test_streams(self) -> None:
         """In place on a terminal, where nothing is left of it; lines elsewhere."""
@@ -210,10 +196,8 @@ class Interrupts(Case):
             started.append(start(*words, **others))
             signal.raise_signal(signal.SIGTERM)
             return started[0]
-        with mock.patch.object(subprocess, "Popen", interrupted), \
-                self.assertRaises(Interrupted) as caught:
-            with_child(lambda child: self.fail("it is not used"), ["sleep", "60"],
-                       start_new_session=True)
+        with mock.patch.object(subprocess, "Popen", interrupted), self.assertRaises(Interrupted) as caught:
+            with_child(lambda child: self.fail("it is not used"), ["sleep", "60"], start_new_session=True)
         self.assertEqual((caught.exception.status(), started[0].returncode), (143, -9))
 
     def test_the_first_interrupt_of_a_block(self) -> None:

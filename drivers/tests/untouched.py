@@ -54,8 +54,7 @@ class Rule(Case):
         """A name that a new file could have while it is written."""
         self.put(OLDER, f".sol.{os.getpid()}.part")
         Places([]).write(self.place(".sol"), b"new")
-        self.assertEqual((self.bytes_of(".sol"), self.bytes_of(f".sol.{os.getpid()}.part")),
-                         (b"new", OLDER))
+        self.assertEqual((self.bytes_of(".sol"), self.bytes_of(f".sol.{os.getpid()}.part")), (b"new", OLDER))
         self.assertEqual(len(os.listdir(self.folder)), 2)
 
     def test_folders(self) -> None:

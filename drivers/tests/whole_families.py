@@ -18,14 +18,12 @@ BINARY = ("B", 0, 1)
 Row = Tuple[object, object, Dict[int, int]]
 
 
-def program(columns: List[tuple], rows: List[Row], costs: Dict[int, int],
-            sense: str = "min") -> bytes:
+def program(columns: List[tuple], rows: List[Row], costs: Dict[int, int], sense: str = "min") -> bytes:
     """Columns in any order: a text has continuous ones first, then binary, then whole ones."""
     kinds = {"B": 1, "I": 2}
     order = sorted(range(len(columns)), key=lambda j: kinds.get(columns[j][0], 0))
     at = {j: k for k, j in enumerate(order)}
-    return nl([columns[j] for j in order],
-              [(lo, hi, {at[j]: a for j, a in terms.items()}) for lo, hi, terms in rows],
+    return nl([columns[j] for j in order], [(lo, hi, {at[j]: a for j, a in terms.items()}) for lo, hi, terms in rows],
               [(sense, 0, {at[j]: a for j, a in costs.items()})])
 
 
@@ -34,12 +32,10 @@ def knapsack(n: int, apart: int, rnd: random.Random) -> bytes:
     weights = [rnd.randint(10, 1000) for _ in range(n)]
     values = [max(1, w + (rnd.randint(-apart, apart) if apart else 100)) for w in weights]
     side = sum(weights) // 2 + (not apart)
-    return program([BINARY] * n, [(None, side, dict(enumerate(weights)))],
-                   dict(enumerate(values)), "max")
+    return program([BINARY] * n, [(None, side, dict(enumerate(weights)))], dict(enumerate(values)), "max")
 
 
-def knapsacks(n: int, rnd: random.Random, least: int = 1, most: int = 1000,
-              above: int = 500) -> bytes:
+def knapsacks(n: int, rnd: random.Random, least: int = 1, most: int = 1000, above: int = 500) -> bytes:
     """Five at once; values follow weights."""
     weights = [[rnd.randint(least, most) for _ in range(n)] for _ in range(5)]
     values = [sum(column) // 5 + rnd.randint(0, above) for column in zip(*weights)]
@@ -66,10 +62,8 @@ def assignment(machines: int, jobs: int, rnd: random.Random) -> bytes:
     take = [[rnd.randint(5, 25) for _ in range(jobs)] for _ in range(machines)]
     at = [[i * jobs + j for j in range(jobs)] for i in range(machines)]
     rows: List[Row] = [(1, 1, {at[i][j]: 1 for i in range(machines)}) for j in range(jobs)]
-    rows += [(None, int(0.8 * sum(take[i]) / machines), dict(zip(at[i], take[i])))
-             for i in range(machines)]
-    costs = {at[i][j]: 111 - take[i][j] + rnd.randint(-10, 10)
-             for i in range(machines) for j in range(jobs)}
+    rows += [(None, int(0.8 * sum(take[i]) / machines), dict(zip(at[i], take[i]))) for i in range(machines)]
+    costs = {at[i][j]: 111 - take[i][j] + rnd.randint(-10, 10) for i in range(machines) for j in range(jobs)}
     return program([BINARY] * (machines * jobs), rows, costs)
 
 
@@ -84,11 +78,9 @@ def colouring(nodes: int, colours: int, rnd: random.Random) -> bytes:
     edges = [(i, k) for i in range(nodes) for k in range(i) if rnd.random() < 0.5]
     at = [[colours + i * colours + c for c in range(colours)] for i in range(nodes)]
     rows: List[Row] = [(1, 1, dict.fromkeys(at[i], 1)) for i in range(nodes)]
-    rows += [(None, 0, {at[i][c]: 1, at[k][c]: 1, c: -1}) for i, k in edges
-             for c in range(colours)]
+    rows += [(None, 0, {at[i][c]: 1, at[k][c]: 1, c: -1}) for i, k in edges for c in range(colours)]
     rows += [(None, 0, {c + 1: 1, c: -1}) for c in range(colours - 1)]
-    return program([BINARY] * (colours + nodes * colours), rows,
-                   dict.fromkeys(range(colours), 1))
+    return program([BINARY] * (colours + nodes * colours), rows, dict.fromkeys(range(colours), 1))
 
 
 def cutting(sizes: int, rnd: random.Random, least: int = 15, needs: Tuple[int, int] = (2, 5),
@@ -97,12 +89,9 @@ def cutting(sizes: int, rnd: random.Random, least: int = 15, needs: Tuple[int, i
     lengths = rnd.sample(range(least, 70), sizes)
     need = [rnd.randint(*needs) for _ in range(sizes)]
     rolls = rolls or -(-sum(a * b for a, b in zip(lengths, need)) // 75) + 1
-    rows: List[Row] = [(need[i], None, {rolls + i * rolls + b: 1 for b in range(rolls)})
-                       for i in range(sizes)]
-    rows += [(None, 0, {b: -100, **{rolls + i * rolls + b: v for i, v in enumerate(lengths)}})
-             for b in range(rolls)]
-    return program([BINARY] * rolls + [whole(0, most)] * (rolls * sizes), rows,
-                   dict.fromkeys(range(rolls), 1))
+    rows: List[Row] = [(need[i], None, {rolls + i * rolls + b: 1 for b in range(rolls)}) for i in range(sizes)]
+    rows += [(None, 0, {b: -100, **{rolls + i * rolls + b: v for i, v in enumerate(lengths)}}) for b in range(rolls)]
+    return program([BINARY] * rolls + [whole(0, most)] * (rolls * sizes), rows, dict.fromkeys(range(rolls), 1))
 
 
 def packing(things: int, rnd: random.Random, bins: int = 0) -> bytes:
@@ -111,8 +100,7 @@ def packing(things: int, rnd: random.Random, bins: int = 0) -> bytes:
     bins = bins or -(-sum(weights) // 100) + 1
     at = [[bins + i * bins + b for b in range(bins)] for i in range(things)]
     rows: List[Row] = [(1, 1, dict.fromkeys(one, 1)) for one in at]
-    rows += [(None, 0, {b: -100, **{one[b]: w for one, w in zip(at, weights)}})
-             for b in range(bins)]
+    rows += [(None, 0, {b: -100, **{one[b]: w for one, w in zip(at, weights)}}) for b in range(bins)]
     return program([BINARY] * (bins * (things + 1)), rows, dict.fromkeys(range(bins), 1))
 
 
@@ -156,11 +144,9 @@ def charges(sources: int, sinks: int, rnd: random.Random) -> bytes:
     supply = [rnd.randint(20, 60) for _ in range(sources)]
     demand = [int(sum(supply) * 0.9 / sinks) + rnd.randint(-5, 0) for _ in range(sinks)]
     size = sources * sinks
-    rows: List[Row] = [(None, supply[i], dict.fromkeys(range(i * sinks, (i + 1) * sinks), 1))
-                       for i in range(sources)]
+    rows: List[Row] = [(None, supply[i], dict.fromkeys(range(i * sinks, (i + 1) * sinks), 1)) for i in range(sources)]
     rows += [(demand[j], None, dict.fromkeys(range(j, size, sinks), 1)) for j in range(sinks)]
-    rows += [(None, 0, {k: 1, size + k: -min(supply[k // sinks], demand[k % sinks])})
-             for k in range(size)]
+    rows += [(None, 0, {k: 1, size + k: -min(supply[k // sinks], demand[k % sinks])}) for k in range(size)]
     costs = {k: rnd.randint(1, 9) if k < size else rnd.randint(20, 80) for k in range(2 * size)}
     return program([real(0, None)] * size + [BINARY] * size, rows, costs)
 
@@ -179,13 +165,11 @@ def one_machine(n: int, rnd: random.Random) -> bytes:
     return program(columns, rows, dict(enumerate(weight)))
 
 
-def one_first(columns: List[tuple], rows: List[Row], a: int, b: int, times: Tuple[int, int],
-              most: int) -> None:
+def one_first(columns: List[tuple], rows: List[Row], a: int, b: int, times: Tuple[int, int], most: int) -> None:
     """One starts after the other, where a new binary column is 0, or before it."""
     columns.append(BINARY)
     first = len(columns) - 1
-    rows += [(times[0], None, {a: 1, b: -1, first: most}),
-             (times[1] - most, None, {b: 1, a: -1, first: -most})]
+    rows += [(times[0], None, {a: 1, b: -1, first: most}), (times[1] - most, None, {b: 1, a: -1, first: -most})]
 
 
 def job_shop(jobs: int, machines: int, rnd: random.Random) -> bytes:
@@ -200,8 +184,7 @@ def job_shop(jobs: int, machines: int, rnd: random.Random) -> bytes:
     for k in range(machines):
         for j in range(jobs):
             for i in range(j):
-                one_first(columns, rows, j * machines + k, i * machines + k,
-                          (time[i][k], time[j][k]), most)
+                one_first(columns, rows, j * machines + k, i * machines + k, (time[i][k], time[j][k]), most)
     return program(columns, rows, {end: 1})
 
 

@@ -47,13 +47,11 @@ def optimum(p: Model, basis: Basis, x: Sequence[float]) -> Optimum:
     for v in full:
         if v not in shared:
             shared[v] = Fraction(v, over)
-    return Optimum([shared[v] for v in full], {i: v * p.scale for i, v in y.items()},
-                   duals.den * p.cost_scale)
+    return Optimum([shared[v] for v in full], {i: v * p.scale for i, v in y.items()}, duals.den * p.cost_scale)
 
 
 def systems(p: Model, placed: Placed) -> tuple[Solution, Solution]:
-    """The basic columns times `unit`, and the duals of tight rows times `cost_scale` over
-    `scale`."""
+    """The basic columns times `unit`, and the duals of tight rows times `cost_scale` over `scale`."""
     inside, sides = placed.inside, placed.rest
     costs, n = [p.costs[j] for j in placed.columns], len(placed.columns)
     with_scipy = tools()
@@ -99,10 +97,8 @@ def check_point(p: Model, full: Sequence[int], den: int) -> None:
             raise NoSolution(f"row {i} is broken")
 
 
-def check_duals(p: Model, full: Sequence[int], den: int, y: dict[int, int], dual_den: int,
-                placed: Placed) -> None:
-    """That each dual and each reduced cost has the sign of the end that its row or column stands
-    at."""
+def check_duals(p: Model, full: Sequence[int], den: int, y: dict[int, int], dual_den: int, placed: Placed) -> None:
+    """That each dual and each reduced cost has the sign of the end that its row or column stands at."""
     for i, v in y.items():
         if (p.side_lo[i] if v > 0 else p.side_hi[i]) != placed.side[i]:
             raise NoSolution(f"the dual of row {i} has no side")

@@ -53,8 +53,7 @@ class Candidate(NamedTuple):
 
 
 class Choice:
-    """The gains of one search, which begin with those of another. `strong` columns are tried at a
-    node."""
+    """The gains of one search, which begin with those of another. `strong` columns are tried at a node."""
 
     def __init__(self, strong: int, learnt: Learnt | None = None) -> None:
         self.down, self.up = copy.deepcopy(learnt) or (Gains(), Gains())
@@ -64,8 +63,7 @@ class Choice:
         if share > LEAST_SHARE:
             (self.up if part else self.down).learn(column, gain, share)
 
-    def column(self, search: Search, x: Sequence[float], fractional: Sequence[int],
-               base: float) -> tuple[int, int]:
+    def column(self, search: Search, x: Sequence[float], fractional: Sequence[int], base: float) -> tuple[int, int]:
         """The column and the part that comes first."""
         now = time.monotonic()
         room = max(search.goal - base, 1e-9)
@@ -75,8 +73,7 @@ class Choice:
         self.spent += time.monotonic() - now
         return best.column, 0 if best.down >= best.up else 1
 
-    def ranked(self, search: Search, x: Sequence[float], fractional: Sequence[int],
-               room: float) -> list[Candidate]:
+    def ranked(self, search: Search, x: Sequence[float], fractional: Sequence[int], room: float) -> list[Candidate]:
         means = self.down.mean(), self.up.mean()
         found = []
         for j in fractional:

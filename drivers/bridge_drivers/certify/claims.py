@@ -87,12 +87,10 @@ class Certifying(WholeClaims):
         except Over:
             self.watch.disarm()
         yield from self.told()
-        yield Verdict(WITHOUT + ("interrupted" if self.watch.is_stopped else "time"),
-                      contradicted=self.contradicted)
+        yield Verdict(WITHOUT + ("interrupted" if self.watch.is_stopped else "time"), contradicted=self.contradicted)
 
     def by_doubles(self, verdict: Verdict) -> Verdict:
-        """With what the answer's own duals say, where the time of a run without `proves` is
-        over."""
+        """With what the answer's own duals say, where the time of a run without `proves` is over."""
         x, y = self.given.values, self.given.duals
         is_linear = self.linear or self.relaxed
         if self.proves or not is_linear or x is None or y is None or verdict.claim() == "optimal":

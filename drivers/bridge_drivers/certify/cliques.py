@@ -30,14 +30,12 @@ def knapsacks(m: Model) -> Iterator[tuple[Items, Fraction]]:
     for row, lo, hi in zip(m.rows, m.side_lo, m.side_hi):
         for sign, side in ((1, hi), (-1, lo)):
             if side is not None and len(row) <= MOST_IN_ROW:
-                made = knapsack(m, [(j, sign * a) for j, a in row],
-                                Fraction(sign * side * m.scale, m.unit))
+                made = knapsack(m, [(j, sign * a) for j, a in row], Fraction(sign * side * m.scale, m.unit))
                 if made is not None:
                     yield made
 
 
-def knapsack(m: Model, row: Sequence[tuple[int, int]],
-             side: Fraction) -> tuple[Items, Fraction] | None:
+def knapsack(m: Model, row: Sequence[tuple[int, int]], side: Fraction) -> tuple[Items, Fraction] | None:
     items = []
     for j, a in row:
         if m.whole[j] and m.lo[j] == 0 and m.hi[j] == m.unit:

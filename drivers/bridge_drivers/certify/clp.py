@@ -64,15 +64,13 @@ class Scaled(NamedTuple):
 
     @classmethod
     def of(cls, linear: Linear) -> Scaled:
-        """Powers of two, where both bounds of a column, all coefficients of a row or all costs are
-        small."""
+        """Powers of two, where both bounds of a column, all coefficients of a row or all costs are small."""
         ends = ([abs(end) for end in pair if end] for pair in zip(linear.lo, linear.hi))
         columns = [enlarging(max(sizes, default=1.0)) if None not in (lo, hi) else 1.0
                    for sizes, lo, hi in zip(ends, linear.lo, linear.hi)]
         most = linear.columns.greatest(len(linear.sides), columns)
         costs = [abs(c) / by for c, by in zip(linear.cost, columns)]
-        return cls(columns, [enlarging(size) for size in most],
-                   enlarging(max(costs, default=0.0)))
+        return cls(columns, [enlarging(size) for size in most], enlarging(max(costs, default=0.0)))
 
 
 def enlarging(size: float) -> float:
@@ -264,8 +262,7 @@ class Clp:
     def basis(self) -> tuple[list[int], list[int]]:
         """Basic columns, and rows that are not basic."""
         basic = [status & STATUS_BITS == STATUS_BASIC for status in self.keep()]
-        return ([j for j in range(self.n) if basic[j]],
-                [i for i in range(self.m) if not basic[self.n + i]])
+        return ([j for j in range(self.n) if basic[j]], [i for i in range(self.m) if not basic[self.n + i]])
 
 
 def standing(lo: float, hi: float, value: float) -> int:

@@ -29,8 +29,7 @@ class Columns:
         return Columns(starts, index, value)
 
     def greatest(self, m: int, by: Sequence[float]) -> list[float]:
-        """The greatest coefficient of each of `m` rows in size, over what its column is made
-        greater by."""
+        """The greatest coefficient of each of `m` rows in size, over what its column is made greater by."""
         np = numpy() if len(self.index) > MANY else None
         if np is not None:
             found = np.zeros(m)
@@ -49,8 +48,7 @@ class Columns:
         """Over the one and times the other."""
         if all(by == 1 for by in columns) and all(by == 1 for by in rows):
             return self
-        by = [one for j, one in enumerate(columns)
-              for _ in range(self.starts[j], self.starts[j + 1])]
+        by = [one for j, one in enumerate(columns) for _ in range(self.starts[j], self.starts[j + 1])]
         value = [a / one * rows[i] for a, one, i in zip(self.value, by, self.index)]
         return Columns(self.starts, self.index, array("d", value))
 

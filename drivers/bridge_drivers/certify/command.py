@@ -77,8 +77,7 @@ class Command(Finding, Driver):
         self.is_hidden = given == "-"
         if self.options.json and self.is_hidden:
             raise Failure(Code.BAD_OPTION, "json=1 and certificate=- both want standard output")
-        self.options.certificate = self.inputs.place() if self.is_hidden \
-            else given or self.model.stub + ".certificate"
+        self.options.certificate = self.inputs.place() if self.is_hidden else given or self.model.stub + ".certificate"
 
     def begin(self) -> None:
         """The options are not told."""
@@ -93,8 +92,7 @@ class Command(Finding, Driver):
     def lines(self, result: Result) -> list[str]:
         """Where it is kept is not told of standard output."""
         kept = result.end.kept if result.end else None
-        return [line for line in super().lines(result)
-                if not (self.is_hidden and kept and line == kept.line)]
+        return [line for line in super().lines(result) if not (self.is_hidden and kept and line == kept.line)]
 
     def deliver(self, result: Result) -> Status:
         status = super().deliver(result)

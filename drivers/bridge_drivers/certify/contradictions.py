@@ -25,8 +25,7 @@ class Contradicting(Judging):
         raise NotImplementedError
 
     def infeasible(self) -> Iterator[Verdict]:
-        """By a plane, by weights, or by a tree; where a point is found the search goes on to the
-        optimum."""
+        """By a plane, by weights, or by a tree; where a point is found the search goes on to the optimum."""
         yield from self.planes()
         try:
             if self.linear and simplex.is_small(self.model):
@@ -112,8 +111,7 @@ class Contradicting(Judging):
             return None
         return simplex.Ended("optimal", found.values, rows)
 
-    def ended(self, p: Model, given: Given = Given(),
-              seconds: float = float("inf")) -> simplex.Ended:
+    def ended(self, p: Model, given: Given = Given(), seconds: float = float("inf")) -> simplex.Ended:
         until = self.watch.spent() + seconds
 
         def look() -> None:
@@ -145,8 +143,7 @@ class Contradicting(Judging):
 
     def without_end(self, point: Point, direction: Point | None) -> Verdict:
         self.figures = "a point and a ray"
-        return self.judged(text.head("unbounded", self.objective, None, point, direction), None,
-                           point)
+        return self.judged(text.head("unbounded", self.objective, None, point, direction), None, point)
 
     def ray(self) -> Point | None:
         """Whatever its gain is. Of a small program by the simplex method in fractions."""
@@ -163,8 +160,7 @@ class Contradicting(Judging):
 
     def is_open(self) -> bool:
         """Whether there may be a ray: there is no bound, and none was looked for to the end."""
-        return not (self.has_looked or self.shown is not None
-                    or hasattr(self, "model") and short_of_rays(self.model))
+        return not (self.has_looked or self.shown is not None or hasattr(self, "model") and short_of_rays(self.model))
 
     def some_point(self) -> Point | None:
         """A feasible point, whatever its objective."""

@@ -47,8 +47,7 @@ class Knot:
 
 @dataclass(eq=False)
 class Strand:
-    """A portion, and where it stands; `seconds` is what it gets at least, `base` the bound of
-    what it is part of."""
+    """A portion, and where it stands; `seconds` is what it gets at least, `base` the bound of what it is part of."""
 
     path: Sequence[Step]
     opened: List[Opened]
@@ -89,8 +88,7 @@ class Crowd:
     trees start no process. `root` is what is worked apart, None where nothing is. What `search` has
     of the problem stays here, and closes what is left for a bound."""
 
-    def __init__(self, problem: Problem, exact: Exact, spool: Spool, watch: Watch,
-                 pool: Pool | None = None) -> None:
+    def __init__(self, problem: Problem, exact: Exact, spool: Spool, watch: Watch, pool: Pool | None = None) -> None:
         self.given, self.spool, self.watch = problem, spool, watch
         self.pool, self.search = pool or Alone(), problem.search(exact, spool, watch)
         self.running: dict[Future[Outcome], Strand] = {}
@@ -121,8 +119,7 @@ class Crowd:
         search, self.problem = self.search, self.given.packed()
         self.name = hashlib.sha256(self.problem).hexdigest()
         self.nodes, self.began = search.nodes, time.monotonic()
-        self.put(Strand([], search.opened(), (search.choice.down, search.choice.up), None, 0,
-                        -math.inf))
+        self.put(Strand([], search.opened(), (search.choice.down, search.choice.up), None, 0, -math.inf))
 
     # the tree ----------------------------------------------------------------------
 
@@ -148,8 +145,7 @@ class Crowd:
             if one.other is not None:
                 knot.parts[1 - one.step.part] = Closed(one.other, one.needs)
             else:
-                self.put(Strand([*path, one.step.turned()], [], strand.learnt, knot,
-                                1 - one.step.part, one.step.base))
+                self.put(Strand([*path, one.step.turned()], [], strand.learnt, knot, 1 - one.step.part, one.step.base))
             path.append(one.step)
             strand.above, strand.side, strand.base = knot, one.step.part, one.step.base
             self.place(knot, strand.side, strand)
@@ -212,8 +208,7 @@ class Crowd:
         if self.nodes >= most:
             raise Paused(f"more than {most} nodes")
         if self.watch.is_due():
-            known = {"nodes": float(self.nodes),
-                     "open": float(len(self.waiting) + len(self.running))}
+            known = {"nodes": float(self.nodes), "open": float(len(self.waiting) + len(self.running))}
             if self.search.aim.target is not None:
                 known["bound"] = self.search.model.sign * self.bound()
             self.watch.tell(**known)
@@ -222,8 +217,7 @@ class Crowd:
         """That of what is not closed, as it was last seen."""
         if self.root is None:
             return self.search.bound()
-        return min((strand.bound() for strand in [*self.waiting, *self.running.values()]),
-                   default=math.inf)
+        return min((strand.bound() for strand in [*self.waiting, *self.running.values()]), default=math.inf)
 
     def fill(self, until: float) -> None:
         """Each process has a portion, and some wait."""
@@ -314,8 +308,7 @@ class Crowd:
         return least
 
     def ended_at(self, goal: Goal) -> Tree | None:
-        """For a value that is not better, the tree where what is left closes so; all that goes on
-        is for that value."""
+        """For a value that is not better, the tree where what is left closes so; all that goes on is for that value."""
         try:
             if self.root is None:
                 return self.search.ended_at(goal).tree
@@ -324,8 +317,7 @@ class Crowd:
                 self.search.begin(strand.path, strand.opened)
                 done, depths = self.search.ended_at(goal), self.search.depths()
                 self.waiting.pop()
-                self.close(strand.above, strand.side,
-                           Closed(done.tree, frozenset(depths[o] for o in done.needs)))
+                self.close(strand.above, strand.side, Closed(done.tree, frozenset(depths[o] for o in done.needs)))
         except (Stopped, Better):
             return None
         return self.root.tree if isinstance(self.root, Closed) else None

@@ -15,8 +15,7 @@ APART = 20                      # rooms between the ends of what is tightened
 Pairs = Sequence[Tuple[int, int]]       # columns of a row, with their coefficients
 
 
-def pair(firsts: Pairs, seconds: Pairs, rest: Fraction,
-         is_high: Sequence[bool]) -> dict[int, Fraction] | None:
+def pair(firsts: Pairs, seconds: Pairs, rest: Fraction, is_high: Sequence[bool]) -> dict[int, Fraction] | None:
     """Decimals by which two columns of a row, or one, take up its rest; the second moves least,
     by less than 1, downwards where it is high."""
     pairs = sorted((abs(a) // math.gcd(a, b), j, a, k, b) for j, a in firsts
@@ -55,11 +54,9 @@ def decimals_by_rows(p: Model, x: Sequence[float]) -> list[int]:
 
 
 def alone(p: Model) -> dict[int, tuple[int, int]]:
-    """By equation a column that stands in it and nowhere else, with its coefficient: 1 where there
-    is such a one."""
+    """By equation a column that stands in it and nowhere else, with its coefficient: 1 where there is such a one."""
     starts = p.columns.starts
-    single = [j for j in range(p.n) if starts[j + 1] - starts[j] == 1
-              and (p.lo[j] is None or p.lo[j] != p.hi[j])]
+    single = [j for j in range(p.n) if starts[j + 1] - starts[j] == 1 and (p.lo[j] is None or p.lo[j] != p.hi[j])]
     found: dict[int, tuple[int, int]] = {}
     for j in single:
         (i, a), = p.terms.column(j)

@@ -1,7 +1,6 @@
 """Forms in which a program of few whole columns is thin, by reducing a lattice (LLL).
 
-They are split beside the columns where columns are free or wide, or rows are equations with large
-numbers.
+They are split beside the columns where columns are free or wide, or rows are equations with large numbers.
 """
 
 from __future__ import annotations
@@ -34,9 +33,8 @@ class Thin(NamedTuple):
 
 
 class Reduction:
-    """Integral LLL (de Weger) of independent rows: `rows` are reduced, and the given ones are
-    `back`, turned, times these. `d` and `lam` are the determinants and products of its orthogonal
-    basis."""
+    """Integral LLL (de Weger) of independent rows: `rows` are reduced, and the given ones are `back`, turned, times
+    these. `d` and `lam` are the determinants and products of its orthogonal basis."""
 
     def __init__(self, rows: Matrix) -> None:
         n = len(rows)
@@ -120,8 +118,7 @@ def thin_columns(p: Model, wide: Sequence[int]) -> list[Thin]:
 def thin_row(p: Model, i: int, place: Mapping[int, int]) -> Thin | None:
     """A row over wide columns alone, a missing side of which comes from bounds."""
     row, lo, hi = p.rows[i], p.side_lo[i], p.side_hi[i]
-    if lo is None and hi is None or any(j not in place and (p.lo[j] is None or p.lo[j] != p.hi[j])
-                                        for j, _ in row):
+    if lo is None and hi is None or any(j not in place and (p.lo[j] is None or p.lo[j] != p.hi[j]) for j, _ in row):
         return None
     terms = {place[j]: Fraction(a, p.scale) for j, a in row if j in place}
     ends = [end_of(p, i, False) if lo is None else Fraction(lo, p.unit),
@@ -146,10 +143,8 @@ def sized(terms: Mapping[int, Fraction], width: Fraction) -> Thin:
     return Thin(terms, max(width, max(abs(a) for a in terms.values()) / BIG))
 
 
-def directions(p: Model, objective: Mapping[int, int] = {},
-               width: Fraction = Fraction(0)) -> list[Form]:
-    """Forms of a small range, thinnest first. The objective's form has that width, where it has
-    terms."""
+def directions(p: Model, objective: Mapping[int, int] = {}, width: Fraction = Fraction(0)) -> list[Form]:
+    """Forms of a small range, thinnest first. The objective's form has that width, where it has terms."""
     wide = [j for j, w in enumerate(p.whole) if w and (p.lo[j] is None or p.lo[j] != p.hi[j])]
     if not 2 <= len(wide) <= MOST_COLUMNS:
         return []
@@ -187,8 +182,7 @@ def whole_equations(p: Model, place: Mapping[int, int]) -> list[Form]:
 
 
 def without(form: Form, equations: Sequence[Form]) -> Form:
-    """The form that is the same at all points, with smaller coefficients: multiples of equations
-    are taken away."""
+    """The form that is the same at all points, with smaller coefficients: multiples of equations are taken away."""
     for _ in range(MOST_ROUNDS):
         changed = False
         for terms in equations:

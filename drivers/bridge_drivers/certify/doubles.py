@@ -1,7 +1,6 @@
-"""What duals in doubles say of a point, each sum rounded to the safe side by the rounding of its
-own terms. A column without the end that its reduced cost needs is taken to end far beyond its
-value where that cost is next to nothing: that much is no proof, and a message says that it is by
-doubles."""
+"""What duals in doubles say of a point, each sum rounded to the safe side by the rounding of its own terms. A column
+without the end that its reduced cost needs is taken to end far beyond its value where that cost is next to nothing:
+that much is no proof, and a message says that it is by doubles."""
 
 from __future__ import annotations
 
@@ -15,8 +14,7 @@ UNIT = 2.0 ** -53               # by what a double is rounded
 NOISE = 1e-12                   # of the terms of a reduced cost: as much may be none
 BEYOND = 1e4                    # times the value, or 1: where a column ends that has no end
 CLOSE = 1e-6                    # of the objective, of 1, or of the sum of its terms
-NOTE = "by doubles: the duals, rounded to the safe side, bound the objective to 1e-6 at a point " \
-       "that misses nothing"
+NOTE = "by doubles: the duals, rounded to the safe side, bound the objective to 1e-6 at a point that misses nothing"
 
 
 def closes(p: Model, x: Sequence[float], y: Mapping[int, float]) -> bool:

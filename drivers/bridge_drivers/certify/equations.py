@@ -52,14 +52,12 @@ def alike(p: Model) -> Iterator[int]:
     counts = Counter(kinds)
     for i, row in enumerate(p.rows):
         is_alone = len(row) > 1 and counts[kinds[i]] == 1
-        if row and not (is_alone and None in (p.side_lo[i], p.side_hi[i])) \
-                and all(p.whole[j] for j, _ in row):
+        if row and not (is_alone and None in (p.side_lo[i], p.side_hi[i])) and all(p.whole[j] for j, _ in row):
             yield i
 
 
 def ends(p: Model, i: int, u: Fraction) -> Iterator[Tuple[bool, End]]:
-    """Of the form that is u times a row, those below and above; of a column alone its bounds
-    too."""
+    """Of the form that is u times a row, those below and above; of a column alone its bounds too."""
     for is_upper, side in ((False, p.side_lo[i]), (True, p.side_hi[i])):
         if side is not None:
             yield is_upper == (u > 0), (u * Fraction(side, p.unit), {i: u})
@@ -79,8 +77,7 @@ def parity(p: Model) -> Parity | None:
     rows = []
     for i in range(p.m):
         side = p.side_lo[i]
-        if side is not None and side == p.side_hi[i] and p.rows[i] \
-                and all(p.whole[j] for j, _ in p.rows[i]):
+        if side is not None and side == p.side_hi[i] and p.rows[i] and all(p.whole[j] for j, _ in p.rows[i]):
             terms = {j: Fraction(a, p.scale) for j, a in p.rows[i]}
             rows.append(Equality(i, terms, Fraction(side, p.unit)))
     if not rows or len(rows) > MOST_ROWS:

@@ -1,6 +1,5 @@
-"""What is known of one model, and how it is judged: a point, a bound, a contradiction, each as a
-text that `bridge verify` accepts. What is known is never thrown away: the last line has the best
-point and the closest bound."""
+"""What is known of one model, and how it is judged: a point, a bound, a contradiction, each as a text that `bridge
+verify` accepts. What is known is never thrown away: the last line has the best point and the closest bound."""
 
 from __future__ import annotations
 
@@ -49,12 +48,11 @@ class Given(NamedTuple):
 
 
 class Verdict(NamedTuple):
-    """The last line of a message, with the point that it speaks of and its objective in the
-    file's own sense, `path` where the accepted text is, a line of figures, and the duals of the
-    exported rows where one leaf has them. `contradicted`: CLP finds no point that has the answer's
-    whole variables. `note` says why it is not `optimal`, where that is known. `by_doubles`: the
-    answer's duals, rounded to the safe side, bound its objective to 1e-6. `is_open`: the objective
-    may have no end, since a ray was not looked for as long as it takes."""
+    """The last line of a message, with the point that it speaks of and its objective in the file's own sense, `path`
+    where the accepted text is, a line of figures, and the duals of the exported rows where one leaf has them.
+    `contradicted`: CLP finds no point that has the answer's whole variables. `note` says why it is not `optimal`, where
+    that is known. `by_doubles`: the answer's duals, rounded to the safe side, bound its objective to 1e-6. `is_open`:
+    the objective may have no end, since a ray was not looked for as long as it takes."""
 
     line: str
     point: Point | None = None
@@ -91,10 +89,9 @@ class Bound(NamedTuple):
 
 
 class Judging:
-    """One model: `nl` is its path, `folder` one for files, `objective` counts from 0. `proves`:
-    searches may be long; else one leaf is tried. `relaxed`: the answer is of the relaxation.
-    `bounds`: a bound of the relaxation is wanted too. `shortens`: after a tree, a shorter one.
-    `pool`: other processes that search."""
+    """One model: `nl` is its path, `folder` one for files, `objective` counts from 0. `proves`: searches may be long;
+    else one leaf is tried. `relaxed`: the answer is of the relaxation. `bounds`: a bound of the relaxation is wanted
+    too. `shortens`: after a tree, a shorter one. `pool`: other processes that search."""
 
     model: Model
     factors: Mapping[int, int]
@@ -132,8 +129,7 @@ class Judging:
 
     # the text and its verdict ------------------------------------------------------
 
-    def judged(self, lines: Iterator[str], tree: str | None = None,
-               point: Point | None = None) -> Verdict:
+    def judged(self, lines: Iterator[str], tree: str | None = None, point: Point | None = None) -> Verdict:
         """Writes the lines, and a tree from its file; asks `bridge verify`."""
         written(self.path, lines)
         if tree is not None:
@@ -197,8 +193,7 @@ class Judging:
         self.know_bound(self.bound_of(leaf, value))
 
     def told(self) -> Iterator[Verdict]:
-        """What is known, the strongest claim first: a better point may be too wide where another
-        one is not."""
+        """What is known, the strongest claim first: a better point may be too wide where another one is not."""
         bound = self.shown
         claims: list[tuple[str, Point | None]] = []
         if bound is not None:
@@ -214,8 +209,7 @@ class Judging:
         """One claim of what is known."""
         if bound is None or claim == "feasible":
             self.figures = "a point"
-            yield self.judged(text.head("feasible", self.objective, None, point), None,
-                              point)._replace(note=self.note)
+            yield self.judged(text.head("feasible", self.objective, None, point), None, point)._replace(note=self.note)
             return
         value = self.model.sign * bound.value if claim in ("within", "bound") else None
         objective = None if claim == "infeasible" else self.objective
@@ -228,8 +222,7 @@ class Judging:
         """`optimal`, and without a point `infeasible`."""
         self.figures = f"{shaped.name} plan, {shaped.figures.nodes} nodes, " \
                        f"{shaped.figures.rows} rows, {shaped.size} bytes"
-        head = text.head("infeasible", None) if point is None else \
-            text.head("optimal", self.objective, None, point)
+        head = text.head("infeasible", None) if point is None else text.head("optimal", self.objective, None, point)
         return self.judged(head, shaped.path, point)
 
     # one leaf ----------------------------------------------------------------------

@@ -57,9 +57,8 @@ class Judged(NamedTuple):
 
 
 class Closer:
-    """Finds leaves of one program. `target` is what a leaf of duals must reach, minimised, or
-    exceed where it is `strict`; None: whatever bound it has. Weights are leaves for the objective
-    0, whose bound must be above 0."""
+    """Finds leaves of one program. `target` is what a leaf of duals must reach, minimised, or exceed where it is
+    `strict`; None: whatever bound it has. Weights are leaves for the objective 0, whose bound must be above 0."""
 
     def __init__(self, model: Model, target: Fraction | None, strict: bool = False) -> None:
         self.model, self.target, self.strict = model, target, strict
@@ -146,8 +145,7 @@ class Closer:
                 return found
         return leaf
 
-    def with_share(self, leaf: Multipliers, row: int, rest: int, a: int,
-                   is_free: bool) -> Multipliers | None:
+    def with_share(self, leaf: Multipliers, row: int, rest: int, a: int, is_free: bool) -> Multipliers | None:
         """The row's dual takes up the rest, exactly where the column is free."""
         y, den = leaf.numbers, leaf.den
         step, left = divmod(rest, a)
@@ -259,8 +257,7 @@ class Closer:
             return closed
         numbers, reduced = dict(leaf.numbers), reduced[:]
         kc = 1 if leaf.weights else p.cost_scale
-        sizes = {i: abs(y) * max((abs(a) for _, a in p.rows[i]), default=0)
-                 for i, y in numbers.items()}
+        sizes = {i: abs(y) * max((abs(a) for _, a in p.rows[i]), default=0) for i, y in numbers.items()}
         for i in sorted(sizes, key=sizes.__getitem__):
             y, row = numbers[i] * kc, p.rows[i]
             side = p.side_lo[i] if y > 0 else p.side_hi[i]
@@ -286,8 +283,7 @@ class Closer:
         p, inside = self.model, set(rows)
         if len(basic) > MOST_BASIC or len(basic) != len(rows):
             return None
-        found = solved([({i: a for i, a in p.by_column[j] if i in inside}, p.costs[j] * p.scale)
-                        for j in basic])
+        found = solved([({i: a for i, a in p.by_column[j] if i in inside}, p.costs[j] * p.scale) for j in basic])
         return None if found is None else {i: y / p.cost_scale for i, y in found.items() if y}
 
     def missing_duals(self, basic: list[int], rows: list[int]) -> Optional[dict[int, Fraction]]:

@@ -23,8 +23,7 @@ FAR = 1e9
 
 
 class VariableBound(NamedTuple):
-    """A continuous column is at most `share` times the whole one `column`, by a row in which it has
-    `by`."""
+    """A continuous column is at most `share` times the whole one `column`, by a row in which it has `by`."""
 
     share: float
     column: int
@@ -88,8 +87,7 @@ class Source:
         for _ in range(MOST_SUMMED):
             total = summed(self.m, shares, 1 / self.m.scale)
             yield self.counted(shares, total)
-            between = [j for j, a in total.items()
-                       if j < self.m.n and abs(a) > TINY and self.far[j] > LEAST]
+            between = [j for j, a in total.items() if j < self.m.n and abs(a) > TINY and self.far[j] > LEAST]
             if not between:
                 return
             column = max(between, key=lambda j: self.far[j])
@@ -100,8 +98,7 @@ class Source:
             shares = {**shares, row: -total[column] * self.m.scale / a}
 
     def other(self, shares: Shares, column: int, at: float) -> tuple[int, int] | None:
-        """The row that takes the column out and brings in least between bounds, and what the
-        column has in it."""
+        """The row that takes the column out and brings in least between bounds, and what the column has in it."""
         p, found = self.m, []
         for k, a in p.by_column[column]:
             lo, hi = p.side_lo[k], p.side_hi[k]
@@ -125,8 +122,7 @@ class Source:
         """Those of basic columns that are to be whole."""
         m, x, kept, (basic, _) = self.m, self.x, self.clp.keep(), self.clp.basis()
         apart = {j: abs(x[j] - math.floor(x[j]) - 0.5) for j in basic if m.whole[j]}
-        fractional = sorted((j for j, v in apart.items() if v < 0.5 - INTEGRAL),
-                            key=apart.__getitem__)
+        fractional = sorted((j for j, v in apart.items() if v < 0.5 - INTEGRAL), key=apart.__getitem__)
         for j in fractional[:MOST_TABLEAU_ROWS]:
             row = self.clp.row_of_inverse(j, kept)
             yield {i: v for i, v in enumerate(row) if abs(v) > TINY}
@@ -151,6 +147,5 @@ def proved(m: Model, r: Rounded, spool: Spool) -> Proof | None:
         closed = closer.attempt(numbers, Box(m.lo, m.hi))
         if closed is None or not closed.leaf.is_narrow():
             return None
-        leaves.append(Leaf(spool.put(closed.leaf),
-                           tuple(i for i in closed.leaf.numbers if m.n_con <= i < m.m)))
+        leaves.append(Leaf(spool.put(closed.leaf), tuple(i for i in closed.leaf.numbers if m.n_con <= i < m.m)))
     return Proof(r.form, r.low, m.m, leaves[0], leaves[1])

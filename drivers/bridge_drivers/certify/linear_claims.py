@@ -102,8 +102,7 @@ class LinearClaims(Contradicting):
         found: list[tuple[Fraction, Point]] = []
         is_uneven = self.model.terms.count() <= MOST_REFINED
         for by_rows in (False, True) if is_uneven else (False,):
-            rounding = short.Rounding(self.model, clp.keep(), clp.values(), self.clp_seconds(),
-                                      by_rows)
+            rounding = short.Rounding(self.model, clp.keep(), clp.values(), self.clp_seconds(), by_rows)
             for made in rounding.points():
                 self.know_point(made.point)
                 if bound is None:

@@ -1,5 +1,4 @@
-"""The folded program in whole numbers, minimised, unscaled: rows, duals and indices are the
-file's own."""
+"""The folded program in whole numbers, minimised, unscaled: rows, duals and indices are the file's own."""
 
 from __future__ import annotations
 
@@ -57,12 +56,10 @@ class Step(NamedTuple):
 
 
 class Model:
-    """n columns and m rows by position. Coefficients in `rows` and `by_column` are whole, over
-    `scale`; costs and `start` (the constant) over `cost_scale`; sides and bounds over `unit`.
-    Rows from `n_con` on were added."""
+    """n columns and m rows by position. Coefficients in `rows` and `by_column` are whole, over `scale`; costs and
+    `start` (the constant) over `cost_scale`; sides and bounds over `unit`. Rows from `n_con` on were added."""
 
-    def __init__(self, given: Program | bytes, factors: Mapping[int, int],
-                 constraints: int) -> None:
+    def __init__(self, given: Program | bytes, factors: Mapping[int, int], constraints: int) -> None:
         """`factors` are what `export` multiplied rows by, where that is not 1, `constraints` how
         many the file has: those without sides are not exported, and have no terms here."""
         program = Program(given) if isinstance(given, bytes) else given
@@ -80,8 +77,7 @@ class Model:
         self.set_sides(program.read, places, factors)
 
     def set_cost(self, program: Program, row: int) -> None:
-        """Where the objective stands in the row zdef, as its factor g times (objective - z) = 0,
-        it is put back."""
+        """Where the objective stands in the row zdef, as its factor g times (objective - z) = 0, it is put back."""
         read = program.read
         entries = program.objective if row == OBJECTIVE else entries_of(read.entries(), row)
         used = sorted(set(entries.numbers))
@@ -102,8 +98,7 @@ class Model:
         by = [factors.get(i, 1) for i in to]
         pairs: dict[tuple[int, int], int] = {}
         if factors:
-            pairs = {pair: k for k, pair in enumerate(dict.fromkeys(
-                (k, by[i]) for i, k in zip(read.row, number)))}
+            pairs = {pair: k for k, pair in enumerate(dict.fromkeys((k, by[i]) for i, k in zip(read.row, number)))}
             number = array("i", [pairs[k, by[i]] for i, k in zip(read.row, number)])
         whole, scale = wholes_of([read.numbers[k] for k in used])
         table = [0] * len(read.numbers)
@@ -126,8 +121,7 @@ class Model:
         made = [[side * u for side, u in zip(part, by) if side is not None] for part in sides]
         common = gcd(unit, *(v * (unit // scale) for v in ends), *made[0], *made[1])
         self.unit = unit // common
-        over: dict[bytes, Side] = {text: v * (unit // scale) // common
-                                   for text, v in zip(texts, ends)}
+        over: dict[bytes, Side] = {text: v * (unit // scale) // common for text, v in zip(texts, ends)}
         over[b""] = None
         self.lo, self.hi = list(map(over.__getitem__, low)), list(map(over.__getitem__, high))
         self.side_lo: Sides = [None] * self.m
@@ -203,12 +197,10 @@ class Model:
         return self.with_costs([Fraction(0)] * self.n, self.constant)
 
     def cone(self) -> Model:
-        """The directions in which the program has no end, each column at most 1 in size, and the
-        greatest cost 1."""
+        """The directions in which the program has no end, each column at most 1 in size, and the greatest cost 1."""
         def zero(ends: Sides) -> Sides:
             return [None if end is None else 0 for end in ends]
-        new = self.with_bounds([-1 if v is None else 0 for v in self.lo],
-                               [1 if v is None else 0 for v in self.hi])
+        new = self.with_bounds([-1 if v is None else 0 for v in self.lo], [1 if v is None else 0 for v in self.hi])
         new.side_lo, new.side_hi, new.unit = zero(self.side_lo), zero(self.side_hi), 1
         most = max((abs(c) for c in self.cost), default=Fraction(0)) or Fraction(1)
         return new.with_costs([c / most for c in self.cost])
@@ -222,20 +214,17 @@ class Model:
         """The relaxation, without the constant."""
         return Linear([self.double(v) for v in self.lo], [self.double(v) for v in self.hi],
                       [c / self.cost_scale if has_cost else 0.0 for c in self.costs],
-                      [(self.double(a), self.double(b))
-                       for a, b in zip(self.side_lo, self.side_hi)], self.columns)
+                      [(self.double(a), self.double(b)) for a, b in zip(self.side_lo, self.side_hi)], self.columns)
 
     def relaxation(self, has_cost: bool = True) -> Clp:
         return Clp(self.linear(has_cost))
 
     def phase_one(self) -> Clp:
-        """Minimises by how much rows are missed, each in its own unit: two more columns a row take
-        that up."""
+        """Minimises by how much rows are missed, each in its own unit: two more columns a row take that up."""
         linear, m = self.linear(False), self.m
         missing = [(i, float(one * self.row_unit(i))) for one in (1, -1) for i in range(m)]
         clp = Clp(Linear(linear.lo + [0.0] * (2 * m), linear.hi + [None] * (2 * m),
-                         [0.0] * self.n + [1.0] * (2 * m), linear.sides,
-                         linear.columns.with_units(missing)))
+                         [0.0] * self.n + [1.0] * (2 * m), linear.sides, linear.columns.with_units(missing)))
         clp.tighten(TIGHT)
         return clp
 
@@ -304,8 +293,7 @@ def is_outside(value: int, lo: Side, hi: Side) -> bool:
     return lo is not None and value < lo or hi is not None and value > hi
 
 
-def model_of(bridge: Bridge, nl: str, folder: str,
-             program: Program) -> tuple[Model, dict[int, int]]:
+def model_of(bridge: Bridge, nl: str, folder: str, program: Program) -> tuple[Model, dict[int, int]]:
     """The model of a file, and what its rows were multiplied by where that is not 1."""
     names = [name for name in program.constraints if name != "zdef"]
     if not program.is_exported:
@@ -315,8 +303,7 @@ def model_of(bridge: Bridge, nl: str, folder: str,
 
 
 def factors(bridge: Bridge, nl: str, folder: str, constraints: Sequence[str]) -> dict[int, int]:
-    """What `export` multiplied these rows by, where that is not 1: what `return` makes of duals
-    1."""
+    """What `export` multiplied these rows by, where that is not 1: what `return` makes of duals 1."""
     if not constraints:
         return {}
     path = os.path.join(folder, "ones.txt")

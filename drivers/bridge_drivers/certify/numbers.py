@@ -16,8 +16,7 @@ def is_narrow(value: Fraction) -> bool:
 
 
 def width(values: Iterable[Fraction]) -> int:
-    """Bits of the widest numerator or denominator. Each object counts once: most stand many
-    times."""
+    """Bits of the widest numerator or denominator. Each object counts once: most stand many times."""
     return max((max(abs(v.numerator), v.denominator).bit_length()
                 for v in {id(v): v for v in values}.values()), default=0)
 

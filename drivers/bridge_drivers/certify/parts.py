@@ -54,8 +54,7 @@ class Branch:
 
 
 class Step(NamedTuple):
-    """One part of a split, with what it was chosen by: `value` of the column, `base` and `basis`
-    of the relaxation."""
+    """One part of a split, with what it was chosen by: `value` of the column, `base` and `basis` of the relaxation."""
 
     column: int
     at: int
@@ -166,8 +165,7 @@ class Parts:
     # a part, handed on -------------------------------------------------------------
 
     def begin(self, above: Sequence[Step], opened: Sequence[Opened] = ()) -> None:
-        """The part below some splits, of which `opened` was worked already. The splits count from
-        1 downwards."""
+        """The part below some splits, of which `opened` was worked already. The splits count from 1 downwards."""
         for b in reversed(self.above + self.open):
             self.leave(b)
         self.above, self.open, self.splits, self.nodes = [], [], 0, 0
@@ -198,8 +196,7 @@ class Parts:
         for b in self.open:
             other = b.parts[1 - b.part]
             found.append(Opened(Step(b.column, b.at, b.part, b.value, b.base, b.basis), other,
-                                0 if other is None else count(other),
-                                frozenset(depths[o] for o in b.needs)))
+                                0 if other is None else count(other), frozenset(depths[o] for o in b.needs)))
         return found
 
     def closed(self) -> float:

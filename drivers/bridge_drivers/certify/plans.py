@@ -96,14 +96,12 @@ class Plans:
 
     # one plan ----------------------------------------------------------------------
 
-    def begun(self, name: str, rows: Sequence[Row] = (),
-              forms: Sequence[dict[int, int]] = ()) -> Plan:
+    def begun(self, name: str, rows: Sequence[Row] = (), forms: Sequence[dict[int, int]] = ()) -> Plan:
         above = [Added(added.terms) for added in self.value.added()]
         above += [row.added() for row in rows]
         goal = self.value.goal(self.exact)
         problem = Problem(self.model, above, list(forms), goal.target, goal.strict)
-        self.going.append(Plan(name, rows, Crowd(problem, self.exact, self.spool, self.watch,
-                                                 self.pool)))
+        self.going.append(Plan(name, rows, Crowd(problem, self.exact, self.spool, self.watch, self.pool)))
         return self.going[-1]
 
     def goes(self, plan: Plan, seconds: float, most: int = MOST_NODES) -> bool:

@@ -27,9 +27,8 @@ class Basis(NamedTuple):
 
 
 class Placed(NamedTuple):
-    """A basis with the ends that its columns and rows stand at: `at` by column (0 where it is
-    basic), over `unit`; `side` by tight row. `inside` are these rows in basic columns, by place,
-    and `rest` what is left for them."""
+    """A basis with the ends that its columns and rows stand at: `at` by column (0 where it is basic), over `unit`;
+    `side` by tight row. `inside` are these rows in basic columns, by place, and `rest` what is left for them."""
 
     columns: list[int]
     rows: list[int]
@@ -44,20 +43,17 @@ def place(p: Model, basis: Basis, x: Sequence[float]) -> Placed:
     is_basic = [False] * p.n
     for j in basis.columns:
         is_basic[j] = True
-    at = [0 if basic else end_near(lo, hi, v * p.unit) or 0
-          for basic, lo, hi, v in zip(is_basic, p.lo, p.hi, x)]
+    at = [0 if basic else end_near(lo, hi, v * p.unit) or 0 for basic, lo, hi, v in zip(is_basic, p.lo, p.hi, x)]
     ranged = [i for i in basis.rows if p.side_lo[i] is not None and p.side_hi[i] is not None
               and p.side_lo[i] != p.side_hi[i]]
-    bodies = {i: sum([a * x[j] for j, a in row]) / p.scale
-              for i, row in p.terms.of_rows(ranged).items()}
+    bodies = {i: sum([a * x[j] for j, a in row]) / p.scale for i, row in p.terms.of_rows(ranged).items()}
     side = {}
     for i in basis.rows:
         end = end_near(p.side_lo[i], p.side_hi[i], bodies.get(i, 0.0) * p.unit)
         if end is not None:
             side[i] = end
     taken, columns, rows = p.terms.sums(at), list(basis.columns), list(side)
-    return Placed(columns, rows, at, side, p.terms.inside(rows, columns),
-                  [side[i] * p.scale - taken[i] for i in rows])
+    return Placed(columns, rows, at, side, p.terms.inside(rows, columns), [side[i] * p.scale - taken[i] for i in rows])
 
 
 def end_near(lo: Side, hi: Side, value: float) -> Side:
@@ -106,8 +102,7 @@ def near_one(p: Model, column: int, value: Fraction, most: int, snap: Fraction) 
 
 
 def whole_point(model: Model, x: Sequence[float | Fraction], seconds: float) -> Point | None:
-    """The best exact point that has the whole columns of x, where CLP finds it in that time, else
-    one that is near."""
+    """The best exact point that has the whole columns of x, where CLP finds it in that time, else one that is near."""
     p = model
     fixed = whole_columns(p, x)
     if any(abs(float(x[j]) - v) > NEAR_WHOLE for j, v in fixed.items()):
@@ -177,8 +172,7 @@ def broken(model: Model, x: Sequence[float | Fraction]) -> Fraction:
     """By what share of its largest term a row of whole columns, or a bound of one, is missed most
     at the whole columns of x."""
     p, fixed = model, whole_columns(model, x)
-    most = max((miss(v * p.unit, p.lo[j], p.hi[j], Fraction(p.unit)) for j, v in fixed.items()),
-               default=ZERO)
+    most = max((miss(v * p.unit, p.lo[j], p.hi[j], Fraction(p.unit)) for j, v in fixed.items()), default=ZERO)
     share = Fraction(p.unit, p.scale)
     for row, lo, hi in zip(p.rows, p.side_lo, p.side_hi):
         if all(p.whole[j] for j, _ in row):
@@ -200,8 +194,7 @@ def miss(at: Fraction, lo: Side, hi: Side, size: Fraction) -> Fraction:
 
 def any_point(model: Model, clp: Clp) -> Point | None:
     """A point of a linear program whose relaxation without costs was solved."""
-    return next(near(model, clp.values()), None) or vertex(model, Basis(*clp.basis()),
-                                                           clp.values())
+    return next(near(model, clp.values()), None) or vertex(model, Basis(*clp.basis()), clp.values())
 
 
 def is_ray(model: Model, d: Point) -> bool:

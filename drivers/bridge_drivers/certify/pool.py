@@ -106,8 +106,7 @@ class Processes(Pool):
 
 
 class Cluster(Pool):
-    """Of Dask, by those workers that have this package and CLP. What they have begun they end, some
-    seconds later."""
+    """Of Dask, by those workers that have this package and CLP. What they have begun they end, some seconds later."""
 
     def __init__(self, address: str) -> None:
         try:
@@ -176,8 +175,7 @@ def unsignalled() -> Iterator[None]:
 
 
 def begin(end: connection.Connection) -> None:
-    """In a process: it ends by its parent's word, or with its parent. An interrupt of a terminal is
-    the parent's."""
+    """In a process: it ends by its parent's word, or with its parent. An interrupt of a terminal is the parent's."""
     signal.signal(signal.SIGINT, signal.SIG_IGN)
     signal.signal(signal.SIGTERM, signal.SIG_DFL)
     if hasattr(signal, "pthread_sigmask"):

@@ -45,9 +45,8 @@ class Problem(NamedTuple):
 
 
 class Portion(NamedTuple):
-    """`above` are the splits around it, from the root, `opened` those in it that were worked
-    partly, whose trees are held. `learnt` is what was learnt above, `name` that of the problem,
-    `problem` its bytes."""
+    """`above` are the splits around it, from the root, `opened` those in it that were worked partly, whose trees are
+    held. `learnt` is what was learnt above, `name` that of the problem, `problem` its bytes."""
 
     name: str
     problem: bytes
@@ -58,10 +57,9 @@ class Portion(NamedTuple):
 
 
 class Outcome(NamedTuple):
-    """`tree` where it is closed, with the depths of the splits above that it `needs`; else what
-    is left is `opened`, whose trees are in `others`. `leaves` are the lines that places of leaves
-    are in, `better` a better point, `fault` why the search cannot go on, `spent` its seconds of
-    the processor."""
+    """`tree` where it is closed, with the depths of the splits above that it `needs`; else what is left is `opened`,
+    whose trees are in `others`. `leaves` are the lines that places of leaves are in, `better` a better point, `fault`
+    why the search cannot go on, `spent` its seconds of the processor."""
 
     tree: Optional[Flat]
     needs: frozenset[int]

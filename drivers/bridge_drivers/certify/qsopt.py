@@ -18,8 +18,7 @@ MOST_SECONDS = 30.0
 
 
 class Optimum(NamedTuple):
-    """Values by column, and duals by exported row: rates of change of the objective in its own
-    sense."""
+    """Values by column, and duals by exported row: rates of change of the objective in its own sense."""
 
     values: list[Fraction]
     duals: dict[int, Fraction]

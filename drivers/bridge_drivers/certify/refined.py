@@ -27,9 +27,8 @@ class Near(NamedTuple):
 
 
 class Refining:
-    """`x` and `y` are whole, over 2^BITS; `up` and `dual_up` are the binary digits by which misses
-    of the last round were made greater. Rows that are no equations get a column that has their
-    value, whose cost is their dual."""
+    """`x` and `y` are whole, over 2^BITS; `up` and `dual_up` are the binary digits by which misses of the last round
+    were made greater. Rows that are no equations get a column that has their value, whose cost is their dual."""
 
     def __init__(self, p: Model, clp: Clp, seconds: float) -> None:
         self.p, self.seconds = p, seconds
@@ -60,8 +59,7 @@ class Refining:
         """The basis of the round before, around its point: what is not basic stands near 0."""
         n, rows = self.p.n, set(self.basis.rows)
         kept = bytearray(n + len(self.open) + self.p.m)
-        basic = set(self.basis.columns) | {n + k for k, i in enumerate(self.open)
-                                           if i not in rows}
+        basic = set(self.basis.columns) | {n + k for k, i in enumerate(self.open) if i not in rows}
         for j, (lo, hi) in enumerate(zip(linear.lo, linear.hi)):
             kept[j] = STATUS_BASIC if j in basic else standing(
                 -INFINITE if lo is None else lo, INFINITE if hi is None else hi, 0.0)
@@ -94,8 +92,7 @@ class Refining:
         lo += [sides[i][0] for i in self.open]
         hi += [sides[i][1] for i in self.open]
         columns = p.columns.with_units((i, -1.0) for i in self.open)
-        missed = max(most(lo, hi), max((abs(a) for a, b in sides if a is not None and a == b),
-                                       default=0.0))
+        missed = max(most(lo, hi), max((abs(a) for a, b in sides if a is not None and a == b), default=0.0))
         for i in self.open:
             sides[i] = (0.0, 0.0)
         return Linear(lo, hi, cost, sides, columns), missed, dual_missed(lo, hi, cost)
@@ -110,8 +107,7 @@ class Refining:
                       [(far(a), far(b)) for a, b in linear.sides], linear.columns)
 
 
-def dual_missed(lo: Sequence[float | None], hi: Sequence[float | None],
-                cost: Sequence[float]) -> float:
+def dual_missed(lo: Sequence[float | None], hi: Sequence[float | None], cost: Sequence[float]) -> float:
     """The greatest cost of a column that could go on in the direction that it wants."""
     found = 0.0
     for r, a, b in zip(cost, lo, hi):

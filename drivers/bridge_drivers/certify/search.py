@@ -33,9 +33,8 @@ MORE = 30                       # nodes that a search may have to end for a boun
 
 
 class Goal(NamedTuple):
-    """`target` is what leaves of duals must reach, minimised, or exceed where it is `strict`;
-    None: that there is no point. `exact` makes an exact point of a relaxation's values, where
-    one is to be seen."""
+    """`target` is what leaves of duals must reach, minimised, or exceed where it is `strict`; None: that there is no
+    point. `exact` makes an exact point of a relaxation's values, where one is to be seen."""
 
     target: Fraction | None
     strict: bool = False
@@ -203,8 +202,7 @@ class Search(Parts):
         return -math.inf if above is None else above.base
 
     def ended_at(self, goal: Goal) -> Done:
-        """What is left, each part by a leaf or few, whatever time it is. Stopped where that is not
-        enough."""
+        """What is left, each part by a leaf or few, whatever time it is. Stopped where that is not enough."""
         self.aim_at(goal)
         self.watch, self.until, self.deepest, self.tells = Watch(0.0), math.inf, math.inf, False
         self.most = self.nodes + 2 * len(self.open) + MORE
@@ -219,8 +217,7 @@ class Search(Parts):
         p = self.model
         if state is State.OPTIMAL and any(w and abs(v) >= LARGE for v, w in zip(x, p.whole)):
             part = p.with_bounds(self.box.lo, self.box.hi).with_whole([False] * p.n)
-            near: list[Any] = [next((end for end in part.ends(j) if float(end) == v), v)
-                               for j, v in enumerate(x)]
+            near: list[Any] = [next((end for end in part.ends(j) if float(end) == v), v) for j, v in enumerate(x)]
             x = vertex(part, Basis(*self.clp.basis()), x) or near       # type: ignore[assignment]
         values = [*x, *(sum(a * x[j] for j, a in terms) for terms in self.form_terms)]
         apart = [abs(v - round(v)) for v in values]
@@ -255,8 +252,7 @@ class Search(Parts):
             raise Better(point, value)
 
     def unfixed(self, apart: Sequence[float]) -> int | None:
-        """A whole column that is not fixed: the least whole, else one with a cost and the
-        widest."""
+        """A whole column that is not fixed: the least whole, else one with a cost and the widest."""
         p = self.model
         best: tuple[float, bool, float] | None = None
         column = None
@@ -284,8 +280,7 @@ class Search(Parts):
                 at = max(at, lo // unit)
         self.splits += 1
         self.nodes += 1
-        return Branch(self.splits, column, at, first, float(value), base, lo, hi,
-                      self.owners(column), self.clp.keep())
+        return Branch(self.splits, column, at, first, float(value), base, lo, hi, self.owners(column), self.clp.keep())
 
     # leaves ------------------------------------------------------------------------
 
@@ -328,8 +323,7 @@ class Search(Parts):
         return None
 
     def by_missing(self, least: float = FEASIBLE) -> Done | None:
-        """With the duals of the program that minimises by how much rows are missed, where that is
-        not less."""
+        """With the duals of the program that minimises by how much rows are missed, where that is not less."""
         p = self.model
         clp = self.missing = self.missing or p.phase_one()
         for j in range(p.n):

@@ -52,14 +52,12 @@ class ShortDuals(NamedTuple):
 
 
 class Rounding:
-    """Points of one program in decimals. `alone` has by equation a column that stands in it and
-    nowhere else. `exact` has the sides that other rows meet exactly: those of equations, and of
-    rows that have no room. `tight` are the rows that get room, None for all of them. `more` are the
-    decimals that a column has beyond all others, or fewer of, where each is rounded by the size of
-    its rows."""
+    """Points of one program in decimals. `alone` has by equation a column that stands in it and nowhere else. `exact`
+    has the sides that other rows meet exactly: those of equations, and of rows that have no room. `tight` are the rows
+    that get room, None for all of them. `more` are the decimals that a column has beyond all others, or fewer of, where
+    each is rounded by the size of its rows."""
 
-    def __init__(self, p: Model, kept: bytes, x: Sequence[float], seconds: float,
-                 by_rows: bool = False) -> None:
+    def __init__(self, p: Model, kept: bytes, x: Sequence[float], seconds: float, by_rows: bool = False) -> None:
         self.p, self.kept, self.seconds = p, kept, seconds
         self.size = max([abs(v) for v in x], default=0.0)
         self.alone = alone(p)
@@ -72,11 +70,9 @@ class Rounding:
         self.most = max(self.more, default=0)
 
     def points(self) -> Iterator[ShortPoint]:
-        """Those that fit, of many decimals first; then with room where rounding breaks rows
-        alone."""
+        """Those that fit, of many decimals first; then with room where rounding breaks rows alone."""
         left = MOST_PLACES - max(0, math.ceil(math.log10(max(self.size, 1.0))))
-        wanted = list(dict.fromkeys(min(places, left) for places in PLACES)) \
-            if not any(self.more) else list(PLACES)
+        wanted = list(dict.fromkeys(min(places, left) for places in PLACES)) if not any(self.more) else list(PLACES)
         for self.in_pairs in (False, True):
             for places in wanted:
                 found = self.solved(places)
@@ -145,8 +141,7 @@ class Rounding:
         return found
 
     def tightened(self, unit: float) -> Linear:
-        """With room for rounding to `unit` in rows, and in the bounds of what takes up the
-        rest."""
+        """With room for rounding to `unit` in rows, and in the bounds of what takes up the rest."""
         p, linear = self.p, self.p.linear()
         sides, lo, hi = linear.sides, linear.lo, linear.hi
         weights, least = [10 ** (self.most - by) for by in self.more], unit * 10.0 ** -self.most
@@ -199,8 +194,7 @@ class Rounding:
                  (f" and {counted(rows, 'row')}" if rows else "")] if self.exact else []
         return "rounding is taken up by " + " and ".join(ways) if ways else ""
 
-    def rest(self, i: int, side: int, over: Sequence[int], ten: int,
-             moved: Mapping[int, Fraction] = {}) -> Fraction:
+    def rest(self, i: int, side: int, over: Sequence[int], ten: int, moved: Mapping[int, Fraction] = {}) -> Fraction:
         """What a row lacks of its side, over 10^places times `unit` and `scale`."""
         p = self.p
         left = Fraction(side * p.scale * ten - sum([a * over[j] for j, a in p.rows[i]]))
@@ -309,8 +303,7 @@ def met_exactly(closer: Closer, leaf: Multipliers, judged: Judged) -> ShortDuals
     free = [lo is not None and lo == hi or abs(leaf.numbers.get(i, 0)) > far
             for i, (lo, hi) in enumerate(zip(p.side_lo, p.side_hi))]
     for _ in range(ROUNDS):
-        system = [({i: a * p.cost_scale for i, a in p.terms.column(j) if free[i]}, base[j])
-                  for j in columns]
+        system = [({i: a * p.cost_scale for i, a in p.terms.column(j) if free[i]}, base[j]) for j in columns]
         moves = solved(system)
         if moves is None:
             return None

@@ -94,8 +94,7 @@ class Simplex:
         self.put(enters, line)
 
     def start(self, columns: Iterable[int], x: List[float]) -> None:
-        """From a basis of columns, as far as it is one; what is not basic stands at the end that
-        is near to x."""
+        """From a basis of columns, as far as it is one; what is not basic stands at the end that is near to x."""
         for j in columns:
             rows = [b for b in self.at[j] if b >= self.p.n and b != self.cost]
             if j not in self.lines and rows:
@@ -168,8 +167,7 @@ class Simplex:
             if end is None:
                 continue
             size = (end - self.x[b]) / rate
-            if best is None or size < best.size or size == best.size and \
-                    (best.leaves is None or b < best.leaves):
+            if best is None or size < best.size or size == best.size and (best.leaves is None or b < best.leaves):
                 best = Step(size, b, end)
         return best
 

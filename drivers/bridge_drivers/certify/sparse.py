@@ -65,8 +65,7 @@ class Solution(NamedTuple):
 class Square:
     """Solves A x = b and its transpose; `rows` are (column, number). `most` digits are made."""
 
-    def __init__(self, tools: Tools, rows: Sequence[Sequence[tuple[int, int]]],
-                 most: int) -> None:
+    def __init__(self, tools: Tools, rows: Sequence[Sequence[tuple[int, int]]], most: int) -> None:
         self.tools, self.n, self.most = tools, len(rows), most
         np = tools.numpy
         counts = np.array([len(row) for row in rows])
@@ -218,8 +217,7 @@ def near(values: Sequence[int], bits: int, error: int) -> Solution | None:
 
 
 def fraction(at: int, bits: int, room: int) -> tuple[int, int] | None:
-    """The first convergent of at / 2^bits within the room, where no other fraction of that size is
-    there."""
+    """The first convergent of at / 2^bits within the room, where no other fraction of that size is there."""
     whole = 1 << bits
     n, d, p0, q0, p1, q1 = at, whole, 0, 1, 1, 0
     while d:

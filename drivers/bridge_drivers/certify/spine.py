@@ -35,8 +35,7 @@ BEYOND_SECONDS = 2.0
 
 
 class Row(NamedTuple):
-    """One row of the spine: `terms` at most `at`, with the tree of the part beyond it, or the
-    proof of a lemma."""
+    """One row of the spine: `terms` at most `at`, with the tree of the part beyond it, or the proof of a lemma."""
 
     terms: Dict[int, int]
     at: int
@@ -47,9 +46,8 @@ class Row(NamedTuple):
 
 
 class Value:
-    """A value of the objective, minimised, that no point is to be better than; None: there is to
-    be no point. Where there is a step, `at` is the greatest value of its form that would be
-    better."""
+    """A value of the objective, minimised, that no point is to be better than; None: there is to be no point. Where
+    there is a step, `at` is the greatest value of its form that would be better."""
 
     def __init__(self, model: Model, value: Fraction | None, step: Step | None) -> None:
         self.value, self.step = value, step
@@ -81,8 +79,7 @@ class Maker:
 
     def __init__(self, model: Model, value: Value, spool: Spool, watch: Watch) -> None:
         self.model, self.value, self.spool, self.watch = model, value, spool, watch
-        self.goal = math.inf if value.value is None else \
-            float(value.value - (value.step.size if value.step else 0))
+        self.goal = math.inf if value.value is None else float(value.value - (value.step.size if value.step else 0))
         self.base = -math.inf           # of the last relaxation
         self.stalled = STALLED if any(model.costs) else ROUNDS
 
@@ -132,11 +129,9 @@ class Maker:
 
     def proposed(self, relaxed: Tableau, kinds: Sequence[str], used: Sequence[object],
                  until: float) -> Iterator[Proposal | Rounded]:
-        """Cliques and lemmas, of each the deepest first, as long as fewer than there may be in one
-        round are used."""
+        """Cliques and lemmas, of each the deepest first, as long as fewer than there may be in one round are used."""
         m, clp, x, _ = relaxed
-        found = [cut for cut in cliques(m, x) if cut.depth > LEAST_DEPTH] \
-            if "clique" in kinds else []
+        found = [cut for cut in cliques(m, x) if cut.depth > LEAST_DEPTH] if "clique" in kinds else []
         for cut in sorted(found, key=lambda cut: -cut.depth / norm(cut.terms)):
             if len(used) >= EACH:
                 break
@@ -164,8 +159,7 @@ class Maker:
 
     def beyond(self, cut: Proposal, rows: Sequence[Row]) -> Tree | None:
         """The tree of the part beyond a cut, under the plane on the objective."""
-        added = [*self.value.added(), *(row.added() for row in rows),
-                 Added(cut.terms, cut.at + 1)]
+        added = [*self.value.added(), *(row.added() for row in rows), Added(cut.terms, cut.at + 1)]
         try:
             return Search(self.model.with_rows(added), Goal(None), self.spool, self.watch,
                           self.watch.spent() + BEYOND_SECONDS, BEYOND_NODES, strong=4).run()
@@ -183,8 +177,7 @@ def norm(terms: Mapping[int, int]) -> float:
 
 def is_parallel(a: Dict[int, int], b: Dict[int, int]) -> bool:
     product = sum(v * b.get(j, 0) for j, v in a.items())
-    return product ** 2 > PARALLEL * sum(v * v for v in a.values()) * sum(
-        v * v for v in b.values())
+    return product ** 2 > PARALLEL * sum(v * v for v in a.values()) * sum(v * v for v in b.values())
 
 
 class Figures(NamedTuple):
@@ -228,8 +221,7 @@ class Spined:
         for at, k in enumerate(self.kept):
             terms, side, proof = self.rows[k]
             if isinstance(proof, Proof):
-                yield from text.lemma_lines(terms, side, proof, self.spool,
-                                            {**self.place, proof.row: self.start + at})
+                yield from text.lemma_lines(terms, side, proof, self.spool, {**self.place, proof.row: self.start + at})
             else:
                 yield from text.plane_lines(terms, side)
         yield from text.tree_lines(self.searched, self.tree, self.spool,

@@ -17,8 +17,7 @@ Names = Dict[int, Tuple[int, int]]      # of a form: the numbers of its planes `
 
 
 class Plane(NamedTuple):
-    """The plane on the objective: its row, and the objective's step. Under it duals become
-    weights."""
+    """The plane on the objective: its row, and the objective's step. Under it duals become weights."""
 
     row: int
     size: Fraction

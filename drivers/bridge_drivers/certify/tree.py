@@ -101,8 +101,7 @@ def parts(tree: Tree) -> Iterator[Tree]:
 
 def count(tree: Tree) -> int:
     """The nodes of its text: a plane closes an empty box, with two leaves."""
-    return sum(node.nodes if isinstance(node, Held) else 3 if isinstance(node, Empty) else 1
-               for node in parts(tree))
+    return sum(node.nodes if isinstance(node, Held) else 3 if isinstance(node, Empty) else 1 for node in parts(tree))
 
 
 def rows_used(tree: Tree) -> set[int]:
@@ -114,8 +113,7 @@ def rows_used(tree: Tree) -> set[int]:
 
 
 def flat(tree: Tree) -> Flat:
-    return [node._replace(low=THERE, high=THERE) if isinstance(node, (Split, Cut)) else node
-            for node in parts(tree)]
+    return [node._replace(low=THERE, high=THERE) if isinstance(node, (Split, Cut)) else node for node in parts(tree)]
 
 
 def rebuilt(nodes: Flat, moved: int, held: Mapping[int, Tree]) -> Tree:

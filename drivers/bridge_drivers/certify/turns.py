@@ -1,8 +1,7 @@
 """Plans that go on in turns, each where it was paused, until one has a tree.
 
-The one that seems to end first goes on. What else is tried, rows that are made and plans below
-them, has a share of the time that this one seems to need in all. Where a short text is wanted, all
-of it goes on for some times as long.
+The one that seems to end first goes on. What else is tried, rows that are made and plans below them, has a share of the
+time that this one seems to need in all. Where a short text is wanted, all of it goes on for some times as long.
 """
 
 from __future__ import annotations
@@ -80,8 +79,7 @@ class Turns:
         return self.plans.watch.spent() - self.began
 
     def room(self, first: Plan | None) -> float:
-        """Seconds for what is not the first plan: not more than might be saved; without an
-        objective some at once."""
+        """Seconds for what is not the first plan: not more than might be saved; without an objective some at once."""
         total = self.total()
         if first is None:
             return math.inf

@@ -35,8 +35,7 @@ class Watch:
     in processor time, so that a busy machine does not end a short one. All has ended a tenth and
     5 s after the limit, counted from the start."""
 
-    def __init__(self, seconds: float, progress: Progress | None = None,
-                 of_processor: bool = False) -> None:
+    def __init__(self, seconds: float, progress: Progress | None = None, of_processor: bool = False) -> None:
         self.seconds, self.progress = seconds, progress or Progress("bridge-certify")
         self.incumbent: float | None = None
         self.of_processor = of_processor
@@ -74,8 +73,7 @@ class Watch:
         return left if self.of_processor else min(self.left(), left)
 
     def look(self, nodes: int, until: float) -> None:
-        """At each node: Paused after the limit or `until` (in seconds of this watch), Stopped after
-        an interrupt."""
+        """At each node: Paused after the limit or `until` (in seconds of this watch), Stopped after an interrupt."""
         if self.is_stopped:
             raise Stopped("interrupted")
         if self.spent() > until or self.left() < 0:

@@ -32,8 +32,7 @@ class WholeClaims(LinearClaims):
         point, by = self.exact(x), ZERO
         if point is None:
             by = points.broken(self.model, x)
-            self.contradicted = by > ROUNDING or points.is_contradicted(self.model, x,
-                                                                        self.clp_seconds())
+            self.contradicted = by > ROUNDING or points.is_contradicted(self.model, x, self.clp_seconds())
             if by > ROUNDING:
                 point = self.mended(x)
         if point is not None:
@@ -74,8 +73,7 @@ class WholeClaims(LinearClaims):
         return verdict._replace(contradicted=self.contradicted)
 
     def whole_optimum(self, point: Point) -> Iterator[Verdict]:
-        """A ray, else a tree at the value of a point, then of each better one that the search
-        finds."""
+        """A ray, else a tree at the value of a point, then of each better one that the search finds."""
         p = self.model
         self.know_point(point)
         yield from self.endless()
@@ -93,8 +91,7 @@ class WholeClaims(LinearClaims):
         yield Verdict(WITHOUT + told[-1], point)
 
     def planned(self, point: Point) -> Plans:
-        """The plans that were tried at the best point; where better ones do not end, at the last
-        but one."""
+        """The plans that were tried at the best point; where better ones do not end, at the last but one."""
         p = self.model
         for _ in range(MOST_BETTER):
             plans = self.plans_for(p, p.value(point))
@@ -125,8 +122,7 @@ class WholeClaims(LinearClaims):
                 return
 
     def know_root(self) -> None:
-        """The bound of the searches, and of the relaxation: that of its exact optimum where it is
-        had."""
+        """The bound of the searches, and of the relaxation: that of its exact optimum where it is had."""
         self.know_searched()
         if self.shown is not None and not self.proves:
             return

@@ -17,8 +17,7 @@ class Node:
     most` and for the proof of a lemma, 1 for the other one; `pairs` are its lines, `leaf` its
     number among the leaves; `size` and `leaves` count what is below it, itself among it."""
 
-    __slots__ = ("kind", "line", "parent", "part", "depth", "column", "at", "pairs", "leaf",
-                 "size", "leaves")
+    __slots__ = ("kind", "line", "parent", "part", "depth", "column", "at", "pairs", "leaf", "size", "leaves")
 
     def __init__(self, kind: str, line: int, parent: int, part: int, depth: int) -> None:
         self.kind, self.line, self.parent, self.part, self.depth = kind, line, parent, part, depth

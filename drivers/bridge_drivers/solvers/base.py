@@ -32,11 +32,10 @@ class Unclear(Exception):
 
 @dataclass
 class Outcome:
-    """What a solver answered, its values by name of column or row. The code is what its status
-    says by itself.
+    """What a solver answered, its values by name of column or row. The code is what its status says by itself.
 
-    `text` says the code in words, `is_gap` that the search stopped at a gap that was asked for.
-    `duals` and `costs` are rates of change of the objective, for
+    `text` says the code in words, `is_gap` that the search stopped at a gap that was asked for. `duals` and `costs` are
+    rates of change of the objective, for
     both senses, as AMPL wants them. The basis is in AMPL's statuses, for all columns and rows.
     """
 
@@ -145,8 +144,7 @@ def without_answer(ran: Ran, pattern: str) -> Outcome:
         return stopped(TIME)
     lines = [line.strip() for line in ran.log.splitlines() if line.strip()]
     last = f"; its last words: {lines[-1][:LONGEST]}" if lines else ""
-    raise Unclear(next((line for line in lines if re.search(pattern, line, re.I)),
-                       "it wrote no answer" + last))
+    raise Unclear(next((line for line in lines if re.search(pattern, line, re.I)), "it wrote no answer" + last))
 
 
 def outcome(says: Says | None, status: str, has_point: bool) -> Outcome:

@@ -35,8 +35,7 @@ class Saved(NamedTuple):
 class Coin(Solver):
     infinite = "1e25"                   # of upper bounds; of others 1e30
     lines = (r"Cbc0010I After (?P<nodes>\d+) nodes, (?P<open>\d+) on tree, (?P<incumbent>\S+) best "
-             r"solution, best possible (?P<bound>\S+)",
-             r"Cbc0012I Integer solution of (?P<incumbent>\S+) found",
+             r"solution, best possible (?P<bound>\S+)", r"Cbc0012I Integer solution of (?P<incumbent>\S+) found",
              r"Cbc0004I Integer solution of (?P<incumbent>\S+) found",
              r"Clp0006I +(?P<iterations>\d+) +Obj (?P<objective>\S+)")
 
@@ -44,8 +43,7 @@ class Coin(Solver):
         """CBC minimises, and tells of what it minimises."""
         known = super().said(line, program)
         sign = -1.0 if program.maximise and "Cbc00" in line else 1.0
-        return {name: sign * value if name in ("incumbent", "bound") else value
-                for name, value in known.items()}
+        return {name: sign * value if name in ("incumbent", "bound") else value for name, value in known.items()}
 
     def solve(self, job: Job) -> Outcome:
         """To CoinUtils a `NAME nl` line means fixed columns, and OBJSENSE it ignores."""
@@ -82,8 +80,7 @@ class Coin(Solver):
             raise Unclear("the saved answer is of another model")
         doubles = array("d", data[8:])
         duals, values = 1 + rows, 1 + 2 * rows
-        return Saved(Named(p.columns, doubles[values:values + columns]),
-                     Named(p.constraints, doubles[duals:values]),
+        return Saved(Named(p.columns, doubles[values:values + columns]), Named(p.constraints, doubles[duals:values]),
                      Named(p.columns, doubles[values + columns:]))
 
     def answer(self, job: Job, ran: Ran) -> Outcome:
@@ -109,8 +106,7 @@ class Coin(Solver):
 
 
 def basis(program: Program, path: str) -> tuple[Named[int] | None, Named[int] | None]:
-    """AMPL's statuses of an MPS basis: columns at their lower side and rows basic, but for
-    the lines of the file."""
+    """AMPL's statuses of an MPS basis: columns at their lower side and rows basic, but for the lines of the file."""
     lines = read_lines(path)
     if lines is None:
         return None, None

@@ -38,8 +38,7 @@ class Esolver(Solver):
         value, parts = parsed(lines)
         columns, rows = basis(p, basis_file)
         return Outcome(Code.SOLVED, "optimal solution", complete(p.columns, parts["VARS"]),
-                       complete(p.constraints, parts["PI"]),
-                       complete(p.columns, parts["REDUCED COST"]), columns, rows,
+                       complete(p.constraints, parts["PI"]), complete(p.columns, parts["REDUCED COST"]), columns, rows,
                        value - Fraction(p.objective_rhs))
 
     def text(self, program: Program) -> bytes:

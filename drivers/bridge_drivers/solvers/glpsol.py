@@ -17,16 +17,13 @@ class Glpsol(Solver):
     name, program, title = "glpsol", "glpsol", "GLPK"
     package = "glpk-utils"
     again = "without its presolve, its basis checked exactly"
-    lines = (r"^\+ *(?P<iterations>\d+): (?:mip =|>>>>>) +(?P<incumbent>\S+) +[<>]= +"
-             r"(?P<bound>\S+) .*\((?P<open>\d+);",
-             r"^\+ *(?P<iterations>\d+): mip = +not found yet +[<>]= +(?P<bound>\S+) .*"
-             r"\((?P<open>\d+);",
+    lines = (r"^\+ *(?P<iterations>\d+): (?:mip =|>>>>>) +(?P<incumbent>\S+) +[<>]= +(?P<bound>\S+) .*\((?P<open>\d+);",
+             r"^\+ *(?P<iterations>\d+): mip = +not found yet +[<>]= +(?P<bound>\S+) .*\((?P<open>\d+);",
              r"^[ *#] *(?P<iterations>\d+): obj = +(?P<objective>\S+)")
     version = r"GLPSOL.*?Solver,? v?(\S+)"
     flags = {"relax": "--nomip", "seconds": "--tmlim {}", "mipgap": "--mipgap {:g}",
              "xcheck": "--xcheck", "again": "--nopresol"}
-    options = (GAP,
-               Option("xcheck", 0, SWITCH, "1: glpsol checks its final basis in exact arithmetic"))
+    options = (GAP, Option("xcheck", 0, SWITCH, "1: glpsol checks its final basis in exact arithmetic"))
 
     def solve(self, job: Job) -> Outcome:
         words = self.reading(job.program, job.write("glpsol.mps", self.text(job.given)))

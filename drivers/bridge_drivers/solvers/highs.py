@@ -13,8 +13,7 @@ from typing import Any
 from ..codes import Code
 from ..job import Job
 from ..program import Program
-from .base import (GAP, Outcome, Solver, Unclear, has_values, outcome, read_lines,
-                   without_answer)
+from .base import (GAP, Outcome, Solver, Unclear, has_values, outcome, read_lines, without_answer)
 from .statuses import HIGHS, row_of
 
 PLACES = ("/usr/bin/python3", "python3")
@@ -47,8 +46,7 @@ class Highs(Solver):
         if not p.columns:
             raise Unclear("it takes no program without columns")
         words = json.dumps({"mipgap": options.own["mipgap"], "seconds": options.timelim,
-                            "relax": bool(options.relax), "presolve": not job.again,
-                            "disp": bool(options.outlev)})
+                            "relax": bool(options.relax), "presolve": not job.again, "disp": bool(options.outlev)})
         target = job.path("answer.json")
         path = job.write("highs.mps", self.text(job.given))
         ran = job.run([job.solver, SCRIPT, path, target, words])
@@ -78,8 +76,7 @@ def answered(job: Job, answer: dict[str, Any]) -> Outcome:
     duals, costs = answer.get("duals"), answer.get("costs")
     found.duals = duals and dict(zip(p.constraints, duals))
     found.costs = costs and dict(zip(p.columns, costs))
-    if found.code == Code.SOLVED and job.options.own["mipgap"] \
-            and (answer.get("gap") or 0.0) > CLOSED:
+    if found.code == Code.SOLVED and job.options.own["mipgap"] and (answer.get("gap") or 0.0) > CLOSED:
         found.code, found.text, found.is_gap = Code.UNSURE, "solution within the gap", True
     return found
 

@@ -39,8 +39,7 @@ class Arrays:
         for j, k in zip(*program.objective):
             self.cost[j] = float(program.read.numbers[k])
         starts = numpy.cumsum([0, *map(len, terms.rows)])
-        columns, values = zip(*itertools.chain.from_iterable(terms.rows)) if starts[-1] \
-            else ((), ())
+        columns, values = zip(*itertools.chain.from_iterable(terms.rows)) if starts[-1] else ((), ())
         self.matrix = csr_matrix((values, columns, starts), shape=(len(starts) - 1, terms.n))
 
 
@@ -49,11 +48,9 @@ def mixed(p: Arrays, cost: Any, words: dict[str, Any]) -> dict[str, Any]:
     if words["seconds"]:
         options["time_limit"] = words["seconds"]
     found = milp(cost, integrality=p.whole, bounds=Bounds(p.bounds[:, 0], p.bounds[:, 1]),
-                 constraints=LinearConstraint(p.matrix, p.lo, p.hi) if len(p.lo) else None,
-                 options=options)
+                 constraints=LinearConstraint(p.matrix, p.lo, p.hi) if len(p.lo) else None, options=options)
     gap = found.get("mip_gap")
-    return {"status": int(found.status), "message": found.message,
-            "gap": None if gap is None else min(float(gap), 1.0),
+    return {"status": int(found.status), "message": found.message, "gap": None if gap is None else min(float(gap), 1.0),
             "values": None if found.x is None else [float(v) for v in found.x]}
 
 
