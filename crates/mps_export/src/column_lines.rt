@@ -17,7 +17,7 @@ use crate::heads::Heads;
 use crate::names::column_name;
 use crate::pieces::{Pieces, put_change, put_line};
 use crate::program_columns::is_whole;
-use mps_writer::MpsName;
+use mps_writer::{MpsName, put_name};
 use std::alloc::{AllocError, Global};
 use term_batches::{Batches, PartLists, part_end};
 use written_texts::LineText;
@@ -38,14 +38,15 @@ fn is_marked(heads: &Heads, j: u32) -> bool
     is_whole(heads.kinds[j as usize])
 }
 
-// The name of column j.
-fn name_of_column(heads: &Heads, j: u32) -> MpsName<'static>
+// Writes the name of column j, once for all its lines.
+fn put_column_name(word: &mut LineText<16>, heads: &Heads, j: u32)
     requires { j < length heads.now.kinds.items }
     ensures text { (s : ScaledValue) → AreHeads s heads.now
-        → name_bytes result ≡ (get_or (program_variables s) j z_variable).name }
-    ensures short { length (name_bytes result) ≤ 11 }
+        → word.new ≡ (get_or (program_variables s) j z_variable).name }
+    ensures short { length word.new ≤ 11 }
 {
-    column_name(heads.variables, j)
+    word.clear();
+    put_name(word, &column_name(heads.variables, j));
 }
 
 // The columns from column `first` on.
@@ -66,6 +67,7 @@ fn put_part(
         ≡ out.old ++ lines_text (lines_from s from.marked from.markers first)) }
 {
     let mut lines = LineText::<2048>::new();
+    let mut word = LineText::<16>::new();
     let mut marked = from.marked;
     let mut markers = from.markers;
     for k in 0..columns.len() {
@@ -73,7 +75,8 @@ fn put_part(
         let now = is_marked(heads, j);
         markers = put_change(out, marked, now, markers)?;
         marked = now;
-        let name = name_of_column(heads, j);
+        put_column_name(&mut word, heads, j);
+        let name = MpsName::Word(word.bytes());
         put_column(out, &mut lines, &heads.numbers, &name, columns.list(k))?;
     }
     Ok(Place { marked, markers })

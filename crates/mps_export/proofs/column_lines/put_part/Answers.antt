@@ -1,6 +1,5 @@
 use Rattle.std.proofs.Common.{◌≡◌, ◌+◌, ◌<◌, ◌∙◌, ◌++◌, [], ap, arith, map, subst}
 use Rattle.texts.specs.WordLines.{lines_text}
-use Rattle.mps_writer.specs.Names.{name_bytes}
 use Rattle.mps_writer.proofs.Writing.{markers_more}
 use Rattle.program_meaning.specs.Names.{row_name}
 use Rattle.scaling.specs.Parts.{column_count}
@@ -19,7 +18,7 @@ loop-k-preserved c =
           let terms : map entry_value c.list.result.now ≡ entries_in_column s (c.args.first + k) = ap (map entry_value) c.list.ensures ∙ columns.terms k [] (omega arith) in
           let inside : c.args.first + k < column_count s = omega (arith, c.requires.within, h.count) in
           subst (λ m. c.put_column.new.out ++ lines_text (lines_from s c.is_marked-now.result c.in_ok-markers.markers m) ≡ c.args.out.now ++ lines_text (lines_from s c.args.from.marked c.args.from.markers c.args.first)) next
-          (part_written s h.scaled (c.args.first + k) c.loop-k.marked c.is_marked-now.result c.loop-k.markers c.in_ok-markers.markers c.loop-k.out c.put_change.new.out c.put_column.new.out _ (name_bytes c.name_of_column-name.result) c.list.result.now
-          inside (c.loop-k.invariant.text s h columns) (c.is_marked-now.ensures s h) (c.name_of_column-name.ensures.text s h) terms c.in_ok-markers.ensures.0 c.in_ok-markers.ensures.1
+          (part_written s h.scaled (c.args.first + k) c.loop-k.marked c.is_marked-now.result c.loop-k.markers c.in_ok-markers.markers c.loop-k.out c.put_change.new.out c.put_column.new.out _ c.bytes.result.now c.list.result.now
+          inside (c.loop-k.invariant.text s h columns) (c.is_marked-now.ensures s h) (c.bytes.ensures ∙ c.put_column_name.ensures.text s h) terms c.in_ok-markers.ensures.0 c.in_ok-markers.ensures.1
           (c.in_ok-put_column.ensures s (ap (map row_name) c.deref.ensures.value ∙ h.numbers) (entries_within s (c.args.first + k) c.list.result.now terms)));
     }
