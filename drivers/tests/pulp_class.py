@@ -110,11 +110,13 @@ class Solves(Case):
 
     @unittest.skipUnless(shutil.which("clp"), "no clp")
     def test_errors_in_words_of_pulp(self) -> None:
-        problem = problem_of(2 * pulp.LpVariable("x", 1, 5, pulp.LpInteger))
+        x = pulp.LpVariable("x", 1, 5, pulp.LpInteger)
+        problem = problem_of(2 * x)
         with self.assertRaisesRegex(pulp.PulpSolverError, "takes no integer variables, and the "
                                                           "model has 1; mip=False drops that"):
             self.solve("clp", problem)
-        self.assertRegex(self.solve("clp", problem, mip=False).message, r"\nbound \S+$")
+        for relaxed, last in ((problem, "optimal 2"), (problem_of(2 * x, (2 * x >= 3, "both")), "bound 3")):
+            self.assertEqual(self.solve("clp", relaxed, mip=False).message.split("\n")[-1], last)
 
     def test_files_that_are_kept(self) -> None:
         x = pulp.LpVariable("left", 1)
