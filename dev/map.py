@@ -4,6 +4,8 @@
     dev/map.py --table      what each crate is, by room (the packages hold it as docs/dev/crates.txt)
     dev/map.py --write      writes the pictures docs/pictures/crates-*.svg
     dev/map.py --check      says whether they are as --write makes them; status 1 where one is not
+    dev/map.py --chains     for each crate how long the longest chain below it is, itself counted, and how many crates
+                            and lines of proved text a change of it proves again, itself and the tests counted
 
 A heading of crates.txt (`# room: what is in it`) is a room; the comment that begins a crate's root file says what it is.
 """
@@ -86,6 +88,41 @@ def reduced(uses: dict[str, list[str]]) -> dict[str, list[str]]:
 
     return {name: [it for it in used if not any(it in below(other) for other in used if other != it)]
             for name, used in uses.items()}
+
+
+def chain(uses: dict[str, list[str]], top: str = "bridge") -> list[str]:
+    """The longest chain of crates below one, itself first."""
+
+    @lru_cache(maxsize=None)
+    def longest(name: str) -> tuple[str, ...]:
+        return (name, *max((longest(it) for it in uses[name]), key=len, default=()))
+
+    return list(longest(top))
+
+
+def line_count(crate: str) -> int:
+    """The lines of a crate's code, definitions and proofs."""
+    folder = TOP / "crates" / crate
+    files = [path for part in ("src", "specs", "proofs") for path in sorted((folder / part).rglob("*"))]
+    return sum(len(path.read_text().splitlines()) for path in files if path.suffix in (".rt", ".antt"))
+
+
+def chains(uses: dict[str, list[str]]) -> list[str]:
+    """A line a crate, those with the longest chain last."""
+    counts = {name: line_count(name) for name in uses}
+    every = sum(counts.values())
+
+    @lru_cache(maxsize=None)
+    def below(name: str) -> frozenset[str]:
+        return frozenset([name]).union(*(below(it) for it in uses[name]))
+
+    told = []
+    for name in sorted(uses, key=lambda it: len(chain(uses, it))):
+        above = [it for it in uses if name in below(it)]
+        again = sum(counts[it] for it in above)
+        told.append(f"{name:20} chain {len(chain(uses, name)):2}  lines {counts[name]:6}  "
+                    f"proves again {len(above):2} crates, {again:6} lines, {100 * again // every:2}%")
+    return told
 
 
 def arrows(found: list[Room], uses: dict[str, list[str]]) -> tuple[dict[str, list[str]], list[tuple[str, str]]]:
@@ -199,4 +236,4 @@ def made() -> dict[Path, str]:
 
 
 if __name__ == "__main__":
-    sys.exit(main(__doc__, made, {"--table": table}))
+    sys.exit(main(__doc__, made, {"--table": table, "--chains": lambda: "\n".join(chains(own_uses()))}))
