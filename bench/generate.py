@@ -173,12 +173,21 @@ def one_row(count: int, order: str) -> Iterator[str]:
     yield f"J0 {count}\n" + "".join(f"{place} {decimal(rnd)}\n" for place in places[::-1 if order == "descending" else 1])
 
 
+def distinct(rnd: random.Random, first: str, count: int, size: int) -> list[str]:
+    """Names that begin so: with `size` letters and digits, none of them twice, or numbered where that is 0."""
+    if not size:
+        return [f"{first}{i}" for i in range(count)]
+    names: dict[str, None] = {}
+    while len(names) < count:
+        names[first + "".join(rnd.choices("abcdefghijklmnopqrstuvwxyz0123456789", k=size))] = None
+    return list(names)
+
+
 def mps(entries: int, names: str) -> Iterator[str]:
     rnd = random.Random(1)
     size = {"numbered": 0, "short": 6, "long": 29}[names]
-    letters = "abcdefghijklmnopqrstuvwxyz0123456789"
     count = entries // TERMS
-    rows, columns = ([first + ("".join(rnd.choices(letters, k=size)) or str(i)) for i in range(count)] for first in "RC")
+    rows, columns = (distinct(rnd, first, count, size) for first in "RC")
     yield "NAME x FREE\nROWS\n N OBJ\n" + "".join(f" L {row}\n" for row in rows) + "COLUMNS\n"
     for column in columns:
         yield "".join(f" {column} {rows[i]} {decimal(rnd)}\n" for i in sorted(rnd.sample(range(count), TERMS)))
