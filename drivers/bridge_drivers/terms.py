@@ -153,7 +153,8 @@ class Arrays(Terms):
         return found
 
     def column(self, j: int) -> List[Tuple[int, int]]:
-        start, stop = numpy().searchsorted(self.column_of, (j, j + 1)).tolist()
+        ends = numpy().array((j, j + 1), dtype=self.column_of.dtype)    # of another all are copied
+        start, stop = self.column_of.searchsorted(ends).tolist()
         values = map(self.table.__getitem__, self.number[start:stop].tolist())
         return sorted(zip(self.row[start:stop].tolist(), values))
 
