@@ -87,7 +87,7 @@ class Certifying(WholeClaims):
         except Over:
             self.watch.disarm()
         yield from self.told()
-        yield Verdict(WITHOUT + ("interrupted" if self.watch.is_stopped else "time"), contradicted=self.contradicted)
+        yield Verdict(WITHOUT + self.watch.why("time"), contradicted=self.contradicted)
 
     def by_doubles(self, verdict: Verdict) -> Verdict:
         """With what the answer's own duals say, where the time of a run without `proves` is over."""

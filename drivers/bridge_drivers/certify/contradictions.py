@@ -55,7 +55,7 @@ class Contradicting(Judging):
         else:
             plans.run_plain()
         if plans.best is None:
-            raise Stopped(plans.going[0].told.partition(": ")[2])
+            raise Stopped(self.watch.why(plans.going[0].told.partition(": ")[2]))
         return self.by_tree(plans.best)
 
     # in whole numbers --------------------------------------------------------------

@@ -79,6 +79,10 @@ class Watch:
         if self.spent() > until or self.left() < 0:
             raise Paused(f"time ({nodes} nodes)")
 
+    def why(self, told: str) -> str:
+        """Why a search has no tree: what it told last, or an interrupt, which came while another one went on."""
+        return "interrupted" if self.is_stopped else told
+
     def is_due(self) -> bool:
         """Whether the progress is to be told."""
         now = time.monotonic()

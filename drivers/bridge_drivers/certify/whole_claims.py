@@ -88,7 +88,7 @@ class WholeClaims(LinearClaims):
             self.know_root()
         yield from self.in_the_end()
         yield from self.told()
-        yield Verdict(WITHOUT + told[-1], point)
+        yield Verdict(WITHOUT + self.watch.why(told[-1]), point)
 
     def planned(self, point: Point) -> Plans:
         """The plans that were tried at the best point; where better ones do not end, at the last but one."""
