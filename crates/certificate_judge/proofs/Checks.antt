@@ -1,5 +1,6 @@
 -- The parts of a certificate, and its outcome.
-use Rattle.std.proofs.Common.{◌≡◌, ℕ, ◌∙◌, sym, ap, List, ◌++◌, drop, Option, Some, None, refl}
+use Rattle.std.proofs.Common.{◌≡◌, ℕ, ◌∙◌, sym, ap, ap₂, List, ◌++◌, drop, take, Option, Some, None, refl}
+use Rattle.std.proofs.Math.Seq.{take-append_seam}
 use Rattle.fractions.specs.Rational.{zero_ℚ}
 use Rattle.program_meaning.specs.Linear.{Linear, row_count, value_at, variable_count}
 use Rattle.duality.specs.Branch.{proof_fault}
@@ -28,6 +29,10 @@ module _ (f : Linear) (c : CertificateValue) (h : IsCertificateOf f c) where
   rest_is : drop c.ray (drop c.point c.pairs) ≡ pairs_in h.given.tree
   unfolding later
   rest_is = back_is h.given.ray (pairs_in h.given.tree) (drop c.point c.pairs) c.ray later_is h.ray
+
+  pub ray_is : take c.ray (drop c.point c.pairs) ≡ h.given.ray
+  unfolding later
+  ray_is = ap₂ take (sym h.ray) later_is ∙ take-append_seam h.given.ray (pairs_in h.given.tree)
 
   pub is_written : (tree : CertificateTree) → h.given.tree ≡ Some tree → IsWritten f tree c.nodes (drop c.ray (drop c.point c.pairs))
   is_written tree e =

@@ -71,7 +71,7 @@ module _ (c : Program) (v : ℚ) (turns : List Turn) (path : Path) (at : IsAt (w
         ap₂ (dual_bound g) (ap₂ bounds_in lo_is hi_is ∙ held.box) (ap (λ n. spread n ps) held.rows.alike.rows)
         ∙ same_bound g f alike objective maximise here.box (spread (row_count here.program) ps)
 
-    pub sum_here : (l : Lemma) → last_of path.lemmas.items ≡ Some l → (ts : List Term) → ts ≡ l.terms.items
+    pub sum_here : (l : Lemma) → last_of path.lemmas.items ≡ Some l → (ts : List Term) → ts ≡ l.terms
         → ((f : Linear) → HasRows c rows f → b ≡ dual_bound (maximising f (record { constant = zero_ℚ; coefficient = coef_in ts })) (bounds_in lo hi) (spread (row_count f) ps))
         → b ≡ bound_in (part_under (whole_part (program_value c) v) turns) Objective ps
     sum_here l last ts terms q =

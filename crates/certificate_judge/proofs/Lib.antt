@@ -1,6 +1,5 @@
 pub mod Boxes
 pub mod WholeDecimals
-pub mod FormPoints
 pub mod Written
 pub mod RowsAt
 pub mod Planes

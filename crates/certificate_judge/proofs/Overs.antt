@@ -25,7 +25,7 @@ use Rattle.certificate_judge.proofs.Lasts.{Placed, get_inside, get_last, inside,
 use Rattle.certificate_judge.proofs.PathLemmas.{within_last, within_less}
 
 -- ---- one row more
-rows_more : (c : Program) (rows : List Row) (f : Linear) (form : Form) (side : Interval) (r : Row) → HasRows c rows f → form_of r.body ≡ form → interval_of r.side ≡ side → AreTerms 0 (length c.lower.items) r.body.terms.items → HasRows c (rows ++ r ∷ []) (with_added_row f form side)
+rows_more : (c : Program) (rows : List Row) (f : Linear) (form : Form) (side : Interval) (r : Row) → HasRows c rows f → form_of r.body ≡ form → interval_of r.side ≡ side → AreTerms 0 (length c.lower.items) r.body.terms → HasRows c (rows ++ r ∷ []) (with_added_row f form side)
 rows_more c rows f form side r held body sides terms =
     record {
       rows = length-append f.rows _ ∙ ap (λ n. n + 1) held.rows ∙ sym (length-append (c.rows.items ++ rows) (r ∷ [])) ∙ ap length (append_assoc c.rows.items rows (r ∷ []));
@@ -48,7 +48,7 @@ rows_more c rows f form side r held body sides terms =
         record {
           body = ap (λ (x : LinearRow). x.body) new ∙ sym body ∙ ap (λ (x : Row). form_of x.body) h;
           side = ap (λ (x : LinearRow). x.side) new ∙ sym sides ∙ ap (λ (x : Row). interval_of x.side) h;
-          terms = subst (λ (x : Row). AreTerms 0 (variable_count f) x.body.terms.items) h (subst (λ n. AreTerms 0 n r.body.terms.items) (sym held.variables) terms);
+          terms = subst (λ (x : Row). AreTerms 0 (variable_count f) x.body.terms) h (subst (λ n. AreTerms 0 n r.body.terms) (sym held.variables) terms);
         }
 
 -- ---- the program alone
@@ -69,7 +69,7 @@ rows_alone c rows none =
           record {
             body = body_here c i r own;
             side = side_here c i r own;
-            terms = subst (λ n. AreTerms 0 n r.body.terms.items) (sym (variables_counted c)) (c.sound.rows_terms i r own);
+            terms = subst (λ n. AreTerms 0 n r.body.terms) (sym (variables_counted c)) (c.sound.rows_terms i r own);
           });
       variables = variables_counted c;
     })
@@ -86,7 +86,7 @@ abbrev pub HasGoal : Program → ℚ → Option Lemma → Part → Type 0
 HasGoal c v None p =
     (p.program.objective ≡ form_of c.objective) × (p.program.maximise ≡ c.maximise) × (p.value ≡ v)
 HasGoal c v (Some l) p =
-    (p.program.objective ≡ record { constant = zero_ℚ; coefficient = coef_in l.terms.items })
+    (p.program.objective ≡ record { constant = zero_ℚ; coefficient = coef_in l.terms })
     × (p.program.maximise ≡ true) × (p.value ≡ frac_value l.most)
 
 pub record IsPartHeld (c : Program) (v : ℚ) (s : Sides) (p : Part) : Type 0 where
@@ -100,7 +100,7 @@ same_goal c v None p q a b d h = (a ∙ h.0, b ∙ h.1, d ∙ h.2)
 same_goal c v (Some l) p q a b d h = (a ∙ h.0, b ∙ h.1, d ∙ h.2)
 
 module _ (c : Program) (v : ℚ) where
-  one_plane_row : (rows : List Row) (f : Linear) (form : WholeForm) (side : Interval) (r : Row) → AreHeld c rows f → IsPlaneRow form side r → AreTerms 0 (length c.lower.items) r.body.terms.items → AreHeld c (rows ++ r ∷ []) (with_added_row f (plane_form form) side)
+  one_plane_row : (rows : List Row) (f : Linear) (form : WholeForm) (side : Interval) (r : Row) → AreHeld c rows f → IsPlaneRow form side r → AreTerms 0 (length c.lower.items) r.body.terms → AreHeld c (rows ++ r ∷ []) (with_added_row f (plane_form form) side)
   one_plane_row rows f form side r h is terms =
       record {
         same = with_added_row h.same (plane_form form) side;
@@ -112,7 +112,7 @@ module _ (c : Program) (v : ℚ) where
   other_goal : {rows : List Row} (p : Part) (form : NumberForm) → AreHeld c rows p.program → AreHeld c rows (maximising p.program (sum_of form))
   other_goal p form h = record { same = h.same; held = h.held; alike = record { rows = h.alike.rows; variables = h.alike.variables; row = h.alike.row } }
 
-  one_lemma_row : (rows : List Row) (f : Linear) (form : NumberForm) (t : ℚ) (r : Row) → AreHeld c rows f → IsLemmaRow form t r → AreTerms 0 (length c.lower.items) r.body.terms.items → AreHeld c (rows ++ r ∷ []) (with_added_row f (sum_of form) (at_most t))
+  one_lemma_row : (rows : List Row) (f : Linear) (form : NumberForm) (t : ℚ) (r : Row) → AreHeld c rows f → IsLemmaRow form t r → AreTerms 0 (length c.lower.items) r.body.terms → AreHeld c (rows ++ r ∷ []) (with_added_row f (sum_of form) (at_most t))
   one_lemma_row rows f form t r h is terms =
       record {
         same = with_added_row h.same (form_of r.body) (interval_of r.side);

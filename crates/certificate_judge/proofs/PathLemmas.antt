@@ -37,7 +37,7 @@ within_less n [] r h i q e = absurd (cc)
 within_less n (s ∷ rows) r h zero q e = h 0 q e
 within_less n (s ∷ rows) r h (suc i) q e = within_less n rows r (λ k x a. h (suc k) x a) i q e
 
-pub within_last : (n : ℕ) (rows : List Row) (r : Row) → AreWithin n (rows ++ r ∷ []) → AreTerms 0 n r.body.terms.items
+pub within_last : (n : ℕ) (rows : List Row) (r : Row) → AreWithin n (rows ++ r ∷ []) → AreTerms 0 n r.body.terms
 within_last n [] r h = h 0 r refl
 within_last n (s ∷ rows) r h = within_last n rows r (λ k x a. h (suc k) x a)
 
@@ -61,7 +61,7 @@ module _ (n : ℕ) (old new : Path) where
   pub path_down : (s : Step) → IsPath n old → IsStepWithin n s → length new.lo.items ≡ length old.lo.items → length new.hi.items ≡ length old.hi.items → new.added.items ≡ old.added.items → new.lemmas.items ≡ old.lemmas.items → new.steps.items ≡ old.steps.items ++ s ∷ [] → IsPath n new
   path_down s p w lo hi added lemmas steps = path_with p lo hi (step_more s p w steps) (rows_kept p added) (lemmas_kept p lemmas)
 
-  pub path_row : (s : Step) (r : Row) → IsPath n old → IsStepWithin n s → AreTerms 0 n r.body.terms.items → new.lo.items ≡ old.lo.items → new.hi.items ≡ old.hi.items → new.added.items ≡ old.added.items ++ r ∷ [] → new.lemmas.items ≡ old.lemmas.items → new.steps.items ≡ old.steps.items ++ s ∷ [] → IsPath n new
+  pub path_row : (s : Step) (r : Row) → IsPath n old → IsStepWithin n s → AreTerms 0 n r.body.terms → new.lo.items ≡ old.lo.items → new.hi.items ≡ old.hi.items → new.added.items ≡ old.added.items ++ r ∷ [] → new.lemmas.items ≡ old.lemmas.items → new.steps.items ≡ old.steps.items ++ s ∷ [] → IsPath n new
   path_row s r p w t lo hi added lemmas steps =
       path_with p (ap length lo) (ap length hi) (step_more s p w steps) (subst (AreWithin n) (sym added) (within_more n old.added.items r p.added t)) (lemmas_kept p lemmas)
 

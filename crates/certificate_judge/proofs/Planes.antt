@@ -57,7 +57,7 @@ unfolding AreWholes
 wholes_are [] w j = refl
 wholes_are (p ∷ ps) w j = whole_by p ps j (w 0 p (omega arith)) (wholes_are ps (λ k d l. w (suc k) d (omega arith)) j) (j == p.0)
 
-pub plane_sum : (ps : List Pair) → All (λ (p : Pair). IsWhole (number_value p.1)) ps → (body : Body) → frac_value body.constant ≡ zero_ℚ → coef_in body.terms.items ≡ sum_at (number_form ps) → form_of body ≡ plane_form (whole_form ps)
+pub plane_sum : (ps : List Pair) → All (λ (p : Pair). IsWhole (number_value p.1)) ps → (body : Body) → frac_value body.constant ≡ zero_ℚ → coef_in body.terms ≡ sum_at (number_form ps) → form_of body ≡ plane_form (whole_form ps)
 unfolding AreWholes
 plane_sum ps w body constant sum =
     ap₂ (λ (a : ℚ) (g : ℕ → ℚ). record { constant = a; coefficient = g }) constant
@@ -68,7 +68,7 @@ pub record AreBuilt (ps : List Pair) (out : List Term) (k : ℕ) : Type 0 where
   from : ℕ
   left : (n : ℕ) → AreNumbers 0 n ps → AreNumbers from n (drop k ps)
   first : AreBelow from out
-  ascending : AreAscending 0 out
+  pub ascending : AreAscending 0 out
   within : (n : ℕ) → AreNumbers 0 n ps → AreBelow n out
   values : (j : ℕ) → number_of (drop k ps) j (coef_in out j) ≡ sum_at (number_form ps) j
 

@@ -16,26 +16,26 @@ use Rattle.exact_checks.specs.Programs.{form_of, program_value}
 use Rattle.exact_checks.specs.Terms.{AreTerms}
 use Rattle.exact_checks.proofs.Rows.{body_here, item_at, side_here, variables_counted, rows_counted}
 use Rattle.certificate_judge.specs.InsidePoints.{point_of}
-use Rattle.certificate_judge.proofs.FormPoints.{form_with, point_at}
+use Rattle.exact_checks.proofs.FormPoints.{form_with, point_at}
 
 module _ (c : Program) (items : List Row) (same : items ≡ c.rows.items) (i : ℕ) (r : Row) (l : i < length items) (is : r ≡ get_or items i r) (xs : List Frac) (len : length xs ≡ variable_count (program_value c)) where
   at : slice_get c.rows.items i ≡ Some r
   at = item_at c.rows.items items i r same l is
 
-  pub row_terms : AreTerms 0 (length xs) r.body.terms.items
-  row_terms = subst (λ n. AreTerms 0 n r.body.terms.items) (sym (len ∙ variables_counted c)) (c.sound.rows_terms i r at)
+  pub row_terms : AreTerms 0 (length xs) r.body.terms
+  row_terms = subst (λ n. AreTerms 0 n r.body.terms) (sym (len ∙ variables_counted c)) (c.sound.rows_terms i r at)
 
   pub row_fault_is : (o : Option ℚ) (g : Option Fault) → o ≡ run_form (length xs) (form_of r.body) (point_of xs) → g ≡ row_check i (interval_of r.side) o → g ≡ row_fault (program_value c) (point_of xs) i
   unfolding row_fault
   row_fault_is o g e h =
       h ∙ ap₂ (row_check i) (sym (side_here c i r at)) (e ∙ ap₂ (λ n b. run_form n b (point_of xs)) len (sym (body_here c i r at)))
 
-  pub ray_row_fault_is : (z : ℚ) (o : Option ℚ) (g : Option RayFault) → z ≡ zero_ℚ → o ≡ run_form (length xs) (form_with z r.body.terms.items) (point_of xs) → g ≡ ray_row_check i (interval_of r.side) o → g ≡ ray_row_fault (program_value c) (point_of xs) i
+  pub ray_row_fault_is : (z : ℚ) (o : Option ℚ) (g : Option RayFault) → z ≡ zero_ℚ → o ≡ run_form (length xs) (form_with z r.body.terms) (point_of xs) → g ≡ ray_row_check i (interval_of r.side) o → g ≡ ray_row_fault (program_value c) (point_of xs) i
   unfolding ray_row_fault run_change
   ray_row_fault_is z o g zero e h =
       h
       ∙ ap₂ (ray_row_check i) (sym (side_here c i r at))
-      (e ∙ ap (λ k. run_form (length xs) (form_with k r.body.terms.items) (point_of xs)) zero
+      (e ∙ ap (λ k. run_form (length xs) (form_with k r.body.terms) (point_of xs)) zero
       ∙ ap₂ (λ n (b : Form). run_form n (record { constant = zero_ℚ; coefficient = b.coefficient }) (point_of xs)) len (sym (body_here c i r at)))
 
 module _ (c : Program) (xs : List Frac) (j : ℕ) (x : Frac) (l : j < length xs) (is : x ≡ get_or xs j x) where
@@ -55,16 +55,16 @@ module _ (c : Program) (xs : List Frac) (j : ℕ) (x : Frac) (l : j < length xs)
 
 -- ---- the objective
 module _ (c : Program) (xs : List Frac) (len : length xs ≡ variable_count (program_value c)) where
-  pub objective_terms : AreTerms 0 (length xs) c.objective.terms.items
-  objective_terms = subst (λ n. AreTerms 0 n c.objective.terms.items) (sym (len ∙ variables_counted c)) c.sound.objective_terms
+  pub objective_terms : AreTerms 0 (length xs) c.objective.terms
+  objective_terms = subst (λ n. AreTerms 0 n c.objective.terms) (sym (len ∙ variables_counted c)) c.sound.objective_terms
 
   pub objective_is : run_form (length xs) (form_of c.objective) (point_of xs) ≡ run_form (variable_count (program_value c)) (program_value c).objective (point_of xs)
   unfolding program_value
   objective_is = ap (λ n. run_form n (form_of c.objective) (point_of xs)) len
 
-  pub change_is : (z : ℚ) → z ≡ zero_ℚ → run_form (length xs) (form_with z c.objective.terms.items) (point_of xs) ≡ run_change (variable_count (program_value c)) (program_value c).objective (point_of xs)
+  pub change_is : (z : ℚ) → z ≡ zero_ℚ → run_form (length xs) (form_with z c.objective.terms) (point_of xs) ≡ run_change (variable_count (program_value c)) (program_value c).objective (point_of xs)
   unfolding program_value run_change
-  change_is z e = ap₂ (λ k n. run_form n (form_with k c.objective.terms.items) (point_of xs)) e len
+  change_is z e = ap₂ (λ k n. run_form n (form_with k c.objective.terms) (point_of xs)) e len
 
 pub ruleset rows_read = (rows_counted, row_terms)
 

@@ -59,7 +59,7 @@ pub record IsLemmaRow (form : NumberForm) (t : ℚ) (r : Row) : Type 0 where
 
 -- the lemma that this sum is at most t
 pub record IsLemma (form : NumberForm) (t : ℚ) (l : Lemma) : Type 0 where
-  pub sum : coef_in l.terms.items ≡ number_factor form
+  pub sum : coef_in l.terms ≡ number_factor form
   pub most : frac_value l.most ≡ t
 
 -- the last of a list
@@ -119,7 +119,7 @@ IsStepWithin n Over = Unit {0}
 
 -- a lemma has ascending terms of the first n variables
 abbrev pub IsLemmaWithin : ℕ → Lemma → Type 0
-IsLemmaWithin n l = AreTerms 0 n l.terms.items
+IsLemmaWithin n l = AreTerms 0 n l.terms
 
 -- over n variables
 pub record IsPath (n : ℕ) (p : Path) : Type 0 where
@@ -132,7 +132,7 @@ pub record IsPath (n : ℕ) (p : Path) : Type 0 where
 -- ---- what a step up left
 abbrev pub IsLeftWithin : ℕ → Left → Type 0
 IsLeftWithin n (Split j t) = (j < n) × IsCutNumber t
-IsLeftWithin n (Plane body t) = IsCutNumber t × AreTerms 0 n body.terms.items
+IsLeftWithin n (Plane body t) = IsCutNumber t × AreTerms 0 n body.terms
 IsLeftWithin n (Shown l) = IsLemmaWithin n l
 IsLeftWithin n Last = Unit {0}
 

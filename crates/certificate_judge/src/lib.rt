@@ -2,7 +2,6 @@
 #![tactic(auto)]
 
 mod check;
-mod form_at;
 mod given;
 pub mod laws;
 mod leaf;

@@ -14,6 +14,7 @@ use crate::plane::{lemma_row, side_over, side_under};
 use crate::sides::{cap, next, raise, whole_dec};
 use exact_checks::{Body, Program, Row};
 use exact_numbers::{Dec, Frac};
+use linear_program::Coefficients;
 use std::alloc::{AllocError, Global};
 
 // A step down: to a part of a split, with the side that it replaced; under a plane, which is then
@@ -31,7 +32,7 @@ pub(crate) enum Step {
 // A sum of terms, and the number that it is to be shown to be at most.
 #[derive(Drop)]
 pub(crate) struct Lemma {
-    pub(crate) terms: Vec<(u32, Frac)>,
+    pub(crate) terms: Coefficients,
     pub(crate) most: Frac,
 }
 
@@ -127,7 +128,7 @@ impl Path {
     // Goes down under a plane.
     pub(crate) fn enter_under(&mut self, body: Body, t: i128) -> Result<(), AllocError>
         requires number { IsCutNumber t }
-        ensures path { IfOk result (λ u. (n : ℕ) → AreTerms 0 n body.terms.items
+        ensures path { IfOk result (λ u. (n : ℕ) → AreTerms 0 n body.terms
             → IsPath n self.old → IsPath n self.new) }
         ensures at { IfOk result (λ u. (base : Part) (turns : List Turn) (form : WholeForm)
             → form_of body ≡ plane_form form → IsAt base turns self.old
@@ -143,7 +144,7 @@ impl Path {
     #[tactic(auto, using(crate::proofs::WholeDecimals::next_is))]
     fn enter_over(&mut self, body: Body, t: i128) -> Result<(), AllocError>
         requires number { IsCutNumber t }
-        ensures path { IfOk result (λ u. (n : ℕ) → AreTerms 0 n body.terms.items
+        ensures path { IfOk result (λ u. (n : ℕ) → AreTerms 0 n body.terms
             → IsPath n self.old → IsPath n self.new) }
         ensures at { IfOk result (λ u. (base : Part) (turns : List Turn) (form : WholeForm)
             → form_of body ≡ plane_form form → IsAt base turns self.old

@@ -16,15 +16,15 @@ use crate::path::Lemma;
 use crate::sides::whole_dec;
 use exact_checks::{Body, Row};
 use exact_numbers::{Dec, Frac};
-use linear_program::{Interval, Number};
+use linear_program::{Coefficients, Interval, Number};
 use std::alloc::{AllocError, Global};
 
 // The numbers of a sum that are not 0.
-fn terms_of(alloc: Global, pairs: &[(u32, Number)]) -> Result<Vec<(u32, Frac)>, AllocError>
+fn terms_of(alloc: Global, pairs: &[(u32, Number)]) -> Result<Coefficients, AllocError>
     requires { (n : ℕ) × AreNumbers 0 n pairs.now }
-    ensures sum { IfOk result (λ v. coef_in v.items ≡ number_factor (number_form pairs.now)) }
+    ensures sum { IfOk result (λ v. coef_in v ≡ number_factor (number_form pairs.now)) }
     ensures terms { IfOk result (λ v. (n : ℕ) → AreNumbers 0 n pairs.now
-        → AreTerms 0 n v.items) }
+        → AreTerms 0 n v) }
 {
     let mut terms = Vec::with_capacity(alloc, pairs.len())?;
     for pair in pairs {
@@ -33,7 +33,7 @@ fn terms_of(alloc: Global, pairs: &[(u32, Number)]) -> Result<Vec<(u32, Frac)>, 
         }
         terms.push((pair.0, fraction(&pair.1)))?;
     }
-    Ok(terms)
+    Ok(Coefficients::of_items(terms))
 }
 
 // The form of a plane.
@@ -42,7 +42,7 @@ pub(crate) fn body_of(alloc: Global, pairs: &[(u32, Number)]) -> Result<Body, Al
     requires numbers { (n : ℕ) × AreNumbers 0 n pairs.now }
     ensures form { IfOk result (λ b. form_of b ≡ plane_form (whole_form pairs.now)) }
     ensures terms { IfOk result (λ b. (n : ℕ) → AreNumbers 0 n pairs.now
-        → AreTerms 0 n b.terms.items) }
+        → AreTerms 0 n b.terms) }
 {
     let terms = terms_of(alloc, pairs)?;
     Ok(Body {
@@ -72,7 +72,7 @@ pub(crate) fn lemma_of(
 // The row of a lemma.
 pub(crate) fn lemma_row(shown: Lemma) -> Row
     ensures row { (form : NumberForm) (t : ℚ) → IsLemma form t shown → IsLemmaRow form t result }
-    ensures terms { (n : ℕ) → IsLemmaWithin n shown → AreTerms 0 n result.body.terms.items }
+    ensures terms { (n : ℕ) → IsLemmaWithin n shown → AreTerms 0 n result.body.terms }
 {
     Row {
         body: Body {

@@ -11,9 +11,8 @@ ghost use Rattle.exact_checks.specs.Terms.{side_value, value_found};
 ghost use Rattle.certificate_judge.specs.Outcomes.{judged_of, point_found};
 ghost use Rattle.certificate_judge.specs.InsidePoints.{fractions_of, point_of};
 
-use crate::form_at::value_of;
 use crate::outcome::{Cause, PointFault};
-use exact_checks::{Program, Row, frac_is_at_most, is_within};
+use exact_checks::{Program, Row, frac_is_at_most, is_within, value_of};
 use exact_numbers::{Dec, Frac};
 use linear_program::Interval;
 

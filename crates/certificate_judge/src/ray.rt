@@ -11,10 +11,9 @@ ghost use Rattle.exact_checks.specs.Terms.{value_found};
 ghost use Rattle.certificate_judge.specs.Outcomes.{ray_found};
 ghost use Rattle.certificate_judge.specs.InsidePoints.{point_of};
 
-use crate::form_at::value_of;
 use crate::leaf::is_as_good;
 use crate::outcome::RayFault;
-use exact_checks::{Program, Row, frac_is_at_most};
+use exact_checks::{Program, Row, frac_is_at_most, value_of};
 use exact_numbers::Frac;
 use linear_program::Interval;
 

@@ -46,18 +46,18 @@ none_copied bodies sides rows none more all = subst (λ rs. AreRowsOf bodies sid
 pub none_within : (n : ℕ) (rows : List Row) → rows ≡ [] → AreWithin n rows
 none_within n rows none i r at = absurd (let clash : slice_get [] i ≡ Some r = subst (λ rs. slice_get rs i ≡ Some r) none at in cc)
 
-pub within_more : (n : ℕ) (rows : List Row) (r : Row) → AreWithin n rows → AreTerms 0 n r.body.terms.items → AreWithin n (rows ++ r ∷ [])
-within_more n [] r h fine zero q e = subst (λ (x : Row). AreTerms 0 n x.body.terms.items) (same_Some r q e) fine
+pub within_more : (n : ℕ) (rows : List Row) (r : Row) → AreWithin n rows → AreTerms 0 n r.body.terms → AreWithin n (rows ++ r ∷ [])
+within_more n [] r h fine zero q e = subst (λ (x : Row). AreTerms 0 n x.body.terms) (same_Some r q e) fine
 within_more n [] r h fine (suc k) q e = absurd (cc)
 within_more n (p ∷ rows) r h fine zero q e = h 0 q e
 within_more n (p ∷ rows) r h fine (suc k) q e = within_more n rows r (λ m x f. h (suc m) x f) fine k q e
 
 -- the terms of one row more
-pub row_within : (n : ℕ) (bodies : List Form) (rows new : List Row) (i : ℕ) (b : Form) (r : Row) → AreWithin n rows → All (IsFormOver n) bodies → i < length bodies → b ≡ get_or bodies i b → IsCopy b r.body → AreAscending 0 r.body.terms.items → new ≡ rows ++ r ∷ [] → AreWithin n new
+pub row_within : (n : ℕ) (bodies : List Form) (rows new : List Row) (i : ℕ) (b : Form) (r : Row) → AreWithin n rows → All (IsFormOver n) bodies → i < length bodies → b ≡ get_or bodies i b → IsCopy b r.body → AreAscending 0 r.body.terms → new ≡ rows ++ r ∷ [] → AreWithin n new
 row_within n bodies rows new i b r so over l is copy up pushed = subst (AreWithin n) (sym pushed) (within_more n rows r so fine)
   where
-    fine : AreTerms 0 n r.body.terms.items
-    fine = are_terms 0 n r.body.terms.items up (subst (AreBelow n) (sym copy.terms) (subst (λ (f : Form). AreBelow n (form_terms f)) (sym is) (over i b l)))
+    fine : AreTerms 0 n r.body.terms
+    fine = are_terms 0 n r.body.terms up (subst (AreBelow n) (sym copy.terms) (subst (λ (f : Form). AreBelow n (form_terms f)) (sym is) (over i b l)))
 
 pub row_copied : (bodies : List Form) (sides : List Interval) (rows new : List Row) (i : ℕ) (b : Form) (s : Interval) (r : Row) → AreRowsSoFar bodies sides rows i → i < length bodies → b ≡ get_or bodies i b → i < length sides → s ≡ get_or sides i s →
     IsCopy b r.body → r.side ≡ s → new ≡ rows ++ r ∷ [] → AreRowsSoFar bodies sides new (i + 1)

@@ -42,7 +42,7 @@ needs_upper true false (pos k) i e h = refl
 needs_upper max negative t i e h = absurd (cc)
 
 -- ---- differences
-short_is_short : (l : ShortFraction) → IsShort (short_value l)
+pub short_is_short : (l : ShortFraction) → IsShort (short_value l)
 short_is_short l = short_over l.num l.den l.size l.small
 
 pub less_found : (r : Option ShortFraction) (s w f p : ShortFraction) (old weight : Option ℚ) (a : ℚ) → old ≡ Some (short_value s) → weight ≡ Some (short_value w) → short_value f ≡ a → short_value p ≡ short_value w *ℚ short_value f → IfSome r (λ l. short_value l ≡ short_value s -ℚ short_value p) → IfSome r (λ l. Some (short_value l) ≡ less_part weight a old)
@@ -71,6 +71,15 @@ plus_is_less s d v =
     by true p = ap₂ (λ x y. if sum_fits s x then Some y else None) (neg-neg p) (-ℚ_lem s (neg_ℚ p) ∙ ap (λ x. s +ℚ x) (neg-neg p))
     by false p = refl
 
+-- the sum with a product, in short parts
+pub short_plus : (r : Option ShortFraction) (s f v n p : ShortFraction) → short_value n ≡ neg_ℚ (short_value f) → short_value p ≡ short_value n *ℚ short_value v → IfSome r (λ l. short_value l ≡ short_value s -ℚ short_value p)
+    → IfSome r (λ l. plus_product (short_value s) (short_value f) (short_value v) ≡ Some (short_value l))
+short_plus None s f v n p x y h = tt
+short_plus (Some l) s f v n p x y h =
+    sym (plus_is_less (short_value s) (short_value f) (short_value v))
+    ∙ less_is (short_value s) (neg_ℚ (short_value f)) (short_value v) (short_value p) (short_is_short s) (short_is_short p) (y ∙ ap (λ a. a *ℚ short_value v) x)
+    ∙ ap Some (sym h)
+
 not_equal : (d : ℚ) → Some d ≢ Some zero_ℚ → d ≢ zero_ℚ
 not_equal d n e = n (ap Some e)
 
@@ -92,7 +101,7 @@ part_missing max i None (Some s) side n h e = refl
 part_missing max i (Some d) (Some s) side n h e = sym (part_of max i s d None n (e ∙ ap (option_and_then fitting) (h d refl)))
 
 -- a side of 0 adds nothing
-plus_zero : (s d : ℚ) → fits s ≡ true → plus_product s d zero_ℚ ≡ Some s
+pub plus_zero : (s d : ℚ) → fits s ≡ true → plus_product s d zero_ℚ ≡ Some s
 unfolding plus_product
 plus_zero s d f =
     ap (λ p. option_and_then (λ x. fitting_sum s x) (if fits p then Some p else None)) (*ℚ_zero d)

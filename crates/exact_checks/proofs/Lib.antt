@@ -1,6 +1,7 @@
 pub mod Numbers
 pub mod Sparse
 pub mod Points
+pub mod FormPoints
 pub mod Firsts
 pub mod Runs
 pub mod Rows

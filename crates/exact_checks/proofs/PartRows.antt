@@ -32,7 +32,7 @@ append_cases [] ys i x h = inr (i, h)
 append_cases (z ∷ xs) ys zero x h = inl h
 append_cases (z ∷ xs) ys (suc i) x h = append_cases xs ys i x h
 
-pub terms_of_row : (c : Program) (planes : List Row) (i : ℕ) (r : Row) → AreWithin (length c.lower.items) planes → slice_get (c.rows.items ++ planes) i ≡ Some r → AreTerms 0 (length c.lower.items) r.body.terms.items
+pub terms_of_row : (c : Program) (planes : List Row) (i : ℕ) (r : Row) → AreWithin (length c.lower.items) planes → slice_get (c.rows.items ++ planes) i ≡ Some r → AreTerms 0 (length c.lower.items) r.body.terms
 terms_of_row c planes i r fine at =
     ⊎_elim
     (λ (a : slice_get c.rows.items i ≡ Some r). c.sound.rows_terms i r a)
@@ -105,10 +105,10 @@ module _ (c : Program) (planes : List Row) (f : Linear) (held : HasRows c planes
         ∙ ap (λ m. row_part_of m (interval_of r.side) (frac_value r.body.constant) s v) sense
         ∙ sym e
 
-    pub cost_lessened : (v : ℚ) (w : Option ℚ) (j : ℕ) (o : Option ℚ) → w ≡ fitting v → option_and_then (λ s. cost_act f j s i v) o ≡ option_and_then (lessened w (coef_in r.body.terms.items j)) o
+    pub cost_lessened : (v : ℚ) (w : Option ℚ) (j : ℕ) (o : Option ℚ) → w ≡ fitting v → option_and_then (λ s. cost_act f j s i v) o ≡ option_and_then (lessened w (coef_in r.body.terms j)) o
     cost_lessened v w j o e =
         ap (λ (b : Form). option_and_then (lessened (fitting v) (b.coefficient j)) o) (held.row i r at).body
-        ∙ ap (λ x. option_and_then (lessened x (coef_in r.body.terms.items j)) o) (sym e)
+        ∙ ap (λ x. option_and_then (lessened x (coef_in r.body.terms j)) o) (sym e)
 
 -- ---- the loop over the sides
 pub record OnSides (c : Program) (planes : List Row) (max : Bool) (ps : List Pair) (k : ℕ) : Type 0 where
@@ -205,7 +205,7 @@ module _ (c : Program) (planes : List Row) (ps : List Pair) (old now : Costs) (k
     taken_within = pair_within (length c.rows.items + length planes) ps k on.from on.fine p l is
 
     pub taken_goes_on : (r : Row) → slice_get (c.rows.items ++ planes) p.0 ≡ Some r → (w : Option ℚ) → w ≡ fitting (number_value p.1) → (next : Costs) → AreKept next → cost_count next ≡ cost_count now
-        → ((j : ℕ) → cost_in next j ≡ option_and_then (lessened w (coef_in r.body.terms.items j)) (cost_in now j))
+        → ((j : ℕ) → cost_in next j ≡ option_and_then (lessened w (coef_in r.body.terms j)) (cost_in now j))
         → OnTaken c planes ps old next (k + 1)
     taken_goes_on r at w e next fits size h =
         record {

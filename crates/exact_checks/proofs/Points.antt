@@ -41,11 +41,11 @@ abbrev pub taking : ℚ → ℚ → ℚ → Option ℚ
 taking s a v = option_and_then (λ w. less_product s w a) (fitting v)
 
 abbrev pub OnForm : Body → List Dec → ℕ → ℚ → Type 0
-OnForm f xs k s = OnTheWay (acting adding (point_of xs)) (length xs) (run_form (length xs) (form_of f) (point_of xs)) f.terms.items k s
+OnForm f xs k s = OnTheWay (acting adding (point_of xs)) (length xs) (run_form (length xs) (form_of f) (point_of xs)) f.terms k s
 
-pub form_begins : (f : Body) (xs : List Dec) → AreTerms 0 (length xs) f.terms.items → OnForm f xs 0 (frac_value f.constant)
+pub form_begins : (f : Body) (xs : List Dec) → AreTerms 0 (length xs) f.terms → OnForm f xs 0 (frac_value f.constant)
 unfolding run_form
-form_begins f xs ok = way_begins (acting adding (point_of xs)) (length xs) (coef_in f.terms.items) (frac_value f.constant) f.terms.items ok (λ j l. refl)
+form_begins f xs ok = way_begins (acting adding (point_of xs)) (length xs) (coef_in f.terms) (frac_value f.constant) f.terms ok (λ j l. refl)
 
 abbrev pub OnColumn : ℚ → List Term → List Dec → ℕ → ℚ → Type 0
 OnColumn cost ts xs i s = OnTheWay (acting taking (point_of xs)) (length xs) (column_cost cost ts (values_of xs)) ts i s

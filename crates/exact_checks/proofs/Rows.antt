@@ -106,8 +106,8 @@ bounds_read lo hi j a b l e k f = ap₂ (λ v w. record { lower = v; upper = w }
 
 -- ---- the rows at a point
 module _ (c : Program) (xs : List Dec) (len : length xs ≡ length c.lower.items) (i : ℕ) (r : Row) (at : slice_get c.rows.items i ≡ Some r) where
-  pub row_terms : AreTerms 0 (length xs) r.body.terms.items
-  row_terms = subst (λ n. AreTerms 0 n r.body.terms.items) (sym len) (c.sound.rows_terms i r at)
+  pub row_terms : AreTerms 0 (length xs) r.body.terms
+  row_terms = subst (λ n. AreTerms 0 n r.body.terms) (sym len) (c.sound.rows_terms i r at)
 
   pub row_fault_is : (o : Option ℚ) (f : Option Cause) → o ≡ run_form (length xs) (form_of r.body) (point_of xs) → f ≡ row_check i (interval_of r.side) o → f ≡ row_fault (program_value c) (point_of xs) i
   unfolding row_fault

@@ -1,16 +1,16 @@
 -- Short fractions: what fits, and what comes of products and differences.
-use Rattle.std.proofs.Common.{◌≡◌, ℕ, zero, suc, ◌*◌, ◌/◌, ◌<◌, ◌≤◌, ◌^◌, ◌∙◌, sym, ap, refl, subst, arith, lit≤, lt_of_le_of_lt, lt_of_lt_of_le, div-le_self, mul-pos, Bool, true, false, T, ℤ, ◌<ℤ◌, pos, negsuc, ◌+ℤ◌, ◌*ℤ◌, ◌-ℤ◌, neg_ℤ, unsigned_abs, int_lt, Option, Some, None, ⊎_elim, ◌↔◌}
+use Rattle.std.proofs.Common.{◌≡◌, ℕ, zero, suc, ◌*◌, ◌/◌, ◌<◌, ◌≤◌, ◌^◌, ◌∙◌, sym, ap, ap₂, refl, subst, arith, lit≤, lt_of_le_of_lt, lt_of_lt_of_le, div-le_self, mul-pos, Bool, true, false, T, ℤ, ◌<ℤ◌, ◌≤ℤ◌, pos, negsuc, ◌+ℤ◌, ◌*ℤ◌, ◌-ℤ◌, neg_ℤ, unsigned_abs, int_lt, Option, Some, None, ⊎_elim, ◌↔◌}
 use lib.IntN.{*ℤ-one, zero-*ℤ}
 use borrow.Author.Differences.{down}
 use Rattle.std.specs.Int.Signed.{lt_z_yes}
 use Rattle.std.specs.Prelude.{if◌then◌else◌, option_and_then}
-use Rattle.std.proofs.Math.Nat.{mul-le-mul_right}
+use Rattle.std.proofs.Math.Nat.{mul-le-mul_right, one-le-pow, pow-le-pow_right}
 use Rattle.std.proofs.lemmas.Nat.{mul-lt}
 use Rattle.std.proofs.lemmas.Int.{ints, unsigned_abs-mul}
 use Rattle.std.proofs.lemmas.Bool.{and_from}
 use Rattle.fractions.specs.Fits.{fits, sum_fits}
 use Rattle.fractions.specs.LowestLemmas.{gcd_of, is_gcd, size-div}
-use Rattle.fractions.specs.Rational.{ℚ, over, whole, zero_ℚ, ◌-ℚ◌, ◌*ℚ◌, neg_ℚ}
+use Rattle.fractions.specs.Rational.{ℚ, decimal_value, over, whole, zero_ℚ, ◌-ℚ◌, ◌*ℚ◌, neg_ℚ}
 use Rattle.fractions.proofs.Arithmetic.{over_parts, -ℚ_lem, over_same, value_is, neg_size}
 use Rattle.fractions.proofs.Signed.{down_times}
 use Rattle.fractions.proofs.Values.{neg_value, over_value, scaled_value, sum_value}
@@ -61,6 +61,23 @@ short_sum x y a b =
     sum_fits_in x y
     (w.fits (lt_of_lt_of_le (mul-lt x.bottom (y.bottom / g) (2 ^ 63) (2 ^ 63) a.bottom scale) (lit≤ tt)) (omega (arith, first)) (omega (arith, second))
     (omega (arith, ints, first, second, abs_is (x.top *ℤ pos (y.bottom / g)), abs_is (y.top *ℤ pos (x.bottom / g)), abs_is (x.top *ℤ pos (y.bottom / g) +ℤ y.top *ℤ pos (x.bottom / g)))))
+
+-- powers of 10
+pub small_ten : (k : ℕ) → k < 19 → 10 ^ k < 2 ^ 63
+small_ten k l =
+    let above : 0 < 10 = omega arith in
+    let less : k ≤ 18 = omega (arith, l) in
+    lt_of_le_of_lt (pow-le-pow_right above less) (lit≤ tt)
+
+pub some_ten : (k : ℕ) → 0 < 10 ^ k
+some_ten k = (let above : 0 < 10 = omega arith in let least : 1 ≤ 10 ^ k = one-le-pow k 10 above in omega (arith, least))
+
+-- a decimal without zeros before the point
+pub decimal_over : (m e n : ℤ) (d : ℕ) → n ≡ m → e ≤ℤ pos 0 → d ≡ 10 ^ unsigned_abs e → over n d ≡ decimal_value m e
+unfolding decimal_value lib.IntN.one
+decimal_over m (pos zero) n d same l ten = ap₂ over (same ∙ sym (*ℤ-one m)) ten
+decimal_over m (pos (suc k)) n d same l ten = absurd (omega (arith, ints, l))
+decimal_over m (negsuc k) n d same l ten = ap₂ over (same ∙ sym (*ℤ-one m)) ten
 
 -- ---- products and differences
 pub scaled_same : (p : ℤ) (q k : ℕ) → 0 < q → 0 < k → over (p *ℤ pos k) (q * k) ≡ over p q

@@ -14,7 +14,7 @@ use Rattle.exact_checks.specs.Terms.{AreTerms}
 -- a body holds the constant and the coefficients of a form
 pub record IsCopy (form : Form) (b : Body) : Type 0 where
   pub constant : frac_value b.constant ≡ (form_line form).constant
-  pub terms : b.terms.items ≡ form_terms form
+  pub terms : b.terms ≡ form_terms form
 
 -- rows for bodies and their sides, in order
 abbrev pub AreRowsOf : List Form → List Interval → List Row → Type 0
@@ -26,7 +26,7 @@ AreRowsOf (b ∷ bs) (s ∷ ss) (r ∷ rs) = IsCopy b r.body × (r.side ≡ s) �
 
 -- each row has ascending terms of the first n variables
 abbrev pub AreWithin : ℕ → List Row → Type 0
-AreWithin n rows = (i : ℕ) (r : Row) → slice_get rows i ≡ Some r → AreTerms 0 n r.body.terms.items
+AreWithin n rows = (i : ℕ) (r : Row) → slice_get rows i ≡ Some r → AreTerms 0 n r.body.terms
 
 -- the terms of column j in row i, each with the row's number
 unfoldable pub terms_in : ℕ → ℕ → List Term → List Term
@@ -36,7 +36,7 @@ terms_in j i (t ∷ ts) = cond (nat_eq t.0 j) ((i, t.1) ∷ terms_in j i ts) (te
 -- column j of rows, of which the first is row i
 abbrev pub column_from : ℕ → ℕ → List Row → List Term
 column_from j i [] = []
-column_from j i (r ∷ rs) = terms_in j i r.body.terms.items ++ column_from j (suc i) rs
+column_from j i (r ∷ rs) = terms_in j i r.body.terms ++ column_from j (suc i) rs
 
 -- the terms of row i are added to their columns
 pub record IsAdded (i : ℕ) (old now : List (Vec Term)) (row : List Term) : Type 0 where

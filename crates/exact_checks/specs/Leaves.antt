@@ -36,7 +36,7 @@ pub record CanBound (c : Program) (rows : List Row) (costs : Costs) (lo hi : Lis
 pub record IsRowAt (f : Linear) (i : ℕ) (r : Row) : Type 0 where
   pub body : (row_at f i).body ≡ form_of r.body
   pub side : (row_at f i).side ≡ interval_of r.side
-  pub terms : AreTerms 0 (variable_count f) r.body.terms.items
+  pub terms : AreTerms 0 (variable_count f) r.body.terms
 
 -- the rows that are held, with those of planes after them, are the program's
 pub record HasRows (c : Program) (planes : List Row) (f : Linear) : Type 0 where

@@ -18,7 +18,7 @@ use Rattle.exact_checks.specs.declared.form.Row.{Row}
 use Rattle.exact_checks.specs.Terms.{AreTerms, AreTerms-prop, side_value}
 
 abbrev pub form_of : Body → Form
-form_of b = record { constant = frac_value b.constant; coefficient = coef_in b.terms.items }
+form_of b = record { constant = frac_value b.constant; coefficient = coef_in b.terms }
 
 unfoldable pub body_in : List Row → ℕ → Form
 body_in rows i = option_map_or (λ (r : Row). form_of r.body) (slice_get rows i) zero_form
@@ -38,8 +38,8 @@ bounds_in lo hi j = record { lower = side_listed lo j; upper = side_listed hi j 
 pub record AreSound (n : ℕ) (rows : List Row) (objective : Body) : Type 0 where
   pub few_rows : length rows ≤ 2 ^ 20
   pub few_columns : n ≤ 2 ^ 20
-  pub objective_terms : AreTerms 0 n objective.terms.items
-  pub rows_terms : (i : ℕ) (r : Row) → slice_get rows i ≡ Some r → AreTerms 0 n r.body.terms.items
+  pub objective_terms : AreTerms 0 n objective.terms
+  pub rows_terms : (i : ℕ) (r : Row) → slice_get rows i ≡ Some r → AreTerms 0 n r.body.terms
 
 -- columns hold the coefficients of rows, in order, and none is 0; the costs are the objective's
 -- coefficients
@@ -48,7 +48,7 @@ pub record AreTransposed (rows : List Row) (columns : List (Vec Term)) (costs : 
   pub columns_terms : (j : ℕ) (k : Vec Term) → slice_get columns j ≡ Some k
       → AreTerms 0 (length rows) k.items
   pub priced : (j : ℕ) (k : Frac) → slice_get costs j ≡ Some k
-      → frac_value k ≡ coef_in objective.terms.items j
+      → frac_value k ≡ coef_in objective.terms j
   pub same : (i j : ℕ) (k : Vec Term) → slice_get columns j ≡ Some k
       → coef_in k.items i ≡ (body_in rows i).coefficient j
 

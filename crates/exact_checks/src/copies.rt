@@ -6,31 +6,31 @@ ghost use Rattle.exact_checks.specs.Built.{AreRowsOf, AreWithin, IsCopy};
 
 use crate::form::{Body, Row};
 use exact_numbers::Dec;
-use linear_program::{Form, Interval, Kind, Linear};
+use linear_program::{Coefficients, Form, Interval, Kind, Linear};
 use std::alloc::{AllocError, Global};
 
 // The constant and the coefficients of a form.
 pub(crate) fn body_of(alloc: Global, form: &Form) -> Result<Body, AllocError>
     ensures copy { IfOk result (λ b. IsCopy form.now b) }
-    ensures ascending { IfOk result (λ b. AreAscending 0 b.terms.items) }
+    ensures ascending { IfOk result (λ b. AreAscending 0 b.terms) }
 {
-    let mut terms = Vec::new(alloc);
+    let mut items = Vec::new(alloc);
     for term in form.terms() {
-        terms.push(term)?;
+        items.push(term)?;
     }
     Ok(Body {
         constant: form.constant(),
-        terms,
+        terms: Coefficients::of_items(items),
     })
 }
 
 // The same of a form that is let go.
 pub(crate) fn body_from(alloc: Global, form: Form) -> Result<Body, AllocError>
     ensures copy { IfOk result (λ b. IsCopy form b) }
-    ensures ascending { IfOk result (λ b. AreAscending 0 b.terms.items) }
+    ensures ascending { IfOk result (λ b. AreAscending 0 b.terms) }
 {
     let constant = form.constant();
-    let terms = form.into_fractions(alloc)?;
+    let terms = form.into_coefficients(alloc)?;
     Ok(Body { constant, terms })
 }
 

@@ -19,7 +19,7 @@ use crate::pairs::{first_lacking_side, rows_total, take_rows};
 use crate::program::Program;
 use crate::verdict::{BoundVerdict, Goal};
 use exact_numbers::{Dec, Frac};
-use linear_program::Number;
+use linear_program::{Coefficients, Number};
 use std::alloc::AllocError;
 
 // The bound on a constant with these terms.
@@ -30,7 +30,7 @@ fn bound_of_goal(
     planes: &[Row],
     maximise: bool,
     constant: Frac,
-    terms: &[(u32, Frac)],
+    terms: &Coefficients,
     lo: &[Option<Dec>],
     hi: &[Option<Dec>],
     pairs: &[(u32, Number)],
@@ -79,30 +79,32 @@ pub fn leaf_bound(
         Goal::Objective => {
             let maximise = program.maximise;
             let body = &program.objective;
-            let terms: &[(u32, Frac)] = &body.terms;
             bound_of_goal(
                 costs,
                 program,
                 planes,
                 maximise,
                 body.constant,
-                terms,
+                &body.terms,
                 lo,
                 hi,
                 pairs,
             )
         }
-        Goal::Zero => bound_of_goal(
-            costs,
-            program,
-            planes,
-            false,
-            Frac::zero(),
-            &[],
-            lo,
-            hi,
-            pairs,
-        ),
+        Goal::Zero => {
+            let none = Coefficients::new(program.objective.terms.allocator());
+            bound_of_goal(
+                costs,
+                program,
+                planes,
+                false,
+                Frac::zero(),
+                &none,
+                lo,
+                hi,
+                pairs,
+            )
+        }
     }
 }
 
@@ -111,7 +113,7 @@ pub fn sum_bound(
     costs: &mut Costs,
     program: &Program,
     planes: &[Row],
-    terms: &[(u32, Frac)],
+    terms: &Coefficients,
     lo: &[Option<Dec>],
     hi: &[Option<Dec>],
     pairs: &[(u32, Number)],

@@ -38,9 +38,9 @@ pub(crate) fn difference(a: Frac, b: Frac) -> Option<Frac>
     a.sub(b)
 }
 
-/// start + a * b; none where the product or the sum does not fit.
+// start + a * b; none where the product or the sum does not fit.
 #[tactic(auto, unfolding(duality::specs::Checked::plus_product))]
-pub fn plus_product(start: Frac, a: Frac, b: Frac) -> Option<Frac>
+pub(crate) fn plus_product(start: Frac, a: Frac, b: Frac) -> Option<Frac>
     ensures { value_found result ≡ plus_product (frac_value start) (frac_value a) (frac_value b) }
 {
     match product(a, b) {

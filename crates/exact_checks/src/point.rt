@@ -20,12 +20,13 @@ use linear_program::Interval;
 // The value of a form at a point, term by term.
 #[tactic(auto, using(crate::proofs::Points::form_begins, crate::proofs::Points::terms_end))]
 fn value_at(form: &Body, x: &[Dec]) -> Option<Frac>
-    requires { AreTerms 0 (length x.now) form.now.terms.items }
+    requires { AreTerms 0 (length x.now) form.now.terms }
     ensures { value_found result
         ≡ run_form (length x.now) (form_of form.now) (value_at (values_of x.now)) }
 {
     let mut sum = form.constant;
-    for term in &form.terms {
+    for place in 0..form.terms.len() {
+        let term = form.terms.at(place);
         match plus_number(sum, term.1, x[term.0 as usize]) {
             Some(next) => sum = next,
             None => return None,

@@ -50,7 +50,7 @@ impl Program {
         })
     }
 
-    /// The linear program, by rows, where it is let go: what it keeps as fractions is not copied.
+    /// The linear program, by rows, where it is let go: its coefficients are not copied.
     #[tactic(auto, using(crate::proofs::Assembled::assembled), unfolding(crate::specs::Programs::program_value))]
     pub fn from_linear(alloc: Global, linear: Linear) -> Result<Program, AllocError>
         ensures { IfOk result (λ p. program_value p ≡ linear_value linear) }
@@ -139,7 +139,7 @@ impl Columns {
         Columns::by_rows(alloc, program)
     }
 
-    /// The same of one that is let go: what it keeps as fractions is not copied.
+    /// The same of one that is let go.
     #[tactic(auto)]
     pub fn from_linear(alloc: Global, linear: Linear) -> Result<Columns, AllocError>
         ensures { IfOk result (λ c. program_of c ≡ linear_value linear) }

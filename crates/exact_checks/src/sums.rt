@@ -1,11 +1,13 @@
 // Running sums: short fractions that are not reduced, as long as all parts have 64 bits.
 ghost use Rattle.std.specs.Prelude.{◌≡◌, ◌≢◌, ◌↔◌, ◌*◌, ◌<◌, ◌^◌, pos, int_lt, Bool, true, false, length, IfSome, IsTrue, Some, option_and_then};
 ghost use Rattle.std.specs.Option.{option_map};
+ghost use Rattle.duality.specs.Checked.{plus_product};
 ghost use Rattle.duality.specs.Verdict.{cost_check, cost_part_of};
 ghost use Rattle.fractions.specs.Fits.{fits};
 ghost use Rattle.fractions.specs.Rational.{ℚ, ◌*ℚ◌, ◌-ℚ◌, neg_ℚ, zero_ℚ};
 ghost use Rattle.program_meaning.specs.Linear.{Interval};
-ghost use Rattle.exact_numbers.specs.Values.{frac_value};
+ghost use Rattle.exact_numbers.specs.Values.{dec_value, frac_value};
+ghost use Rattle.linear_program.specs.Numbers.{number_value};
 ghost use Rattle.exact_checks.specs.Answers.{cause_found};
 ghost use Rattle.exact_checks.specs.Lists.{bounds_in};
 ghost use Rattle.exact_checks.specs.Sums.{IsNeeded, less_part, short_value, sum_value};
@@ -17,6 +19,7 @@ use crate::number::{is_negative, less_product};
 use crate::short_fraction::ShortFraction;
 use crate::verdict::{Fault, Spot};
 use exact_numbers::{Dec, Frac};
+use linear_program::Number;
 
 /// A sum, be it the reduced cost of a variable, the weight of a row or the bound so far: 0 where
 /// nothing was added yet; a short fraction; another one; none, since it is too wide.
@@ -33,6 +36,40 @@ const LEAST: i128 = -0x8000_0000_0000_0000;
 
 const MOST: i128 = 0x7fff_ffff_ffff_ffff;
 
+// The powers of 10 below 2^63.
+const TENS: [u64; 19] = [
+    1,
+    10,
+    100,
+    1000,
+    10000,
+    100000,
+    1000000,
+    10000000,
+    100000000,
+    1000000000,
+    10000000000,
+    100000000000,
+    1000000000000,
+    10000000000000,
+    100000000000000,
+    1000000000000000,
+    10000000000000000,
+    100000000000000000,
+    1000000000000000000,
+];
+
+// A power of 10 below 2^63.
+#[inline]
+fn power_of_ten(times: u32) -> Option<u64>
+    ensures { IfSome result (λ p. (p ≡ 10 ^ times) × (0 < p) × (p < 2 ^ 63)) }
+{
+    if times < 19 {
+        return Some(TENS[times as usize]);
+    }
+    None
+}
+
 impl ShortFraction {
     // 0.
     #[tactic(auto, using(crate::proofs::ShortLemmas::zero_over))]
@@ -44,7 +81,7 @@ impl ShortFraction {
 
     // The same number, where its parts have 64 bits with a sign.
     #[inline]
-    fn of(number: Frac) -> Option<ShortFraction>
+    pub(crate) fn of(number: Frac) -> Option<ShortFraction>
         ensures { IfSome result (λ l. short_value l ≡ frac_value number) }
     {
         let num = number.num();
@@ -58,8 +95,37 @@ impl ShortFraction {
         })
     }
 
+    // The same of a decimal, where it has no zeros before the point.
+    #[inline]
+    fn of_dec(number: Dec) -> Option<ShortFraction>
+        ensures { IfSome result (λ l. short_value l ≡ dec_value number) }
+    {
+        let num = number.m();
+        let e = number.e();
+        if num < LEAST || num > MOST || e > 0 {
+            return None;
+        }
+        let places = e.unsigned_abs() as u32;
+        let den = power_of_ten(places)?;
+        Some(ShortFraction {
+            num: num as i64,
+            den,
+        })
+    }
+
+    // The same of a number as it is written.
+    #[inline]
+    pub(crate) fn of_number(number: &Number) -> Option<ShortFraction>
+        ensures { IfSome result (λ l. short_value l ≡ number_value number.now) }
+    {
+        match number {
+            Number::Decimal(number) => ShortFraction::of_dec(*number),
+            Number::Fraction(number) => ShortFraction::of(*number),
+        }
+    }
+
     // The number as a fraction in lowest terms.
-    fn reduced(self) -> Option<Frac>
+    pub(crate) fn reduced(self) -> Option<Frac>
         ensures { value_found result ≡ Some (short_value self) }
     {
         Frac::new(self.num as i128, self.den as i128)
@@ -112,6 +178,21 @@ impl ShortFraction {
         Some(ShortFraction { num, den: self.den })
     }
 
+    // The sum with the product, where it is short.
+    #[inline]
+    pub(crate) fn plus_product(
+        self,
+        factor: ShortFraction,
+        number: ShortFraction,
+    ) -> Option<ShortFraction>
+        ensures { IfSome result (λ l. plus_product (short_value self) (short_value factor)
+            (short_value number) ≡ Some (short_value l)) }
+    {
+        let negated = factor.negated()?;
+        let part = negated.times(number)?;
+        self.less(part)
+    }
+
     // The difference, where one denominator is a multiple of the other and it is short.
     #[inline]
     fn less(self, other: ShortFraction) -> Option<ShortFraction>
@@ -140,6 +221,19 @@ pub(crate) fn sum_of(number: Option<Frac>) -> RunningSum
             None => RunningSum::Exact(number),
         },
         None => RunningSum::TooWide,
+    }
+}
+
+// The same of a number as it is written.
+#[inline]
+#[tactic(auto, using(crate::proofs::Numbers::found))]
+pub(crate) fn sum_of_number(number: &Number) -> RunningSum
+    requires { fits (number_value number.now) ≡ true }
+    ensures { sum_value result ≡ Some (number_value number.now) }
+{
+    match ShortFraction::of_number(number) {
+        Some(short) => RunningSum::Short(short),
+        None => sum_of(number.fraction()),
     }
 }
 
@@ -205,22 +299,26 @@ impl RunningSum {
 
     // The sum less the product, in short fractions alone.
     #[inline]
-    fn less_short(&self, weight: &RunningSum, factor: Frac) -> Option<ShortFraction>
+    fn less_short(&self, weight: &RunningSum, factor: &Number) -> Option<ShortFraction>
         ensures { IfSome result (λ l. Some (short_value l)
-            ≡ less_part (sum_value weight.now) (frac_value factor) (sum_value self.now)) }
+            ≡ less_part (sum_value weight.now) (number_value factor.now) (sum_value self.now)) }
     {
         let start = self.short()?;
         let weight = weight.short()?;
-        let factor = ShortFraction::of(factor)?;
+        let factor = ShortFraction::of_number(factor)?;
         let part = weight.times(factor)?;
         start.less(part)
     }
 
     // The sum less the product, in fractions in lowest terms.
-    fn less_exact(&self, weight: &RunningSum, factor: Frac) -> RunningSum
+    fn less_exact(&self, weight: &RunningSum, factor: &Number) -> RunningSum
+        requires { fits (number_value factor.now) ≡ true }
         ensures { sum_value result
-            ≡ less_part (sum_value weight.now) (frac_value factor) (sum_value self.now) }
+            ≡ less_part (sum_value weight.now) (number_value factor.now) (sum_value self.now) }
     {
+        let Some(factor) = factor.fraction() else {
+            unreachable!();
+        };
         match self.exact() {
             Some(start) => match weight.exact() {
                 Some(number) => sum_of(less_product(start, number, factor)),
@@ -231,9 +329,10 @@ impl RunningSum {
     }
 
     // Takes the product from the sum.
-    pub(crate) fn lessen(&mut self, weight: &RunningSum, factor: Frac)
+    pub(crate) fn lessen(&mut self, weight: &RunningSum, factor: &Number)
+        requires { fits (number_value factor.now) ≡ true }
         ensures { sum_value self.new
-            ≡ less_part (sum_value weight.now) (frac_value factor) (sum_value self.old) }
+            ≡ less_part (sum_value weight.now) (number_value factor.now) (sum_value self.old) }
     {
         match self.less_short(weight, factor) {
             Some(left) => *self = RunningSum::Short(left),
@@ -300,7 +399,7 @@ impl RunningSum {
             (sum_value self.old) }
     {
         match side_fraction(*side) {
-            Some(factor) => self.lessen(&cost.negated(), factor),
+            Some(factor) => self.lessen(&cost.negated(), &Number::Fraction(factor)),
             None => *self = RunningSum::TooWide,
         }
     }

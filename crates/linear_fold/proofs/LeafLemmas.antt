@@ -1,18 +1,19 @@
 -- Leaves, and what sums of them come to.
-use Rattle.std.proofs.Common.{◌≡◌, ◌≢◌, ℕ, suc, ◌+◌, ◌*◌, ◌<◌, ◌≤◌, ◌∙◌, sym, ap, ap₂, refl, subst, subst₂, ◌==◌, arith, ⊎_elim, Bool, true, false, ◌&&◌, Some, None, Option, List, [], ◌∷◌, ◌++◌, drop, length, get_or, unwrap_or, option_and_then, IfSome, if◌then◌else◌}
+use Rattle.std.proofs.Common.{◌≡◌, ◌≢◌, ℕ, zero, suc, ◌+◌, ◌*◌, ◌<◌, ◌≤◌, ◌∙◌, sym, ap, ap₂, refl, subst, subst₂, ◌==◌, arith, ⊎_elim, Bool, true, false, ◌&&◌, Some, None, Option, List, [], ◌∷◌, ◌++◌, drop, length, get_or, unwrap_or, option_and_then, IfSome, if◌then◌else◌}
 use Rattle.std.specs.Option.{option_or}
 use Rattle.std.proofs.lemmas.Bool.{and_from, and_parts, cases_eq}
 use Rattle.std.proofs.lemmas.List.{drop_more, map-append}
-use Rattle.code_tables.specs.declared.class.OpClass.TheVariants.{Product, List as SumOfAll}
+use Rattle.code_tables.specs.declared.class.OpClass.TheVariants.{Product, Quotient, List as SumOfAll}
 use Rattle.code_tables.specs.Opcodes.{class_of}
 use Rattle.exact_numbers.specs.declared.dec.Dec.{Dec}
 use Rattle.exact_numbers.specs.declared.frac.Frac.{Frac}
 use Rattle.exact_numbers.specs.Values.{dec_value, frac_value}
+use Rattle.exact_numbers.proofs.Bridge.{frac_fits_lem}
 use Rattle.exact_numbers.proofs.Zeros.{sum_fits_zero, zero_sum_fits}
 use Rattle.fractions.specs.Fits.{fits, sum_fits}
 use Rattle.fractions.specs.Functions.{is_zero}
-use Rattle.fractions.specs.Rational.{ℚ, whole, zero_ℚ, one_ℚ, ◌+ℚ◌, ◌*ℚ◌}
-use Rattle.fractions.proofs.Arithmetic.{zero-+ℚ, +ℚ_zero, *ℚ_one}
+use Rattle.fractions.specs.Rational.{ℚ, whole, zero_ℚ, one_ℚ, ◌+ℚ◌, ◌*ℚ◌, inverse_of}
+use Rattle.fractions.proofs.Arithmetic.{zero-+ℚ, +ℚ_zero, *ℚ_comm, *ℚ_one}
 use Rattle.fractions.proofs.Values.{own_value, same_value}
 use Rattle.program_meaning.specs.Lines.{Line, Point, constant_line, is_constant, line_scaled, line_sum, line_value, one_if, products_fit, running_line, running_sums_fit, sums_fit}
 use Rattle.nl_meaning.specs.Faults.{fault_at, operator_fault, operator_line, too_wide_unless, trees_fault, trees_lines, tree_line}
@@ -20,26 +21,30 @@ use Rattle.nl_meaning.specs.Trees.{Known, Tree, Trees, number, variable, operato
 use Rattle.nl_meaning.proofs.Linear.{operator_has_line}
 use Rattle.nl_model.specs.declared.node.Node.{Node}
 use Rattle.nl_model.specs.declared.node.Node.TheVariants.{Num, Var, Defined, Op}
-use Rattle.nl_model.specs.Nodes.{IsTreeFormed, first_of_trees, trees_of}
+use Rattle.nl_model.specs.Nodes.{IsTreeFormed, first_of_trees, trees_of, with_node}
 use Rattle.linear_program.specs.declared.form.Form.{Form}
+use Rattle.linear_program.specs.declared.sum.Sum.{Sum}
 use Rattle.linear_program.specs.Coefs.{AreBelow, Term, coef_in, value_or_zero}
 use Rattle.linear_program.specs.Decimals.{AreDecimals, DecimalTerm, frac_of, frac_where, fraction_term, fraction_terms}
-use Rattle.linear_program.specs.Forms.{IsWithin, IsZeroFrom, form_line}
+use Rattle.linear_program.specs.Forms.{IsWithin, IsZeroFrom, form_line, place_count, sum_line}
+use Rattle.linear_program.specs.Places.{place_in}
 use Rattle.linear_program.proofs.Closing.{found_last, found_other}
 use Rattle.linear_program.proofs.CoefLemmas.{adds_at, below_append, below_from, found_beyond}
 use Rattle.linear_program.proofs.DecimalLemmas.{frac_of-value}
-use Rattle.linear_program.proofs.FracLemmas.{coef_fits, fits_or_zero}
+use Rattle.linear_program.proofs.FracLemmas.{coef_fits, fits_or_zero, nonzero_test, place_fits}
 use Rattle.linear_program.proofs.Scaled.{all_below-intro, same_line}
 use Rattle.linear_fold.specs.declared.entries.Entry.TheVariants.{Linear as Whole}
 use Rattle.linear_fold.specs.declared.leaf_sums.Leaf.{Leaf}
 use Rattle.linear_fold.specs.declared.leaf_sums.LeafSum.{LeafSum}
+use Rattle.linear_fold.specs.declared.leaf_sums.Multiple.{Multiple}
+use Rattle.linear_fold.specs.declared.operate.Outcome.TheVariants.{Linear as Made}
 use Rattle.linear_fold.specs.declared.parts.PartialForm.{PartialForm}
 use Rattle.linear_fold.specs.declared.parts.PartialForm.TheVariants.{Number, Variable}
 use Rattle.linear_fold.specs.InsideFolds.{AreOperandsOf, IsFolded, IsLined}
-use Rattle.linear_fold.specs.InsideLeafSums.{AddsLeaf, AreLeaves, IsLeafAt, IsListOf, IsVariableOf, SumsUpTo, factors_in, factors_leaf, leaf_line, leaves_line, number_count}
-use Rattle.linear_fold.specs.InsideOperates.{AreOperands, lines_of_parts, multiple_line, zero_line}
+use Rattle.linear_fold.specs.InsideLeafSums.{AddsFraction, AddsLeaf, AreLeaves, IsDivided, IsLeafAt, IsListOf, IsMultipleAt, IsMultipleOf, IsNumberAt, IsVariableOf, SumsUpTo, factors_in, factors_leaf, leaf_line, leaves_line, number_count}
+use Rattle.linear_fold.specs.InsideOperates.{AreOperands, Operates, lines_of_parts, multiple_line, zero_line}
 use Rattle.linear_fold.proofs.Folding.{constant_lined, is_line_by, multiple_within, number_within, operands_are, operator_folded, same_values, values_are, variable_lined}
-use Rattle.linear_fold.proofs.Operators.{fault_first, fault_second, few_steps, multiple_apart, multiple_at, multiple_constant, multiple_fits, multiple_scaled, multiple_zero_from, number_constant, zero_line_sum}
+use Rattle.linear_fold.proofs.Operators.{fault_first, fault_second, few_steps, multiple_apart, multiple_at, multiple_constant, multiple_fits, multiple_scaled, multiple_zero_from, number_constant, quotient_comes, zero_line_sum}
 
 -- ---- 1 as a fraction
 fits_one : fits one_ℚ ≡ true
@@ -132,6 +137,12 @@ module _ (known : Point → Known) (n i j : ℕ) (d : Dec) (fit : fits (dec_valu
 node_here : (ns : List Node) (p : ℕ) (x : Node) → p < length ns → x ≡ get_or ns p x → drop p ns ≡ x ∷ drop (p + 1) ns
 node_here ns p x h e = drop_more ns p x h ∙ ap (λ y. y ∷ drop (p + 1) ns) (sym e)
 
+pub quotient_head : (ns : List Node) (p : ℕ) (x : Node) → p < length ns → x ≡ get_or ns p x → x ≡ Op 3 2 → drop p ns ≡ Op 3 2 ∷ drop (p + 1) ns
+quotient_head ns p x h e is = node_here ns p x h e ∙ ap (λ y. y ∷ drop (p + 1) ns) is
+
+pub number_stands : (ns : List Node) (p : ℕ) (x : Node) (d : Dec) → p < length ns → x ≡ get_or ns p x → x ≡ Num d → IsNumberAt ns p d
+number_stands ns p x d h e is = record { within = h; first = node_here ns p x h e ∙ ap (λ y. y ∷ drop (p + 1) ns) is }
+
 pub number_leaf : (ns : List Node) (p : ℕ) (x : Node) (d : Dec) → p < length ns → x ≡ get_or ns p x → x ≡ Num d → IsLeafAt ns p (record { variable = None; factor = d; size = 1 })
 number_leaf ns p x d h e is =
     record {
@@ -193,6 +204,62 @@ module _ (ns : List Node) (p : ℕ) (within : p + 3 ≤ length ns) where
       let third : drop (p + 2) ns ≡ b ∷ drop (p + 3) ns = node_here ns (p + 2) b (omega arith) second ∙ ap (λ s. b ∷ drop s ns) q in
       let next : drop (p + 1) ns ≡ a ∷ drop (p + 2) ns = node_here ns (p + 1) a (omega arith) first ∙ ap (λ s. a ∷ drop s ns) m in
       factors_at a b l (node_here ns p x (omega arith) at ∙ ap₂ (λ y t. y ∷ t) head (next ∙ ap (λ t. a ∷ t) third)) e
+
+-- ---- multiples
+pub multiple_here : (ns : List Node) (p : ℕ) (l : Leaf) (m : Multiple) → IsLeafAt ns p l → IsMultipleOf l m → IsMultipleAt ns p m
+multiple_here ns p l m at is =
+    let same : p + l.size ≡ p + m.size = ap (λ s. p + s) (sym is.size) in
+    record {
+      tree = at.tree;
+      trees = at.trees ∙ ap (λ q. at.tree ∷ trees_of (drop q ns)) same;
+      size = at.size ∙ sym is.size;
+      within = (let w = at.within in let s = is.size in omega arith);
+      lined = λ known n i low.
+          subst₂ (λ v k. IsLined known n i at.tree (leaf_line v k)) is.variable (sym is.value)
+          (at.lined known n i is.fine (subst (IsVariableOf n) (sym is.variable) low));
+    }
+
+-- a fraction times a variable divided by a number
+module _ (known : Point → Known) (n i : ℕ) (t : Tree) (m : Multiple) (d : Dec) (f : Frac) (is : IsDivided (frac_value m.factor) d f) (low : m.variable < n) (lined : (p : ℕ) → IsLined known n p t (multiple_line m.variable (frac_value m.factor))) where
+  quotient_value : frac_value f ≡ inverse_of (frac_value (frac_of d)) *ℚ frac_value m.factor
+  quotient_value = is.value ∙ *ℚ_comm (frac_value m.factor) (inverse_of (dec_value d)) ∙ ap (λ x. inverse_of x *ℚ frac_value m.factor) (sym (frac_of-value d is.divisor))
+
+  quotient_lined : IsLined known n i (operator Quotient (more t (more (number d.m d.e) none))) (multiple_line m.variable (frac_value f))
+  quotient_lined =
+      let j = m.variable in
+      let x = frac_value m.factor in
+      let y = frac_value (frac_of d) in
+      let ps : List PartialForm = Variable j m.factor ∷ Number (frac_of d) ∷ [] in
+      let ts : Trees = more t (more (number d.m d.e) none) in
+      let second : IsLined known n (i + 1 + tree_size t) (number d.m d.e) (constant_line y) = subst (λ z. IsLined known n (i + 1 + tree_size t) (number d.m d.e) (constant_line z)) (sym (frac_of-value d is.divisor)) (number_lined known n (i + 1 + tree_size t) d is.divisor) in
+      let operands : AreOperandsOf known n (i + 1) ts ps = operands_are known n (i + 1) 2 (t ∷ number d.m d.e ∷ []) ps (omega arith) (lined (i + 1), (second, tt)) in
+      let within : AreOperands n ps = (multiple_within n j m.factor low, (number_within n (frac_of d), tt)) in
+      let some : is_zero y ≡ false = nonzero_test y false (λ z. absurd (is.some (sym (frac_of-value d is.divisor) ∙ z))) refl in
+      let fine : products_fit n (inverse_of y) (multiple_line j x) ≡ true = multiple_fits n (inverse_of y) x j low ∙ ap fits (sym quotient_value) ∙ frac_fits_lem f in
+      let comes : Operates n Quotient (lines_of_parts ps) (Made (Variable j f)) =
+      quotient_comes n (multiple_line j x) (constant_line y) (Made (Variable j f)) (inverse_of y) refl (sym (number_constant n y)) some
+      (fine, multiple_scaled n (inverse_of y) x j (frac_value f) quotient_value, low) in
+      operator_folded known n i Quotient ts ps refl refl within operands (Variable j f) comes.0 comes.1 low
+
+quotient_class : class_of 3 ≡ Quotient
+unfolding class_of
+quotient_class = refl
+
+-- the quotient of a multiple at the next place
+pub quotient_multiple : (ns : List Node) (p : ℕ) (m : Multiple) (d : Dec) (f : Frac) → drop p ns ≡ Op 3 2 ∷ drop (p + 1) ns → IsMultipleAt ns (p + 1) m → IsNumberAt ns (p + 1 + m.size) d → IsDivided (frac_value m.factor) d f → IsMultipleAt ns p (record { variable = m.variable; factor = f; size = m.size + 2 })
+quotient_multiple ns p m d f here at last divided =
+    let t = at.tree in
+    let end : p + 1 + m.size + 1 ≡ p + (m.size + 2) = omega arith in
+    let rest : trees_of (drop (p + 1 + m.size) ns) ≡ number d.m d.e ∷ trees_of (drop (p + (m.size + 2)) ns) = ap trees_of last.first ∙ ap (λ q. number d.m d.e ∷ trees_of (drop q ns)) end in
+    record {
+      tree = operator (class_of 3) (more t (more (number d.m d.e) none));
+      trees = ap trees_of here ∙ ap (with_node (Op 3 2)) (at.trees ∙ ap (λ ts. t ∷ ts) rest);
+      size = (let s = at.size in omega arith);
+      within = (let w = last.within in omega arith);
+      lined = λ known n i low.
+          subst (λ c. IsLined known n i (operator c (more t (more (number d.m d.e) none))) (multiple_line m.variable (frac_value f))) (sym quotient_class)
+          (quotient_lined known n i t m d f divided low (λ q. at.lined known n q low));
+    }
 
 pub list_at : (ns : List Node) (x : Node) (o k : ℕ) → 0 < length ns → x ≡ get_or ns 0 x → x ≡ Op o k → o ≡ 54 → IsListOf ns k
 list_at ns x o k some at is list = record { some = omega arith; first = node_here ns 0 x some at ∙ ap (λ y. y ∷ drop 1 ns) (is ∙ ap (λ m. Op m k) list) }
@@ -321,6 +388,30 @@ leaf_more known n ns place m count leaf old new l at adds e rest =
 pub leaves_end : (known : Point → Known) (n place left : ℕ) (ts : List Tree) (l : Line) → left ≡ 0 → SumsUpTo known n place (first_trees left ts) l l
 leaves_end known n place left ts l e = subst (λ k. SumsUpTo known n place (first_trees k ts) l l) (sym e) (nothing_more known n place l)
 
+-- the multiple at a place before trees of the nodes after it
+module _ (known : Point → Known) (n : ℕ) (ns : List Node) (place : ℕ) (m : Multiple) (old new : Sum) (at : IsMultipleAt ns place m) (low : m.variable < n) (adds : AddsFraction old m.variable (frac_value m.factor) new) where
+  place_fine : (i : ℕ) → sum_fits ((sum_line old).coef i) ((multiple_line m.variable (frac_value m.factor)).coef i) ≡ true
+  place_fine i =
+      ⊎_elim
+      (λ (e : i ≡ m.variable). ap₂ sum_fits (ap (sum_line old).coef e) (multiple_at i m.variable (frac_value m.factor) e) ∙ adds.adds.0)
+      (λ (apart : i ≢ m.variable). ap (sum_fits ((sum_line old).coef i)) (multiple_apart i m.variable (frac_value m.factor) apart) ∙ sum_fits_zero ((sum_line old).coef i) (place_fits old.accumulator.value i))
+      (cases_eq i m.variable)
+
+  sum_fine : sums_fit n (sum_line old) (multiple_line m.variable (frac_value m.factor)) ≡ true
+  sum_fine = and_from _ _ (sum_fits_zero (sum_line old).constant (frac_fits_lem old.constant)) (all_below-intro (λ i. sum_fits ((sum_line old).coef i) ((multiple_line m.variable (frac_value m.factor)).coef i)) n (λ i p. place_fine i))
+
+  sum_is : sum_line new ≡ line_sum (sum_line old) (multiple_line m.variable (frac_value m.factor))
+  sum_is =
+      same_line (sum_line new) (line_sum (sum_line old) (multiple_line m.variable (frac_value m.factor))) (adds.constant ∙ sym (+ℚ_zero (sum_line old).constant))
+      (λ i. adds.adds.1 i ∙ ap (λ x. (sum_line old).coef i +ℚ x) (sym (zero-+ℚ (frac_value m.factor *ℚ one_if (i == m.variable)))))
+
+  pub multiple_more : (k count : ℕ) (l : Line) → count ≡ suc k → SumsUpTo known n (place + m.size) (first_trees k (trees_of (drop (place + m.size) ns))) (sum_line new) l → SumsUpTo known n place (first_trees count (trees_of (drop place ns))) (sum_line old) l
+  multiple_more k count l e rest =
+      let left = trees_of (drop (place + m.size) ns) in
+      subst₂ (λ c ts. SumsUpTo known n place (first_trees c ts) (sum_line old) l) (sym e) (sym at.trees)
+      (one_more known n place at.tree (first_trees k left) (sum_line old) (sum_line new) l (multiple_line m.variable (frac_value m.factor)) (at.lined known n place low) (multiple_zero_from n m.variable (frac_value m.factor) low) sum_fine sum_is
+      (subst (λ s. SumsUpTo known n (place + s) (first_trees k left) (sum_line new) l) (sym at.size) rest))
+
 -- ---- the form
 pub list_folded : (known : Point → Known) (n : ℕ) (ns : List Node) (k : ℕ) (l : Line) (form : Form) (t : Tree) → IsTreeFormed t → IsListOf ns k → trees_of ns ≡ t ∷ [] → SumsUpTo known n 1 (first_trees k (trees_of (drop 1 ns))) zero_line l → form_line form ≡ l → IsFolded known n 0 t (Whole form)
 list_folded known n ns k l form t formed list one s is =
@@ -331,6 +422,14 @@ list_folded known n ns k l form t formed list one s is =
 
 pub leaves_within : (n : ℕ) (s : LeafSum) (form : Form) → AreLeaves n s → form_line form ≡ leaves_line s → IsWithin n form
 leaves_within n s form held line j g = ap (λ l. l.coef j) line ∙ ap value_or_zero (found_beyond s.least (fraction_terms s.terms) j held.below (let h = held.few in omega arith))
+
+no_place : (ps : List Frac) (j : ℕ) → length ps ≤ j → place_in ps j ≡ zero_ℚ
+no_place [] j h = refl
+no_place (p ∷ ps) zero h = absurd (omega arith)
+no_place (p ∷ ps) (suc j) h = no_place ps j (omega arith)
+
+pub sum_within : (n : ℕ) (s : Sum) (form : Form) → place_count s ≡ n → form_line form ≡ sum_line s → IsWithin n form
+sum_within n s form places line j g = ap (λ l. l.coef j) line ∙ no_place s.accumulator.value j (omega (arith, places))
 
 pub if_some : {A : Type 0} (o : Option A) (P Q : A → Type 0) → ((x : A) → P x → Q x) → IfSome o P → IfSome o Q
 if_some None P Q f h = h

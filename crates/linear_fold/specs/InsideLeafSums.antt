@@ -1,22 +1,24 @@
 -- Sums of leaves: numbers, and factors times variables.
-use Rattle.std.specs.Prelude.{◌≡◌, ℕ, suc, ◌+◌, ◌<◌, ◌≤◌, true, List, [], ◌∷◌, drop, length, Option, Some, None}
+use Rattle.std.specs.Prelude.{◌≡◌, ◌≢◌, ℕ, suc, ◌+◌, ◌<◌, ◌≤◌, true, List, [], ◌∷◌, drop, length, Option, Some, None, Ok}
 use Rattle.std.specs.Option.{option_map_or}
 use Rattle.exact_numbers.specs.declared.dec.Dec.{Dec}
 use Rattle.exact_numbers.specs.declared.frac.Frac.{Frac}
-use Rattle.exact_numbers.specs.Values.{dec_value}
+use Rattle.exact_numbers.specs.Values.{dec_value, frac_value}
 use Rattle.fractions.specs.Fits.{fits}
-use Rattle.fractions.specs.Rational.{ℚ}
+use Rattle.fractions.specs.Rational.{ℚ, zero_ℚ, ◌*ℚ◌, inverse_of}
 use Rattle.program_meaning.specs.Lines.{Line, Point, constant_line, running_line, running_sums_fit, sums_fit, line_sum}
 use Rattle.nl_meaning.specs.Faults.{trees_fault, trees_lines}
 use Rattle.nl_meaning.specs.Trees.{Known, Tree, Trees, tree_size}
 use Rattle.nl_model.specs.declared.node.Node.{Node}
 use Rattle.nl_model.specs.declared.node.Node.TheVariants.{Num, Var, Op}
 use Rattle.nl_model.specs.Nodes.{trees_of}
-use Rattle.linear_program.specs.Coefs.{AreBelow, value_or_zero}
+use Rattle.linear_program.specs.declared.sum.Sum.{Sum}
+use Rattle.linear_program.specs.Coefs.{AddsAt, AreBelow, value_or_zero}
 use Rattle.linear_program.specs.Decimals.{AreDecimals, fraction_terms}
-use Rattle.linear_program.specs.Forms.{parts_line}
+use Rattle.linear_program.specs.Forms.{parts_line, place_count, sum_line}
 use Rattle.linear_fold.specs.declared.leaf_sums.Leaf.{Leaf}
 use Rattle.linear_fold.specs.declared.leaf_sums.LeafSum.{LeafSum}
+use Rattle.linear_fold.specs.declared.leaf_sums.Multiple.{Multiple}
 use Rattle.linear_fold.specs.InsideFolds.{AreLinesOf, IsLined}
 use Rattle.linear_fold.specs.InsideOperates.{multiple_line}
 
@@ -48,6 +50,33 @@ pub record IsLeafAt (ns : List Node) (place : ℕ) (l : Leaf) : Type 0 where
   pub within : place + l.size ≤ length ns
   pub lined : (known : Point → Known) (n i : ℕ) → fits (dec_value l.factor) ≡ true
       → IsVariableOf n l.variable → IsLined known n i tree (leaf_line l.variable (dec_value l.factor))
+
+-- a fraction times a variable stands at a place
+pub record IsMultipleAt (ns : List Node) (place : ℕ) (m : Multiple) : Type 0 where
+  pub tree : Tree
+  pub trees : trees_of (drop place ns) ≡ tree ∷ trees_of (drop (place + m.size) ns)
+  pub size : tree_size tree ≡ m.size
+  pub within : place + m.size ≤ length ns
+  pub lined : (known : Point → Known) (n i : ℕ) → m.variable < n
+      → IsLined known n i tree (multiple_line m.variable (frac_value m.factor))
+
+-- a leaf is such a multiple
+pub record IsMultipleOf (l : Leaf) (m : Multiple) : Type 0 where
+  pub variable : l.variable ≡ Some m.variable
+  pub size : m.size ≡ l.size
+  pub fine : fits (dec_value l.factor) ≡ true
+  pub value : frac_value m.factor ≡ dec_value l.factor
+
+-- a number stands at a place
+pub record IsNumberAt (ns : List Node) (place : ℕ) (d : Dec) : Type 0 where
+  pub within : place < length ns
+  pub first : drop place ns ≡ Num d ∷ drop (place + 1) ns
+
+-- x divided by d, which is not 0 and has a fraction
+pub record IsDivided (x : ℚ) (d : Dec) (f : Frac) : Type 0 where
+  pub divisor : fits (dec_value d) ≡ true
+  pub some : dec_value d ≢ zero_ℚ
+  pub value : frac_value f ≡ x *ℚ inverse_of (dec_value d)
 
 -- nodes begin with the sum of k operands
 pub record IsListOf (ns : List Node) (k : ℕ) : Type 0 where
@@ -86,6 +115,12 @@ pub record AddsLeaf (n : ℕ) (old : LeafSum) (j : Option ℕ) (d : Dec) (new : 
   pub fit : sums_fit n (leaves_line old) (leaf_line j (dec_value d)) ≡ true
   pub line : leaves_line new ≡ line_sum (leaves_line old) (leaf_line j (dec_value d))
   pub more : suc (seen old) ≤ seen new
+
+-- k times variable j fits, and is added to a sum
+pub record AddsFraction (old : Sum) (j : ℕ) (k : ℚ) (new : Sum) : Type 0 where
+  pub adds : AddsAt (sum_line old).coef j k (sum_line new).coef (Ok tt)
+  pub constant : (sum_line new).constant ≡ (sum_line old).constant
+  pub places : place_count new ≡ place_count old
 
 -- trees have no fault, and are lines whose running sum from a on fits and is l; the first node has the
 -- number i

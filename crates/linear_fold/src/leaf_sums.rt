@@ -1,24 +1,27 @@
 // Sums of leaves: numbers, and factors times variables. Where the variables ascend, the factors are the
-// coefficients of a form as they stand.
-ghost use Rattle.std.specs.Prelude.{◌≡◌, ◌∷◌, [], ℕ, ◌+◌, ◌≤◌, None, Some, drop, IfOk, IfSome, length, true};
+// coefficients of a form as they stand; where the first is divided by a number, all are added up.
+ghost use Rattle.std.specs.Prelude.{◌≡◌, ◌∷◌, [], ℕ, ◌+◌, ◌<◌, ◌≤◌, None, Some, drop, IfOk, IfSome, length, true};
 ghost use Rattle.exact_numbers.specs.Values.{dec_value, frac_value};
 ghost use Rattle.program_meaning.specs.Lines.{Point};
 ghost use Rattle.nl_meaning.specs.Trees.{Known, Tree, first_trees};
 ghost use Rattle.nl_model.specs.Nodes.{IsTreeFormed, trees_of};
 ghost use Rattle.linear_program.specs.Coefs.{value_or_zero};
-ghost use Rattle.linear_program.specs.Forms.{IsWithin};
+ghost use Rattle.linear_program.specs.Forms.{IsWithin, place_count, sum_line};
+ghost use Rattle.nl_model.specs.declared.node.Node.TheVariants.{Op};
 ghost use Rattle.linear_fold.specs.declared.entries.Entry.TheVariants.{Linear};
 ghost use Rattle.linear_fold.specs.InsideFolds.{IsFolded};
-ghost use Rattle.linear_fold.specs.InsideLeafSums.{AddsLeaf, AreLeaves, IsLeafAt, IsListOf, IsNoLeaf, SumsUpTo, factors_in, leaves_line, seen};
-ghost use Rattle.linear_fold.specs.InsideOperates.{zero_line};
+ghost use Rattle.linear_fold.specs.InsideLeafSums.{AddsFraction, AddsLeaf, AreLeaves, IsDivided, IsLeafAt, IsListOf, IsMultipleAt, IsMultipleOf, IsNoLeaf, IsNumberAt, SumsUpTo, factors_in, leaves_line, seen};
+ghost use Rattle.linear_fold.specs.InsideOperates.{IsBlank, zero_line};
 
 use exact_numbers::{Dec, Frac};
-use linear_program::{Form, Terms};
+use linear_program::{Form, Pad, Sum, Terms};
 use nl_model::Node;
 use std::alloc::{AllocError, Global};
-use texts::{Ledger, Steps};
+use texts::{Ledger, Steps, Stop};
 
 const PRODUCT: u32 = 2;
+
+const QUOTIENT: u32 = 3;
 
 const LIST: u32 = 54;
 
@@ -27,6 +30,14 @@ const LIST: u32 = 54;
 pub(crate) struct Leaf {
     pub(crate) variable: Option<u32>,
     pub(crate) factor: Dec,
+    pub(crate) size: usize,
+}
+
+/// A fraction times a variable, and how many nodes it has.
+#[derive(Clone, Copy)]
+pub(crate) struct Multiple {
+    pub(crate) variable: u32,
+    pub(crate) factor: Frac,
     pub(crate) size: usize,
 }
 
@@ -93,7 +104,7 @@ fn product_at(nodes: &[Node], place: usize) -> Option<Leaf>
 }
 
 // The leaf at a place.
-#[inline]
+#[inline(always)]
 fn leaf_at(nodes: &[Node], place: usize) -> Option<Leaf>
     requires { place ≤ length nodes.now }
     ensures { IfSome result (λ l. IsLeafAt nodes.now place l) }
@@ -238,8 +249,211 @@ fn list_count(nodes: &[Node]) -> Option<u32>
     Some(count)
 }
 
+// The multiple that a leaf is, where its factor has a fraction.
+#[inline]
+fn multiple_of(leaf: &Leaf) -> Option<Multiple>
+    ensures { IfSome result (λ m. IsMultipleOf leaf.now m) }
+{
+    let Some(variable) = leaf.variable else {
+        return None;
+    };
+    let Some(factor) = Frac::of_dec(leaf.factor) else {
+        return None;
+    };
+    Some(Multiple {
+        variable,
+        factor,
+        size: leaf.size,
+    })
+}
+
+// A variable, or a factor times one, at a place.
+#[inline(always)]
+fn plain_multiple(nodes: &[Node], place: usize) -> Option<Multiple>
+    requires { place ≤ length nodes.now }
+    ensures { IfSome result (λ m. IsMultipleAt nodes.now place m) }
+{
+    let Some(leaf) = leaf_at(nodes, place) else {
+        return None;
+    };
+    multiple_of(&leaf)
+}
+
+// The number at a place.
+#[inline]
+fn number_at(nodes: &[Node], place: usize) -> Option<Dec>
+    ensures { IfSome result (λ d. IsNumberAt nodes.now place d) }
+{
+    if place >= nodes.len() {
+        return None;
+    }
+    let node = nodes[place];
+    let Node::Num(number) = node else {
+        return None;
+    };
+    Some(number)
+}
+
+// A fraction divided by a number that is not 0 and has a fraction, where the quotient fits.
+#[inline]
+fn divided(number: Frac, divisor: Dec) -> Option<Frac>
+    ensures { IfSome result (λ f. IsDivided (frac_value number) divisor f) }
+{
+    let Some(divisor) = Frac::of_dec(divisor) else {
+        return None;
+    };
+    if divisor.is_zero() {
+        return None;
+    }
+    number.mul(divisor.reciprocal())
+}
+
+// Whether a node is a quotient.
+#[inline]
+fn is_quotient(node: Node) -> bool
+    ensures { result ≡ true → node ≡ Op 3 2 }
+{
+    match node {
+        Node::Op(opcode, count) => opcode == QUOTIENT && count == 2,
+        _ => false,
+    }
+}
+
+// The quotient of a variable, or of a factor times one, by a number.
+#[inline]
+fn quotient_at(nodes: &[Node], place: usize) -> Option<Multiple>
+    requires within { place < length nodes.now }
+    requires quotient { drop place nodes.now ≡ Op 3 2 ∷ drop (place + 1) nodes.now }
+    ensures { IfSome result (λ m. IsMultipleAt nodes.now place m) }
+{
+    let Some(dividend) = plain_multiple(nodes, place + 1) else {
+        return None;
+    };
+    let Some(divisor) = number_at(nodes, place + 1 + dividend.size) else {
+        return None;
+    };
+    let Some(factor) = divided(dividend.factor, divisor) else {
+        return None;
+    };
+    Some(Multiple {
+        variable: dividend.variable,
+        factor,
+        size: dividend.size + 2,
+    })
+}
+
+// The multiple at a place.
+#[inline]
+fn multiple_at(nodes: &[Node], place: usize) -> Option<Multiple>
+    requires { place ≤ length nodes.now }
+    ensures { IfSome result (λ m. IsMultipleAt nodes.now place m) }
+{
+    if place == nodes.len() {
+        return None;
+    }
+    let node = nodes[place];
+    if is_quotient(node) {
+        return quotient_at(nodes, place);
+    }
+    plain_multiple(nodes, place)
+}
+
+// Whether a variable is one of so many, and not below the least.
+#[inline]
+fn is_next(variable: u32, least: u32, variables: u32) -> bool
+    ensures { result ≡ true → (least ≤ variable) × (variable < variables) }
+{
+    least <= variable && variable < variables
+}
+
+// Adds a fraction times a variable to a sum, where that fits.
+#[inline]
+fn add_fraction(total: &mut Sum, variable: u32, factor: Frac) -> Result<bool, AllocError>
+    requires { variable < place_count total.old }
+    ensures { IfOk result
+        (λ added. added ≡ true → AddsFraction total.old variable (frac_value factor) total.new) }
+{
+    match total.add_term(variable, factor) {
+        Ok(()) => Ok(true),
+        Err(Stop::Fault(_)) => Ok(false),
+        Err(Stop::Memory) => Err(AllocError),
+    }
+}
+
+// Adds so many multiples, of which the first is the second node; a step for each.
+fn add_multiples<L: Ledger>(
+    nodes: &[Node],
+    count: u32,
+    total: &mut Sum,
+    variables: u32,
+    steps: &mut Steps<L>,
+) -> Result<bool, AllocError>
+    requires some { 1 ≤ length nodes.now }
+    requires places { place_count total.old ≡ variables }
+    requires blank { IsBlank total.old }
+    ensures places { IfOk result (λ all. all ≡ true → place_count total.new ≡ variables) }
+    ensures sum { IfOk result
+        (λ all. (known : Point → Known) → all ≡ true
+        → SumsUpTo known variables 1 (first_trees count (trees_of (drop 1 nodes.now))) zero_line
+        (sum_line total.new)) }
+    ensures above { steps.old ≤ steps.new }
+    ensures below { steps.new ≤ steps.old + (variables + 1) }
+{
+    let mut place: usize = 1;
+    let mut least: u32 = 0;
+    for _ in 0..count {
+        let Some(multiple) = multiple_at(nodes, place) else {
+            return Ok(false);
+        };
+        if !is_next(multiple.variable, least, variables) {
+            return Ok(false);
+        }
+        let added = add_fraction(total, multiple.variable, multiple.factor)?;
+        if !added {
+            return Ok(false);
+        }
+        steps.tick();
+        least = multiple.variable + 1;
+        place += multiple.size;
+    }
+    Ok(true)
+}
+
+// The form of a sum of multiples whose variables ascend; none of other sums. A step for each.
+fn multiple_sum<L: Ledger>(
+    alloc: Global,
+    nodes: &[Node],
+    count: u32,
+    variables: u32,
+    steps: &mut Steps<L>,
+) -> Result<Option<Form>, AllocError>
+    requires { IsListOf nodes.now count }
+    ensures form { IfOk result
+        (λ o. IfSome o
+        (λ form. (known : Point → Known) (tree : Tree) → IsTreeFormed tree
+        → trees_of nodes.now ≡ tree ∷ [] → IsFolded known variables 0 tree (Linear form))) }
+    ensures within { IfOk result (λ o. IfSome o (λ form. IsWithin variables form)) }
+    ensures above { steps.old ≤ steps.new }
+    ensures below { steps.new ≤ steps.old + (variables + 1) }
+{
+    let pad = Pad::new(alloc, variables)?;
+    let mut total = Sum::on_pad(pad);
+    let all = add_multiples(nodes, count, &mut total, variables, steps)?;
+    if !all {
+        return Ok(None);
+    }
+    let (form, _pad) = total.close()?;
+    Ok(Some(form))
+}
+
+// Whether the second node is a quotient.
+fn has_quotient(nodes: &[Node]) -> bool {
+    nodes.len() > 1 && is_quotient(nodes[1])
+}
+
 /// The form of a sum of leaves whose variables ascend, below the number of variables, and at most one
-/// of which is a number; none of other trees. A step for each leaf.
+/// of which is a number; or of multiples, where the first is a quotient. None of other trees. A step
+/// for each leaf.
 pub(crate) fn leaf_sum<L: Ledger>(
     alloc: Global,
     nodes: &[Node],
@@ -257,6 +471,9 @@ pub(crate) fn leaf_sum<L: Ledger>(
     let Some(count) = list_count(nodes) else {
         return Ok(None);
     };
+    if has_quotient(nodes) {
+        return multiple_sum(alloc, nodes, count, variables, steps);
+    }
     let mut sum = LeafSum {
         terms: Terms::new(alloc),
         number: None,

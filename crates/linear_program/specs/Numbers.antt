@@ -1,8 +1,9 @@
 -- Numbers as they are written, and lists of them by index.
-use Rattle.std.specs.Prelude.{ℕ, ◌==◌, List, [], ◌∷◌, if◌then◌else◌}
+use Rattle.std.specs.Prelude.{◌≡◌, ℕ, ◌==◌, List, [], ◌∷◌, get_or, if◌then◌else◌}
 use Rattle.fractions.specs.Rational.{ℚ, zero_ℚ}
 use Rattle.program_meaning.specs.Elements.{elements_from}
 use Rattle.exact_numbers.specs.Values.{dec_value, frac_value}
+use Rattle.linear_program.specs.Coefs.{Term}
 use Rattle.linear_program.specs.declared.number.Number.{Number}
 use Rattle.linear_program.specs.declared.number.Number.TheVariants.{Decimal, Fraction}
 
@@ -13,6 +14,11 @@ number_value (Fraction f) = frac_value f
 -- an index and its number
 abbrev pub Pair : Type 0
 Pair = ℕ × Number
+
+-- this is the term at a place
+abbrev pub IsTermAt : List Term → ℕ → Pair → Type 0
+IsTermAt ts k p =
+    (t : Term) × (t ≡ get_or ts k t) × (p.0 ≡ t.0) × (number_value p.1 ≡ frac_value t.1)
 
 -- the number of index i: that of its last pair, or x where it has none
 unfoldable pub number_of : List Pair → ℕ → ℚ → ℚ

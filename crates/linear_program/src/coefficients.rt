@@ -5,10 +5,12 @@ ghost use Rattle.fractions.specs.Rational.{zero_ℚ};
 ghost use Rattle.linear_program.specs.Coefs.{AreAscending, AreDecimalsOf};
 ghost use Rattle.linear_program.specs.Decimals.{AreDecimals, fraction_terms};
 ghost use Rattle.linear_program.specs.Forms.{terms_left};
+ghost use Rattle.linear_program.specs.Numbers.{IsTermAt};
 
-use crate::decimal_terms::{DecimalTerms, fractions_of};
+use crate::decimal_terms::DecimalTerms;
 use crate::form_terms::{FormTerms, TermSource};
 use crate::fraction_terms::FractionTerms;
+use crate::number::Number;
 use crate::terms::Terms;
 use exact_numbers::{Dec, Frac};
 use std::alloc::{AllocError, Global};
@@ -39,7 +41,7 @@ impl Model for Coefficients {
 
 impl Coefficients {
     /// No coefficients.
-    pub(crate) fn new(alloc: Global) -> Self
+    pub fn new(alloc: Global) -> Self
         ensures { result ≡ [] }
     {
         Coefficients {
@@ -47,7 +49,8 @@ impl Coefficients {
         }
     }
 
-    pub(crate) fn of_items(items: Vec<(u32, Frac)>) -> Self
+    /// These coefficients, which are not copied.
+    pub fn of_items(items: Vec<(u32, Frac)>) -> Self
         requires { AreAscending 0 items.items }
         ensures { result ≡ items.items }
     {
@@ -90,17 +93,6 @@ impl Coefficients {
         match self.list {
             TermList::Fractions(terms) => Err(Coefficients::of_fractions(terms)),
             TermList::Decimals(terms) => Ok(terms.into_terms()),
-        }
-    }
-
-    // The terms with fractions, which are not copied where they are kept so.
-    pub(crate) fn into_fractions(self, alloc: Global) -> Result<Vec<(u32, Frac)>, AllocError>
-        ensures terms { IfOk result (λ v. v.items ≡ self) }
-        ensures ascending { IfOk result (λ v. AreAscending 0 v.items) }
-    {
-        match self.list {
-            TermList::Fractions(terms) => Ok(terms.into_items()),
-            TermList::Decimals(terms) => fractions_of(alloc, terms.items()),
         }
     }
 
@@ -152,8 +144,8 @@ impl Coefficients {
         }
     }
 
-    // How many there are.
-    pub(crate) fn len(&self) -> usize
+    /// How many there are.
+    pub fn len(&self) -> usize
         ensures count { result ≡ length self.now }
         ensures few { result < 2 ^ 63 }
     {
@@ -163,14 +155,29 @@ impl Coefficients {
         }
     }
 
-    // The coefficient at a place, with its variable.
-    pub(crate) fn at(&self, place: usize) -> (u32, Frac)
+    /// The coefficient at a place, with its variable.
+    pub fn at(&self, place: usize) -> (u32, Frac)
         requires { place < length self.now }
         ensures { result ≡ get_or self.now place result }
     {
         match &self.list {
             TermList::Fractions(terms) => terms.items()[place],
             TermList::Decimals(terms) => terms.at(place),
+        }
+    }
+
+    /// The same, as the number that is kept.
+    pub fn term(&self, place: usize) -> (u32, Number)
+        requires { place < length self.now }
+        ensures { IsTermAt self.now place result }
+    {
+        match &self.list {
+            TermList::Fractions(terms) => {
+                let items = terms.items();
+                let term = items[place];
+                (term.0, Number::Fraction(term.1))
+            }
+            TermList::Decimals(terms) => terms.number_at(place),
         }
     }
 
@@ -184,7 +191,8 @@ impl Coefficients {
         }
     }
 
-    pub(crate) fn allocator(&self) -> Global {
+    /// Where its memory comes from.
+    pub fn allocator(&self) -> Global {
         match &self.list {
             TermList::Fractions(terms) => terms.allocator(),
             TermList::Decimals(terms) => terms.allocator(),

@@ -2,8 +2,10 @@
 ghost use Rattle.std.specs.Prelude.{◌≡◌, ◌<◌, IfOk, get_or, length};
 ghost use Rattle.linear_program.specs.Coefs.{AreAscending};
 ghost use Rattle.linear_program.specs.Decimals.{AreDecimals, fraction_terms};
+ghost use Rattle.linear_program.specs.Numbers.{IsTermAt};
 
 use crate::few::Few;
+use crate::number::Number;
 use crate::terms::Terms;
 use exact_numbers::{Dec, Frac};
 use std::alloc::{AllocError, Global};
@@ -85,6 +87,17 @@ impl DecimalTerms {
         ensures decimals { AreDecimals 0 self.now }
     {
         self.items.items()
+    }
+
+    // The term at a place, with its decimal.
+    #[inline]
+    pub(crate) fn number_at(&self, place: usize) -> (u32, Number)
+        requires { place < length self.now }
+        ensures { IsTermAt (fraction_terms self.now) place result }
+    {
+        let items = self.items();
+        let term = items[place];
+        (term.0, Number::Decimal(term.1))
     }
 
     // The term at a place, with a fraction.

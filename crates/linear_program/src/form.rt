@@ -238,14 +238,20 @@ impl Form {
         }
     }
 
-    /// The terms with fractions, which are not copied where they are kept so.
-    pub fn into_fractions(self, alloc: Global) -> Result<Vec<(u32, Frac)>, AllocError>
-        ensures terms { IfOk result (λ v. v.items ≡ form_terms self) }
-        ensures ascending { IfOk result (λ v. AreAscending 0 v.items) }
+    /// The coefficients, which are not copied where the form is closed.
+    pub fn into_coefficients(self, alloc: Global) -> Result<Coefficients, AllocError>
+        ensures terms { IfOk result (λ c. c ≡ form_terms self) }
+        ensures ascending { IfOk result (λ c. AreAscending 0 c) }
     {
         match self.kept {
-            Kept::Closed(coefficients, _) => coefficients.into_fractions(alloc),
-            Kept::Open(sum) => list_of(alloc, sum.terms()),
+            Kept::Closed(coefficients, _) => {
+                let _ascending = coefficients.ordered();
+                Ok(coefficients)
+            }
+            Kept::Open(sum) => {
+                let items = list_of(alloc, sum.terms())?;
+                Ok(Coefficients::of_items(items))
+            }
         }
     }
 

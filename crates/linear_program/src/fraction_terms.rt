@@ -57,14 +57,6 @@ impl FractionTerms {
         *self.items.allocator()
     }
 
-    /// The terms, which are not copied.
-    pub(crate) fn into_items(self) -> Vec<(u32, Frac)>
-        ensures items { result.items ≡ self }
-        ensures ascending { AreAscending 0 self }
-    {
-        self.items
-    }
-
     pub(crate) fn items(&self) -> &[(u32, Frac)]
         ensures items { result.now ≡ self.now }
         ensures ascending { AreAscending 0 self.now }

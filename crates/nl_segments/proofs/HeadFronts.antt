@@ -1,5 +1,5 @@
 -- A head after which nothing is kept, at the front of a piece.
-use Rattle.std.proofs.Common.{◌≡◌, ◌∙◌, ℕ, suc, Bool, true, false, List, [], ◌∷◌, length, replicate, refl, sym, None}
+use Rattle.std.proofs.Common.{◌≡◌, ◌∙◌, ℕ, suc, Bool, true, false, List, [], ◌∷◌, length, refl, sym, None}
 use Rattle.std.specs.Prelude.{is_some}
 use Rattle.std.proofs.lemmas.Bool.{not-false}
 use Rattle.texts.specs.Judged.{first_reason}
@@ -13,14 +13,14 @@ use Rattle.nl_lines.specs.FirstRows.{IsFirstRow}
 use Rattle.nl_lines.specs.HeadRows.{IsHeadRow}
 use Rattle.nl_lines.specs.Heads.{is_in_range, name_in}
 use Rattle.nl_lines.specs.Pieces.{keeps_pairs}
-use Rattle.nl_lines.specs.SeenSegments.{Segments, with_segment}
+use Rattle.nl_lines.specs.SeenSegments.{Segments}
 use Rattle.nl_lines.specs.Tests.{is_suffix}
-use Rattle.nl_segments.specs.Held.{Body}
-use Rattle.nl_segments.specs.InsideHeadSteps.{begun_count, begun_current, begun_draft, begun_name, held_head_tests, with_begun_head}
-use Rattle.nl_segments.specs.InsidePlaceSteps.{with_begun}
+use Rattle.nl_segments.specs.Held.{Body, HoldsSome}
+use Rattle.nl_segments.specs.InsideHeadSteps.{begun_count, begun_draft, begun_name, held_head_tests, with_begun_head}
+use Rattle.nl_segments.specs.InsidePieces.{MayBegin, with_given_head}
 use Rattle.nl_segments.specs.InsideTermRuns.{TakesLines}
-use Rattle.nl_segments.proofs.HeadLaw.{form_fine, head_step}
-use Rattle.nl_segments.proofs.StandingLemmas.{row_first}
+use Rattle.nl_segments.proofs.HeadLaw.{closed_by, form_fine, head_step, marks_there, place_there}
+use Rattle.nl_segments.proofs.StandingLemmas.{row_first, still_some}
 
 -- ---- it is of no suffix
 
@@ -43,19 +43,8 @@ some_words (word ∷ words) h r = (length words, refl)
 
 -- ---- it is taken
 
-pub in_range : (b : Body) (h : Head) → first_reason (held_head_tests b.draft.counts b.seen b.draft.suffixes b.suffixes [] h) ≡ None → is_in_range b.draft.counts h ≡ true
+in_range : (b : Body) (h : Head) → first_reason (held_head_tests b.draft.counts b.seen b.draft.suffixes b.suffixes [] h) ≡ None → is_in_range b.draft.counts h ≡ true
 in_range b h e = not-false (is_in_range b.draft.counts h) (none_each (held_head_tests b.draft.counts b.seen b.draft.suffixes b.suffixes [] h) e).0
-
--- with such a head in this line
-abbrev pub with_given_head : Body → Head → ℕ → Body
-with_given_head b h line =
-    record b {
-      current = begun_current b.draft.counts h line;
-      name = None;
-      marks = replicate (length b.marks) false;
-      seen = with_segment b.seen h;
-      places = with_begun b.places line h;
-    }
 
 same_begun : (b : Body) (h : Head) (name : List ℕ) (line : ℕ) → keeps_pairs h ≡ false → with_given_head b h line ≡ with_begun_head b h name line
 same_begun b h name line e =
@@ -72,3 +61,16 @@ head_first b is_open piece number len h r is closed fine =
     (form_fine b.draft.counts is_open b.seen b.draft.suffixes b.suffixes words h closed (row.form b.draft.counts) (row.says b.draft.counts)
     ∙ any_name b.draft.counts b.seen b.draft.suffixes b.suffixes (name_in words) h (no_suffix h row.given) ∙ fine)
     (same_begun b h (name_in words) number row.given))
+
+pub may_begin : (b : Body) (is_open : Bool) (piece : List ℕ) (number len : ℕ) (h : Head) → IsFirstRow piece len (λ words. IsHeadRow words h) → is_open ≡ is_some b.current → is_open ≡ false
+    → first_reason (held_head_tests b.draft.counts b.seen b.draft.suffixes b.suffixes [] h) ≡ None → HoldsSome b → MayBegin b h number
+may_begin b is_open piece number len h r is closed fine held =
+    let range = in_range b h fine in
+    record {
+      closed = closed_by b.current (sym is ∙ closed);
+      given = r.row.given;
+      range = range;
+      owner = place_there b h held range;
+      seen = marks_there b h held range;
+      held = still_some b (with_given_head b h number) piece number (record { len = len; lines = 1 }) (head_first b is_open piece number len h r is closed fine) held;
+    }

@@ -423,7 +423,7 @@ after_head s row words line head is first e =
     let same : with_row (counts_of s) s.pieces row ≡ s.pieces ++ new_piece head (name_in (row_words row)) row.line ∷ [] = rw (one, of) refl in
     ap (λ ps. record s { pieces = ps }) (same ∙ ap₂ (λ ws n. s.pieces ++ new_piece head (name_in ws) n ∷ []) is.same_words is.same_line)
 
-closed_by : (o : Option Current) → is_some o ≡ false → o ≡ None
+pub closed_by : (o : Option Current) → is_some o ≡ false → o ≡ None
 closed_by None e = refl
 closed_by (Some cur) e = absurd cc
 

@@ -15,5 +15,6 @@ pub mod PairPiece
 pub mod HeadBegun
 pub mod HeadLaw
 pub mod HeadFronts
+pub mod PieceFronts
 pub mod CleanRows
 pub mod CleanTexts

@@ -16,3 +16,4 @@ pub mod InsideKnownNodes
 pub mod InsideLineFronts
 pub mod InsideNodeRuns
 pub mod InsideTermRuns
+pub mod InsidePieces

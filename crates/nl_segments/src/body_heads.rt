@@ -1,5 +1,5 @@
 // A row that is a head.
-ghost use Rattle.std.specs.Prelude.{◌≡◌, ◌<◌, true, false, Some, None, IfOk, IfErr, OnOk, OnErr};
+ghost use Rattle.std.specs.Prelude.{◌≡◌, ◌<◌, ◌≤◌, ◌+◌, ◌^◌, length, true, false, Some, None, IfOk, IfErr, OnOk, OnErr};
 ghost use Rattle.texts.specs.Judged.{Decides};
 ghost use Rattle.texts.specs.Names.{IsName};
 ghost use Rattle.texts.specs.Words.{texts};
@@ -147,7 +147,12 @@ fn give_empty_suffix(
 }
 
 // The piece that a head begins, where it awaits a line.
-fn begun_current(alloc: Global, counts: &Counts, head: Head, line: u32) -> Option<Current>
+pub(crate) fn begun_current(
+    alloc: Global,
+    counts: &Counts,
+    head: Head,
+    line: u32,
+) -> Option<Current>
     ensures { result ≡ begun_current counts.now head line }
 {
     let left = line_count(counts, head);
@@ -170,7 +175,7 @@ fn begun_count(head: Head, suffixes: u32) -> u32
 
 // Makes room for the terms that a head announces, of which no more are expected than variables.
 #[tactic(auto, unfolding(nl_lines::specs::Heads::is_in_range))]
-fn make_room(builder: &mut NlBuilder, head: Head) -> Result<(), AllocError>
+pub(crate) fn make_room(builder: &mut NlBuilder, head: Head) -> Result<(), AllocError>
     requires { is_in_range builder.old.counts head ≡ true }
     ensures { builder.new ≡ builder.old }
 {
@@ -206,9 +211,10 @@ impl BodyReader {
     }
 
     /// Takes the line at the front of a piece, which has this number, where that is the head of an
-    /// expression of a constraint, or of linear terms, and no piece is open.
+    /// expression of a constraint, or of linear terms, and no piece is open; and lines behind it.
     pub(crate) fn take_head_line(&mut self, piece: &[u8], number: u32) -> Front
-        requires { HoldsSome (body_of self.old) }
+        requires held { HoldsSome (body_of self.old) }
+        requires few { number + length piece.now ≤ 2 ^ 31 + 1 }
         ensures { TakesLines (body_of self.old) piece.now number result (body_of self.new) }
     {
         let Some(first) = first_head(piece) else {
@@ -223,20 +229,13 @@ impl BodyReader {
         let Ok(()) = judge(&self.builder, &self.seen, self.suffixes, head, name) else {
             return Front { len: 0, lines: 0 };
         };
-        // room first, so that nothing is half begun
-        let Ok(()) = make_room(&mut self.builder, head) else {
+        let rest = piece.split_at(first.len).1;
+        let Some(behind) = self.begin_piece(head, rest, number) else {
             return Front { len: 0, lines: 0 };
         };
-        let Ok(()) = self.places.begin(self.alloc, head, number) else {
-            unreachable!()
-        };
-        self.current = begun_current(self.alloc, self.builder.header().counts(), head, number);
-        self.marks.clear();
-        self.seen.add(head);
-        self.name = None;
         Front {
-            len: first.len,
-            lines: 1,
+            len: first.len + behind.len,
+            lines: 1 + behind.lines,
         }
     }
 }

@@ -13,13 +13,14 @@ ghost use Rattle.nl_segments.specs.InsideTreeSteps.{IsNextRow, counted_node_test
 
 use crate::body::BodyReader;
 use crate::body_nodes::{MOST_NODES, row_count, settle, take_next_row};
+use exact_numbers::Dec;
 use nl_lines::{Awaited, FirstLeaf, Leaf, NlReason, NodeRow, first_leaf, read_leaf_row};
 use nl_model::{ExprBuilder, NlBuilder};
 use texts::{Front, Stop};
 
 // A row of an expression, after so many nodes.
 #[tactic(auto, using(texts::proofs::FirstReasons::reason_after, nl_lines::proofs::NodeLemmas::too_large))]
-fn read_next(leaf: Leaf, builder: &NlBuilder, nodes: u32) -> Result<NodeRow, NlReason>
+pub(crate) fn read_next(leaf: Leaf, builder: &NlBuilder, nodes: u32) -> Result<NodeRow, NlReason>
     ensures { (words : List (List ℕ)) → IsLeafRow words leaf
         → Decides (counted_node_tests builder.now.counts builder.now nodes words)
         (IsNextRow builder.now.counts nodes words) result }
@@ -48,6 +49,21 @@ fn first_line(text: &[u8]) -> Option<FirstLeaf>
         });
     }
     first_leaf(text)
+}
+
+/// What the line that a text begins with says in an expression, where that is the number 0.
+#[inline]
+pub(crate) fn first_zero(text: &[u8]) -> Option<FirstLeaf>
+    ensures { IfSome result
+        (λ p. IsFirstRow text.now p.len (λ words. IsLeafRow words p.leaf)) }
+{
+    if text.len() >= 3 && text[0] == b'n' && text[1] == b'0' && text[2] == b'\n' {
+        return Some(FirstLeaf {
+            leaf: Leaf::Number(Dec::zero()),
+            len: 3,
+        });
+    }
+    None
 }
 
 /// Gives an expression the nodes of lines at the front of a piece, after so many nodes of the file,

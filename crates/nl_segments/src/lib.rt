@@ -12,6 +12,7 @@ mod body_lines;
 mod body_nodes;
 mod body_operands;
 mod body_pairs;
+mod body_pieces;
 mod body_terms;
 mod closing;
 mod current;

@@ -1,3 +1,6 @@
+use Rattle.std.proofs.Common.{◌∙◌, ap, subst, sym}
+use Rattle.linear_program.specs.Coefs.{coef_in}
+use Rattle.exact_checks.specs.Terms.{AreTerms}
 use Rattle.linear_program.proofs.CoefLemmas.{not_zero}
 use Rattle.linear_program.specs.Numbers.{number_value}
 use Rattle.certificate_judge.proofs.Planes.{built_sum, built_terms, nothing_built, pair_added, pair_skipped}
@@ -18,7 +21,10 @@ loop-pair-preserved c = pair_added c.args.pairs.now c.loop-pair.terms.items c.lo
     (not_zero c.is_zero.result (number_value c.pair-item.result.1) c.is_zero.ensures.1 c.if-is_zero.false) c.in_ok-push.ensures.items
 
 pub returns-clause-sum : goal.returns-clause-sum
-returns-clause-sum c = built_sum c.args.pairs.now c.loop-pair.terms.items c.loop-pair.pair-index c.loop-pair.invariant c.loop-pair-test.false
+returns-clause-sum c = ap coef_in c.of_items.ensures ∙ built_sum c.args.pairs.now c.loop-pair.terms.items c.loop-pair.pair-index c.loop-pair.invariant c.loop-pair-test.false
 
 pub returns-clause-terms : goal.returns-clause-terms
-returns-clause-terms c = built_terms c.args.pairs.now c.loop-pair.terms.items c.loop-pair.pair-index c.loop-pair.invariant
+returns-clause-terms c n all = subst (AreTerms 0 n) (sym c.of_items.ensures) (built_terms c.args.pairs.now c.loop-pair.terms.items c.loop-pair.pair-index c.loop-pair.invariant n all)
+
+pub of_items-requires : goal.of_items-requires
+of_items-requires c = c.loop-pair.invariant.ascending

@@ -6,4 +6,4 @@ abbrev pub invariant-loop-term : goal.invariant-loop-term
 invariant-loop-term l =
     (goal.iterator-loop-term).can_next l.term-iterator
     × (goal.iterator-loop-term).is_finite l.term-iterator
-    × (l.terms.items ++ terms_left l.term-iterator ≡ form_terms l.form)
+    × (l.items.items ++ terms_left l.term-iterator ≡ form_terms l.form)

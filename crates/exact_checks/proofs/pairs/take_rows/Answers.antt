@@ -1,8 +1,6 @@
-use Rattle.std.proofs.Common.{◌≡◌, ◌+◌, ◌<◌, ◌++◌, ◌∙◌, ap, length, subst, sym, Some}
-use Rattle.std.specs.Prelude.{option_and_then, slice_get}
-use Rattle.linear_program.specs.Coefs.{coef_in}
-use Rattle.exact_checks.specs.Leaves.{lessened}
-use Rattle.exact_checks.specs.Sums.{cost_in, sum_value}
+use Rattle.std.proofs.Common.{◌≡◌, ◌+◌, ◌<◌, ◌++◌, ◌∙◌, length, subst, sym, Some}
+use Rattle.std.specs.Prelude.{slice_get}
+use Rattle.exact_checks.specs.Sums.{sum_value}
 use Rattle.exact_checks.proofs.PartRows.{taken_begins, taken_ends, taken_goes_on, taken_within}
 use Rattle.exact_checks.proofs.pairs.take_rows.Goals as goal
 
@@ -19,8 +17,7 @@ loop-pair-preserved c =
     let e = c.in_ok-take_row.ensures in
     taken_goes_on c.args.program.now c.args.planes.now c.args.pairs.now c.args.costs.now c.loop-pair.costs c.loop-pair.pair-index c.loop-pair.invariant c.pair-item.result c.loop-pair-test.true c.pair-item.is c.row_at-row.result.now
     (subst (λ rs. slice_get (rs ++ c.args.planes.now) c.pair-item.result.0 ≡ Some c.row_at-row.result.now) c.deref-rows.ensures.value c.row_at-row.ensures)
-    (sum_value c.sum_of-weight.result) (c.sum_of-weight.ensures ∙ c.written_fraction.ensures) c.take_row.new.self e.kept e.count
-    (λ j. e.costs j ∙ ap (λ ts. option_and_then (lessened (sum_value c.sum_of-weight.result) (coef_in ts j)) (cost_in c.loop-pair.costs j)) c.deref.ensures.value)
+    (sum_value c.sum_of-weight.result) (c.sum_of-weight.ensures ∙ c.written_fraction.ensures) c.take_row.new.self e.kept e.count e.costs
 
 pub returns-clause-costs : goal.returns-clause-costs
 returns-clause-costs c = taken_ends c.args.program.now c.args.planes.now c.args.pairs.now c.args.costs.now c.loop-pair.costs c.loop-pair.pair-index c.loop-pair.invariant c.loop-pair-test.false

@@ -8,10 +8,10 @@ invariant_of-result c =
     let p = c.args.program in
     let count : c.len-count.result ≡ length p.lower.items = c.len-count.ensures ∙ p.lower.ok.0 in
     let by_column = subst (λ rs. AreColumnsOf c.len-count.result rs c.in_ok-columns.columns.items) c.deref.ensures.value c.in_ok-columns.ensures in
-    let costs = subst (λ ts. AreCostsOf c.len-count.result ts c.in_ok-costs.costs.items) c.deref-2.ensures.value c.in_ok-costs.ensures in
+    let costs = c.in_ok-costs.ensures in
     record {
       width = by_column.count ∙ count;
       costed = costs.count ∙ count;
       transposed = columns_are (length p.lower.items) p.rows.items c.in_ok-columns.columns.items c.in_ok-costs.costs.items p.objective p.sound (subst (λ n. AreColumnsOf n p.rows.items c.in_ok-columns.columns.items) count by_column)
-          (subst (λ n. AreCostsOf n p.objective.terms.items c.in_ok-costs.costs.items) count costs);
+          (subst (λ n. AreCostsOf n p.objective.terms c.in_ok-costs.costs.items) count costs);
     }

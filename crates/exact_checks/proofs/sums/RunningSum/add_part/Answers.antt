@@ -1,8 +1,12 @@
 use Rattle.std.proofs.Common.{◌∙◌, ap}
+use Rattle.exact_numbers.proofs.Bridge.{frac_fits_lem}
 use Rattle.exact_numbers.specs.Values.{frac_value}
 use Rattle.exact_checks.specs.Sums.{less_part, sum_value}
 use Rattle.exact_checks.proofs.CostLemmas.{part_added, part_missing}
 use Rattle.exact_checks.proofs.sums.RunningSum.add_part.Goals as goal
+
+pub lessen-requires : goal.lessen-requires
+lessen-requires c = frac_fits_lem c.in-Some.factor
 
 pub returns-in-Some : goal.returns-in-Some
 returns-in-Some c max i needed =
