@@ -21,8 +21,9 @@ import sys
 from collections.abc import Callable, Iterator, Sequence
 
 import texts
-from program import Done, Program
-from texts import Case
+from texts import Case, Done, Program
+
+from shared import asked
 
 HERE = os.path.dirname(os.path.abspath(__file__))
 Judged = tuple[bool, str, Done]         # whether a run is as it should be, what it is, how it ended
@@ -94,21 +95,14 @@ def is_held(part: str, runs: Iterator[Judged]) -> bool:
     return failed == 0
 
 
-def main() -> None:
-    if {"-h", "--help"} & set(sys.argv[1:]):
-        print(__doc__)
-        sys.exit()
-    if len(sys.argv) < 2:
-        sys.exit(__doc__)
-    path, *wanted = sys.argv[1:]
-    chosen = wanted[wanted.index("largest") + 1:] if "largest" in wanted else []
+def main(path: str, *wanted: str) -> None:
+    at = wanted.index("largest") + 1 if "largest" in wanted else len(wanted)
     parts: dict[str, Callable[[Program], Iterator[Judged]]] = {
         "truncation": truncation, "memory": memory,
-        "limits": lambda program: limits(program, "limits"), "largest": lambda program: limits(program, "largest", chosen),
+        "limits": lambda program: limits(program, "limits"), "largest": lambda program: limits(program, "largest", wanted[at:]),
     }
-    names = [it for it in wanted if it not in chosen] or ["truncation", "memory", "limits"]
-    results = [is_held(name, parts[name](Program(path))) for name in names]
+    results = [is_held(name, parts[name](Program(path))) for name in wanted[:at] or ("truncation", "memory", "limits")]
     sys.exit(0 if all(results) else 1)
 
 
-main()
+main(*asked(__doc__, 1))

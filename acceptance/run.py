@@ -9,49 +9,72 @@ Each text was worked out by hand from the rules of the format; `texts.py` says h
 from __future__ import annotations
 
 import sys
-from collections.abc import Iterator, Sequence
+from fractions import Fraction
+from pathlib import Path
 
 import texts
-from meaning import is_same_in_groups
-from program import Program
-from texts import Case
+from texts import Case, Program
 
+from shared import asked
+
+sys.path.append(str(Path(__file__).resolve().parents[1] / "drivers" / "tests"))
+from plain import Ends, Plain  # noqa: E402
+
+Column = tuple[bool, Ends, dict[int, Fraction]]     # whether it is whole, its sides, coefficients by row (-1: the objective)
 TABLES = ("check", "export", "fixed", "import", "make", "mps", "names", "nl", "prove", "refusals", "returned", "sol", "verify", "verify_mps")
 
 
-def output(program: Program, content: bytes, command: str, *words: str) -> bytes | None:
-    """What a command writes on this file, or None where it refuses."""
-    done = program.run((command, "AGAIN", *words), {"AGAIN": content})
-    return done.out if done.status == 0 else None
+def group(column: Column) -> int:
+    """0 continuous, 1 binary, 2 integer."""
+    is_whole, (lower, upper), _ = column
+    return 0 if not is_whole else 1 if lower is not None and upper is not None and lower >= 0 and upper <= 1 else 2
 
 
-def is_written_again(program: Program, content: bytes, exported: bytes, words: Sequence[str]) -> bool:
-    """What was exported is written again unchanged by `mps`, and the written .nl text by `nl`, which is exported as the same."""
-    file = output(program, content, "nl")
-    return (
-        output(program, exported, "mps") == exported
-        and file is not None
-        and output(program, file, "nl") == file
-        and output(program, file, "export", *words) == exported
-    )
+def said(text: str) -> tuple[bool, Fraction, list[Ends], list[Column]]:
+    """What an MPS text says without names: sense, right side of the objective, sides of the rows that are no N rows, columns in order."""
+    plain = Plain(text.encode())
+    places = {name: place for place, name in enumerate(plain.constraints())} | {plain.objective(): -1}
+    terms: dict[str, dict[int, Fraction]] = {name: {} for name in plain.ends}
+    for (row, column), value in plain.entries.items():
+        if value and row in places:
+            terms[column][places[row]] = value
+    bounds = plain.bounds()
+    columns = [(plain.whole[name], bounds[name], terms[name]) for name in plain.ends]
+    return plain.maximise, plain.rhs.get(plain.objective(), Fraction(0)), list(plain.sides().values()), columns
+
+
+def is_same_in_groups(text: str, other: str) -> bool:
+    """Whether the other text says the program of the text, its columns in groups: continuous, binary, integer."""
+    *program, columns = said(text)
+    *also, grouped = said(other)
+    return program == also and sorted(columns, key=group) == grouped
+
+
+def output(program: Program, content: bytes | None, command: str, *words: str) -> bytes | None:
+    """What a command writes on this file, or None where it refuses, or there is none."""
+    done = None if content is None else program.run((command, "AGAIN", *words), {"AGAIN": content})
+    return done.out if done and done.status == 0 else None
 
 
 def is_imported(program: Program, text: bytes, file: bytes | None) -> bool:
     """The file that was imported from an MPS text is exported as the same program, its columns in groups."""
-    exported, written = None if file is None else output(program, file, "export"), output(program, text, "mps")
+    exported, written = output(program, file, "export"), output(program, text, "mps")
     return exported is not None and written is not None and is_same_in_groups(written.decode(), exported.decode())
 
 
 def is_kept(program: Program, case: Case, out: bytes) -> bool:
-    """Whether what was written says the same after another way through the program."""
+    """Whether what was written says the same after another way through the program: what was exported is written again unchanged
+    by `mps`, and the .nl text that `nl` writes by `nl`, which is exported as the same."""
     command, *words = case.spelled()
-    if case.status:
+    if case.status or command not in ("export", "import"):
         return True
-    if command == "export" and len(words) == 4:
-        return output(program, out, "mps") == out
-    if command == "export":
-        return is_written_again(program, case.files["A"].content(), out, words[1:]) and is_imported(program, out, output(program, out, "import"))
-    return command != "import" or is_imported(program, case.files["A"].content(), out)
+    content = case.files["A"].content()
+    if command == "import":
+        return is_imported(program, content, out)
+    file = output(program, content, "nl")
+    return output(program, out, "mps") == out and (len(words) == 4 or (
+        file is not None and output(program, file, "nl") == file and output(program, file, "export", *words[1:]) == out
+        and is_imported(program, out, output(program, out, "import"))))
 
 
 def check(program: Program, case: Case) -> bool:
@@ -68,23 +91,12 @@ def check(program: Program, case: Case) -> bool:
     return False
 
 
-def examples(commands: Sequence[str]) -> Iterator[Case]:
-    """The examples of all tables, of these commands alone where there are some."""
-    for case in (case for name in TABLES for case in texts.cases(name)):
-        if not commands or case.words[0] in commands:
-            yield case
-
-
-def main() -> None:
-    if {"-h", "--help"} & set(sys.argv[1:]):
-        print(__doc__)
-        sys.exit()
-    if len(sys.argv) < 2:
-        sys.exit(__doc__)
-    program = Program(sys.argv[1])
-    results = [check(program, case) for case in examples(sys.argv[2:])]
+def main(path: str, *commands: str) -> None:
+    program = Program(path)
+    cases = [case for name in TABLES for case in texts.cases(name) if not commands or case.words[0] in commands]
+    results = [check(program, case) for case in cases]
     print(f"{len(results)} examples, {results.count(False)} failed")
     sys.exit(1 if False in results else 0)
 
 
-main()
+main(*asked(__doc__, 1))

@@ -1,4 +1,4 @@
-"""Cases as rows of tables, and texts by rule.
+"""Cases as rows of tables, texts by rule, and the built program, run on them in a folder of its own.
 
 A table (`tables/NAME.txt`) has, a line each, remarks (`# ..`), texts by name, makers of rows, and rows:
 
@@ -20,36 +20,24 @@ from __future__ import annotations
 
 import os
 import re
-from collections.abc import Iterator, Sequence
+import resource
+import subprocess
+import sys
+import tempfile
+import time
+from collections.abc import Iterator, Mapping, Sequence
 from dataclasses import dataclass
+from functools import partial
 from string import Template
-from types import CodeType
 from typing import Any, Union
 
 HERE = os.path.dirname(os.path.abspath(__file__))
+sys.path.append(os.path.join(HERE, "..", "dev"))     # of `shared`
 HOLDS = re.compile(r"(yes \S+|proved|infeasible|unbounded|(optimal|feasible|bound|within \S+) \S+)( of objective \d+)?")
 MAKER = re.compile(r"(\w+)\((.*?)\) = (.*)")
 NAMED = re.compile(r"([A-Z_]+) = (.*)")
 STATUSES = {"refused": 2, "bad words": 3, "input fault": 4}
 Names = dict[str, Any]
-Part = Union[str, "Value", "Block"]
-
-
-@dataclass(frozen=True)
-class Value:
-    """Lines that are values of names: one, or all of a text."""
-
-    code: CodeType
-    is_text: bool
-
-
-@dataclass(frozen=True)
-class Block:
-    """Lines that are there so often, with the index by its name."""
-
-    count: int
-    index: str
-    parts: Sequence[Part]
 
 
 def head(counts: str) -> list[str]:
@@ -82,33 +70,20 @@ def halved(low: int, high: int) -> Iterator[str]:
     yield from halved(middle + 1, high)
 
 
-def parsed(words: Iterator[str], names: Names) -> Iterator[Part]:
-    """The parts up to the end of a block, or all."""
+def expanded(words: Sequence[str], names: Names) -> Iterator[str]:
+    """The lines that words stand for, by a function that is made of them."""
+    made, depth = ["def lines():", " yield from ()"], 1
     for word in words:
-        if word == "]":
-            return
         if word.startswith("["):
             count, index = word[1:].rsplit(" ", 1)
-            yield Block(eval(count, names), index, list(parsed(words, names)))
-        elif word.startswith("<"):
-            yield Value(compile(word[1:], word, "eval"), True)
-        elif "{" in word:
-            yield Value(compile(f"f{word!r}", word, "eval"), False)
-        else:
-            yield word
-
-
-def expanded(parts: Sequence[Part], names: Names) -> Iterator[str]:
-    for part in parts:
-        if isinstance(part, str):
-            yield part
-        elif isinstance(part, Block):
-            for names[part.index] in range(part.count):
-                yield from expanded(part.parts, names)
-        elif part.is_text:
-            yield from eval(part.code, names)
-        else:
-            yield eval(part.code, names)
+            made.append(" " * depth + f"for {index} in range({count}):")
+        elif word != "]":
+            made.append(" " * depth + (f"yield from {word[1:]}" if word.startswith("<") else f"yield {'f' * ('{' in word)}{word!r}"))
+        depth += word.startswith("[") - (word == "]")
+    scope = dict(names)
+    exec("\n".join(made), scope)
+    lines: Iterator[str] = scope["lines"]()
+    return lines
 
 
 @dataclass(frozen=True)
@@ -121,14 +96,14 @@ class Text:
     def lines(self) -> Iterator[str]:
         """With their ends."""
         words = self.words[1:].split("/") if self.words.startswith("/") else self.words.split(" / ")
-        end = words.pop() if words[-1] == "\\" else "\n"
+        end = "" if words[-1] == "\\" else "\n"
         before = None
-        for line in expanded(list(parsed(iter(words), self.names)), dict(self.names)):
+        for line in expanded(words if end else words[:-1], self.names):
             if before is not None:
                 yield before + "\n"
             before = line
         if before is not None:
-            yield before + end.replace("\\", "")
+            yield before + end
 
     def content(self) -> bytes:
         return "".join(self.lines()).encode()
@@ -211,3 +186,51 @@ def rows(name: str) -> list[str]:
 def cases(name: str) -> list[Case]:
     """Those of a table, in their order."""
     return Table(name).cases
+
+
+@dataclass(frozen=True)
+class Done:
+    """How a run ended, the first bytes that it wrote and told, and the seconds and bytes of memory that it took."""
+
+    status: int
+    out: bytes
+    told: bytes
+    seconds: float = 0.0
+    peak: int = 0
+
+    def is_of(self, case: Case) -> bool:
+        """Whether this is what the case says."""
+        out = case.out.content()
+        is_written = self.out != b"" and self.out.startswith(out.rstrip(b"\n")) if case.is_begun else self.out == out
+        return is_written and (self.status, self.told) == (case.status, case.told.encode())
+
+
+class Program:
+    def __init__(self, path: str) -> None:
+        self.path = os.path.abspath(path)
+        self.folder = tempfile.TemporaryDirectory()
+
+    def place(self, name: str) -> str:
+        return os.path.join(self.folder.name, name)
+
+    def read(self, name: str, most: int) -> bytes:
+        with open(self.place(name), "rb") as stream:
+            return stream.read(most)
+
+    def run(self, words: Sequence[str], files: Mapping[str, Union[Text, bytes]], seconds: int = 600, most: int = -1, **more: Any) -> Done:
+        """The run with these words where these files lie; it is killed after so many seconds of the processor."""
+        for name, text in files.items():
+            with open(self.place(name), "wb", buffering=1 << 20) as stream:
+                stream.writelines((text,) if isinstance(text, bytes) else (line.encode() for line in text.lines()))
+        more = {"preexec_fn": partial(resource.setrlimit, resource.RLIMIT_CPU, (seconds, seconds)), **more}
+        begun = time.monotonic()
+        with open(self.place("out"), "wb") as out, open(self.place("told"), "wb") as told:
+            process = subprocess.Popen([self.path, *words], cwd=self.folder.name, stdin=subprocess.DEVNULL, stdout=out, stderr=told, **more)
+            _, ended, used = os.wait4(process.pid, 0)
+        process.returncode = os.waitstatus_to_exitcode(ended)
+        for name in files:
+            os.remove(self.place(name))
+        return Done(process.returncode, self.read("out", most), self.read("told", most), time.monotonic() - begun, used.ru_maxrss * 1024)
+
+    def tried(self, case: Case, most: int = -1) -> Done:
+        return self.run(case.spelled(), case.files, case.seconds, most)

@@ -7,8 +7,10 @@ import hashlib
 import json
 import os
 import re
+import subprocess
 import sys
 import time
+from pathlib import Path
 from typing import Iterator, Mapping, NamedTuple, Sequence
 
 try:
@@ -18,19 +20,20 @@ except ImportError:
 
 from sources import BUILT, TOP, TRIED, fault_of, said_by
 
-sys.path += [os.path.join(TOP, "dev"), os.path.join(TOP, "drivers")]
-import calls                                            # noqa: E402
+sys.path.insert(0, os.path.join(TOP, "drivers"))
 import manual                                           # noqa: E402
-import statement                                        # noqa: E402
+from bridge_drivers import VERSION                      # noqa: E402
 from bridge_drivers.completion import Completion, place     # noqa: E402
 
 PACKAGE = "bridge_drivers"
 DOCUMENTS = ("README.md", "drivers/*.md", "drivers/report.schema.json", "docs/user/*.md",
              "docs/verify/*.md", "docs/dev/*.md", "docs/pictures/*", "crates/*/README.md")
-MADE = {"docs/verify/wrong-bodies.txt": ("wrong-bodies", "--list"),
+MADE = {"docs/verify/definitions.txt": ("statement.py", "--all"), "docs/verify/calls.txt": ("calls.py",),
+        "docs/verify/wrong-bodies.txt": ("wrong-bodies", "--list"),
         "docs/dev/crates.txt": ("map.py", "--table")}       # texts that scripts of dev/ print
 LINK = re.compile(r"\]\(([^)#]+)(?:#[^)]*)?\)")
 DRIVER = "bridge_drivers.driver:main"       # commands of this kind share a man page
+OWN_PAGES = set(os.listdir(os.path.join(TOP, "packaging", "man")))
 X86_64 = b"\x3e\x00"                        # the machine in an ELF file's head
 
 
@@ -66,13 +69,10 @@ def dead_links(documents: Sequence[File]) -> list[str]:
     """Links between documents that lead to none of them, with the documents that have them."""
     paths = {file.path for file in documents}
     paths |= {os.path.dirname(path) for path in paths}
-    dead = []
-    for file in documents:
-        for link in LINK.findall(file.data.decode()) if file.path.endswith(".md") else ():
-            to = os.path.normpath(os.path.join(os.path.dirname(file.path), link))
-            if "://" not in link and to not in paths:
-                dead.append(f"{link} ({file.path})")
-    return dead
+    links = ((file.path, link) for file in documents if file.path.endswith(".md")
+             for link in LINK.findall(file.data.decode()))
+    return [f"{link} ({path})" for path, link in links
+            if "://" not in link and os.path.normpath(os.path.join(os.path.dirname(path), link)) not in paths]
 
 
 def program_of(other: str | None) -> tuple[str, bool, str]:
@@ -104,10 +104,7 @@ class Project:
         self.table = tomllib.loads(read("drivers", "pyproject.toml").decode())["project"]
         self.name: str = self.table["name"]
         self.scripts: dict[str, str] = dict(sorted(self.table["scripts"].items()))
-        found = re.search(r'^VERSION = "(.*)"', read("drivers", PACKAGE, "__init__.py").decode(), re.M)
-        if found is None:
-            raise Unfit("bridge_drivers has no VERSION")
-        self.version = found.group(1)
+        self.version = VERSION
 
     def description(self) -> str:
         """One line, which says so where the program is not proved."""
@@ -125,20 +122,17 @@ class Project:
 
     def built(self) -> bytes:
         """What `nl-bridge version` tells of the program."""
+        commit = said_by("git", "describe", "--always", "--dirty", "--abbrev=40", "--exclude=*")
         facts = {"sha256": hashlib.sha256(self.program).hexdigest(), "toolchain": self.toolchain,
-                 "commit": said_by("git", "describe", "--always", "--dirty", "--abbrev=40",
-                                   "--exclude=*"), "proved": "yes" if self.proved else "no"}
+                 "commit": commit, "proved": "yes" if self.proved else "no"}
         return (json.dumps(facts, indent=1, sort_keys=True) + "\n").encode()
 
     def modules(self) -> Iterator[File]:
         """The Python package, by path from the folder that holds it."""
-        top = os.path.join(TOP, "drivers", PACKAGE)
-        for folder, inner, names in os.walk(top):
-            inner[:] = sorted(name for name in inner if name != "__pycache__")
-            for name in sorted(names):
-                if not name.endswith(".pyc"):
-                    path = os.path.join(folder, name)
-                    yield File(os.path.relpath(path, os.path.dirname(top)), read(path))
+        top = Path(TOP, "drivers")
+        for path in sorted((top / PACKAGE).rglob("*")):
+            if path.is_file() and path.suffix != ".pyc":
+                yield File(str(path.relative_to(top)), path.read_bytes())
         yield File(f"{PACKAGE}/built.json", self.built())
 
     def configurations(self) -> Iterator[File]:
@@ -155,31 +149,28 @@ class Project:
         drivers = [name for name, entry in self.scripts.items() if entry == DRIVER]
         words = {"VERSION": self.version, "DRIVERS": ", ".join(drivers).replace("-", "\\-"),
                  "DATE": time.strftime("%Y-%m-%d", time.gmtime(self.epoch)), **manual.parts()}
-        for name in sorted(os.listdir(os.path.join(TOP, "packaging", "man"))):
-            if name.removesuffix(".1") in self.scripts:
-                yield File(name, filled(read("packaging", "man", name), words))
+        for name in OWN_PAGES & {f"{script}.1" for script in self.scripts}:
+            yield File(name, filled(read("packaging", "man", name), words))
 
     def linked_pages(self) -> Iterator[str]:
         """The commands whose page is that of the drivers."""
-        own = os.listdir(os.path.join(TOP, "packaging", "man"))
         for name, entry in self.scripts.items():
-            if name + ".1" not in own:
+            if f"{name}.1" not in OWN_PAGES:
                 if entry != DRIVER:
                     raise Unfit(f"packaging/man has no page of {name}")
-                yield name + ".1"
+                yield f"{name}.1"
 
-    def documents(self) -> Iterator[File]:
+    def documents(self) -> list[File]:
         """What users read. Unfit where a link leads to none of it."""
         paths = sorted(path for pattern in DOCUMENTS for path in glob.glob(pattern, root_dir=TOP))
         found = [File(path, read(path)) for path in paths]
-        found.append(File("docs/verify/definitions.txt", statement.all_texts().encode()))
-        found.append(File("docs/verify/calls.txt", calls.listed().encode()))
-        found += [File(made, said_by(os.path.join(TOP, "dev", script), word).encode())
-                  for made, (script, word) in MADE.items()]
+        for path, (script, *words) in MADE.items():
+            call = [sys.executable, os.path.join(TOP, "dev", script), *words]
+            found.append(File(path, subprocess.run(call, stdout=subprocess.PIPE, check=True).stdout))
         dead = dead_links(found)
         if dead:
             raise Unfit("links that lead nowhere: " + ", ".join(dead))
-        yield from found
+        return found
 
     def completions(self, zsh: str) -> Iterator[File]:
         """Where shells look for them below PREFIX/share; `zsh` is zsh's folder. Those of bash and
@@ -191,15 +182,12 @@ class Project:
             for name in self.scripts:
                 yield File(place(shell, "", name), text)
 
-    def shared(self, share: str, zsh: str) -> Iterator[File]:
-        """What both packages have below PREFIX/share, beside man pages. The examples are not among
-        the documents, which small systems leave out."""
-        for file in self.configurations():
-            yield File(f"{share}/minizinc/solvers/{file.path}", file.data)
-        for file in self.completions(zsh):
-            yield File(f"{os.path.dirname(share)}/{file.path}", file.data)
-        for file in self.documents():
-            yield File(f"{share}/doc/{self.name}/{file.path}", file.data)
-        for name in os.listdir(os.path.join(TOP, "packaging", "examples")):
-            data = read("packaging", "examples", name)
-            yield File(f"{share}/{self.name}/examples/{name}", data)
+    def installed(self, modules: str, program: str, share: str, zsh: str) -> list[File]:
+        """What both packages have, beside man pages. The examples are not among the documents,
+        which small systems leave out."""
+        examples = [File(path.name, path.read_bytes()) for path in Path(TOP, "packaging", "examples").iterdir()]
+        inside = {modules: self.modules(), os.path.dirname(program): [File("bridge", self.program, 0o755)],
+                  f"{share}/minizinc/solvers": self.configurations(), os.path.dirname(share): self.completions(zsh),
+                  f"{share}/doc/{self.name}": self.documents(), f"{share}/{self.name}/examples": examples}
+        return [file._replace(path=os.path.join(folder, file.path))
+                for folder, files in inside.items() for file in files]

@@ -1,4 +1,4 @@
-"""The Debian package, by dpkg-deb: files of one time, in sorted order, owned by root."""
+"""The Debian package, by dpkg-deb, which gives files one time and order, and root for an owner."""
 
 from __future__ import annotations
 
@@ -8,6 +8,7 @@ import os
 import subprocess
 import tempfile
 import time
+from pathlib import Path
 
 from contents import File, Project, Unfit, filled, read
 from sources import TOP
@@ -45,13 +46,10 @@ def changelog(project: Project) -> bytes:
 def files(project: Project) -> list[File]:
     """What is installed."""
     documents = f"usr/share/doc/{project.name}"
-    inside = [File(f"{MODULES}/{f.path}", f.data) for f in project.modules()]
-    inside.append(File(f"usr/libexec/{project.name}/bridge", project.program, 0o755))
+    inside = project.installed(MODULES, f"usr/libexec/{project.name}/bridge", "usr/share", "vendor-completions")
     for name, entry in project.scripts.items():
         module, _, function = entry.partition(":")
-        text = template("command", module=module, function=function)
-        inside.append(File(f"usr/bin/{name}", text, 0o755))
-    inside += project.shared("usr/share", "vendor-completions")
+        inside.append(File(f"usr/bin/{name}", template("command", module=module, function=function), 0o755))
     inside += [File(f"usr/share/man/man1/{f.path}.gz", zipped(f.data)) for f in project.pages()]
     inside += [File(f"usr/share/lintian/overrides/{project.name}", template("overrides")),
                File(f"{documents}/copyright", copyright_of()), File(f"{documents}/changelog.gz", changelog(project))]
@@ -74,33 +72,20 @@ def control(project: Project, inside: list[File]) -> list[File]:
             *(File(f"DEBIAN/{name}", template(name, name=project.name), 0o755) for name in ("postinst", "prerm"))]
 
 
-def put(folder: str, file: File) -> None:
-    path = os.path.join(folder, file.path)
-    os.makedirs(os.path.dirname(path), exist_ok=True)
-    with open(path, "wb") as f:
-        f.write(file.data)
-    os.chmod(path, file.mode)
-
-
-def settle(folder: str, when: int) -> None:
-    """One time and mode for folders, so that nothing of this machine stays."""
-    for place, _, names in os.walk(folder, topdown=False):
-        for name in names:
-            os.utime(os.path.join(place, name), (when, when), follow_symlinks=False)
-        os.chmod(place, 0o755)
-        os.utime(place, (when, when))
-
-
 def build(project: Project, folder: str) -> str:
     """Writes the package; its name."""
     name = f"{project.name}_{project.version}_{ARCHITECTURE}.deb"
     inside = files(project)
+    os.umask(0o022)
     with tempfile.TemporaryDirectory(prefix="nl-bridge-deb-") as tree:
+        os.chmod(tree, 0o755)
         for file in [*inside, *control(project, inside)]:
-            put(tree, file)
+            path = Path(tree, file.path)
+            path.parent.mkdir(parents=True, exist_ok=True)
+            path.write_bytes(file.data)
+            path.chmod(file.mode)
         for page in project.linked_pages():
             os.symlink("bridge-cbc.1.gz", f"{tree}/usr/share/man/man1/{page}.gz")
-        settle(tree, project.epoch)
         words = ["dpkg-deb", "--root-owner-group", "-Zxz", "--build", tree, os.path.join(folder, name)]
         environment = {**os.environ, "SOURCE_DATE_EPOCH": str(project.epoch), "DPKG_DEB_THREADS_MAX": "1"}
         try:

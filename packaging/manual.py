@@ -6,7 +6,7 @@ from typing import Iterable
 
 from bridge_drivers import commands, solvers
 from bridge_drivers.certify.command import OPTIONS
-from bridge_drivers.codes import STATUSES, Status
+from bridge_drivers.codes import STATUSES
 from bridge_drivers.completion import DASHED
 from bridge_drivers.options import COMMON, Option
 
@@ -34,10 +34,6 @@ def of_options(options: Iterable[Option]) -> str:
     return "\n".join(item(option.name, f"{option.text} {option.values()}") for option in options)
 
 
-def of_statuses(statuses: Iterable[Status]) -> str:
-    return "\n".join(item(str(int(status)), STATUSES[status]) for status in statuses)
-
-
 def drivers_options() -> list[Option]:
     """The common ones, and those of some drivers, with whose they are."""
     own: dict[str, list[str]] = {}
@@ -54,5 +50,6 @@ def parts() -> dict[str, str]:
     """What stands for each mark of a page."""
     return {"COMMANDS": of_commands(commands.COMMANDS), "OWN": of_commands(commands.OWN),
             "MODEL": roff(commands.MODEL[:1].upper() + commands.MODEL[1:]) + ".",
-            "STATUS": of_statuses(STATUSES), "OPTIONS": of_options(drivers_options()), "CERTIFY": of_options(OPTIONS),
+            "STATUS": "\n".join(item(str(int(status)), text) for status, text in STATUSES.items()),
+            "OPTIONS": of_options(drivers_options()), "CERTIFY": of_options(OPTIONS),
             "DASHED": "\n".join(item(word, text) for word, text in DASHED.items())}

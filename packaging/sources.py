@@ -15,7 +15,7 @@ import json
 import os
 import subprocess
 import sys
-from typing import Iterator, Mapping
+from typing import Iterator, Mapping, Sequence
 
 TOP = os.path.dirname(os.path.dirname(os.path.realpath(__file__)))
 BUILT = os.path.join(TOP, "crates", "bridge", "out", "bridge")
@@ -50,14 +50,7 @@ def sources() -> str:
     return hashlib.sha256("".join(lines).encode()).hexdigest()
 
 
-def note(before: str) -> None:
-    now = sources()
-    if now != before:
-        sys.exit("packaging/sources.py: the sources have changed while the gate ran")
-    write_note(BUILT, now, "yes")
-
-
-def write_note(program: str, of: str, proved: str) -> None:
+def note(program: str, of: str, proved: str) -> None:
     """Beside a program, where `nl-bridge version` and the packages find it."""
     facts = {"program": sum_of(program), "sources": of, "toolchain": said_by("rt", "--version"), "proved": proved}
     with open(program + ".built", "w", encoding="ascii") as f:
@@ -77,15 +70,20 @@ def fault_of(program: str) -> tuple[Mapping[str, str], str]:
     return facts, "" if facts.get("sources") == sources() else "it is of other sources than these"
 
 
-if __name__ == "__main__":
-    if {"-h", "--help"} & set(sys.argv[1:]):
+def main(words: Sequence[str]) -> None:
+    if {"-h", "--help"} & set(words):
         print(__doc__)
-        sys.exit()
-    if sys.argv[1:2] == ["--note"] and len(sys.argv) == 3:
-        note(sys.argv[2])
-    elif sys.argv[1:2] == ["--unproved"] and len(sys.argv) == 3:
-        write_note(os.path.abspath(sys.argv[2]), sources(), "no")
-    elif len(sys.argv) == 1:
+    elif not words:
         print(sources())
-    else:
+    elif len(words) != 2 or words[0] not in ("--note", "--unproved"):
         sys.exit(__doc__)
+    elif words[0] == "--unproved":
+        note(os.path.abspath(words[1]), sources(), "no")
+    elif sources() != words[1]:
+        sys.exit("packaging/sources.py: the sources have changed while the gate ran")
+    else:
+        note(BUILT, words[1], "yes")
+
+
+if __name__ == "__main__":
+    main(sys.argv[1:])

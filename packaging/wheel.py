@@ -22,10 +22,8 @@ def tag(project: Project) -> str:
 
 def files(project: Project) -> list[File]:
     """All but RECORD, in the order of the zip."""
-    inside = list(project.modules())
-    inside.append(File(f"{PACKAGE}/bin/bridge", project.program, 0o755))
     data = f"{name_of(project)}.data/data/share"
-    inside += project.shared(data, "site-functions")
+    inside = project.installed("", f"{PACKAGE}/bin/bridge", data, "site-functions")
     pages = {f.path: f.data for f in project.pages()}
     pages.update({name: b".so man1/bridge-cbc.1\n" for name in project.linked_pages()})
     inside += [File(f"{data}/man/man1/{name}", page) for name, page in sorted(pages.items())]

@@ -22,14 +22,14 @@ BLOCK = 1 << 14                 # lines that are made at once
 
 
 class Answer:
-    """Decimal texts by name, in the order of the program, and costs as they were given. `loose` and
-    `loose_duals` count the values and duals that are only the nearest decimals of fractions,
-    `apart` the integer variables that are not near a whole number."""
+    """Decimal texts by name, in the order of the program, and costs as they were given. `loose` and `loose_duals` count
+    the values and duals that are only the nearest decimals of fractions, `apart` are the distances of integer variables
+    that are not near a whole number."""
 
     def __init__(self, program: Program, outcome: Outcome, options: Options) -> None:
         self.program, self.outcome, self.options = program, outcome, options
-        self.loose = self.apart = self.loose_duals = 0
-        self.most_apart = 0.0
+        self.loose = self.loose_duals = 0
+        self.apart: list[float] = []
         self.values: Named[str] | None = None
         self.duals: Named[str] | None = None
         self.whole = program.whole if options.round and not options.relax else set()
@@ -51,55 +51,42 @@ class Answer:
 
     @cached_property
     def doubles(self) -> list[float]:
-        """Of its values."""
         texts = self.values.given if self.values is not None else []
         known = {text: float(text) for text in set(texts)}
         return list(map(known.__getitem__, texts))
 
     @cached_property
     def figures(self) -> Objective:
-        """Of its values."""
         return self.program.at(self.doubles)
 
     @cached_property
     def missed(self) -> Miss:
-        """By how much its values miss the model."""
-        if self.values is None:
-            return NONE
         if self.apart:
-            return missing(self.most_apart, "a whole number")
-        return miss(self.program, self.values, self.whole)
+            return missing(max(self.apart), "a whole number")
+        return NONE if self.values is None else miss(self.program, self.values, self.whole)
 
     def rounded(self, values: Sequence[Number]) -> Sequence[Number]:
         """Whole columns at the whole numbers that they are near."""
         if not self.whole:
             return values
-        return [self.near_whole(v) if whole else v for v, whole in zip(values, self.program.read.whole)]
-
-    def near_whole(self, value: Number) -> Number:
-        if not abs(float(value)) < float("inf"):
-            return value
-        near = round(value)
-        apart = abs(float(near - value))
-        if apart <= NEAR_WHOLE:
-            return near
-        self.apart += 1
-        self.most_apart = max(self.most_apart, apart)
-        return value
+        found = list(values)
+        for j, whole in enumerate(self.program.read.whole):
+            if whole and abs(float(values[j])) < float("inf"):
+                near = round(values[j])
+                apart = abs(float(near - values[j]))
+                if apart <= NEAR_WHOLE:
+                    found[j] = near
+                else:
+                    self.apart.append(apart)
+        return found
 
     def notes(self) -> list[str]:
-        notes = []
-        if self.apart:
-            notes.append(f"{self.apart} integer variables are not within {NEAR_WHOLE:g} of a whole number")
-        loose = self.loose + self.loose_duals
-        if loose:
-            notes.append(f"{loose} exact values have no decimal of at most 38 digits; the nearest ones are written")
-        return notes
+        apart, loose = len(self.apart), self.loose + self.loose_duals
+        notes = [f"{apart} integer variables are not within {NEAR_WHOLE:g} of a whole number"] if apart else []
+        told = f"{loose} exact values have no decimal of at most 38 digits; the nearest ones are written"
+        return notes + [told] * bool(loose)
 
-    def without_duals(self) -> Answer:
-        return self.with_duals(None)
-
-    def with_duals(self, duals: Mapping[str, str] | None) -> Answer:
+    def with_duals(self, duals: Mapping[str, str] | None = None) -> Answer:
         other = copy.copy(self)
         other.__dict__.pop("body", None)
         names = self.program.constraints
@@ -113,18 +100,17 @@ class Answer:
         outcome = replace(self.outcome, values=Named(self.program.columns, values), objective=None, code=code)
         if not is_own:
             known = {row: duals[row] for row in self.program.constraints if row in duals}
-            lacks = len(known) < len(self.program.constraints) or self.is_integer()
+            lacks = len(known) < len(self.program.constraints) or bool(self.program.whole) and not self.options.relax
             return Answer(self.program, replace(
                 outcome, duals=None if lacks else known, column_basis=None, row_basis=None,
                 costs=None if lacks else self.reduced_costs(known)), self.options)
         old = outcome.duals
         if duals and old is not None and all(
-                abs(float(y) - float(old[row])) <= NEAR_DUAL * max(1.0, abs(float(y)))
-                for row, y in duals.items()):
+                abs(float(y) - float(old[row])) <= NEAR_DUAL * max(1.0, abs(float(y))) for row, y in duals.items()):
             outcome.duals = {**old, **duals}
         other = Answer(self.program, replace(outcome, costs=None), self.options)
         other.outcome, other.given_costs = outcome, self.given_costs
-        return other if self.duals is not None else other.without_duals()
+        return other if self.duals is not None else other.with_duals()
 
     def reduced_costs(self, duals: Mapping[str, Fraction]) -> Named[Fraction]:
         """What these leave of the costs, exactly."""
@@ -139,12 +125,11 @@ class Answer:
                 costs[j] -= y[i] * numbers[k]
         return Named(p.columns, costs)
 
-    def is_integer(self) -> bool:
-        return bool(self.program.whole) and not self.options.relax
+    def is_good(self) -> bool:
+        """Whether it says what the model is, and does not miss it by much."""
+        return self.outcome.code != Code.INFEASIBLE_OR_UNBOUNDED and not self.missed.is_much()
 
     def with_code(self, code: Code) -> Answer:
-        if self.outcome.code == code:
-            return self
         other = copy.copy(self)
         other.outcome = replace(self.outcome, code=code)
         return other
@@ -182,8 +167,8 @@ class Answer:
         return b"".join(written(told))
 
     def text(self, message: Sequence[str]) -> bytes:
-        lines = ["answer 1", f"status {int(self.outcome.code)}", f"objno {self.options.objno - 1}"]
-        lines += [f"message {m}" for m in message]
+        lines = ["answer 1", f"status {int(self.outcome.code)}", f"objno {self.options.objno - 1}",
+                 *(f"message {m}" for m in message)]
         return ("\n".join(lines) + "\n").encode() + self.body
 
 

@@ -1,9 +1,11 @@
-"""Where the program `bridge` is found, and how it is called."""
+"""Where the program `bridge` is found, what is known of it, and how it is called."""
 
 from __future__ import annotations
 
 import hashlib
+import json
 import os
+import re
 import shlex
 import shutil
 import subprocess
@@ -21,14 +23,9 @@ BESIDE = (os.path.join(PACKAGE, "bin", "bridge"),                               
           os.path.join(HERE, "bin", "bridge"),                                  # drivers/install
           os.path.join(HERE, "..", "crates", "bridge", "out", "bridge"),        # a clone
           os.path.join(HERE, "..", "out", "try", "bridge"))             # the same, not proved
+NOTES = ("{program}.built", os.path.join(PACKAGE, "built.json"))    # on the program of a clone, of a package
+PIECE = 1 << 20                 # bytes of a file that are read at once
 ENDED = {4: "a file could not be read", 5: "its output could not be written", 6: "want of memory"}
-
-
-class Missing(Failure):
-    """No program `bridge` was found, or it cannot be started."""
-
-    def __init__(self, text: str) -> None:
-        super().__init__(Code.NOT_FOUND, text)
 
 
 class Reply(NamedTuple):
@@ -40,8 +37,7 @@ class Reply(NamedTuple):
 
 
 class Refused(Exception):
-    """`bridge` ended without the text or verdict that was asked for. `words` are those of the
-    call, where they are known, `shown` the paths that the user knows its files by."""
+    """`bridge` ended without what was asked for, by these words; `shown` are the paths that the user knows files by."""
 
     def __init__(self, command: str, reply: Reply, words: Sequence[str] = (),
                  shown: Mapping[str, str] | None = None) -> None:
@@ -50,7 +46,6 @@ class Refused(Exception):
         self.words, self.shown = list(words), shown or {}
 
     def line(self) -> str:
-        """What was told, in words, for a message."""
         if self.status == Status.BAD_WORDS and not all(map(is_plain, self.words)):
             return "a path that is not UTF-8"
         if self.status == Status.BAD_WORDS:
@@ -65,11 +60,7 @@ class Refused(Exception):
 
 def is_plain(word: str) -> bool:
     """Whether a word is UTF-8, which the words of `bridge` must be."""
-    try:
-        word.encode()
-    except UnicodeEncodeError:
-        return False
-    return True
+    return re.search("[\ud800-\udfff]", word) is None
 
 
 def is_ours(place: str) -> bool:
@@ -88,18 +79,43 @@ def find(named: str, beside: Sequence[str]) -> list[str]:
         try:
             return shlex.split(told)
         except ValueError:
-            raise Missing(f"bridge={told}: a quote does not end") from None
+            raise Failure(Code.NOT_FOUND, f"bridge={told}: a quote does not end") from None
     for place in beside:
         if os.access(place, os.X_OK) and not os.path.isdir(place):
             return [place]
-    other = ""
-    for folder in os.environ.get("PATH", "").split(os.pathsep):
-        found = shutil.which("bridge", path=folder) if folder else None
-        if found and is_ours(found):
-            return [found]
-        if found and not other:
-            other = f" ({found} is another program)"
-    raise Missing(f"bridge was not found{other}: give bridge=PATH or set BRIDGE")
+    folders = filter(None, os.environ.get("PATH", "").split(os.pathsep))
+    named_so = [found for found in (shutil.which("bridge", path=folder) for folder in folders) if found]
+    ours = next(filter(is_ours, named_so), "")
+    if ours:
+        return [ours]
+    other = f" ({named_so[0]} is another program)" if named_so else ""
+    raise Failure(Code.NOT_FOUND, f"bridge was not found{other}: give bridge=PATH or set BRIDGE")
+
+
+def sum_of(path: str | None) -> str | None:
+    """The SHA-256 of a file; None where it cannot be read."""
+    digest = hashlib.sha256()
+    try:
+        with open(path or "", "rb") as f:
+            for piece in iter(lambda: f.read(PIECE), b""):
+                digest.update(piece)
+    except OSError:
+        return None
+    return digest.hexdigest()
+
+
+def built(program: str) -> Mapping[str, str]:
+    """The facts of a note on exactly this program: whether the gate proved it, and by what. Empty where none is."""
+    digest = sum_of(program)
+    for place in NOTES:
+        try:
+            with open(place.format(program=program), encoding="utf-8") as f:
+                facts = {str(key): str(value) for key, value in json.load(f).items()}
+        except (OSError, ValueError, AttributeError):
+            continue
+        if digest is not None and digest in (facts.get("sha256"), facts.get("program")):
+            return facts
+    return {}
 
 
 class Late(Exception):
@@ -107,9 +123,8 @@ class Late(Exception):
 
 
 class Bridge:
-    """Calls of `bridge`. `note` is told the words of each; `limit` is for one call, in seconds.
-    `shown` has the paths that the user knows files by, where they are others, `spelled` commands
-    that stand for others, such as `verify_mps` for `verify` over an MPS file."""
+    """Calls of `bridge`. `note` is told the words of each; `limit` is for one call, in seconds. `shown` has the paths
+    that the user knows files by, `spelled` commands that stand for others (`verify_mps` for `verify`)."""
 
     limit: float | None = None
     spelled: Mapping[str, str] = {}
@@ -126,7 +141,7 @@ class Bridge:
             return with_child(self.reply, argv, stdin=subprocess.DEVNULL, stdout=subprocess.PIPE,
                               stderr=subprocess.PIPE)
         except OSError as fault:
-            raise Missing(f"{argv[0]} could not be run: {fault.strerror}") from None
+            raise Failure(Code.NOT_FOUND, f"{argv[0]} could not be run: {fault.strerror}") from None
         except subprocess.TimeoutExpired:
             raise Late(words[0]) from None
 
@@ -138,10 +153,8 @@ class Bridge:
         """`bridge` takes words of UTF-8 alone: a path of other bytes is given as a link to it."""
         if is_plain(word):
             return word
-        if self.links is None:
-            self.links = tempfile.TemporaryDirectory(prefix="bridge-links-")
-        digest = hashlib.sha256(os.fsencode(word)).hexdigest()
-        link = os.path.join(self.links.name, digest)
+        self.links = self.links or tempfile.TemporaryDirectory(prefix="bridge-links-")
+        link = os.path.join(self.links.name, hashlib.sha256(os.fsencode(word)).hexdigest())
         if not os.path.lexists(link):
             os.symlink(os.path.abspath(word), link)
         return link
@@ -154,15 +167,13 @@ class Bridge:
         words = self.in_full(words)
         return Refused(words[0], reply, words, self.shown)
 
-    def text(self, *words: str) -> bytes:
+    def text(self, *words: str, fine: Sequence[int] = (0,)) -> bytes:
+        """What it prints; Refused where its status is another."""
         reply = self.call(*words)
-        if reply.status != 0:
+        if reply.status not in fine:
             raise self.refused(words, reply)
         return reply.out
 
     def verdict(self, command: str, nl: str, other: str) -> str:
         """The line of `check` or `prove`, whose statuses 0 and 1 are verdicts both."""
-        reply = self.call(command, nl, other)
-        if reply.status not in (0, 1):
-            raise self.refused((command, nl, other), reply)
-        return reply.out.decode("utf-8", "replace").strip()
+        return self.text(command, nl, other, fine=(0, 1)).decode("utf-8", "replace").strip()

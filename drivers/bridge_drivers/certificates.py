@@ -1,8 +1,5 @@
-"""The last line of a message: the verdict of `bridge verify`, word for word, or `not proved: ..`.
-
-Nothing in it rests on the driver: the certificate that was judged is a text about the .nl file.
-What the .sol itself holds, `bridge check` says in a line before.
-"""
+"""The last line of a message: the verdict of `bridge verify`, word for word, or `not proved: ..`. Nothing in it rests
+on the driver: the certificate is a text about the model's file. What the .sol holds, `bridge check` says before."""
 
 from __future__ import annotations
 
@@ -12,16 +9,16 @@ from typing import NamedTuple
 
 from . import verdicts
 from .answer import Answer
-from .bridge import Bridge, Refused
+from .bridge import Bridge, Late, Refused
 from .certify import clp
 from .certify.claims import WITHOUT, Certifying, Given, Verdict, certified
-from .certify.points import Basis
 from .certify.pool import pool_of
 from .certify.text import answer_lines
 from .certify.watch import Watch
 from .codes import Code
+from .files import Places
 from .job import Job
-from .keeping import Keeper, Kept
+from .miss import ROUNDING, miss
 from .sol import numbers_of
 from .solvers.base import BASIC
 from .program import TIED, TIED_ROW
@@ -29,29 +26,27 @@ from .values import in_order, plain, text_of
 from .verdicts import Said
 
 SECONDS = 60.0              # of a search, where timelim says nothing
+OLDER = 60.0                # for the verdict on an older certificate
 ONE_LEAF = 1.0              # without prove=1
 LARGE = 400_000             # bytes of an exported program that have a second each
+LEAST = 1e-15               # of the largest term: less is not told by doubles
 PLACES = 9                  # decimals that doubles are rounded to, where they do not pass
 CLAIMS = {Code.SOLVED: "point", Code.UNSURE: "point", Code.LIMIT_WITH_POINT: "point",
           Code.INFEASIBLE: "infeasible", Code.UNBOUNDED: "unbounded",
           Code.INFEASIBLE_OR_UNBOUNDED: "either", Code.LIMIT: "nothing"}
-
-
 NO_SEARCH = ("prove=1 needs the library of CLP, which is not there (Debian: apt install coinor-libclp1)")
 
 
-class End(NamedTuple):
-    """How a message ends: its last lines, the verdict behind them; what is claimed where it is
-    proved; and where the certificate is kept."""
+class Kept(NamedTuple):
+    """What was done, in a line; where a certificate of the claim stands, or that none stands where it was to be."""
 
-    lines: list[str]
-    said: Said | None = None
-    kept: Kept | None = None
+    line: str
+    path: str | None = None
+    failed: bool = False
 
 
 class Certifier:
-    """Asks `bridge` over the model at `nl`. `alone`: it is an MPS file, of which no .sol can be
-    made; values are judged as the point of a certificate."""
+    """Asks `bridge` over the model at `nl`. `alone`: an MPS file, whose values are judged by a certificate."""
 
     def __init__(self, bridge: Bridge, nl: str, job: Job) -> None:
         self.bridge, self.nl, self.job = bridge, nl, job
@@ -61,22 +56,20 @@ class Certifier:
         self.is_interrupted = False
         self.pool_note = ""
 
-    @property
-    def checks(self) -> str:
-        """What `checked` is about: a .sol where one is written."""
-        is_sol = self.job.options.is_written and not self.alone
-        return f"bridge check of the {'.sol' if is_sol else 'values'}: "
-
-    # calls -----------------------------------------------------------------------
-
-    def returned(self, answer: Answer, message: list[str], name: str = "bridge") -> bytes:
-        """The .sol of an answer by `bridge return`, which stays in a file."""
+    def returned(self, answer: Answer, lines: list[str], name: str = "bridge", at: int = 0) -> tuple[Answer, bytes]:
+        """An answer and its .sol by `bridge return`; without duals, as a line says, where they are too wide."""
         if self.alone:
-            return b""
-        text = self.job.write(name + ".txt", answer.text(message))
-        sol: bytes = self.job.clock.timed("return", self.bridge.text, "return", self.nl, text)
+            return answer, b""
+        text = self.job.write(name + ".txt", answer.text(lines))
+        try:
+            sol: bytes = self.job.clock.timed("return", self.bridge.text, "return", self.nl, text)
+        except Refused as fault:
+            if answer.duals is None or not fault.told.endswith("dual too wide"):
+                raise
+            lines.insert(at, f"duals are left out: {fault.line()}")
+            return self.returned(answer.with_duals(), lines, name, at)
         self.job.write(name + ".sol", sol)
-        return sol
+        return answer, sol
 
     def checked(self, answer: Answer) -> str:
         """What `bridge check` says of the .sol, in words. It wants duals: where there are none, zeros ask for
@@ -93,14 +86,10 @@ class Certifier:
             verdict: str = self.job.clock.timed("check", self.bridge.verdict, command, self.nl, self.job.path(name))
         except Refused as fault:
             return fault.line().removeprefix(self.job.path(name) + ": ")
-        words = verdict.split()
-        if self.alone and words[0] == "variable":
-            return f"{self.thing('column', int(words[1]))} is not whole"
-        if self.alone and words[0] == "feasible":
-            verdict = f"yes {words[1]}"
-        return self.reading(verdict, name == "bridge.sol")
-
-    # the verdict -----------------------------------------------------------------
+        word, *rest = verdict.split()
+        if self.alone and word == "variable":
+            return f"{self.thing('column', int(rest[0]))} is not whole"
+        return self.reading(f"yes {rest[0]}" if self.alone and word == "feasible" else verdict, name == "bridge.sol")
 
     def verdict(self, answer: Answer) -> Verdict:
         """By the certificate of a search, which has `timelim`, and without prove=1 a second of
@@ -120,9 +109,7 @@ class Certifier:
         finally:
             if pool is not None:
                 pool.close()
-                self.pool_note = pool.note
-                if pool.fault:
-                    self.pool_note = "the search went on in one process: " + pool.fault
+                self.pool_note = "the search went on in one process: " + pool.fault if pool.fault else pool.note
         self.is_interrupted = watch.is_stopped
         if claim == "point" and not self.relaxed and not verdict.is_proved() and size > LARGE:
             stands = self.as_it_stands(work, answer)
@@ -131,21 +118,16 @@ class Certifier:
         return verdict
 
     def as_it_stands(self, work: Certifying, answer: Answer) -> Verdict:
-        """A large program: the .sol's values and duals are the certificate, without duals that of
-        a feasible point; where they do not pass, the same numbers in fewer digits."""
+        """A large program: the .sol's values and duals are the certificate, or the same numbers in fewer digits."""
         try:
             values, duals = self.numbers(answer)
-            verdict = work.judged(answer_lines(values, duals, work.objective))
+            verdict = work.verified(answer_lines(values, duals, work.objective))
             if verdict.is_proved():
                 return verdict
-            values, duals = [[rounded(text) for text in texts] for texts in (values, duals)]
-            second = work.judged(answer_lines(values, duals, work.objective))
-            if second.is_proved():
-                return second._replace(point=[Fraction(text) for text in values])
-            return verdict
+            values, duals = [[text_of(round(float(text), PLACES))[0] for text in texts] for texts in (values, duals)]
+            second = work.verified(answer_lines(values, duals, work.objective))
+            return second._replace(point=list(map(Fraction, values))) if second.is_proved() else verdict
         except Refused as fault:
-            if fault.told.endswith("dual too wide"):
-                return self.as_it_stands(work, answer.without_duals())
             return Verdict(WITHOUT + fault.line())
 
     def numbers(self, answer: Answer) -> tuple[list[str], list[str]]:
@@ -153,7 +135,7 @@ class Certifier:
         if self.alone:
             values, duals = (list(part.given) if part is not None else [] for part in (answer.values, answer.duals))
         else:
-            duals, values = numbers_of(self.returned(answer, [], "numbers"))
+            duals, values = numbers_of(self.returned(answer, [], "numbers")[1])
         return values, duals if self.linear else []
 
     def given(self, answer: Answer) -> Given:
@@ -172,14 +154,13 @@ class Certifier:
             duals = {int(row[1:]): outcome.duals[row] for row in rows}
         if outcome.column_basis is not None and outcome.row_basis is not None:
             ends = in_order(outcome.column_basis, p.columns)[:n]
-            basis = Basis([j for j, end in enumerate(ends) if end == BASIC],
-                          [int(r[1:]) for r in rows if outcome.row_basis[r] != BASIC])
+            basis = clp.Basis([j for j, end in enumerate(ends) if end == BASIC],
+                              [int(r[1:]) for r in rows if outcome.row_basis[r] != BASIC])
         return Given(values, duals, basis)
 
-    def ended(self, verdict: Verdict) -> End:
-        """What is told of a verdict. A search that was asked for and cannot be made is told as
-        `not proved`, with what is proved without it."""
-        said = verdicts.read(verdict.line) if verdict.is_proved() else None
+    def ended(self, verdict: Verdict, said: Said | None) -> tuple[list[str], Kept | None]:
+        """The last lines of a message, and where the certificate is kept. A search that was asked for and cannot be
+        made is told as `not proved`, with what is proved without it."""
         kept, last, options = self.kept(verdict), verdict.line, self.job.options
         lines = [*self.words(said, verdict.note), self.pool_note]
         if options.prove and options.check and clp.library() is None and (said is None or not said.is_settled()):
@@ -187,20 +168,30 @@ class Certifier:
             if said is not None:
                 last = f"{WITHOUT}there was no search; without it: {last}"
         lines += [kept.line if kept else "", verdict.note, last]
-        return End(list(filter(None, lines)), said, kept)
+        return list(filter(None, lines)), kept
 
-    @staticmethod
-    def rounding(verdict: Verdict, answer: Answer, told: str) -> str:
-        """Why the numbers of a .sol say another thing than an exact optimum, where they are only near to it."""
+    def check_line(self, answer: Answer, verdict: Verdict, told: str) -> str:
+        """What the proved program says of the numbers that are passed on. Where these round a point that is proved,
+        what they miss is told as rounding, and why they say another thing than an exact optimum."""
+        if told.endswith(" is broken"):
+            assert answer.values is not None
+            share = max(miss(answer.program, answer.values).share, LEAST)
+            by = f"missed by more than {share:.2g} of its largest term"
+            if verdict.is_proved() and verdict.point is not None and answer.loose:
+                told = f"it has the exact point in decimals; no row or bound is {by}"
+            elif share <= ROUNDING:
+                told = f"no row or bound is {by}, which is rounding"
+            else:
+                told += f"; no row or bound is {by}"
         said = verdicts.read(verdict.line)
-        if said is None or said.word != "optimal" or told.split()[-1:] == [plain(str(said.value))]:
-            return ""
         what = [word for word, count in (("values", answer.loose), ("duals", answer.loose_duals)) if count]
-        return f"; the exact {' and '.join(what)} are rounded to decimals in it" if what else ""
+        if what and said is not None and said.word == "optimal" and told.split()[-1:] != [plain(str(said.value))]:
+            told += f"; the exact {' and '.join(what)} are rounded to decimals in it"
+        is_sol = self.job.options.is_written and not self.alone
+        return f"bridge check of the {'.sol' if is_sol else 'values'}: {told}"
 
     def words(self, said: Said | None, note: str = "") -> list[str]:
-        """The claim in words, where it says more than its line. `note` says why no more is proved,
-        where that is known."""
+        """The claim in words, where it says more than its line. `note` says why no more is proved."""
         if said is None or said.is_settled():
             return []
         steps = None if self.relaxed else verdicts.multiples(self.program)
@@ -208,8 +199,7 @@ class Certifier:
         if said.word == "feasible" and self.linear:
             text += "; no bound was found that says how good it is" if not note else ""
         elif said.word == "feasible":
-            more = "" if self.job.options.prove else ": prove=1 goes on"
-            text += f"; the search for a better one did not end{more}"
+            text += "; the search for a better one did not end" + ": prove=1 goes on" * (not self.job.options.prove)
         return ["in words: " + text]
 
     def kept(self, verdict: Verdict) -> Kept | None:
@@ -220,18 +210,15 @@ class Certifier:
         if verdict.path is None:
             stays = f"; {target} stays as it was" if os.path.exists(target) else ""
             return Kept("no certificate is written" + stays)
-        keeper = Keeper(self.bridge, self.nl, self.program.maximise, bool(self.job.options.overwrite))
-        return keeper.kept(verdict.path, verdict.line, target)
-
-    # words -----------------------------------------------------------------------
+        return keep(self.bridge, self.nl, self.program.maximise, bool(self.job.options.overwrite), verdict.path,
+                    verdict.line, target)
 
     def reading(self, verdict: str, has_duals: bool) -> str:
         """A verdict of `bridge check`; that of zeros as duals says what they cannot break."""
         words = verdict.split()
         is_broken = words[-1] == "broken" or verdict.startswith("too wide at row ")
         if not has_duals and not is_broken and words[0] in ("yes", "gap", "bound", "too"):
-            told = f", objective exactly {plain(words[1])}" if words[0] in ("yes", "gap") else ""
-            return "feasible" + told
+            return "feasible" + (f", objective exactly {plain(words[1])}" if words[0] in ("yes", "gap") else "")
         if words[0] in ("yes", "gap"):
             return " ".join([words[0], *map(plain, words[1:])])
         if words[0] not in ("row", "bound"):
@@ -250,11 +237,32 @@ class Certifier:
 
     def named(self, exported: str) -> str:
         """A row or column of the exported text."""
-        kind = "row" if exported.startswith("c") else "column"
-        digits = exported[1:]
+        kind, digits = "row" if exported.startswith("c") else "column", exported[1:]
         return self.thing(kind, int(digits)) if digits.isdigit() else "the objective's row"
 
 
-def rounded(text: str) -> str:
-    """The decimal of few places that is near a double's."""
-    return text_of(round(float(text), PLACES))[0]
+def keep(bridge: Bridge, nl: str, maximise: bool, overwrite: bool, source: str, line: str, target: str) -> Kept:
+    """The certificate in the file `source`, whose verdict is the line, at `target`, where nothing stands that stays."""
+    try:
+        with open(source, "rb") as f:
+            data = f.read()
+        Places([nl, bridge.shown.get(nl, nl)], overwrite).write(target, data)
+    except OSError as fault:
+        proves = older(bridge, nl, maximise, line, target) if isinstance(fault, FileExistsError) else ""
+        if proves:
+            return Kept(f"{target} stays as it is: it proves `{proves}`; overwrite=1 replaces it", target)
+        return Kept(f"the certificate is not kept: {target}: {fault.strerror}", None, True)
+    return Kept(f"{target} is written: the certificate of `{line}`, {len(data)} bytes", target)
+
+
+def older(bridge: Bridge, nl: str, maximise: bool, line: str, target: str) -> str:
+    """What an older certificate proves of the model as it is now, where that is no less than the line."""
+    bridge.limit = OLDER
+    try:
+        proves = bridge.verdict("verify", nl, target)
+    except (Late, Refused):
+        return ""
+    finally:
+        bridge.limit = None
+    old, new = verdicts.read(proves), verdicts.read(line)
+    return proves if new and old and verdicts.covers(old, new, maximise) else ""

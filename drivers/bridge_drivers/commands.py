@@ -55,6 +55,11 @@ PROVED = (Status.DONE, Status.FAILED, Status.REFUSED, Status.BAD_WORDS, Status.U
           Status.UNWRITTEN, Status.NO_MEMORY, Status.NOT_THERE)
 
 
+def rows(word: str) -> list[Command]:
+    """The calls of one command."""
+    return [row for row in (*COMMANDS, *OWN) if row.word == word]
+
+
 def wrapped(text: str, first: str, indent: int) -> str:
     """A text behind what it is about, its lines below each other."""
     return textwrap.fill(text, WIDTH, initial_indent=f"{first:{indent}}",
@@ -79,20 +84,19 @@ def usage() -> str:
 
 def help_of(word: str) -> str:
     """Of one command; nothing where there is none."""
-    rows = [c for c in (*COMMANDS, *OWN) if c.word == word]
-    if not rows:
+    found = rows(word)
+    if not found:
         return ""
     text = "".join(wrapped(c.text + (f": {c.more}" if c.more else ""),
-                           f"{'usage: ' if k == 0 else '       '}{NAME} {c.call()}  ", 47) for k, c in enumerate(rows))
-    options = {name: said for c in rows for name, said in c.options}
+                           f"{'usage: ' if k == 0 else '       '}{NAME} {c.call()}  ", 47) for k, c in enumerate(found))
+    options = {name: said for c in found for name, said in c.options}
     if options:
         text += "\noptions:\n" + "".join(wrapped(said, f"  {name}", 16) for name, said in options.items())
-    text += "\n" + wrapped(MODEL, "", 0) if any("MODEL" in c.rest for c in rows) else "\n"
+    text += "\n" + wrapped(MODEL, "", 0) if any("MODEL" in c.rest for c in found) else "\n"
     text += wrapped(status_text(PROVED), "status: ", 8)
-    return text + "".join(f"example: {NAME} {c.example}\n" for c in rows if c.example)
+    return text + "".join(f"example: {NAME} {c.example}\n" for c in found if c.example)
 
 
 def options_of(word: str) -> list[str]:
     """What may stand behind it beside files."""
-    rows = [c for c in (*COMMANDS, *OWN) if c.word == word]
-    return sorted({name.split()[0] for c in rows for name, _ in c.options})
+    return sorted({name.split()[0] for c in rows(word) for name, _ in c.options})

@@ -40,6 +40,7 @@ class Completion:
 
     def __init__(self) -> None:
         self.options = tables()
+        self.dashed = {command: DASHED if command != "bridge-certify" else {} for command in self.options}
         self.known = {name: o for known in self.options.values() for name, o in known.items()}
         self.known = dict(sorted({**self.known, **{o.name: o for o in COMMON}}.items()))
         self.texts: dict[str, str] = {}
@@ -60,26 +61,20 @@ class Completion:
         """A line of each word of nl-bridge that known ones may follow."""
         return "\n".join(line % (word, " ".join(after)) for word, after in self.behind.items() if after)
 
-    @staticmethod
-    def dashed(command: str) -> Mapping[str, str]:
-        return DASHED if command != "bridge-certify" else {}
-
     def bash(self) -> dict[str, str]:
         made = 'COMPREPLY=($(compgen %s -- "$cur"))'
         files = "compopt -o filenames 2>/dev/null; " + made
-        options = [f"    {command}) echo '"
-                   + " ".join([*(f"{name}=" for name in known), *self.dashed(command)]) + "' ;;"
+        words = made % "-W '%s'"
+        options = [f"    {command}) echo '{' '.join([*(f'{name}=' for name in known), *self.dashed[command]])}' ;;"
                    for command, known in self.options.items()]
-        return {"values": self.values("    %s) %s ;;", files % "-f", files % "-d",
-                                      made % "-W '%s'"),
+        return {"values": self.values("    %s) %s ;;", files % "-f", files % "-d", words),
                 "options": "\n".join(options), "commands": " ".join(sorted(self.texts)),
-                "behind": self.after("        %s) " + made % "-W '%s'" + " ;;"), "ends": " ".join(ENDS)}
+                "behind": self.after(f"        %s) {words} ;;"), "ends": " ".join(ENDS)}
 
     def zsh(self) -> dict[str, str]:
         options = [f"        {command}) words_of=(\n" + described({name: o.text for name, o in known.items()}, " " * 12)
                    + "\n            ) ;;" for command, known in self.options.items()]
-        return {"values": self.values(" " * 12 + "%s) %s ;;", "_files", "_files -/",
-                                      "compadd -- %s"),
+        return {"values": self.values(" " * 12 + "%s) %s ;;", "_files", "_files -/", "compadd -- %s"),
                 "options": "\n".join(options), "commands": described(self.texts, " " * 16),
                 "behind": self.after(" " * 12 + "%s) compadd -- %s ;;"), "dashed": described(DASHED, " " * 8)}
 
@@ -88,7 +83,7 @@ class Completion:
         for command, known in self.options.items():
             words = {" ".join(f"{name}={word}" for word in o.kind.known or [""]): o.text for name, o in known.items()}
             lines += [f"complete -c {command} -a {fished(word)} -d {fished(text)}"
-                      for word, text in {**words, **self.dashed(command)}.items()]
+                      for word, text in {**words, **self.dashed[command]}.items()]
         own = [f"complete -c nl-bridge -n __fish_use_subcommand -f -a {word} -d {fished(text)}"
                for word, text in self.texts.items()]
         return {"commands": "\n".join(own), "options": "\n".join(lines), "behind": self.after(
@@ -101,9 +96,6 @@ class Completion:
 
 def place(shell: str, prefix: str, command: str, folder: str = "") -> str:
     """Where a shell looks for it below a prefix; `folder` is zsh's."""
-    share = os.path.join(prefix, "share")
-    if shell == "bash":
-        return os.path.join(share, "bash-completion", "completions", command)
-    if shell == "fish":
-        return os.path.join(share, "fish", "vendor_completions.d", command + ".fish")
-    return os.path.join(share, "zsh", folder or "site-functions", "_" + command)
+    path = {"bash": f"bash-completion/completions/{command}", "fish": f"fish/vendor_completions.d/{command}.fish",
+            "zsh": f"zsh/{folder or 'site-functions'}/_{command}"}[shell]
+    return os.path.join(prefix, "share", path)

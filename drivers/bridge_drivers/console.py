@@ -1,18 +1,23 @@
-"""What all commands share: how a command starts and ends, and a standard output that breaks."""
+"""What all commands share: how a command starts and ends, a standard output that breaks, and the verdict in colour on a
+terminal: green what is settled, yellow what is known in part, red what is not proved. NO_COLOR (https://no-color.org)
+leaves it out."""
 
 from __future__ import annotations
 
+import contextlib
 import gc
 import os
 import sys
-from typing import Callable, NoReturn, TextIO, TypeVar, cast
+from typing import Callable, Iterator, NoReturn, Sequence, TextIO, cast
 
+from . import verdicts
 from .codes import Status
 from .interrupts import SIGNALS, Interrupted
 from .printable import printable
 
+GREEN, YELLOW, RED = 32, 33, 31
+PROVED = ("yes ", "proved")             # verdicts of `check` and `prove`
 COLLECTED = (200_000, 20, 50)   # a run makes millions of objects, of which few go in circles
-Result = TypeVar("Result")
 
 
 class OutputBroken(BaseException):
@@ -29,7 +34,7 @@ class Shown:
         return self.stream.write(printable(text))
 
     def writelines(self, lines: list[str]) -> None:
-        self.stream.writelines(map(printable, lines))
+        self.write("".join(lines))
 
     def __getattr__(self, name: str) -> object:
         return getattr(self.stream, name)
@@ -39,24 +44,24 @@ class Output(Shown):
     """One whose faults are OutputBroken."""
 
     def write(self, text: str) -> int:
-        return guarded(lambda: super(Output, self).write(text))
-
-    def writelines(self, lines: list[str]) -> None:
-        guarded(lambda: super(Output, self).writelines(lines))
+        with guarded():
+            return super().write(text)
 
     def flush(self) -> None:
-        guarded(self.stream.flush)
+        with guarded():
+            self.stream.flush()
 
 
 def raw(stream: TextIO, text: str) -> None:
     """Text of ours with controls, which a stream that shows them lets through."""
-    inner = stream.stream if isinstance(stream, Shown) else stream
-    guarded(lambda: inner.write(text))
+    with guarded():
+        (stream.stream if isinstance(stream, Shown) else stream).write(text)
 
 
-def guarded(call: Callable[[], Result]) -> Result:
+@contextlib.contextmanager
+def guarded() -> Iterator[None]:
     try:
-        return call()
+        yield
     except OSError as fault:
         raise OutputBroken(fault.strerror or str(fault)) from None
 
@@ -68,8 +73,33 @@ def is_terminal(stream: TextIO) -> bool:
         return False
 
 
-def own_name() -> str:
-    return os.path.basename(sys.argv[0]).removesuffix(".exe")
+def colour_of(verdict: str) -> int:
+    said = verdicts.read(verdict)
+    if said is not None:
+        return GREEN if said.is_settled() else YELLOW
+    return GREEN if verdict.startswith(PROVED) else RED
+
+
+def is_coloured(stream: TextIO) -> bool:
+    return not os.environ.get("NO_COLOR") and os.environ.get("TERM") != "dumb" and is_terminal(stream)
+
+
+def tell(line: str, stream: TextIO, verdict: str = "") -> None:
+    """A line, in the colour of a verdict, its own where none is given, where that is wanted."""
+    if not is_coloured(stream):
+        print(line, file=stream, flush=True)
+        return
+    raw(stream, f"\x1b[{colour_of(verdict or line)}m")
+    stream.write(line)
+    raw(stream, "\x1b[0m\n")
+    stream.flush()
+
+
+def tell_all(lines: Sequence[str], stream: TextIO) -> None:
+    """A message whose last line is its verdict."""
+    if len(lines) > 1:
+        print("\n".join(lines[:-1]), file=stream)
+    tell(lines[-1], stream)
 
 
 def run(name: str, command: Callable[[], int]) -> NoReturn:
@@ -102,19 +132,15 @@ def fill() -> None:
         if stream is None:
             nowhere = os.open(os.devnull, os.O_WRONLY if number == 2 else os.O_RDONLY)
             os.dup2(nowhere, number)        # children have it too
-    if sys.stdout is None:
-        sys.stdout = open(1, "w", encoding="utf-8", closefd=False)
-    if sys.stderr is None:
-        sys.stderr = open(2, "w", encoding="utf-8", closefd=False)
+    sys.stdout = sys.stdout or open(1, "w", encoding="utf-8", closefd=False)
+    sys.stderr = sys.stderr or open(2, "w", encoding="utf-8", closefd=False)
 
 
 def close(line: str) -> None:
     """Tells the line, and lets nothing be written to standard output any more, not even what waits to be."""
-    try:
+    with contextlib.suppress(OSError):
         sys.stderr.write(line)
         sys.stderr.flush()
-    except OSError:
-        pass
     nowhere = os.open(os.devnull, os.O_WRONLY)
     os.dup2(nowhere, 1)
     os.close(nowhere)

@@ -7,17 +7,16 @@ import os
 import shutil
 import sys
 import tempfile
-from typing import Iterator, Sequence, TextIO
+from typing import Iterator, Sequence
 
-from . import VERSION, colour, console, kinds, minizinc, report, showing, solvers, words
+from . import VERSION, console, interface, kinds, minizinc, sol, solvers
 from .bridge import BESIDE, Bridge, find
 from .codes import Code, Failure, Status
-from .files import Places, own_folder
+from .files import Places, fill, own_folder
 from .inputs import Input, Inputs
 from .interrupts import SIGNALS, Interrupted
 from .job import Clock
-from .options import BadOption, Option, Options
-from .sol import bare, with_message
+from .options import EXAMPLE, MODEL, USAGE, BadOption, Option, Options, Words, words_of
 from .solving import Result, Solving
 
 
@@ -40,7 +39,7 @@ class Run:
         self.solver = solvers.load(name)
         self.name = "bridge-" + name
         self.options = Options((*self.solver.options, *self.own_options))
-        self.words = words.Words()
+        self.words = Words()
         self.clock = Clock(self.name)
         self.inputs, self.model = Inputs(), Input("", "", "", False)
         self.missing: Failure | None = None
@@ -51,8 +50,7 @@ class Run:
         self.fault: Failure | None = None
         self.bridge_words: Sequence[str] = ()
 
-    def run(self, asked: words.Words) -> int:
-        """The exit status."""
+    def run(self, asked: Words) -> int:
         self.words = asked
         try:
             with self.inputs:
@@ -65,7 +63,7 @@ class Run:
         try:
             self.take_model()
             self.take_options()
-            return self.deliver(self.shown())
+            return self.deliver(self.work())
         except Failure as fault:
             return self.failed(fault)
         except Exception as fault:      # a modelling system is told, whatever it was
@@ -80,21 +78,17 @@ class Run:
         word = self.words.stub or ""
         try:
             self.model = self.inputs.model(word)
-        except Failure as fault:
-            self.missing = fault
-        except OSError as fault:
-            self.missing = Failure(Code.FILE, f"{word}: {fault.strerror}", Status.UNREAD)
-        if self.missing is not None:
-            self.model = Input(word, word.removesuffix(".nl") + ".nl", kinds.stub_of(word),
-                               kinds.end_of(word) == ".mps")
+        except (Failure, OSError) as fault:
+            self.missing = fault if isinstance(fault, Failure) else \
+                Failure(Code.FILE, f"{word}: {fault.strerror}", Status.UNREAD)
+            path, is_mps = word.removesuffix(".nl") + ".nl", kinds.end_of(word) == ".mps"
+            self.model = Input(word, path, kinds.stub_of(word), is_mps)
         self.nl, self.is_mps = self.model.path, self.model.is_mps
         self.sol = self.model.stub + ".sol"
 
-    # before the run ----------------------------------------------------------------
-
     def take_options(self) -> None:
-        """An older .sol goes once the model can be read, before anything else can go wrong: it
-        must not pass for this run's."""
+        """An older .sol goes once the model can be read, before anything else can go wrong: it must not pass for this
+        run's. What was said is told where that is asked for."""
         o = self.options
         if (self.words.ampl or self.words.save) and not self.is_mps:
             self.remove_older()
@@ -112,12 +106,10 @@ class Run:
         o.prove = int(bool(o.prove or o.strict))
         self.clock.tells = o.outlev >= 2
         o.is_written = self.writes()
-        self.begin()
+        if o.given and self.words.echo and not o.failexit:
+            print(f"{self.name} {VERSION}: {' '.join(o.given)}", flush=True)
         if self.writes():
             self.remove_older()
-
-    def begin(self) -> None:
-        """Before anything is done."""
 
     def remove_older(self) -> None:
         """Where the model is missing an answer stays: it is of no run that could be."""
@@ -134,19 +126,12 @@ class Run:
 
     def find_solver(self) -> str:
         """The absolute path, since the solver runs in another folder."""
-        named = self.options.solver or self.solver.program
-        place = self.solver.place(self.options.solver)
+        solver, named = self.solver, self.options.solver
+        place = solver.place(named)
         if place is None:
-            how = f"apt install {self.solver.package} (Debian)" \
-                if self.solver.package and not self.options.solver else "install it"
-            raise Failure(Code.NOT_FOUND, f"{named} was not found: {how} or give solver=PATH")
+            how = f"apt install {solver.package} (Debian)" if solver.package and not named else "install it"
+            raise Failure(Code.NOT_FOUND, f"{named or solver.program} was not found: {how} or give solver=PATH")
         return os.path.abspath(place)
-
-    # the run -----------------------------------------------------------------------
-
-    def shown(self) -> Result:
-        """The work, and what goes on in it."""
-        return self.work()
 
     def work(self) -> Result:
         if self.missing is not None:
@@ -155,7 +140,9 @@ class Run:
         bridge.shown[self.nl] = self.model.shown
         solver_path = "" if self.options.only else self.find_solver()
         with SIGNALS.kept(True):
-            folder = self.folder()
+            with writing(self.options.keep):        # the folder for files in between, this run's alone
+                self.kept_in = own_folder(self.options.keep, self.name) if self.options.keep else ""
+            folder = self.kept_in or tempfile.mkdtemp(prefix=self.name + "-")
             try:
                 with SIGNALS.kept(False), writing(folder):
                     return self.make_solving(self.solver, self.options, bridge, self.clock, self.model, solver_path,
@@ -164,69 +151,57 @@ class Run:
                 if not self.options.keep:
                     shutil.rmtree(folder, ignore_errors=True)
 
-    def folder(self) -> str:
-        """For files in between. One that is kept is this run's alone."""
-        if not self.options.keep:
-            return tempfile.mkdtemp(prefix=self.name + "-")
-        with writing(self.options.keep):
-            self.kept_in = own_folder(self.options.keep, self.name)
-        return self.kept_in
-
-    # after the run -----------------------------------------------------------------
-
     def lines(self, result: Result) -> list[str]:
-        if result.sol is None:
-            lines = [f"{self.name}: {result.lines[0]}", *result.lines[1:]]
-        else:
-            lines = result.lines
-        if self.kept_in not in ("", self.options.keep):
-            lines = [*lines[:1], f"the files in between are in {self.kept_in}", *lines[1:]]
-        return lines
+        first = result.lines[0] if result.sol is not None else f"{self.name}: {result.lines[0]}"
+        is_told = self.kept_in not in ("", self.options.keep)
+        return [first, *[f"the files in between are in {self.kept_in}"] * is_told, *result.lines[1:]]
 
     def deliver(self, result: Result) -> Status:
-        """The .sol and the values at once or not at all."""
+        """The .sol, where it is asked for and in a folder that is kept, and the values, at once or not at all."""
         self.result, self.message = result, self.lines(result)
         if self.options.solution:
             self.message.insert(1, self.write_solution())
         if not self.is_mps:
-            self.deliver_sol(result, self.message)
+            data = sol.with_message(result.sol, self.message) if result.sol is not None else \
+                sol.bare(self.nl, result.code, self.options.objno - 1, self.message)
+            if self.writes():
+                self.put(data)
+            if self.kept_in:
+                fill(os.path.join(self.kept_in, "bridge.sol"), data)
         if self.words.ampl:
             return Status.DONE
-        if result.end is not None and result.end.kept is not None and result.end.kept.failed:
+        if result.kept is not None and result.kept.failed:
             return Status.UNWRITTEN
         return Status.DONE if result.is_final else Status.NOT_SETTLED
 
-    def deliver_sol(self, result: Result, lines: Sequence[str]) -> None:
-        """Where it is asked for, and in a folder that is kept."""
-        o = self.options
-        sol = bare(self.nl, result.code, o.objno - 1, lines) if result.sol is None else with_message(result.sol, lines)
-        if self.writes():
-            self.put(sol)
-        if self.kept_in:
-            with open(os.path.join(self.kept_in, "bridge.sol"), "wb") as f:
-                f.write(sol)
-
-    def pairs(self, key: str) -> showing.Pairs:
-        """Values, duals or reduced costs by name: of the file, or beside it."""
+    def pairs(self, key: str) -> sol.Pairs:
+        """Values, duals or reduced costs by name, of the file or beside it: not of a tied objective."""
         answer = self.result.answer if self.result else None
         if answer is None:
             return []
-        names = answer.program.names
-        return showing.named(getattr(answer, key), names.row if key == "duals" else names.column)
+        name_of = answer.program.names.row if key == "duals" else answer.program.names.column
+        has_names = bool(name_of(0))
+        return [((name_of(int(name[1:])) if has_names else "") or name, text)
+                for name, text in (getattr(answer, key) or {}).items() if name[1:].isdigit()]
+
+    def numbers(self, key: str, bit: int) -> dict[str, str] | None:
+        """The same where `wantsol` asks for them; None where there are none."""
+        is_there = self.result is not None and getattr(self.result.answer, key, None) is not None
+        return dict(self.pairs(key)) if self.options.wantsol & bit and is_there else None
 
     def write_solution(self) -> str:
         """Where `solution` says; a line on it."""
         path, values = self.options.solution, self.pairs("values")
         if not values:
             return f"{path} is not written: there are no values"
-        data = showing.solution(path, values, self.pairs("duals"))
+        data = sol.solution(path, values, self.pairs("duals"))
         with writing(path):
             Places([self.nl, self.model.shown], bool(self.options.overwrite)).write(path, data)
         return f"{path} is written"
 
-    def put(self, sol: bytes) -> None:
+    def put(self, data: bytes) -> None:
         with writing(self.sol), SIGNALS.kept(True):
-            Places([self.nl], overwrite=True).write(self.sol, sol)
+            Places([self.nl], overwrite=True).write(self.sol, data)
             self.is_put = True
 
     def failed(self, fault: Failure) -> int:
@@ -234,26 +209,20 @@ class Run:
         self.fault = fault
         if self.words.ampl and not self.is_mps and fault.code != Code.STOPPED and not self.options.failexit:
             with contextlib.suppress(Failure, OSError, ValueError, IndexError):
-                self.put(bare(self.nl, fault.code, self.options.objno - 1, [f"{self.name}: {fault.text}"]))
+                self.put(sol.bare(self.nl, fault.code, self.options.objno - 1, [f"{self.name}: {fault.text}"]))
                 return Status.DONE
         return fault.status
-
-    def numbers(self) -> dict[str, dict[str, str]]:
-        """Values, duals and reduced costs by name, as `wantsol` asks for them."""
-        wanted = {"values": 2, "duals": 4, "costs": 4}
-        answer = self.result.answer if self.result else None
-        return {key: dict(self.pairs(key)) for key, bit in wanted.items()
-                if self.options.wantsol & bit and getattr(answer, key, None) is not None}
 
 
 class Driver(Run):
     """The command: a run that is told."""
 
-    usage_text, example_text = words.USAGE, words.EXAMPLE
+    usage_text, example_text = USAGE, EXAMPLE
+    is_quiet = False                # standard output is wanted for something else
+    shows = True                    # a screen of values that nobody asked for
 
     def main(self, argv: Sequence[str]) -> int:
-        """The exit status."""
-        asked = words.read(argv)
+        asked = words_of(argv)
         if asked.ask is not None:
             sys.stdout.write(self.told(asked.ask, asked.topic))
             return Status.DONE
@@ -263,76 +232,58 @@ class Driver(Run):
         return self.run(asked)
 
     def usage(self) -> str:
-        variable = self.name.replace("-", "_") + "_options"
-        return self.usage_text.format(name=self.name, title=self.solver.title, model=words.MODEL, variable=variable)
-
-    def out(self) -> TextIO:
-        return sys.stdout
+        return self.usage_text.format(name=self.name, title=self.solver.title, model=MODEL,
+                                      variable=self.name.replace("-", "_") + "_options")
 
     def told(self, ask: str, topic: str = "") -> str:
         """What -v, -= and -? print."""
         if topic in self.options.known:
             return self.options.known[topic].line() + "\n"
         if ask == "-=":
-            return self.options.listing()
+            return "".join(option.line() + "\n" for option in self.options.known.values())
         if ask == "-?":
             listing = "".join(option.paragraph() for option in self.options.known.values())
             return f"{self.usage()}\noptions:\n{listing}" + self.example_text.format(name=self.name)
         place = self.solver.place() or "not found"
         return f"{self.name} {VERSION} ({self.solver.title} {place})\n"
 
-    def begin(self) -> None:
-        if self.options.given and self.words.echo and not self.options.failexit:
-            print(f"{self.name} {VERSION}: {' '.join(self.options.given)}", flush=True)
-
-    def shown(self) -> Result:
+    def work(self) -> Result:
         """What goes on is told on standard error."""
-        progress = self.clock.progress
-        progress.start(sys.stderr, not self.options.outlev)
+        self.clock.progress.start(sys.stderr, not self.options.outlev)
         try:
-            return self.work()
+            return super().work()
         finally:
-            progress.stop()
+            self.clock.progress.stop()
 
     def deliver(self, result: Result) -> Status:
-        """The message, and what wantsol asks for."""
         o, status = self.options, super().deliver(result)
-        lines = self.message
+        lines, answer = self.message, result.answer
+        out = sys.stderr if self.is_quiet else sys.stdout
         if (not self.words.ampl or o.failexit) and not o.wantsol & 8:
-            if result.end is None:              # no verdict
-                print("\n".join(lines), file=self.out(), flush=True)
+            if answer is None:                  # no verdict
+                print("\n".join(lines), file=out, flush=True)
             else:
-                colour.tell_all(lines, self.out())
+                console.tell_all(lines, out)
         if o.failexit:
-            unsure, last, answer = f"{lines[0]}; ", lines[-1], result.answer
+            unsure, last = f"{lines[0]}; " if result.code == Code.UNSURE else "", lines[-1]
             if last in ("optimal 0", "feasible 0") and answer and not answer.program.has_objective():
                 last = "satisfied"
-            minizinc.tell(f"{self.name}: {unsure if result.code == Code.UNSURE else ''}{last}")
+            minizinc.tell(f"{self.name}: {unsure}{last}")
         if not self.words.ampl:
-            self.show()
+            print("".join(f"{line}\n" for line in self.numbers_told()), end="", file=out)
         if self.clock.tells:
             print(self.clock.summary(), flush=True)
         return status
 
-    def is_by_hand(self) -> bool:
-        """Whether values are shown that nobody asked for."""
+    def numbers_told(self) -> list[str]:
+        """Values and duals, one a line, by their names; a screen of values unasked where it is called by hand."""
         o = self.options
-        is_asked = self.words.save or any(word.startswith("wantsol=") for word in o.given)
-        return not (is_asked or o.failexit or o.json)
-
-    def show(self) -> None:
-        """Values of variables and duals of constraints, one a line, by their names; a screen of
-        values without asking where it is called by hand."""
-        o = self.options
-        shows = showing.lines if o.wantsol & 2 else showing.screen if self.is_by_hand() else None
-        told = list(shows(self.pairs("values"))) if shows is not None else []
+        is_asked = self.words.save or o.failexit or o.json or any(word.startswith("wantsol=") for word in o.given)
+        tells = sol.lines if o.wantsol & 2 else sol.screen if self.shows and not is_asked else None
         duals = self.pairs("duals") if o.wantsol & 4 else []
-        if duals:
-            told += ["duals", *showing.lines(duals)]
-        print("".join(f"{line}\n" for line in told), end="", file=self.out())
+        return [*(tells(self.pairs("values")) if tells else ()), *["duals"] * bool(duals), *sol.lines(duals)]
 
     def failed(self, fault: Failure) -> int:
-        """Told on standard error."""
         line = f"{self.name}: {fault.text}"
         sys.stderr.write(line + "\n")
         minizinc.tell(line, is_error=True)
@@ -341,5 +292,5 @@ class Driver(Run):
 
 def main(name: str = "") -> None:
     """Without a name that of the command: bridge-NAME."""
-    name = name or console.own_name().removeprefix("bridge-")
-    console.run("bridge-" + name, lambda: report.reported(Driver(name), sys.argv[1:]))
+    name = name or os.path.basename(sys.argv[0]).removesuffix(".exe").removeprefix("bridge-")
+    console.run("bridge-" + name, lambda: interface.reported(Driver(name), sys.argv[1:]))

@@ -7,15 +7,16 @@ have their names where AMPL wrote them beside the model (stub.col, stub.row), or
 
 from __future__ import annotations
 
+import itertools
 import os
 import re
 from typing import Mapping, NamedTuple, Sequence
 
-from . import kinds, mps_faults
-from .expressions import Expression
+from . import faults, kinds
+from .faults import OPCODE, meaning_of
 from .names import Names, comment_of, with_name
+from .nl import expression as expression_of
 from .printable import in_a_line, printable
-from .reasons import OPCODE, meaning_of
 
 TOLD = re.compile(r"refused (?:file (\d+) ?)?(?:(line|row|column|objective) (\d+)|program)?: (.*)", re.S)
 HEADS = b"COVLFSJGKkbrdx"
@@ -41,19 +42,13 @@ class Told(NamedTuple):
 def parsed(told: str) -> Told | None:
     """None where the line is no refusal."""
     found = TOLD.fullmatch(told)
-    if found is None:
-        return None
-    file, kind, number, reason = found.groups()
-    return Told(int(file or 1), kind or "", int(number or 0), reason)
+    return Told(int(found[1] or 1), found[2] or "", int(found[3] or 0), found[4]) if found else None
 
 
 def files_of(words: Sequence[str]) -> list[str]:
     """The files among the words of a command, in order."""
-    if not words or words[0] == "make":
-        return []
-    if words[0] == "export":
-        return [*words[1:2], *words[3:]]
-    return list(words[1:])
+    command = "".join(words[:1])
+    return [] if command == "make" else [*words[1:2], *words[3 if command == "export" else 2:]]
 
 
 def meaning(reason: str) -> str:
@@ -77,11 +72,9 @@ def fault_at(path: str) -> str:
 
 def unreadable(files: Sequence[str], shown: Mapping[str, str]) -> str:
     """Which of the files cannot be read, and why, and what is there that may be meant."""
-    for file in files:
-        why = fault_at(file)
-        if why:
-            beside = "" if os.path.lexists(file) else kinds.no_model(file).partition("; ")[2]
-            return f"{shown.get(file, file)}: input fault ({why})" + (beside and f"; {beside}")
+    for file in filter(fault_at, files):
+        beside = "" if os.path.lexists(file) else kinds.no_model(file).partition("; ")[2]
+        return f"{shown.get(file, file)}: input fault ({fault_at(file)})" + (beside and f"; {beside}")
     return "input fault: " + " or ".join(shown.get(f, f) for f in files) + " could not be read"
 
 
@@ -97,8 +90,8 @@ def counts_of(path: str) -> tuple[int | None, int | None]:
 
 
 class Segment(NamedTuple):
-    """The piece of an .nl file that a line stands in: the line of its head, which is 0 for the
-    ten lines of the header, and its lines as far as an expression needs them."""
+    """The piece of an .nl file that a line stands in: its head (none for the ten lines of the
+    header), and its lines as far as an expression needs them."""
 
     head_line: int
     head: bytes
@@ -124,31 +117,25 @@ def segment_at(path: str, line: int) -> Segment:
 
 def place_of(segment: Segment, line: int, names: Names) -> str:
     """`constraint 0 (Cap)`, or what else the line stands in."""
-    letter, inside = segment.head[:1], line - segment.head_line - 1
+    letter, inside = segment.head[:1].decode(), line - segment.head_line - 1
     found = re.match(rb"[A-Za-z](\d+)", segment.head)
     number = int(found.group(1)) if found else 0
-    said = comment_of(segment.head) if letter in BODIES else ""
-    if not segment.head_line:
-        return "header"
-    if letter in b"CJ":
+    said = comment_of(segment.head) if letter and letter in "COVL" else ""
+    if letter in ("b", "r") and inside >= 0:
+        return names.variable(inside) if letter == "b" else names.constraint(inside)
+    if letter in ("C", "J"):
         return names.constraint(number, said)
-    if letter in b"OG":
+    if letter in ("O", "G"):
         return names.objective(number, said)
-    if letter == b"V":
-        return with_name(f"defined variable {number}", said)
-    if letter in b"br" and inside >= 0:
-        return names.variable(inside) if letter == b"b" else names.constraint(inside)
-    return {b"L": f"logical constraint {number}", b"b": "bounds", b"r": "sides of constraints",
-            b"k": "column counts", b"K": "column counts", b"d": "guesses of duals",
-            b"x": "guesses of values", b"S": "suffix", b"F": "imported function"}[letter]
+    return {"": "header", "V": with_name(f"defined variable {number}", said), "L": f"logical constraint {number}",
+            "b": "bounds", "r": "sides of constraints", "k": "column counts", "K": "column counts", "S": "suffix",
+            "d": "guesses of duals", "x": "guesses of values", "F": "imported function"}[letter]
 
 
 def fault_of(reason: str, expression: str) -> str:
     """`(x0 * x1) is nonlinear`, or the reason with its meaning."""
-    opcode = OPCODE.match(reason)
-    if opcode:
-        what = expression or "an operator"
-        return f"{what} is not linear ({reason})"
+    if OPCODE.match(reason):
+        return f"{expression or 'an operator'} is not linear ({reason})"
     if expression and reason == "nonlinear":
         return f"{expression} is nonlinear"
     return (f"{expression}: " if expression else "") + reason + meaning(reason)
@@ -183,13 +170,13 @@ class Refusal:
         return f"{file}: {self.thing(t)}{t.reason}{meaning(t.reason)}"
 
     def at_line(self, t: Told) -> str:
-        is_mps = t.file == 1 and self.command in mps_faults.COMMANDS
+        is_mps = t.file == 1 and self.command in faults.COMMANDS
         if t.file == 1 and (is_mps and t.number == 1 or self.is_model and t.reason == "bad first line"):
             kind = kinds.kind_of(self.files[0])
             if kind is not None and not (is_mps and kind is kinds.MPS):
                 return f"{t.reason}: it {kinds.told(self.files[0], kind, self.shown[0])}"
         if is_mps:
-            word = mps_faults.fault(self.files[0], t.number, t.reason)
+            word = faults.fault(self.files[0], t.number, t.reason)
             return f"{t.reason} {word}" if word else t.reason + meaning(t.reason)
         if t.reason == "bad first line" and t.file == 2 and self.command in FIRST_LINES:
             return f"{t.reason} (it does not begin with `{FIRST_LINES[self.command]}`)"
@@ -201,17 +188,15 @@ class Refusal:
             return t.reason + meaning(t.reason)
         start, expression = t.number - segment.head_line - 1, ""
         if not t.reason.startswith(("short", "extra", "bad line")) and segment.head and start >= 0:
-            expression = Expression(self.names).text(segment.body[start:])
+            expression = expression_of(segment.body[start:], self.names)
         return f"{place_of(segment, t.number, self.names)}: {fault_of(t.reason, expression)}"
 
     def thing(self, t: Told) -> str:
         """`constraint 3 (Cap): ` for a row of the model; rows of an MPS text have no names here."""
         if not t.kind:
             return ""
-        own = {"row": self.names.constraint, "objective": self.names.objective}
-        if self.is_model and t.kind in own:
-            return own[t.kind](t.number) + ": "
-        return f"{t.kind} {t.number}: "
+        own = {"row": self.names.constraint, "objective": self.names.objective}.get(t.kind)
+        return (own(t.number) if self.is_model and own else f"{t.kind} {t.number}") + ": "
 
     def more(self) -> list[str]:
         """Further lines: the whole expression with the fault marked, the lines around, what helps."""
@@ -219,9 +204,9 @@ class Refusal:
         if t is None or not self.file():
             return []
         if self.segment is not None and self.segment.body:
-            whole = Expression(self.names, t.number - self.segment.head_line - 1)
-            text = whole.text(self.segment.body)
-            if text and whole.mark > 0:
+            mark = t.number - self.segment.head_line - 1
+            text = expression_of(self.segment.body, self.names, mark)
+            if text and mark > 0:
                 lines.append("in: " + text)
         helps = meaning_of(t.reason).help
         if helps:
@@ -236,9 +221,7 @@ def around(path: str, line: int, before: int = 2, after: int = 3) -> list[str]:
     lines = []
     try:
         with open(path, "rb") as f:
-            for number, text in enumerate(f, 1):
-                if number > line + after:
-                    break
+            for number, text in enumerate(itertools.islice(f, line + after), 1):
                 if b"\0" in text:
                     return []
                 if number >= line - before:
@@ -260,5 +243,5 @@ def object_of(words: Sequence[str], told: str, shown: Mapping[str, str]) -> dict
     if t is None or not words:
         return None
     refusal = Refusal(words, told, shown)
-    return {"told": told, "reason": t.reason, "kind": t.kind or None,
-            "number": t.number if t.kind else None, "file": refusal.file() or None, "more": refusal.more()}
+    return {"told": told, "reason": t.reason, "kind": t.kind or None, "number": t.number if t.kind else None,
+            "file": refusal.file() or None, "more": refusal.more()}

@@ -10,12 +10,14 @@ import re
 import shutil
 import stat
 import sys
+from pathlib import Path
 from typing import BinaryIO, Iterator, Sequence
 
 from .interrupts import SIGNALS
 
 NO_ONE = 0o222              # the bits of a mode that let someone write
 READ = "it is what this command reads"
+STANDS = "it stands there, and this run did not make it; overwrite=1 replaces it"
 OPEN = re.compile(r"/dev/std(?P<name>out|err)|/(?:dev|proc/self)/fd/(?P<number>\d+)")
 
 
@@ -113,20 +115,12 @@ class Places:
         return os.path.exists(target) and any(
             os.path.exists(path) and os.path.samefile(path, target) for path in self.reads)
 
-    def stays(self, target: str, data: bytes) -> str:
-        """Why what stands there stays; nothing where it may be written. Nothing is lost where it
-        is empty, or has the data already."""
-        if self.is_read(target):
-            return READ
-        if self.overwrite or not os.path.isfile(target) or is_special(target) \
-                or os.path.getsize(target) == 0 or has(target, data):
-            return ""
-        return "it stands there, and this run did not make it; overwrite=1 replaces it"
-
     def check(self, target: str, data: bytes) -> None:
-        why = self.stays(target, data)
-        if why:
-            raise FileExistsError(errno.EEXIST, why, target)
+        """Nothing is lost where what stands there is empty, or has the data already."""
+        if self.is_read(target) or not (
+                self.overwrite or not os.path.isfile(target) or is_special(target) or os.path.getsize(target) == 0
+                or os.path.getsize(target) == len(data) and Path(target).read_bytes() == data):
+            raise FileExistsError(errno.EEXIST, READ if self.is_read(target) else STANDS, target)
 
     def write(self, target: str, data: bytes) -> None:
         self.check(target, data)
@@ -138,10 +132,3 @@ class Places:
             raise FileExistsError(errno.EEXIST, READ, target)
         with contextlib.suppress(FileNotFoundError):
             os.unlink(target)
-
-
-def has(path: str, data: bytes) -> bool:
-    if os.path.getsize(path) != len(data):
-        return False
-    with open(path, "rb") as f:
-        return f.read() == data

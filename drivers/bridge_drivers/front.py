@@ -9,18 +9,17 @@ import re
 import signal
 import subprocess
 import sys
-from typing import TYPE_CHECKING, Callable, Mapping, NamedTuple, Sequence
+from typing import TYPE_CHECKING, Callable, Iterable, Mapping, NamedTuple, Sequence
 
-from . import VERSION, colour, commands, console, explaining, interface, kinds, reasons
-from .bridge import BESIDE, PACKAGE, Missing, find, is_plain
-from .built import built, state
+from . import VERSION, commands, console, explaining, faults, interface, kinds
+from .bridge import BESIDE, PACKAGE, built, find, is_plain, sum_of
 from .codes import Code, Failure, Status
-from .commands import COMMANDS, NAME, OWN, VERDICTS, WORDS
-from .importing import imported
+from .commands import COMMANDS, NAME, VERDICTS, WORDS
 from .inputs import Inputs, is_flow, named
+from .interface import BridgeError, Report
 from .interrupts import with_child
-from .near import near
-from .report import BridgeError, Report, sum_of
+from .mps_file import imported
+from .printable import near
 
 if TYPE_CHECKING:
     from .driver import Driver
@@ -33,7 +32,10 @@ HELP = ("-h", "-?", "-=", "--help")
 
 
 class BadWords(Exception):
-    """Words that no command takes."""
+    """Words that no command takes; `word` and `known`: what may have been meant."""
+
+    def __init__(self, text: str, word: str = "", known: Iterable[str] = ()) -> None:
+        super().__init__(f"{text};{near(word, known)}" if word else f"{text};")
 
 
 class Call(NamedTuple):
@@ -68,8 +70,7 @@ def read(words: Sequence[str]) -> Call:
                 raise BadWords(f"{name} takes a FILE")
             pages[name[2:]] = value if equal else left.pop()
         elif word.startswith("-") and not is_flow(word):
-            meant = near(word, ("--html", "--svg", "--help"))
-            raise BadWords(f"unknown option {word};{meant}".rstrip(";"))
+            raise BadWords(f"unknown option {word}", word, ("--html", "--svg", "--help"))
         else:
             plain.append(word)
     word = plain[0] if plain else ""
@@ -89,11 +90,10 @@ def command(words: Sequence[str]) -> int:
             sys.stderr.write(commands.usage())
             return Status.BAD_WORDS
         if call.word not in WORDS:
-            raise BadWords(f"unknown command {call.word};{near(call.word, WORDS)}".rstrip(";"))
+            raise BadWords(f"unknown command {call.word}", call.word, WORDS)
         return done(call)
     except BadWords as fault:
-        end = "" if str(fault).endswith("?") else ";"
-        sys.stderr.write(f"{NAME}: {fault}{end} -h lists the commands\n")
+        sys.stderr.write(f"{NAME}: {fault} -h lists the commands\n")
         return Status.BAD_WORDS
     except Failure as fault:
         sys.stderr.write(f"{NAME}: {fault}\n")
@@ -102,20 +102,19 @@ def command(words: Sequence[str]) -> int:
 
 def done(call: Call) -> int:
     """The command itself, or the proved program's."""
-    own: dict[str, Callable[[Call], Report]] = {"explain": explained, "stats": figures, "version": version}
-    wrong = wrong_words([call.word, *call.rest])
+    words = [call.word, *call.rest]
+    wrong = wrong_words(words)
     if wrong:
         raise BadWords(wrong if call.word not in PROVED else f"bad words: {wrong}")
     if call.word == "completion":
         print(completion(call.rest[0]), end="")
         return Status.DONE
-    if call.word == "verify" and (call.json or is_model(call.rest)):
-        return shown(call, verified)
-    if call.word == "import" and len(call.rest) == 2:
-        return shown(call, import_into)
-    if call.word in own:
-        return shown(call, own[call.word])
-    return passed_on(find("", BESIDE), [call.word, *call.rest])
+    is_own = call.word in REPORTS
+    if call.word == "verify":
+        is_own = call.json or is_model(call.rest)
+    elif call.word == "import":
+        is_own = len(call.rest) == 2
+    return shown(call) if is_own else passed_on(find("", BESIDE), words)
 
 
 def is_model(rest: Sequence[str]) -> bool:
@@ -131,10 +130,9 @@ def helped(call: Call) -> int:
     if topic in ("", "help"):
         sys.stdout.write(commands.usage())
         return Status.DONE
-    text = commands.help_of(topic) or reasons.listed() * (topic == "refusals") or helped_driver(topic)
+    text = commands.help_of(topic) or faults.listed() * (topic == "refusals") or helped_driver(topic)
     if not text:
-        meant = near(topic, [*WORDS, "refusals", *certifier().options.known])
-        raise BadWords(f"no help on {topic};{meant}".rstrip(";"))
+        raise BadWords(f"no help on {topic}", topic, [*WORDS, "refusals", *certifier().options.known])
     sys.stdout.write(text)
     return Status.DONE
 
@@ -157,38 +155,28 @@ def certifier() -> Driver:
     return Command(solvers.NAMES[0])
 
 
-# what is here -------------------------------------------------------------------------
-
-
-def shown(call: Call, make: Callable[[Call], Report]) -> int:
-    """A report, as text or as JSON; a fault stands on standard error too."""
+def shown(call: Call) -> int:
+    """A report, as text or as JSON; a fault stands on standard error too, but what explain is about is its answer."""
     try:
-        report, fault = make(call), ""
+        report, fault = REPORTS[call.word](call), ""
     except BridgeError as error:
         report, fault = error.report, error.report.text
+    is_answer = call.word == "explain" and report.status == Status.REFUSED
+    if fault and (call.json or not is_answer):
+        sys.stderr.write(f"{NAME}: {fault}\n")
     if call.json:
-        sys.stderr.write(f"{NAME}: {fault}\n" if fault else "")
         return report.show()
-    if fault:
-        return show_fault(call, report)
-    if call.word == "verify":
+    if fault and is_answer:
+        more = report.refusal["more"] if report.refusal else []
+        print("\n".join([fault, *(f"  {line}" for line in more)]))
+    elif call.word == "verify" and not fault:
         sys.stderr.write("".join(f"{NAME}: {note}\n" for note in report.lines[:-1]))
-        colour.tell(report.text, sys.stdout)
-    elif call.word == "explain" and report.explained is not None:
-        colour.tell(report.lines[0], sys.stdout, report.text)
+        console.tell(report.text, sys.stdout)
+    elif call.word == "explain" and report.explained is not None and not fault:
+        console.tell(report.lines[0], sys.stdout, report.text)
         print("\n".join(report.lines[1:]))
-    else:
+    elif not fault:
         print("\n".join(report.lines))
-    return report.status
-
-
-def show_fault(call: Call, report: Report) -> int:
-    """What explain is about is its answer."""
-    if call.word != "explain" or report.status != Status.REFUSED:
-        sys.stderr.write(f"{NAME}: {report.text}\n")
-        return report.status
-    more = report.refusal["more"] if report.refusal else []
-    print("\n".join([report.text, *(f"  {line}" for line in more)]))
     return report.status
 
 
@@ -205,23 +193,18 @@ def explained(call: Call) -> Report:
                              svg=call.pages.get("svg", ""), overwrite=call.overwrite)
 
 
-def figures(call: Call) -> Report:
-    return interface.figures(call.rest[0], objective=int((*call.rest, "0")[1]))
-
-
-def verified(call: Call) -> Report:
-    return interface.verify(*call.rest)
-
-
 def version(call: Call) -> Report:
     """Program, sum, toolchain and drivers, one a line."""
     place = find("", BESIDE)
     told = Report(NAME, program=place)
     digest = sum_of(place[0]) if len(place) == 1 else None
     facts = built(place[0]) if len(place) == 1 else {}
+    trial = "" if facts.get("proved") == "yes" else " (NOT PROVED: a build for trials)"
+    toolchain = (facts.get("toolchain") or "not told") + trial if facts else \
+        "not told: there is no note on this program, so that it may not be proved"
     told.text = f"{NAME} {VERSION}"
     told.lines = [told.text, f"program    {' '.join(map(os.path.normpath, place))}",
-                  f"sha256     {digest or 'cannot be read'}", f"toolchain  {state(facts)}",
+                  f"sha256     {digest or 'cannot be read'}", f"toolchain  {toolchain}",
                   f"drivers    {VERSION} {PACKAGE}"]
     told.more = {"program": list(place), "toolchain": facts.get("toolchain"),
                  "proved": facts.get("proved") == "yes" if facts else None, "drivers": PACKAGE}
@@ -247,12 +230,15 @@ def completion(shell: str) -> str:
     return Completion().text(shell)
 
 
-# the proved program's own -------------------------------------------------------------
+REPORTS: Mapping[str, Callable[[Call], Report]] = {
+    "explain": explained, "version": version, "import": import_into,
+    "verify": lambda call: interface.verify(*call.rest),
+    "stats": lambda call: interface.figures(call.rest[0], objective=int((*call.rest, "0")[1]))}
 
 
 def wrong_words(words: Sequence[str]) -> str:
     """Why no command takes these words, by the table; nothing where one does."""
-    rows = [c for c in (*COMMANDS, *OWN) if c.word == words[0]]
+    rows = commands.rows(words[0])
     takes = f"{words[0]} takes " + (" or ".join(row.rest for row in rows) or "no more")
     found = [misfit(names, words[1:], takes) for row in rows for names in row.forms(len(words) - 1)]
     return min(found, key=bool, default=takes)
@@ -285,33 +271,10 @@ def plain(inputs: Inputs, name: str, word: str) -> str:
 
 
 def passed_on(place: Sequence[str], words: Sequence[str]) -> int:
-    """The proved program over these files, its texts as they are; what else there is to say of a fault is added."""
+    """The proved program over these files, its texts as they are; what else there is to say of a
+    fault is added. A signal that ended the program ends this one."""
     with Inputs() as inputs:
-        return ended(run(place, [words[0], *plain_files(inputs, words)], words), words)
-
-
-def run(place: Sequence[str], call: Sequence[str], words: Sequence[str]) -> int:
-    """Its status. A verdict is in colour on a terminal, and a file that cannot be read is told with its cause."""
-    faulty = any(map(explaining.fault_at, explaining.files_of(call)))
-    is_coloured = words[0] in VERDICTS and colour.is_wanted(sys.stdout)
-    out, err = (subprocess.PIPE if wanted else None for wanted in (is_coloured, faulty))
-    try:
-        said, status = with_child(lambda child: (child.communicate(), child.returncode),
-                                  [*place, *call], stdout=out, stderr=err)
-    except OSError as fault:
-        raise Missing(f"{place[0]} could not be run: {fault.strerror}") from None
-    line, told = ((part or b"").decode("utf-8", "surrogateescape") for part in said)
-    if line.strip():
-        colour.tell(line.rstrip("\n"), sys.stdout)
-    if status == Status.UNREAD and faulty:
-        shown = dict(zip(explaining.files_of(call), explaining.files_of(words)))
-        told = f"{NAME}: {explaining.unreadable(explaining.files_of(call), shown)}\n"
-    sys.stderr.write(told)
-    return status
-
-
-def ended(status: int, words: Sequence[str]) -> int:
-    """A signal that ended the program ends this one; a refusal is told with what says more."""
+        status = run(place, [words[0], *plain_files(inputs, words)], words)
     if status < 0:
         with contextlib.suppress(OSError):              # of SIGKILL
             signal.signal(-status, signal.SIG_DFL)
@@ -319,6 +282,26 @@ def ended(status: int, words: Sequence[str]) -> int:
     if status == Status.REFUSED:
         call = words[1:] if words[0] == "export" and len(words) < 4 else words
         sys.stderr.write(f"{NAME}: `{NAME} explain {' '.join(call)}` says more\n")
+    return status
+
+
+def run(place: Sequence[str], call: Sequence[str], words: Sequence[str]) -> int:
+    """Its status. A verdict is in colour on a terminal, and a file that cannot be read is told with its cause."""
+    files = explaining.files_of(call)
+    faulty = any(map(explaining.fault_at, files))
+    is_coloured = words[0] in VERDICTS and console.is_coloured(sys.stdout)
+    out, err = (subprocess.PIPE if wanted else None for wanted in (is_coloured, faulty))
+    try:
+        said, status = with_child(lambda child: (child.communicate(), child.returncode),
+                                  [*place, *call], stdout=out, stderr=err)
+    except OSError as fault:
+        raise Failure(Code.NOT_FOUND, f"{place[0]} could not be run: {fault.strerror}") from None
+    line, told = ((part or b"").decode("utf-8", "surrogateescape") for part in said)
+    if line.strip():
+        console.tell(line.rstrip("\n"), sys.stdout)
+    if status == Status.UNREAD and faulty:
+        told = f"{NAME}: {explaining.unreadable(files, dict(zip(files, explaining.files_of(words))))}\n"
+    sys.stderr.write(told)
     return status
 
 

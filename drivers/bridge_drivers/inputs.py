@@ -1,32 +1,29 @@
-"""What a model may be, of every command: a stub, an .nl or MPS file, packed or not, a pipe, or standard input."""
+"""What a model may be: a stub, an .nl or MPS file, packed or not, a pipe, or standard input."""
 
 from __future__ import annotations
 
 import os
 import re
+import shutil
 import sys
 import tempfile
 from typing import NamedTuple, Sequence
 
 from . import kinds
+from .bridge import Bridge, Reply
 from .codes import Code, Failure, Status
 from .files import fill
-from .mps_mended import mended
+from .mps_file import judged, mended, reading
+from .names import Names
+from .nl import header, prepared
+from .program import Program
 
 STANDARD = re.compile(r"-|/dev/stdin|(?:/dev|/proc/self)/fd/\d+")
 NAMELESS = "stdin"              # what a model is called beside which no file can stand
 
 
-class Absent(Failure):
-    """There is no such model; the text says what is there."""
-
-    def __init__(self, text: str) -> None:
-        super().__init__(Code.FILE, text, Status.UNREAD)
-
-
 class Input(NamedTuple):
-    """A model: what it is called, a plain file with its text, the path without its end that files
-    beside it have, and what a message has to say of how it was had."""
+    """A model: what it is called, a file with its text, the path of files beside it without end, and how it was had."""
 
     shown: str
     path: str
@@ -36,23 +33,20 @@ class Input(NamedTuple):
 
 
 class Inputs:
-    """The files of one call. What is made for them is removed at its end."""
+    """The files of one call. What is made for them, in the folder `made`, is removed at its end."""
 
-    def __init__(self) -> None:
-        self.made: tempfile.TemporaryDirectory[str] | None = None
-        self.count = 0
+    made, count = "", 0
 
     def __enter__(self) -> Inputs:
         return self
 
     def __exit__(self, *fault: object) -> None:
-        if self.made is not None:
-            self.made.cleanup()
+        shutil.rmtree(self.made, ignore_errors=True)
 
     def place(self) -> str:
-        self.made = self.made or tempfile.TemporaryDirectory(prefix="nl-bridge-")
+        self.made = self.made or tempfile.mkdtemp(prefix="nl-bridge-")
         self.count += 1
-        return os.path.join(self.made.name, f"given{self.count}")
+        return os.path.join(self.made, f"given{self.count}")
 
     def plain(self, word: str) -> str:
         """The path of a plain file with what a word names: the word itself where that is one."""
@@ -68,12 +62,11 @@ class Inputs:
         return target
 
     def model(self, word: str) -> Input:
-        """Absent where there is none, Damaged where what is packed cannot be unpacked, OSError
-        where it cannot be read."""
+        """Failure where there is none, or what is packed cannot be unpacked; OSError where it cannot be read."""
         found = named(word)
         path = self.plain(found)
         if not os.path.isfile(path):
-            raise Absent(kinds.no_model(word))
+            raise Failure(Code.FILE, kinds.no_model(word), Status.UNREAD)
         is_mps = kinds.is_mps(path) or kinds.end_of(found) == ".mps"
         notes = []
         if kinds.is_packed(path):
@@ -94,11 +87,50 @@ def is_flow(word: str) -> bool:
 
 
 def named(word: str) -> str:
-    """The file that a word names: WORD.nl where that is there and the word has no end of its own,
-    else the word itself."""
+    """The file that a word names: WORD.nl where that is there and it has no end of its own, else the word itself."""
     is_stub = not kinds.end_of(word) and not is_flow(word) and os.path.isfile(word + ".nl")
     return word + ".nl" if is_stub else word
 
 
 def stub_of(found: str) -> str:
     return NAMELESS if STANDARD.fullmatch(found) else kinds.stub_of(found)
+
+
+class Subject(NamedTuple):
+    """`path` is the file that the proved program reads, `own` the program of an MPS file, `notes` how it was read."""
+
+    bridge: Bridge
+    given: Input
+    path: str
+    own: Program | None = None
+    notes: Sequence[str] = ()
+
+    def constraints(self) -> int:
+        return header(self.path).constraints if self.own is None else len(self.own.constraints)
+
+    def names(self) -> Names:
+        if self.own is not None:
+            return self.own.names
+        head = header(self.path)
+        return Names(self.given.stub, head.variables, head.constraints)
+
+    def program(self, objective: str = "0") -> Program:
+        if self.own is None:
+            return Program(self.bridge.text("export", self.path, objective))
+        if objective != "0":
+            reply = Reply(Status.REFUSED, b"", f"refused objective {objective}: no such objective")
+            raise self.bridge.refused(("verify", self.path, ""), reply)
+        return self.own
+
+
+def subject(bridge: Bridge, inputs: Inputs, word: str) -> Subject:
+    """With `verify` of this bridge being that of the model. Refused where an MPS file is none, or as `Inputs.model`."""
+    given = inputs.model(word)
+    bridge.shown[given.path] = given.shown
+    if not given.is_mps:
+        path, notes = prepared(given.path, inputs.place(), False)
+        bridge.shown[path] = given.shown
+        return Subject(bridge, given, path, None, [*given.notes, *notes])
+    read = reading(bridge, given.path)
+    program = judged(bridge, given.path, inputs.place(), read)
+    return Subject(bridge, given, given.path, program, [*given.notes, *read.notes, *program.notes])

@@ -1,29 +1,167 @@
-"""The calls of this package, which the commands are made of: each answers a Report, or raises a
-BridgeError. No file is written but those that are named.
-
-A model is what the commands take: a stub, an .nl or MPS file, packed or not, a pipe, or `-`.
-"""
+"""The calls of this package, which the commands are made of: each answers a Report, or raises a BridgeError. A model is
+what the commands take. No file is written but those that are named. With `json=1` a command prints the Report: its keys
+are always there, null where there is nothing; `report.schema.json` says what each is."""
 
 from __future__ import annotations
 
 import contextlib
+import io
+import json
 import os
-from typing import TYPE_CHECKING, Iterator, Mapping, Sequence, Union
+import sys
+import time
+from dataclasses import dataclass, field
+from fractions import Fraction
+from typing import TYPE_CHECKING, Any, Iterator, Mapping, Sequence, Union
 
-from . import explaining
-from .bridge import BESIDE, Bridge, Refused, find
+from . import VERSION, explaining, verdicts
+from .bridge import BESIDE, Bridge, Refused, find, sum_of
 from .codes import Code, Failure, Status
-from .inputs import Inputs
-from .report import Report, error_of, fill
-from .subjects import Subject, subject
-from .words import Words
+from .inputs import Inputs, Subject, subject
+from .options import BadOption, Options, Words, words_of
+from .values import double_of
+from .verdicts import Said
 
 if TYPE_CHECKING:                       # what few calls need is read by them
-    from .driver import Run
+    from .driver import Driver, Run
 
 Path = Union[str, "os.PathLike[str]"]
 FRONT = "nl-bridge"
 ALL_NUMBERS = 6                 # wantsol: values and duals
+Object = dict[str, Any]
+HIDDEN = ("more", "program", "began")
+OPTIONAL = ("values", "duals", "costs", "stats", "explained", "refusal")
+SUMMED = ("program", "model", "certificate")
+
+
+def number(value: Fraction | None) -> Object | None:
+    """Exactly as text, and the nearest double; null where there is none."""
+    return None if value is None else {"exact": str(value), "double": double_of(value)}
+
+
+@dataclass
+class Report:
+    """What is known of one call. `value` and `bound` are those of the claim, `text` is the verdict
+    word for word, or why there is none. `object` is as report.schema.json says."""
+
+    command: str
+    version: str = VERSION
+    status: int = 0
+    code: int | None = None
+    claim: str | None = None
+    objective: int | None = None
+    value: Fraction | None = None
+    bound: Fraction | None = None
+    text: str = ""
+    lines: Sequence[str] = ()
+    seconds: float = 0.0
+    model: str | None = None
+    certificate: str | None = None
+    sums: dict[str, str | None] = field(default_factory=lambda: dict.fromkeys(SUMMED))
+    values: dict[str, str] | None = None
+    duals: dict[str, str] | None = None
+    costs: dict[str, str] | None = None
+    stats: Object | None = None
+    explained: Object | None = None
+    refusal: Object | None = None
+    more: Object = field(default_factory=dict)
+    program: Sequence[str] = ()
+    began: float = field(default_factory=time.monotonic, repr=False)
+
+    def end(self) -> Report:
+        """Takes what is known at the end of the call: seconds and sums."""
+        program = self.program[0] if len(self.program) == 1 else None
+        self.seconds = round(time.monotonic() - self.began, 3)
+        self.sums = dict(zip(SUMMED, map(sum_of, (program, self.model, self.certificate))))
+        return self
+
+    def object(self) -> Object:
+        left_out = {*HIDDEN, *(key for key in OPTIONAL if getattr(self, key) is None)}
+        found = {key: value for key, value in vars(self).items() if key not in left_out}
+        return {**found, "status": int(self.status), "lines": list(self.lines),
+                "value": number(self.value), "bound": number(self.bound), **self.more}
+
+    def show(self) -> int:
+        print(json.dumps(self.object(), ensure_ascii=True, indent=1), flush=True)
+        return self.status
+
+    def say(self, text: str, status: int | None = None) -> None:
+        self.status = self.status if status is None else status
+        self.text, self.lines = text, [text]
+
+    def take(self, said: Said | None) -> None:
+        if said is not None:
+            self.claim, self.objective = said.word, said.objective
+            self.value, self.bound = said.value, said.bound
+
+    def take_line(self, line: str) -> None:
+        self.text = line
+        self.take(verdicts.read(line))
+
+
+def reported(driver: Driver, argv: Sequence[str]) -> int:
+    """The exit status of a driver's call; with json=1, also where other words are wrong, what it
+    tells goes into an object, and what else it prints nowhere, or to standard error."""
+    asked, options = words_of(argv), Options(driver.solver.options)
+    try:
+        options.environment(driver.name)
+        options.take(asked.options)
+    except BadOption:
+        options.json = int("json=1" in asked.options)
+    if asked.ask is not None or not options.json:
+        return driver.main(argv)
+    told = Report(driver.name)
+    with contextlib.redirect_stdout(sys.stderr if options.outlev else io.StringIO()):
+        told.status = driver.main(argv)
+    fill(told, driver)
+    return told.end().show()
+
+
+def fill(told: Report, run: Run) -> None:
+    told.model, told.program = run.model.shown or None, run.bridge_words
+    if run.fault is not None:
+        told.say(f"{run.name}: {run.fault.text}")
+        told.code = None if run.fault.code == Code.STOPPED else int(run.fault.code)
+    elif run.result is not None:
+        result = run.result
+        told.code, told.lines, told.text = int(result.code), result.lines, result.lines[-1]
+        told.take(result.said)
+        told.certificate = result.kept.path if result.kept else None
+        told.values, told.duals, told.costs = map(run.numbers, ("values", "duals", "costs"), (2, 4, 4))
+
+
+class BridgeError(Exception):
+    """No answer: the solver gave none, or something is at fault. `report` is what the command would
+    tell with json=1, `code` AMPL's (None of nl-bridge), `status` the exit status."""
+
+    def __init__(self, report: Report) -> None:
+        super().__init__(report.text)
+        self.report, self.code, self.status = report, report.code, report.status
+
+
+class ModelRefused(BridgeError):
+    """The model, or a certificate, is refused: the text says where and why."""
+
+
+class WrongOption(BridgeError):
+    """An unknown option, or a value out of its range."""
+
+
+class FileFault(BridgeError):
+    """A file cannot be read or written."""
+
+
+class NotInstalled(BridgeError):
+    """The proved program or the solver is not there."""
+
+
+KINDS: dict[int, type[BridgeError]] = {
+    Status.REFUSED: ModelRefused, Status.BAD_WORDS: WrongOption, Status.UNREAD: FileFault,
+    Status.UNWRITTEN: FileFault, Status.NOT_THERE: NotInstalled}
+
+
+def error_of(report: Report) -> BridgeError:
+    return KINDS.get(report.status, BridgeError)(report)
 
 
 def solve(model: Path, solver: str = "cbc", *, prove: bool = False,
@@ -33,9 +171,8 @@ def solve(model: Path, solver: str = "cbc", *, prove: bool = False,
     is kept where `certificate` says; `program` is the solver's, where it is not on the PATH, and
     `options` are those of the driver. Values and duals are in the report."""
     from .driver import Run
-    given: Mapping[str, object] = {"wantsol": ALL_NUMBERS, "prove": prove or None,
-                                   "certificate": certificate, "timelim": timelim, "solver": program, **options}
-    return solved("bridge-" + solver, Run, solver, model, given)
+    return solved("bridge-" + solver, Run, solver, model, prove=prove or None, certificate=certificate, timelim=timelim,
+                  program=program, options=options)
 
 
 def certify(model: Path, *, solver: str = "cbc", certificate: Path | None = None,
@@ -43,32 +180,28 @@ def certify(model: Path, *, solver: str = "cbc", certificate: Path | None = None
     """What is true of a model, as bridge-certify finds it by a driver and a search. The certificate
     is kept where it is named."""
     from .certify.command import Finding
-    given: Mapping[str, object] = {"wantsol": ALL_NUMBERS, "certificate": certificate,
-                                   "timelim": timelim, "solver": program, **options}
-    return solved("bridge-certify", Finding, solver, model, given)
+    return solved("bridge-certify", Finding, solver, model, certificate=certificate, timelim=timelim, program=program,
+                  options=options)
 
 
-def solved(command: str, kind: type[Run], solver: str, model: Path, options: Mapping[str, object]) -> Report:
+def solved(command: str, kind: type[Run], solver: str, model: Path, options: Mapping[str, object], program: Path | None,
+           **given: object) -> Report:
+    """By the words of these options that are given; values of both kinds are wanted."""
     from .solvers import NAMES
     told = Report(command)
     if solver not in NAMES:
         told.code = int(Code.BAD_OPTION)
-        told.say(f"no driver of {solver}: " + ", ".join(NAMES), Status.BAD_WORDS)
+        told.say(f"no driver of {solver}: {', '.join(NAMES)}", Status.BAD_WORDS)
         raise error_of(told.end())
     run = kind(solver)
-    words = [f"{name}={text_of(value)}" for name, value in options.items() if value is not None]
+    known: dict[str, object] = {"wantsol": ALL_NUMBERS, **given, "solver": program, **options}
+    words = [f"{name}={int(value) if isinstance(value, bool) else value}" if not isinstance(value, os.PathLike) else
+             f"{name}={os.fspath(value)}" for name, value in known.items() if value is not None]
     told.status = run.run(Words(os.fspath(model), echo=False, options=words))
     fill(told, run)
     if run.fault is not None:
         raise error_of(told.end())
     return told.end()
-
-
-def text_of(value: object) -> str:
-    """An option's value, as a word has it."""
-    if isinstance(value, bool):
-        return str(int(value))
-    return str(os.fspath(value) if isinstance(value, os.PathLike) else value)
 
 
 @contextlib.contextmanager
@@ -91,16 +224,15 @@ def asked(told: Report, bridge: str) -> Iterator[tuple[Bridge, Inputs]]:
 
 @contextlib.contextmanager
 def about(told: Report, model: Path, bridge: str) -> Iterator[Subject]:
-    """The same with a model."""
     told.model = os.fspath(model)
-    with asked(told, bridge) as (program, inputs), subject(program, inputs, told.model) as found:
+    with asked(told, bridge) as (program, inputs):
+        found = subject(program, inputs, told.model)
         told.model = found.given.shown
         yield found
 
 
 def verify(model: Path, certificate: Path, *, bridge: str = "") -> Report:
-    """The verdict of the proved program on a certificate: status 0 where the claim holds, else 1
-    with the reason in `text`."""
+    """The verdict of the proved program: status 0 where the claim holds, else 1 with the reason in `text`."""
     told = Report(FRONT, certificate=os.fspath(certificate))
     with about(told, model, bridge) as found:
         line = found.bridge.verdict("verify", found.path, os.fspath(certificate))
@@ -141,8 +273,7 @@ def figures(model: Path, *, objective: int = 0, bridge: str = "") -> Report:
 
 
 def called(call: Sequence[str], words: Sequence[str]) -> Report:
-    """Whether a call of another command of the proved program is refused; `words` are those that
-    its files are known by."""
+    """Whether a call of another command of the proved program is refused; its files are known by `words`."""
     told = Report(FRONT)
     shown = dict(zip(explaining.files_of(call), explaining.files_of(words)))
     with asked(told, "") as (program, _):

@@ -1,5 +1,4 @@
-"""SIGTERM and SIGINT end a command by an exception. They wait while a process is started or ended,
-so that none is left behind that nobody knows of."""
+"""SIGTERM and SIGINT end a command by an exception; they wait while a process is started or ended."""
 
 from __future__ import annotations
 
@@ -21,13 +20,11 @@ class Interrupted(BaseException):
         self.number = number
 
     def status(self) -> int:
-        """As a shell tells it."""
         return 128 + self.number
 
 
 class Signals:
-    """What comes in a block that holds waits for its end. The first signal ends the run; what comes
-    after it is nothing, since it would break off that end."""
+    """What comes in a block that holds waits for its end. The first signal ends the run, no other breaks that off."""
 
     def __init__(self) -> None:
         self.is_held = self.is_ending = False
@@ -71,7 +68,6 @@ class Signals:
             self.receiver = None
 
     def act(self) -> None:
-        """On what waited."""
         if self.waiting and not self.is_held:
             number, self.waiting = self.waiting, 0
             self.came(number)
@@ -89,23 +85,17 @@ def with_child(use: Callable[[subprocess.Popen[bytes]], T], argv: Sequence[str],
                 return use(child)
         finally:
             if child.poll() is None:
-                kill(child)
+                send(child, signal.SIGKILL)
                 child.wait()
             for stream in (child.stdout, child.stderr):
                 if stream is not None:
                     stream.close()
 
 
-def kill(child: subprocess.Popen[bytes]) -> None:
-    """With what it started, which may hold its output open, where its group is its own."""
-    send(child, signal.SIGKILL)
-
-
 def send(child: subprocess.Popen[bytes], number: int) -> None:
-    try:
+    """To it, and to what it started, which may hold its output open, where its group is its own."""
+    with contextlib.suppress(ProcessLookupError, PermissionError):
         if os.getpgid(child.pid) == child.pid:
             os.killpg(child.pid, number)
             return
-    except (ProcessLookupError, PermissionError):
-        pass
     child.send_signal(number)

@@ -12,7 +12,7 @@ import time
 from typing import Any, Callable, Mapping, NamedTuple, Sequence, TypeVar
 
 from .files import fill
-from .interrupts import SIGNALS, kill, send, with_child
+from .interrupts import SIGNALS, send, with_child
 from .options import Options
 from .program import Program, given
 from .progress import Progress, detailed
@@ -46,9 +46,8 @@ class Clock:
         finally:
             self.spent[part] = self.spent.get(part, 0.0) + time.monotonic() - start
 
-    def note(self, argv: Sequence[str], folder: str = "") -> None:
+    def note(self, argv: Sequence[str], where: str = "") -> None:
         if self.tells:
-            where = f"  (in {folder})" if folder else ""
             print(f"{self.name}: {time.monotonic() - self.began:.2f} s: {shlex.join(argv)}{where}", flush=True)
 
     def summary(self) -> str:
@@ -67,16 +66,9 @@ class Job:
         self.program, self.options, self.folder = program, options, folder
         self.solver, self.extra, self.clock = solver, list(extra), clock
         self.given = given(program, bool(options.relax))
-        self.log = ""
-        self.status = 0
+        self.log, self.status = "", 0
         self.again = self.is_interrupted = False
         self.read: Callable[[str], Mapping[str, float]] = lambda line: {}
-        self.remove_answers()               # a kept folder may hold another run's
-
-    def remove_answers(self) -> None:
-        for name in os.listdir(self.folder):
-            if name.startswith(ANSWERS):
-                os.unlink(self.path(name))
 
     def path(self, name: str) -> str:
         return os.path.join(self.folder, name)
@@ -85,11 +77,10 @@ class Job:
         return fill(self.path(name), data)
 
     def run(self, argv: Sequence[str], log: str = LOG) -> Ran:
-        """One run of a solver in the folder, where paths of the folder become plain names. It is
-        killed a tenth and 5 seconds after `timelim` where it goes on."""
+        """One run in the folder, whose paths become plain names; killed a tenth and 5 seconds after `timelim`."""
         inside = self.folder + os.sep
         argv = [w[len(inside):] if w.startswith(inside) else w for w in argv]
-        self.clock.note(argv, self.folder)
+        self.clock.note(argv, f"  (in {self.folder})")
         ran = self.clock.timed("solver", lambda: with_child(
             self.followed, argv, stdin=subprocess.DEVNULL, stdout=subprocess.PIPE,
             stderr=subprocess.STDOUT, cwd=self.folder, start_new_session=True))
@@ -104,7 +95,7 @@ class Job:
 
         def late() -> None:
             killed.set()
-            kill(child)
+            send(child, signal.SIGKILL)
         timer = threading.Timer(self.options.timelim * 1.1 + 5, late)
         if self.options.timelim:
             timer.daemon = True
@@ -121,10 +112,8 @@ class Job:
         return Ran(status, log, killed.is_set())
 
     def logged(self, child: subprocess.Popen[bytes]) -> str:
-        """What it tells, to its end."""
         lines, known = [], dict[str, float]()
-        assert child.stdout is not None
-        for data in child.stdout:
+        for data in child.stdout or ():
             line = data.decode("utf-8", "replace")
             lines.append(line)
             if self.options.outlev:

@@ -31,36 +31,24 @@ def missing(share: float, name: str, is_whole: bool = False) -> Miss:
     return Miss(share / (ROUNDING if is_whole else MOST), share, name)
 
 
-class Activities:
-    """Sums of rows at values, and what of rows and bounds they miss."""
-
-    def __init__(self, program: Program, values: Mapping[str, str], whole: Collection[str]) -> None:
-        self.program, self.read = program, program.read
-        texts = in_order(values, program.columns)
-        self.x = list(map(float, texts))
-        self.whole = [name in whole and text.lstrip("-").isdigit() for name, text in
-                      zip(program.columns, texts)] if whole else [False] * len(self.x)
-        self.terms = program.terms()
-
-    def misses(self) -> Iterator[Miss]:
-        """Of rows and bounds that are missed. A bound is its own largest term, and 0 is measured by 1."""
-        los, his = self.program.sides()
-        broken = [(i, at, lo, hi) for i, (at, lo, hi)
-                  in enumerate(zip(self.terms.activities(self.x), los, his)) if not lo <= at <= hi]
-        sizes = self.terms.greatest([max(1.0, abs(x)) for x in self.x]) if broken else []
-        mixed = self.mixed() if broken else set()
+def misses(program: Program, values: Mapping[str, str], whole: Collection[str]) -> Iterator[Miss]:
+    """Of rows and bounds that are missed. A bound is its own largest term, and 0 is measured by 1."""
+    read, texts, terms = program.read, in_order(values, program.columns), program.terms()
+    xs, (los, his) = list(map(float, texts)), program.sides()
+    are_whole = [name in whole and text.lstrip("-").isdigit() for name, text in
+                 zip(program.columns, texts)] if whole else [False] * len(xs)
+    broken = [(i, at, lo, hi) for i, (at, lo, hi) in enumerate(zip(terms.activities(xs), los, his))
+              if not lo <= at <= hi]
+    if broken:
+        sizes, mixed = terms.greatest([max(1.0, abs(x)) for x in xs]), set(read.row)
+        if any(are_whole):
+            mixed = {i for i, j in zip(read.row, read.column) if not are_whole[j]}
         for i, at, lo, hi in broken:
-            yield missed(self.program.constraints[i], at, lo, hi, sizes[i], i not in mixed)
-        for j, (x, lo, hi) in enumerate(zip(self.x, *self.program.bounds())):
-            if not lo <= x <= hi:
-                size = abs(x) if (lo if x < lo else hi) else max(1.0, abs(x))
-                yield missed(self.program.columns[j], x, lo, hi, size, self.whole[j])
-
-    def mixed(self) -> set[int]:
-        """Rows with a column that is not whole."""
-        if not any(self.whole):
-            return set(self.read.row)
-        return {i for i, j in zip(self.read.row, self.read.column) if not self.whole[j]}
+            yield missed(program.constraints[i], at, lo, hi, sizes[i], i not in mixed)
+    for j, (x, lo, hi) in enumerate(zip(xs, *program.bounds())):
+        if not lo <= x <= hi:
+            size = abs(x) if (lo if x < lo else hi) else max(1.0, abs(x))
+            yield missed(program.columns[j], x, lo, hi, size, are_whole[j])
 
 
 def missed(name: str, at: float, lo: float, hi: float, size: float, is_whole: bool) -> Miss:
@@ -73,8 +61,4 @@ def missed(name: str, at: float, lo: float, hi: float, size: float, is_whole: bo
 
 def miss(program: Program, values: Mapping[str, str], whole: Collection[str] = ()) -> Miss:
     """The one that counts most; `whole` are the columns whose values are meant to be whole."""
-    return max(Activities(program, values, whole).misses(), default=NONE)
-
-
-def largest_share(program: Program, values: Mapping[str, str]) -> float:
-    return max((m.share for m in Activities(program, values, ()).misses()), default=0.0)
+    return max(misses(program, values, whole), default=NONE)

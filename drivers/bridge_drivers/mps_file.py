@@ -1,27 +1,35 @@
-"""What the proved program says of an MPS file, in free form or in fixed columns."""
+"""An MPS file: what is mended in it, what the proved program says of it, in free form or in fixed columns, and the .nl
+that `nl-bridge import` makes of it, with its names beside it."""
 
 from __future__ import annotations
 
 import itertools
-import os
+import re
 from typing import NamedTuple, Sequence
 
 from .bridge import Bridge, Refused, Reply
 from .codes import Status
-from .files import fill
-from .mps_text import program_of
-from .program import Program
+from .files import Places, fill
+from .mps_reader import Text, exact
+from .program import Program, program_of
 
 FREE, FIXED = "free", "fixed"
 READS = {FREE: "mps", FIXED: "fixed"}               # commands by form
 VERIFIES = {FREE: "verify_mps", FIXED: "verify_fixed"}
 PROBE = b"certificate 1\nfeasible 0\npoint 0\n"     # one that any program can be asked about
 NAMES = ((4, 12), (14, 22), (39, 47))               # the fields of names in fixed columns
+BOM = b"\xef\xbb\xbf"
+BOUNDS = re.compile(rb"^BOUNDS\b.*?(?=^\S|\Z)", re.M | re.S)
+OBJECTIVE = re.compile(rb"^OBJNAME\s+(\S+)[ \t\r]*\n", re.M)
+FIRST_FREE = re.compile(rb"^ROWS.*?^\s+N\s+(\S+)", re.M | re.S)
+SENSE = re.compile(rb"^(OBJSENSE\s+)(MAX|MIN)IMISE\b", re.M | re.I)
+ENDLESS = [(re.compile(rb"^(\s+)%s(\s+\S+(?:\s+\S+)??)\s+%sinf(?:inity)?[ \t\r]*$" % pair,
+                       re.M | re.I), rb"\1%s\2" % kind)
+           for pair, kind in (((rb"LO", rb"-"), rb"MI"), ((rb"UP", rb"\+?"), rb"PL"))]
 
 
 class MpsRefused(Refused):
-    """`place` is what the line says of a place, and the same with the name of the row or column
-    there; `other` says more of it."""
+    """`place` is what the line says of a place, and that with the name that stands there; `other` says more of it."""
 
     place, other = ("", ""), ""
 
@@ -37,9 +45,38 @@ class Reading(NamedTuple):
     notes: Sequence[str] = ()
 
 
+def mended(text: bytes) -> tuple[bytes, list[str]]:
+    """What other programs write and the proved program does not read is mended in a copy, which is what is judged: a
+    byte order mark, infinite bounds by name, British spellings of a sense, an OBJNAME that says nothing more. The text
+    as it is read, and what there is to say of it."""
+    notes = []
+    if text.startswith(BOM):
+        text = text[len(BOM):]
+        notes.append("its byte order mark is left out")
+    part, count = BOUNDS.search(text), 0
+    if part is not None and b"inf" in part.group().lower():
+        bounds = part.group()
+        for pattern, bare in ENDLESS:           # an upper bound of inf and a lower one of -inf are none
+            bounds, more = pattern.subn(bare, bounds)
+            count += more
+        text = text[:part.start()] + bounds + text[part.end():]
+    if count:
+        what = "a bound of infinity is" if count == 1 else f"{count} bounds of infinity are"
+        notes.append(f"{what} read as none")
+    text, count = SENSE.subn(rb"\1\2", text, 1)
+    if count:
+        notes.append("MAXIMISE and MINIMISE are read as MAX and MIN")
+    named, first = OBJECTIVE.search(text), FIRST_FREE.search(text)
+    if named and first and named.group(1) == first.group(1):
+        text = text[:named.start()] + text[named.end():]
+        notes.append("OBJNAME names the first N row: it is left out")
+    if notes:
+        notes.append("what is judged is the text with these changes")
+    return text, notes
+
+
 def reading(bridge: Bridge, path: str, form: str = "") -> Reading:
-    """In the form that is given; else in free form where the text is one, then in fixed columns.
-    Refused where it is none."""
+    """In the given form; else in free form where the text is one, then in fixed columns. Refused where it is none."""
     if form:
         return Reading(form, bridge.text(READS[form], path))
     replies = {form: bridge.call(command, path) for form, command in READS.items()}
@@ -59,16 +96,14 @@ def both_refused(bridge: Bridge, path: str, replies: dict[str, Reply]) -> Refuse
             return bridge.refused((READS[form], path), reply)
     first = max(READS, key=lambda form: line_of(replies[form].told))
     fault = MpsRefused(READS[first], replies[first], (READS[first], path), bridge.shown)
-    if first == FIXED:
-        fault.other = " (in fixed columns)"
+    fault.other = " (in fixed columns)" if first == FIXED else ""
     if has_blank_name(path, line_of(replies[FIXED].told)):
         fault.other += ": names with blanks are not read"
     return fault
 
 
 def has_blank_name(path: str, line: int) -> bool:
-    """Whether a field of a name has two words at this line, as fixed columns have it. The head of a
-    section has no names."""
+    """Whether a field of a name in fixed columns has two words at this line, which is no head of a section."""
     with open(path, "rb") as f:
         text = next(itertools.islice(f, max(line - 1, 0), None), b"")
     return text[:1] == b" " and any(len(text[a:b].split()) > 1 for a, b in NAMES)
@@ -79,13 +114,12 @@ def line_of(told: str) -> int:
     return int(words[-1]) if words and words[-1].isdigit() else 0
 
 
-def judged(bridge: Bridge, path: str, folder: str, read: Reading) -> Program:
+def judged(bridge: Bridge, path: str, probe: str, read: Reading) -> Program:
     """The program of a reading, over which certificates are judged from now on. Refused where it
     is no linear program, or the proved program judges none of MPS files."""
     program = program_of(read.text)
-    probe = fill(os.path.join(folder, "probe.certificate"), PROBE)
     bridge.spelled = {"verify": VERIFIES[read.form]}
-    reply = bridge.call("verify", path, probe)
+    reply = bridge.call("verify", path, fill(probe, PROBE))
     if reply.status in (Status.DONE, Status.FAILED):
         return program
     words = bridge.in_full(("verify", path, probe))
@@ -97,3 +131,30 @@ def judged(bridge: Bridge, path: str, folder: str, read: Reading) -> Program:
     if name:
         fault.place = f" {place}: ", f" {place} ({name}): "
     raise fault
+
+
+def lists_of(text: bytes) -> tuple[list[bytes], list[bytes]]:
+    """Names of constraints, then of the objective, and of variables: continuous, binary, integer ones, each in the
+    order of the columns. The proved program does not write that order, so it is worked out again from its MPS text."""
+    read = Text(text)
+
+    def place(j: int) -> int:
+        is_binary = low[j] and exact(low[j]) >= 0 and high[j] and exact(high[j]) <= 1
+        return 0 if not read.whole[j] else 1 if is_binary else 2
+    low, high = read.bounds()
+    objective = [read.objective] if read.objective else []
+    return [*read.constraints, *objective], [read.columns[j] for j in sorted(range(len(low)), key=place)]
+
+
+def imported(bridge: Bridge, mps: str, nl: str, overwrite: bool = False) -> str:
+    """Writes the .nl and the lists, all or none; a line on them. Refused where `bridge` refuses the text."""
+    text, (rows, columns) = bridge.text("import", mps), lists_of(bridge.text("mps", mps))
+    stub = nl.removesuffix(".nl")
+    texts = {stub + ".nl": text, **{stub + end: b"".join(name + b"\n" for name in names)
+                                    for end, names in ((".row", rows), (".col", columns))}}
+    places = Places([mps], overwrite)
+    for act in (places.check, places.write):
+        for path, data in texts.items():
+            act(path, data)
+    return (f"{stub}.nl is written, with the names of {len(rows) - 1} constraints and {len(columns)} variables in "
+            f"{stub}.row and {stub}.col")

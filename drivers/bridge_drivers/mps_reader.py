@@ -1,22 +1,19 @@
 """The one reader of MPS text, in the one written form of `bridge export`, `bridge mps` and `bridge fixed`: one entry a
-line, words parted by one blank, a set's name on each line, the lines of a column together.
-
-Names and numbers are kept apart from entries, which are whole numbers by place. Nothing that is proved rests on it: it
-is made for solvers and for the search.
-"""
+line, words parted by one blank, a set's name on each line, the lines of a column together. Names and numbers are kept
+apart from entries, which are whole numbers by place. Nothing that is proved rests on it."""
 
 from __future__ import annotations
 
 import itertools
 from array import array
-from collections import Counter
+from collections import Counter, defaultdict
 from fractions import Fraction
 from functools import lru_cache
-from typing import Dict, Iterator, List, NamedTuple, Optional, Sequence
+from typing import Iterator, NamedTuple, Optional, Sequence
 
 from .values import wholes_of
 
-SECTIONS = ("OBJSENSE", "ROWS", "COLUMNS", "RHS", "RANGES", "BOUNDS")
+SECTIONS = (b"OBJSENSE", b"ROWS", b"COLUMNS", b"RHS", b"RANGES", b"BOUNDS")
 BLOCK = 1 << 17                         # bytes that are taken apart at once
 OBJECTIVE, OTHER = -1, -2               # places of N rows: the first one, and others
 WHOLE = (b"BV", b"LI", b"UI")           # kinds of bounds that make a column whole
@@ -27,49 +24,39 @@ MARKS = (b"'INTORG'", b"'INTEND'")
 End = Optional[bytes]                   # empty where it is infinite, None where it is not set
 
 
-class Numbering(Dict[bytes, int]):
-    """The place of each key in the order in which they were first asked for."""
-
-    def __missing__(self, key: bytes) -> int:
-        place = self[key] = len(self)
-        return place
-
-
 class Part(NamedTuple):
     """The lines of a section, in its text."""
 
-    text: bytes
-    start: int
-    stop: int
+    text: bytes = b""
+    start: int = 0
+    stop: int = 0
 
 
 class Text:
-    """A text, read. Constraints (rows that are not N) and columns have numbers in their order; the
-    k-th entry is the number `numbers[number[k]]` in `row[k]` and `column[k]`."""
+    """Constraints and columns by number; the k-th entry is `numbers[number[k]]` in `row[k]` and `column[k]`."""
 
     def __init__(self, text: bytes) -> None:
-        self.maximise = False
-        self.kinds: List[str] = []              # of constraints: L, G or E
-        self.constraints: List[bytes] = []
+        self.kinds: list[str] = []              # of constraints: L, G or E
+        self.constraints: list[bytes] = []
         self.objective = b""
-        self.places: Dict[bytes, int] = {}      # of rows
-        self.columns: List[bytes] = []
-        self.counts: List[int] = []             # entries of columns
-        self.whole: List[bool] = []
+        self.places: dict[bytes, int] = {}      # of rows
+        self.columns: list[bytes] = []
+        self.counts: list[int] = []             # entries of columns
+        self.whole: list[bool] = []
         self.row, self.number = array("i"), array("i")
-        known = Numbering()
+        known: defaultdict[bytes, int] = defaultdict()
+        known.default_factory = known.__len__           # a place in the order in which they are first asked for
         self.number_of = known.__getitem__
-        self.rhs: Dict[int, bytes] = {}
-        self.ranges: Dict[int, bytes] = {}
-        self.low: List[End] = []
-        self.high: List[End] = []
-        for name, part in parts(text):
-            getattr(self, "read_" + name.lower())(part)
+        sense, rows, columns, rhs, ranges, bounds = parts(text)
+        self.maximise = list(blocks(sense)) == [b" MAX\n"]
+        self.read_rows(rows)
+        self.read_columns(columns)
+        self.rhs, self.ranges = ({self.places[words[2]]: words[3] for words in lines(part)} for part in (rhs, ranges))
+        self.low: list[End] = [None] * len(self.columns)
+        self.high: list[End] = [None] * len(self.columns)
+        self.read_bounds(bounds)
         self.numbers = list(known)
         self.column = array("i", itertools.chain.from_iterable((j,) * count for j, count in enumerate(self.counts)))
-
-    def read_objsense(self, part: Part) -> None:
-        self.maximise = part.text[part.start:part.stop] == b" MAX\n"
 
     def read_rows(self, part: Part) -> None:
         for words in lines(part):
@@ -90,11 +77,11 @@ class Text:
             words = block.replace(b"\n", b"").split(b" ")
             names, rows, values = words[1::3], words[2::3], words[3::3]
             start = 0
-            for at in marks(block, values):
+            marks = enumerate(values) if b"'MARKER'" in block else ()
+            for at in [k for k, value in marks if value in MARKS]:      # whose values are no numbers
                 self.take(names[start:at], rows[start:at], values[start:at], is_whole)
                 is_whole, start = values[at] == MARKS[0], at + 1
             self.take(names[start:], rows[start:], values[start:], is_whole)
-        self.low, self.high = [None] * len(self.columns), [None] * len(self.columns)
 
     def take(self, names: Sequence[bytes], rows: Sequence[bytes], values: Sequence[bytes], is_whole: bool) -> None:
         """Those of columns that are whole, or are not."""
@@ -107,17 +94,11 @@ class Text:
         self.row.extend(array("i", list(map(self.places.__getitem__, rows))))
         self.number.extend(array("i", list(map(self.number_of, values))))
 
-    def read_rhs(self, part: Part) -> None:
-        self.rhs = {self.places[row]: value for _, _, row, value in lines(part)}
-
-    def read_ranges(self, part: Part) -> None:
-        self.ranges = {self.places[row]: value for _, _, row, value in lines(part)}
-
     def read_bounds(self, part: Part) -> None:
         """Each line gets four words: where there is no value, one stands empty in front of the
         set's name. Those of a column mostly stand together, and columns in their order."""
-        columns, at, last = self.columns, -1, b""
-        places: Dict[bytes, int] = {}
+        columns, low, high, at, last = self.columns, self.low, self.high, -1, b""
+        places: dict[bytes, int] = {}
         for block in blocks(part):
             lines = b"\n" + block
             for kind in BARE:
@@ -131,39 +112,33 @@ class Text:
                         places = places or {name: j for j, name in enumerate(columns)}
                         at = places[name]
                 if kind == b"LO":
-                    self.low[at] = fourth
-                elif kind == b"PL":
-                    self.high[at] = b""
-                else:
-                    self.bound(at, kind, fourth)
-
-    def bound(self, at: int, kind: bytes, value: bytes) -> None:
-        if kind in LOW:
-            self.low[at] = value if LOW[kind] is None else LOW[kind]
-        if kind in HIGH:
-            self.high[at] = value if HIGH[kind] is None else HIGH[kind]
-        if kind in WHOLE:
-            self.whole[at] = True
+                    low[at] = fourth
+                    continue
+                if kind in LOW:
+                    low[at] = fourth if LOW[kind] is None else LOW[kind]
+                if kind in HIGH:
+                    high[at] = fourth if HIGH[kind] is None else HIGH[kind]
+                if kind in WHOLE:
+                    self.whole[at] = True
 
     def entries(self) -> tuple[array[int], array[int], array[int]]:
         """Rows, columns, and which numbers."""
         return self.row, self.column, self.number
 
-    def bounds(self) -> tuple[List[bytes], List[bytes]]:
-        """Lower and upper ones of columns, empty where there are none. An upper one below 0 takes
-        the lower one away that is not set."""
+    def bounds(self) -> tuple[list[bytes], list[bytes]]:
+        """Lower and upper ones, empty where there are none. An upper one below 0 takes away an unset lower one."""
         low = [b"0" if end is None else end for end in self.low]
         high = [end or b"" for end in self.high]
         for j in self.without_low():
             low[j] = b""
         return low, high
 
-    def without_low(self) -> List[int]:
+    def without_low(self) -> list[int]:
         """Columns whose upper bound takes the lower one away."""
         return [j for j, (low, high) in enumerate(zip(self.low, self.high))
                 if low is None and high and high.startswith(b"-") and exact(high) < 0]
 
-    def sides(self) -> tuple[List[Optional[int]], List[Optional[int]], int]:
+    def sides(self) -> tuple[list[int | None], list[int | None], int]:
         """Lower and upper ones of constraints, and what they are over."""
         texts = list({b"0", *self.rhs.values(), *self.ranges.values()})
         numbers, scale = wholes_of(texts)
@@ -180,18 +155,13 @@ class Text:
         return low, high, scale
 
 
-def parts(text: bytes) -> Iterator[tuple[str, Part]]:
-    """The sections that there are. A line of data begins with a blank."""
-    found, at = [], 0
-    for name in SECTIONS:
-        head = name.encode() + b"\n"
-        place = at if text.startswith(head, at) else text.find(b"\n" + head, max(at - 1, 0)) + 1
-        if place or text.startswith(head):
-            at = place + len(head)
-            found.append((name, place, at))
-    stop = text.find(b"\nENDATA", max(at - 1, 0)) + 1 or len(text)
-    for (name, _, start), end in zip(found, [*(place for _, place, _ in found[1:]), stop]):
-        yield name, Part(text, start, end)
+def parts(text: bytes) -> list[Part]:
+    """The sections, those that are missing empty. A line of data begins with a blank."""
+    text = b"\n" + text
+    starts = {name: at for name in SECTIONS for at in [text.find(b"\n%s\n" % name)] if at >= 0}
+    stops = [*starts.values(), text.find(b"\nENDATA")][1:]
+    ends = dict(zip(starts, [stop + 1 or len(text) for stop in stops]))
+    return [Part(text, starts[name] + len(name) + 2, ends[name]) if name in starts else Part() for name in SECTIONS]
 
 
 def blocks(part: Part) -> Iterator[bytes]:
@@ -203,19 +173,9 @@ def blocks(part: Part) -> Iterator[bytes]:
         at = end
 
 
-def lines(part: Part) -> Iterator[List[bytes]]:
+def lines(part: Part) -> Iterator[list[bytes]]:
     """The words of each, behind an empty one."""
-    for block in blocks(part):
-        for line in block.split(b"\n"):
-            if line:
-                yield line.split(b" ")
-
-
-def marks(block: bytes, values: Sequence[bytes]) -> List[int]:
-    """The places of markers, whose values are no numbers."""
-    if b"'MARKER'" not in block:
-        return []
-    return [k for k, value in enumerate(values) if value in MARKS]
+    return (line.split(b" ") for block in blocks(part) for line in block.split(b"\n") if line)
 
 
 @lru_cache(maxsize=1 << 16)

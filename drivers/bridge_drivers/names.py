@@ -2,7 +2,9 @@
 
 from __future__ import annotations
 
+import contextlib
 import re
+from pathlib import Path
 
 from .printable import in_a_line
 
@@ -13,15 +15,6 @@ def comment_of(line: bytes) -> str:
     """What stands behind the mark # of an .nl line."""
     found = COMMENT.search(line.rstrip(b"\r\n"))
     return in_a_line(found.group(1).decode("utf-8", "surrogateescape").strip()) if found else ""
-
-
-def read_names(path: str) -> list[str]:
-    """One name a line, lines without words left out. Empty where there is no such file."""
-    try:
-        with open(path, encoding="utf-8", errors="surrogateescape", newline="\n") as f:
-            return [in_a_line(line.strip()) for line in f.read().split("\n") if line.strip()]
-    except OSError:
-        return []
 
 
 def with_name(thing: str, name: str) -> str:
@@ -39,9 +32,13 @@ class Names:
         self.lists: dict[str, list[str]] = {}
 
     def name(self, end: str, number: int) -> str:
-        """The name of that number, or nothing."""
+        """The name of that number, or nothing. One stands in a line, lines without words left out."""
         if end not in self.lists:
-            self.lists[end] = read_names(self.stub + end) if self.stub else []
+            text = b""
+            with contextlib.suppress(OSError):
+                text = Path(self.stub + end).read_bytes() if self.stub else text
+            lines = map(str.strip, text.decode("utf-8", "surrogateescape").split("\n"))
+            self.lists[end] = [in_a_line(line) for line in lines if line]
         names = self.lists[end]
         return names[number] if 0 <= number < len(names) else ""
 

@@ -1,16 +1,22 @@
-"""Options as AMPL's drivers take them: `name=value` words and the variable NAME_options."""
+"""The words that a driver is called with, and options as AMPL's drivers take them, also in NAME_options."""
 
 from __future__ import annotations
 
 import os
+import re
 import shlex
 import textwrap
+from dataclasses import dataclass, field
 from typing import Iterable, Sequence, TypeVar, Union, cast
 
 from .codes import Code, Failure
-from .near import near
-from .printable import either
+from .printable import either, near
+from .texts import parts
 
+USAGE, MODEL, EXAMPLE = parts("usage.txt").values()
+MODEL = MODEL.rstrip("\n")
+NAMED = re.compile(r"[A-Za-z]\w*=")
+ASKS = {"-v": "-v", "--version": "-v", "-=": "-=", "-?": "-?", "-h": "-?", "--help": "-?"}
 Value = Union[int, float, str]
 T = TypeVar("T")
 
@@ -18,29 +24,16 @@ T = TypeVar("T")
 class Text:
     """A text of any kind, called by what it is. `known` are all that it may be, where they are few."""
 
-    known: Sequence[str] = ()
-
-    def __init__(self, called: str = "a text") -> None:
-        self.called = called
+    def __init__(self, called: str = "a text", known: Sequence[str] = ()) -> None:
+        self.called, self.known = either(known) if known else called, known
 
     def __call__(self, word: str) -> Value:
+        if self.known and word not in self.known:
+            raise ValueError(word)
         return word
 
     def __str__(self) -> str:
         return self.called
-
-
-class Words(Text):
-    """One of some words."""
-
-    def __init__(self, *known: str) -> None:
-        super().__init__(either(known))
-        self.known = known
-
-    def __call__(self, word: str) -> Value:
-        if word not in self.known:
-            raise ValueError(word)
-        return word
 
 
 class Range(Text):
@@ -48,11 +41,9 @@ class Range(Text):
 
     def __init__(self, kind: type[int] | type[float], low: int, high: int | None = None) -> None:
         self.kind, self.low, self.high = kind, low, high
-        if kind is int and high is not None and high <= low + 2:
-            self.known = [str(value) for value in range(low, high + 1)]
-        number = "a whole number" if kind is int else "a number"
-        end = f" to {high}" if high is not None else " on"
-        super().__init__(either(self.known) if self.known else f"{number} from {low}{end}")
+        number, end = "a whole number" if kind is int else "a number", "on" if high is None else f"to {high}"
+        few = range(low, high + 1) if kind is int and high is not None and high <= low + 2 else ()
+        super().__init__(f"{number} from {low} {end}", list(map(str, few)))
 
     def __call__(self, word: str) -> Value:
         value = self.kind(word)
@@ -112,8 +103,7 @@ def common(default: T, kind: Text | type[Value], text: str) -> T:
 
 
 class Options:
-    """The options of one run. Those that all drivers have are attributes; a solver's own are
-    in `own`, by name. `given` lists what was said, for the echo. `is_written`: a .sol is."""
+    """The options of one run: common ones are attributes, a solver's own are in `own`. `given` lists what was said."""
 
     bound = common(1, SWITCH, "0: for integer programs no proved bound is looked for without prove=1")
     bridge = common("", Text("words"), "what starts the proved program (also $BRIDGE)")
@@ -123,13 +113,13 @@ class Options:
     extra = common("", str, "further words for the solver, in quotes")
     failexit = common(0, SWITCH, "1: where there is no answer, write no .sol and end with another "
                                  "status than 0 (MiniZinc)")
-    format = common("", Words("free", "fixed"), "how the lines of an MPS file are read, where both can be")
+    format = common("", Text(known=("free", "fixed")), "how the lines of an MPS file are read, where both can be")
     jobs = common(0, COUNT, "processes that search (prove=1); 0: as many as processors may be used")
     json = common(0, SWITCH, "1: standard output gets one object of JSON, and nothing else")
     keep = common("", FOLDER, "where the files in between are kept")
     objno = common(1, Range(int, 1), "which objective")
     outlev = common(0, Range(int, 0, 2), "1: the solver's log, 2: also the commands and times")
-    only = common("", Words("mps"), "mps: write the MPS text that this solver reads beside the model, and stop")
+    only = common("", Text(known=("mps",)), "mps: write the MPS text that this solver reads beside the model, and stop")
     overwrite = common(0, SWITCH, "1: a certificate, and the text of only=mps, replaces what stands at its place")
     prove = common(0, SWITCH, "1: search a certificate that the answer is optimal (timelim holds "
                               "for it too; 60 seconds where there is none)")
@@ -192,9 +182,52 @@ class Options:
                 raise BadOption(f"{name}: a quote does not end") from None
             self.take(words)
 
-    def listing(self) -> str:
-        """One line an option, for -=."""
-        return "".join(option.line() + "\n" for option in self.known.values())
-
 
 COMMON: Sequence[Option] = [o for o in vars(Options).values() if isinstance(o, Option)]
+
+
+@dataclass
+class Words:
+    """`ask` is the word that wants a text and no run (-v, -= or -?), `topic` the option that it is about."""
+
+    stub: str | None = None
+    ampl: bool = False
+    echo: bool = True
+    save: bool = False
+    ask: str | None = None
+    topic: str = ""
+    options: list[str] = field(default_factory=list)
+
+
+def words_of(argv: Sequence[str]) -> Words:
+    """In any order: what is `name=value`, or begins with `-`, is an option, the first other word the model, and what
+    follows it options of the form `name value`. After `--` nothing begins with `-`, and the first word is the model."""
+    words, left, is_plain = Words(), list(argv)[::-1], False
+    if argv[:1] == ["help"] and not any(map(os.path.exists, ("help", "help.nl"))):
+        words.ask, words.topic = "-?", argv[1] if len(argv) > 1 else ""
+        return words
+    while left:
+        word = left.pop()
+        if word == "--" and not is_plain:
+            is_plain = True
+        elif word in ASKS and not is_plain:
+            words.ask = words.ask or ASKS[word]
+        elif word in ("-AMPL", "-e", "-s") and not is_plain:
+            words.ampl, words.save = words.ampl or word == "-AMPL", words.save or word == "-s"
+            words.echo = words.echo and word != "-e"
+        elif not is_plain and (word[:1] == "-" and word != "-" or NAMED.match(word) or left and left[-1][:1] == "="):
+            words.options += [word, *rest_of(word, left)]
+        elif words.stub is None:
+            words.stub = word
+        else:
+            words.options.append(word)
+    return words
+
+
+def rest_of(word: str, left: list[str]) -> list[str]:
+    """The words of its value, where that is not in the word itself."""
+    _, equal, value = word.partition("=")
+    if value or not left:
+        return []
+    is_apart = not equal and left[-1] == "="
+    return [left.pop() for _ in range(min(1 + is_apart, len(left)))]

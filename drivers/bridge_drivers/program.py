@@ -1,5 +1,6 @@
 """The program of an MPS text in the form that `bridge export` writes, which all stages take: its names beside what
-`mps_reader` reads of it. Columns are x0, x1, .. in order, and then perhaps z, the tied objective."""
+`mps_reader` reads of it. Columns are x0, x1, .. in order, and then perhaps z, the tied objective. A text with names of
+its own is written so in its own numbering: the row i of those that are not N is ci, the column j is xj."""
 
 from __future__ import annotations
 
@@ -10,14 +11,16 @@ from array import array
 from functools import cached_property
 from itertools import compress
 from operator import mul
-from typing import Sequence
+from typing import Iterator, Sequence
 
-from .mps_reader import OBJECTIVE, Text, exact
+from .mps_reader import MARKS, OBJECTIVE, OTHER, Text, exact
 from .names import Names
+from .printable import in_a_line, some
 from .terms import Terms, entries_of, terms_of
 
 TIED, TIED_ROW = "z", "zdef"
 INFINITE = math.inf
+MOST_NAMED = 3                          # columns that a note names
 BOUND = re.compile(rb"^ (LO|UP) (\S+) (\S+) (\S*[.eE]\S*)$", re.M)
 
 
@@ -33,7 +36,6 @@ class Objective:
 
     @cached_property
     def largest(self) -> float:
-        """The size of the largest term."""
         return max([abs(term) for term in (self.start, *self.terms)])
 
     @cached_property
@@ -72,7 +74,6 @@ class Program:
         return self.objective_rhs != "0" or any(self.read.numbers[k] != b"0" for k in self.objective.numbers)
 
     def at(self, x: Sequence[float]) -> Objective:
-        """The objective at values of all columns."""
         columns, costs = self.cost_doubles
         return Objective(-float(self.objective_rhs), list(map(mul, costs, map(x.__getitem__, columns))))
 
@@ -96,9 +97,8 @@ class Program:
 
     def terms(self) -> Terms:
         """Of the constraints."""
-        places = range(len(self.constraints))
-        return terms_of(len(places), len(self.columns), self.read.entries(),
-                        list(map(float, self.read.numbers)), [*places, -1, -1])
+        m, numbers = len(self.constraints), list(map(float, self.read.numbers))
+        return terms_of(m, len(self.columns), self.read.entries(), numbers, [*range(m), -1, -1])
 
     def sides(self) -> tuple[list[float], list[float]]:
         """Of the constraints, lower and upper."""
@@ -113,14 +113,6 @@ class Program:
         low, high = ([known.get(text, end) for text in part] for part, end in zip(texts, (-INFINITE, INFINITE)))
         return low, high
 
-    def free_name(self) -> bytes:
-        """The text for readers that take `NAME nl` for fixed columns (all COIN readers)."""
-        return b"NAME nl FREE\n" + self.text[len(b"NAME nl\n"):]
-
-    def without_sense(self) -> bytes:
-        """The text without OBJSENSE, for readers that reject it (GLPK)."""
-        return self.text.replace(b"OBJSENSE\n MAX\n", b"", 1)
-
 
 def decoded(names: list[bytes]) -> list[str]:
     """Names and numbers, which hold no ends of lines."""
@@ -128,30 +120,107 @@ def decoded(names: list[bytes]) -> list[str]:
 
 
 def given(program: Program, relaxed: bool = False) -> Program:
-    """The bounds of whole columns rounded inwards, since GLPK takes no others; no point with whole
-    values is lost by it. The same program where no bound changes."""
-    if relaxed or not program.whole:
-        return program
+    """The bounds of whole columns rounded inwards, since GLPK takes no others; the same program where none changes."""
     start = program.text.find(b"\nBOUNDS\n")
+    if relaxed or not program.whole or start < 0:
+        return program
     whole = {name.encode() for name in program.whole}
 
     def rounded(found: re.Match[bytes]) -> bytes:
         kind, label, name, text = found.groups()
-        if name not in whole:
-            return found.group()
-        end = math.ceil(exact(text)) if kind == b"LO" else math.floor(exact(text))
-        return b" %s %s %s %d" % (kind, label, name, end)
-    bounds = BOUND.sub(rounded, program.text[start:]) if start >= 0 else b""
-    if start < 0 or bounds == program.text[start:]:
-        return program
+        rounds = math.ceil if kind == b"LO" else math.floor
+        return b" %s %s %s %d" % (kind, label, name, rounds(exact(text))) if name in whole else found.group()
     other = copy.copy(program)
-    other.text = program.text[:start] + bounds
-    return other
+    other.text = program.text[:start] + BOUND.sub(rounded, program.text[start:])
+    return program if other.text == program.text else other
 
 
-def hollow(program: Program) -> str | None:
-    """A whole column without a whole number between its bounds."""
-    for name, low, high in zip(program.columns, *program.read.bounds()) if program.whole else ():
-        if low and high and name in program.whole and math.floor(exact(high)) < math.ceil(exact(low)):
-            return name
-    return None
+def is_hollow(program: Program) -> bool:
+    """Whether a whole column has no whole number between its bounds."""
+    ends = zip(program.read.whole, *program.read.bounds()) if program.whole else ()
+    return any(whole and low and high and math.floor(exact(high)) < math.ceil(exact(low)) for whole, low, high in ends)
+
+
+def program_of(text: bytes) -> Program:
+    """Of a text in its written form, with the file's own names."""
+    read = Text(text)
+    own, names = exported(read), Names("", len(read.columns), len(read.constraints))
+    rows = [*read.constraints, read.objective] if read.objective else read.constraints
+    names.lists = {".row": list(map(shown, rows)), ".col": list(map(shown, read.columns))}
+    return Program(b"\n".join(lines(own)) + b"\n", own, names, notes_of(read))
+
+
+def exported(read: Text) -> Text:
+    """The same as it is exported: without other N rows, ranges as those of rows G and L, and all bounds set."""
+    own, (low, high) = copy.copy(read), read.bounds()
+    own.objective, own.low, own.high = b"obj", list(low), list(high)
+    own.constraints = [b"c%d" % i for i in range(len(read.constraints))]
+    own.columns = [b"x%d" % j for j in range(len(read.columns))]
+    own.kinds, own.ranges = list(read.kinds), {}
+    own.rhs = {i: text for i, text in read.rhs.items() if i >= 0 or i == OBJECTIVE and exact(text)}
+    for i, text in read.ranges.items():
+        if i >= 0 and (read.kinds[i] != "E" or exact(text)):
+            own.ranges[i] = text.lstrip(b"-")
+            if read.kinds[i] == "E":
+                own.kinds[i] = "L" if text.startswith(b"-") else "G"
+    if OTHER in read.row:
+        kept = [i != OTHER for i in read.row]
+        own.row, own.column, own.number = (array("i", compress(numbers, kept)) for numbers in
+                                           (read.row, read.column, read.number))
+    return own
+
+
+def lines(own: Text) -> Iterator[bytes]:
+    rows = [*own.constraints, own.objective]
+    yield from (b"NAME nl", *((b"OBJSENSE", b" MAX") if own.maximise else ()), b"ROWS", b" N obj")
+    yield from (b" %s %s" % (kind.encode(), row) for kind, row in zip(own.kinds, rows))
+    yield b"COLUMNS"
+    yield from column_lines(own, rows)
+    yield b"RHS"
+    yield from (b" RHS %s %s" % (rows[i], text) for i, text in own.rhs.items())
+    yield from (b"RANGES",) * bool(own.ranges)
+    yield from (b" RNG %s %s" % (rows[i], text) for i, text in own.ranges.items())
+    yield from (b"BOUNDS",) * bool(own.columns)
+    for column, low, high in zip(own.columns, own.low, own.high):
+        yield from bound_lines(column, low, high)
+    yield b"ENDATA"
+
+
+def column_lines(own: Text, rows: list[bytes]) -> Iterator[bytes]:
+    """Whole ones between markers; each has a line."""
+    entries: list[list[bytes]] = [[] for _ in own.columns]
+    for i, j, k in zip(own.row, own.column, own.number):
+        entries[j].append(b" x%d %s %s" % (j, rows[i], own.numbers[k]))
+    marks, in_whole = 0, False
+    for j, (whole, written) in enumerate(zip(own.whole, entries)):
+        if whole != in_whole:
+            yield b" M%d 'MARKER' %s" % (marks, MARKS[int(in_whole)])
+            marks, in_whole = marks + 1, whole
+        yield from written or [b" x%d obj 0" % j]
+    if in_whole:
+        yield b" M%d 'MARKER' %s" % (marks, MARKS[1])
+
+
+def bound_lines(column: bytes, low: bytes | None, high: bytes | None) -> Iterator[bytes]:
+    if low and low == high:
+        yield b" FX BND %s %s" % (column, low)
+    elif not low and not high:
+        yield b" FR BND %s" % column
+    else:
+        yield b" LO BND %s %s" % (column, low) if low else b" MI BND %s" % column
+        yield b" UP BND %s %s" % (column, high) if high else b" PL BND %s" % column
+
+
+def notes_of(read: Text) -> list[str]:
+    """On columns whose bounds other readers take otherwise."""
+    bare = [shown(name) for name, whole, low, high in zip(read.columns, read.whole, read.low, read.high)
+            if whole and low is None and high is None]
+    below = [shown(read.columns[j]) for j in read.without_low()]
+    told = [f"whole columns without bounds go from 0 on: {some(bare, MOST_NAMED)}; cbc and "
+            "glpsol, where they read the file, take 0 and 1 for their bounds"] if bare else []
+    return told + ["columns with an upper bound below 0 and no lower one have no lower end: "
+                   + some(below, MOST_NAMED)] * bool(below)
+
+
+def shown(name: bytes) -> str:
+    return in_a_line(name.decode("utf-8", "surrogateescape"))

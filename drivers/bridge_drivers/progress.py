@@ -1,5 +1,4 @@
-"""What goes on, in one line on standard error: on a terminal it is rewritten in place from the
-first second on, elsewhere it is a line each 5 s."""
+"""What goes on, in one line on standard error: rewritten in place on a terminal, elsewhere a line each 5 s."""
 
 from __future__ import annotations
 
@@ -54,26 +53,18 @@ class Progress:
         wait = FIRST if self.in_place else EVERY_LINE
         while not self.ended.wait(wait):
             if self.stage:
-                self.show()
+                self.write(CLEAR + self.line()[:width(self.stream) - 1] if self.in_place else self.line() + "\n")
+                self.is_shown = self.in_place
             wait = EVERY if self.in_place else EVERY_LINE
 
-    def show(self) -> None:
-        if self.in_place:
-            self.write(CLEAR + self.line()[:width(self.stream) - 1])
-            self.is_shown = True
-        else:
-            self.write(self.line() + "\n")
-
     def stop(self) -> None:
-        """Before anything else is told."""
         if self.thread is None:
             return
         self.ended.set()
         self.thread.join()
         self.thread = None
-        if self.is_shown:
-            self.write(CLEAR)
-            self.is_shown = False
+        self.write(CLEAR * self.is_shown)
+        self.is_shown = False
 
     def write(self, text: str) -> None:
         try:
@@ -91,8 +82,7 @@ def width(stream: TextIO) -> int:
 
 
 def detailed(known: Mapping[str, float]) -> str:
-    """The words of what is known, and finite: incumbent, bound, gap, nodes and others by their
-    names. A bound by cuts that are still being made is no claim yet."""
+    """The words of what is known, and finite. A bound by cuts that are still being made is no claim yet."""
     known = {name: value for name, value in known.items()
              if math.isfinite(value) and not (name == "bound" and "cuts" in known)}
     parts = [f"{name} {value:.10g}" for name, value in known.items() if name in ("incumbent", "bound", "objective")]

@@ -17,8 +17,7 @@ from typing import Any, Iterable, Mapping, Sequence
 import pulp
 
 from . import solvers
-from .interface import solve
-from .report import BridgeError, Report
+from .interface import BridgeError, Report, solve
 
 FILES = ("mps", "json")         # the problem, and what is told of it
 MOST_BYTES = 255                # of a name in an MPS file
@@ -68,29 +67,37 @@ class BridgeCmd(pulp.LpSolver_CMD):
         empty = empty_interval(lp)
         if empty:
             self.message = f"infeasible: {empty}"
-            return self.assigned(lp, pulp.LpStatusInfeasible, pulp.LpSolutionInfeasible)
+            status, solution = pulp.LpStatusInfeasible, pulp.LpSolutionInfeasible
+        else:
+            told, names = self.answered(lp)
+            self.message = in_words("\n".join(told.lines))
+            status, solution = statuses_of(told.code or 0, told.text)
+            self.take(lp, told, names)
+        if self.msg:
+            print(self.message)
+        lp.assignStatus(status, solution)
+        return int(status)
+
+    def answered(self, lp: pulp.LpProblem) -> tuple[Report, Mapping[str, str]]:
+        """What the driver tells, and the names of the file by PuLP's."""
         paths = dict(zip(FILES, self.create_tmp_files(self.free_name(lp.name), *FILES)))
         try:
             names = self.written(lp, paths["mps"])
-            told = self.answered(paths["mps"])
+            told = solve(paths["mps"], self.solver(), **self.given())
             if self.keepFiles:
                 with open(paths["json"], "w", encoding="ascii") as f:
                     json.dump(told.object(), f, indent=1)
+        except BridgeError as fault:
+            raise pulp.PulpSolverError(in_words(str(fault))) from None
         finally:
             self.delete_tmp_files(*paths.values())
-        self.message = in_words("\n".join(told.lines))
-        if self.msg:
-            print(self.message)
-        self.take(lp, told, names)
-        return self.assigned(lp, *statuses_of(told.code or 0, told.text))
+        return told, names
 
     def free_name(self, name: str) -> str:
         """One that no kept file of another run has."""
-        for number in itertools.count(1):
-            free = name if number == 1 else f"{name}-{number}"
-            if not self.keepFiles or not any(map(os.path.exists, self.create_tmp_files(free, *FILES))):
-                return free
-        raise AssertionError
+        names = (name if number == 1 else f"{name}-{number}" for number in itertools.count(1))
+        return next(free for free in names
+                    if not self.keepFiles or not any(map(os.path.exists, self.create_tmp_files(free, *FILES))))
 
     @staticmethod
     def take(lp: pulp.LpProblem, told: Report, names: Mapping[str, str]) -> None:
@@ -107,12 +114,6 @@ class BridgeCmd(pulp.LpSolver_CMD):
         lp.assignConsPi(dict(zip(lp.constraints, duals.values())))
         if costs:
             lp.assignVarsDj({name: costs[own] for name, own in names.items()})
-
-    def assigned(self, lp: pulp.LpProblem, status: int, solution: int) -> int:
-        if self.msg and status == pulp.LpStatusInfeasible and self.message.startswith("inf"):
-            print(self.message)
-        lp.assignStatus(status, solution)
-        return status
 
     def written(self, lp: pulp.LpProblem, path: str) -> Mapping[str, str]:
         """The problem as an MPS file; the names of its variables there, by PuLP's: the same where
@@ -131,12 +132,6 @@ class BridgeCmd(pulp.LpSolver_CMD):
         with open(path, "w", encoding="utf-8") as f:
             f.write(completed(text, lp.sense == pulp.LpMaximize, objective, lp.objective.constant))
         return dict(names)
-
-    def answered(self, mps: str) -> Report:
-        try:
-            return solve(mps, self.solver(), **self.given())
-        except BridgeError as fault:
-            raise pulp.PulpSolverError(in_words(str(fault))) from None
 
     def given(self) -> dict[str, Any]:
         options: dict[str, Any] = {"format": "free", "prove": self.prove, "bridge": self.bridge,
@@ -173,10 +168,8 @@ def in_words(text: str) -> str:
 def empty_interval(lp: pulp.LpProblem) -> str:
     """The first variable whose lower bound is above its upper one, or nothing. PuLP's own MPS
     would lose a lower bound of 0 under a negative upper one."""
-    for v in lp.variables():
-        if v.lowBound is not None and v.upBound is not None and v.lowBound > v.upBound:
-            return f"{v.name} has the lower bound {v.lowBound} and the upper bound {v.upBound}"
-    return ""
+    return next((f"{v.name} has the lower bound {v.lowBound} and the upper bound {v.upBound}" for v in lp.variables()
+                 if v.lowBound is not None and v.upBound is not None and v.lowBound > v.upBound), "")
 
 
 def completed(mps: str, maximise: bool, objective: str, constant: float | None) -> str:

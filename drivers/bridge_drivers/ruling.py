@@ -4,7 +4,7 @@ code that this earns. `tests/rulings.py` goes through all of it by tables."""
 from __future__ import annotations
 
 import enum
-from dataclasses import dataclass
+from typing import NamedTuple
 
 from .codes import Code
 
@@ -13,25 +13,13 @@ NO_BOUND = "no bound is proved"
 STRICT = "not proved, as strict=1 wants it"
 
 
-class Misses(enum.Enum):
-    """What the answer's own values miss of the model: nothing (or the rounding of a row's own
-    terms), little, or so much that they are no point."""
-
-    NOTHING = 0
-    LITTLE = 1
-    MUCH = 2
+# what the answer's own values miss of the model: nothing (or the rounding of a row's own terms), little, or so much
+# that they are no point
+Misses = enum.Enum("Misses", "NOTHING LITTLE MUCH")
+At = enum.Enum("At", "NONE ANSWER PROVED")          # whose point is passed on
 
 
-class At(enum.Enum):
-    """Whose point is passed on."""
-
-    NONE = 0
-    ANSWER = 1
-    PROVED = 2
-
-
-@dataclass(frozen=True)
-class Found:
+class Found(NamedTuple):
     """`said` is what the solver's status says by itself, `is_gap` that it stopped at a gap that was asked for. `claim`
     is the first word of what is proved of the file. `linear`: without whole variables, or relaxed.
 
@@ -59,8 +47,7 @@ class Found:
     strict: bool = False
 
 
-@dataclass(frozen=True)
-class Ruling:
+class Ruling(NamedTuple):
     """`lacks` says what code 0 is not earned for; nothing of other codes, and where the solver did
     not say so either."""
 

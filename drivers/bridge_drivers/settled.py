@@ -13,7 +13,8 @@ from .certify.claims import Verdict
 from .codes import Code
 from .miss import NONE, OWN, ROUNDING, Miss
 from .program import TIED, Objective
-from .ruling import FINAL, STRICT, At, Found, Misses, Ruling, ruled
+from .ruling import STRICT, At, Found, Misses, Ruling, ruled
+from .values import double_of
 from .verdicts import Said
 
 FAR = 1e-6                  # of the largest term or the sum: between unequal objectives
@@ -46,11 +47,10 @@ class Settled(NamedTuple):
 
 
 class Proved(NamedTuple):
-    """A point that is proved, by the place of columns: exactly, in doubles, its objective there,
-    and what it is beside the answer. `is_apart`: it has another objective than the answer."""
+    """A point that is proved, by the place of columns: its objective in doubles, and what it is beside the answer.
+    `is_apart`: it has another objective than the answer."""
 
     values: Sequence[Fraction]
-    x: Sequence[float]
     objective: Objective
     is_apart: bool
     kind: str
@@ -60,53 +60,43 @@ def settled(answer: Answer, verdict: Verdict, facts: Facts = Facts()) -> Settled
     """By the ruling on what was found."""
     proved = proved_point(answer, verdict)
     ruling = ruled(found(answer, verdict, facts, proved))
+    code, lacks = ruling.code, ruling.lacks
     if ruling.at is At.PROVED and proved is not None:
         return at_point(answer, verdict, proved, ruling)
     if ruling.at is At.ANSWER:
-        text = STRICT if ruling.lacks == STRICT else None
-        return Settled(ruling.code, answer.with_code(ruling.code), text, "", ruling.lacks)
-    if ruling.code == Code.UNSURE:
-        return Settled(ruling.code, answer.with_code(ruling.code), ruling.lacks)
-    return without_point(answer, ruling.code)
-
-
-def is_final(verdict: Verdict) -> bool:
-    """Whether it ends the question."""
-    return verdict.claim() in FINAL
+        return Settled(code, answer.with_code(code), STRICT if lacks == STRICT else None, "", lacks)
+    if code == Code.UNSURE:
+        return Settled(code, answer.with_code(code), lacks)
+    if answer.values is None and answer.outcome.code == code:
+        return Settled(code, answer)
+    return Settled(code, answer.without_point(code), WORDS[code])
 
 
 def found(answer: Answer, verdict: Verdict, facts: Facts, proved: Proved | None) -> Found:
     """What decides on the code."""
-    program, outcome, said = answer.program, answer.outcome, verdicts.read(verdict.line)
-    if not verdict.is_proved():
-        said = None
+    program, outcome = answer.program, answer.outcome
+    said = verdicts.read(verdict.line) if verdict.is_proved() else None
     linear = not program.whole or bool(answer.options.relax)
-    share, room = facts.missed.share, OWN if linear else ROUNDING
     kind = proved.kind if proved else ""
     mended = bool(program.whole) and proved is not None and not kind and proved.is_apart
-    misses = Misses.MUCH if facts.missed.is_much() else Misses.LITTLE if share > room else Misses.NOTHING
+    is_missed = facts.missed.share > (OWN if linear else ROUNDING)
+    misses = Misses.MUCH if facts.missed.is_much() else Misses.LITTLE if is_missed else Misses.NOTHING
     return Found(
         outcome.code, verdict.claim(), linear, outcome.is_gap, kind, mended,
-        said is not None and closes(answer, proved, said),
-        said is not None and is_within(said, facts.gap), misses,
-        said is not None and said.word == "bound" and is_beyond(answer, verdict.bound()),
+        said is not None and closes(answer, proved, said), said is not None and is_within(said, facts.gap), misses,
+        said is not None and said.word == "bound" and is_beyond(answer, said.bound),
         verdict.contradicted, verdict.by_doubles, verdict.is_open, facts.checked, facts.strict)
 
 
 def closes(answer: Answer, proved: Proved | None, said: Said) -> bool:
     """Whether the bound is at the objective of the proved point, else of the answer: up to 1e-6 of
     it, of 1, or of the sum of its terms."""
-    if said.bound is None:
-        return False
-    if said.bound == said.value:
-        return True
+    if said.bound is None or said.bound == said.value:
+        return said.bound is not None
     if proved is not None and said.value is not None:
         at, objective = said.value, proved.objective
-    elif answer.values is not None:
-        objective = answer.figures
-        if not math.isfinite(objective.value):
-            return False
-        at = Fraction(objective.value)
+    elif answer.values is not None and math.isfinite(answer.figures.value):
+        at, objective = Fraction(answer.figures.value), answer.figures
     else:
         return False
     terms = Fraction(objective.total) if objective.total < math.inf else Fraction(0)
@@ -120,12 +110,6 @@ def is_within(said: Said, gap: float) -> bool:
     return abs(said.bound - said.value) <= Fraction(gap) * max(abs(said.bound), abs(said.value))
 
 
-def without_point(answer: Answer, code: Code) -> Settled:
-    if answer.values is None and answer.outcome.code == code:
-        return Settled(code, answer)
-    return Settled(code, answer.without_point(code), WORDS[code])
-
-
 def proved_point(answer: Answer, verdict: Verdict) -> Proved | None:
     """None where there is none."""
     if not verdict.is_proved() or verdict.point is None:
@@ -136,9 +120,9 @@ def proved_point(answer: Answer, verdict: Verdict) -> Proved | None:
     x = as_doubles(values)
     objective = program.at(x)
     if answer.values is None:
-        return Proved(values, x, objective, False, "a")
+        return Proved(values, objective, False, "a")
     apart = is_apart(answer.figures, objective)
-    return Proved(values, x, objective, apart, another(answer, x, objective) if apart else "")
+    return Proved(values, objective, apart, another(answer, x, objective) if apart else "")
 
 
 def proved_duals(answer: Answer, verdict: Verdict) -> dict[str, Fraction]:
@@ -172,9 +156,9 @@ def is_apart(old: Objective, new: Objective) -> bool:
     return abs(old.value - new.value) > FAR * max(old.largest, new.largest, abs(old.value))
 
 
-def is_beyond(answer: Answer, bound: Fraction) -> bool:
+def is_beyond(answer: Answer, bound: Fraction | None) -> bool:
     """Whether the answer is better than what was proved to be the best."""
-    if answer.values is None:
+    if answer.values is None or bound is None:
         return False
     own, limit = answer.figures, as_double(bound)
     by = own.value - limit
@@ -182,10 +166,8 @@ def is_beyond(answer: Answer, bound: Fraction) -> bool:
 
 
 def as_double(value: Fraction) -> float:
-    try:
-        return float(value)
-    except OverflowError:
-        return float("inf") if value > 0 else float("-inf")
+    double = double_of(value)
+    return double if double is not None else math.inf if value > 0 else -math.inf
 
 
 def as_doubles(values: Sequence[Fraction]) -> list[float]:

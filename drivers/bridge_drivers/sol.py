@@ -1,14 +1,22 @@
-"""The two .sol texts that are not written by `bridge`: one without values, after a refusal, and
-one whose message has its last lines, which are known only after `bridge check` read it."""
+"""Answers as texts. Two .sol texts are not written by `bridge`: one without values, after a refusal, and one whose
+message has its last lines, which are known only after `bridge check` read it. Values and duals by name are printed, or
+written where `solution` says."""
 
 from __future__ import annotations
 
-from typing import Sequence
+import json
+import os
+import tempfile
+from typing import Iterable, Iterator, List, Sequence, Tuple
 
+from .bridge import Bridge
+from .files import fill
 from .nl import header
 from .printable import in_a_line
 
 MARK = b"\nOptions\n"
+SCREEN = 20                     # lines of values that are printed without asking
+Pairs = List[Tuple[str, str]]
 
 
 def bare(nl: str, code: int, objective: int, message: Sequence[str]) -> bytes:
@@ -34,10 +42,35 @@ def numbers_of(sol: bytes) -> tuple[list[str], list[str]]:
     return lines[first:middle], lines[middle:middle + int(lines[at + 3])]
 
 
-def duals_of(sol: bytes) -> list[str]:
-    """In the order of the constraints."""
-    return numbers_of(sol)[0]
+def factors_of(bridge: Bridge, nl: str, rows: Sequence[str], objective: str = "0") -> dict[str, str]:
+    """What `export` multiplied each written row by: duals of 1, as `return` gives them back."""
+    if not rows:
+        return {}
+    answer = f"answer 1\nobjno {objective}\n" + "".join(f"row {r} 1\n" for r in rows)
+    with tempfile.TemporaryDirectory(prefix="nl-bridge-") as folder:
+        duals, _ = numbers_of(bridge.text("return", nl, fill(os.path.join(folder, "ones.txt"), answer.encode())))
+    return {row: duals[int(row[1:])] for row in rows}
 
 
 def encoded(lines: Sequence[str]) -> bytes:
     return ("\n".join(lines) + "\n").encode("utf-8", "surrogateescape")
+
+
+def lines(pairs: Iterable[tuple[str, str]]) -> Iterator[str]:
+    return (f"{name} {text}" for name, text in pairs)
+
+
+def screen(pairs: Pairs) -> Iterator[str]:
+    """All where they are few, else the first that are not 0."""
+    shown = pairs if len(pairs) <= SCREEN else [(n, v) for n, v in pairs if v != "0"][:SCREEN]
+    yield from lines(shown)
+    left = len(pairs) - len(shown)
+    if left:
+        yield f"({left} values more: wantsol=2 prints all, solution=FILE writes them)"
+
+
+def solution(path: str, values: Pairs, duals: Pairs) -> bytes:
+    """A name and a value a line, duals under a heading; one object of JSON by the file's end."""
+    if path.endswith(".json"):
+        return encoded([json.dumps({"values": dict(values), "duals": dict(duals)}, indent=1)])
+    return encoded([*lines(values), *(["", "duals"] if duals else []), *lines(duals)])

@@ -7,22 +7,17 @@ row comes back times the row's factor.
 
 from __future__ import annotations
 
-import os
-import tempfile
 from collections import Counter
-from dataclasses import dataclass, field
 from fractions import Fraction
 from functools import lru_cache
 from typing import Collection, Union
 
-from .bridge import Bridge
-from .files import fill
+from .inputs import Subject
 from .mps_reader import OBJECTIVE, exact
 from .names import Names, with_name
 from .printable import some
 from .program import TIED, TIED_ROW, Program
-from .sol import duals_of
-from .subjects import Subject
+from .sol import factors_of
 from .terms import entries_of
 from .values import double_of
 
@@ -39,23 +34,60 @@ def is_held(value: Fraction) -> bool:
     return double is not None and value in (Fraction(double), Fraction(repr(double)))
 
 
-@dataclass
 class Figures:
-    """What is counted of a program. `columns` are counts by kind, `kinds` the letters of rows by
-    name; `sizes` and its kin absolute values, of which the least and the greatest are told; `lost`
-    the numbers that doubles do not hold, with where they stand."""
+    """What is counted of a program. `columns` are counts by kind, `kinds` the letters of rows by name; `sizes` and its
+    kin absolute values, of which the least and the greatest are told; `lost` the numbers that doubles do not hold, with
+    where they stand."""
 
-    program: Program
-    kinds: dict[str, str]
-    columns: dict[str, int]
-    entries: int = 0
-    costs: int = 0
-    tied_by: Exact | None = None
-    sizes: list[Exact] = field(default_factory=list)
-    cost_sizes: list[Exact] = field(default_factory=list)
-    sides: list[Exact] = field(default_factory=list)
-    infinite: int = 0
-    lost: list[tuple[str, str]] = field(default_factory=list)
+    def __init__(self, program: Program) -> None:
+        read = program.read
+        self.program, self.kinds = program, dict(zip(program.constraints, read.kinds))
+        self.columns = columns_of(program)
+        self.entries = self.costs = self.infinite = 0
+        self.tied_by: Exact | None = None
+        self.sizes, self.cost_sizes, self.sides = list[Exact](), list[Exact](), list[Exact]()
+        self.lost: list[tuple[str, str]] = []
+        self.count_entries()
+        for i, side in [*read.rhs.items(), *read.ranges.items()]:
+            value = self.number(program.rows[i + 1], side)
+            if i != OBJECTIVE and value:
+                self.sides.append(size(value))
+                self.infinite += size(value) >= INFINITE
+        for name, low, high in zip(program.columns, read.low, read.high):
+            for end in (low,) if low == high else (low, high):
+                value = self.number(name, end) if end else 0
+                self.infinite += size(value) >= INFINITE
+
+    def count_entries(self) -> None:
+        """Those of rows and of the objective, which may stand in the row zdef."""
+        program, read, costs = self.program, self.program.read, list(zip(*self.program.objective))
+        if TIED_ROW in self.kinds:
+            costs += zip(*entries_of(read.entries(), program.constraints.index(TIED_ROW)))
+        values = [known(text) for text in read.numbers]
+        left = Counter(read.number)
+        for j, k in costs:
+            left[k] -= 1
+            if program.columns[j] == TIED:
+                self.tied_by = size(values[k][0])
+            elif values[k][0]:
+                self.costs += 1
+                self.cost_sizes.append(size(values[k][0]))
+        for k, count in left.items():
+            if count and values[k][0]:
+                self.entries += count
+                self.sizes.append(size(values[k][0]))
+        if not all(held for _, held in values):
+            self.lost += [(f"{program.rows[i + 1]} {program.columns[j]}", read.numbers[k].decode())
+                          for i, j, k in zip(*read.entries()) if not values[k][1]]
+
+    def number(self, where: str, text: bytes) -> Exact:
+        value, held = known(text)
+        if not held:
+            self.lost.append((where, text.decode()))
+        return value
+
+    def rows(self, kind: str = "") -> list[str]:
+        return [name for name, letter in self.kinds.items() if name != TIED_ROW and (not kind or letter == kind)]
 
     def sense(self) -> str:
         return "maximise" if self.program.maximise else "minimise"
@@ -63,14 +95,11 @@ class Figures:
     def constant(self) -> str:
         return str(-Fraction(self.program.objective_rhs))
 
-    def rows(self, kind: str = "") -> list[str]:
-        return [name for name, letter in self.kinds.items() if name != TIED_ROW and (not kind or letter == kind)]
-
-    def number(self, where: str, text: bytes) -> Exact:
-        value, held = known(text)
-        if not held:
-            self.lost.append((where, text.decode()))
-        return value
+    def sense_line(self) -> str:
+        line = self.sense() + ("" if self.costs else ", no objective but a constant")
+        if self.tied_by is not None:
+            return f"{line}; tied to column z by row zdef, times {self.tied_by}"
+        return line if self.constant() == "0" else f"{line}, constant {self.constant()}"
 
 
 def ends_of(sizes: Collection[Exact]) -> list[float | None]:
@@ -98,45 +127,6 @@ def size(value: Exact) -> Exact:
     return -value if value < 0 else value
 
 
-def figures_of(program: Program) -> Figures:
-    read = program.read
-    f = Figures(program, dict(zip(program.constraints, read.kinds)), columns_of(program))
-    entries(f, program)
-    for i, side in [*read.rhs.items(), *read.ranges.items()]:
-        value = f.number(program.rows[i + 1], side)
-        if i != OBJECTIVE and value:
-            f.sides.append(size(value))
-            f.infinite += size(value) >= INFINITE
-    for name, low, high in zip(program.columns, read.low, read.high):
-        for end in (low,) if low == high else (low, high):
-            value = f.number(name, end) if end else 0
-            f.infinite += size(value) >= INFINITE
-    return f
-
-
-def entries(f: Figures, program: Program) -> None:
-    """Those of rows and of the objective, which may stand in the row zdef."""
-    read, costs = program.read, list(zip(*program.objective))
-    if TIED_ROW in f.kinds:
-        costs += zip(*entries_of(read.entries(), program.constraints.index(TIED_ROW)))
-    values = [known(text) for text in read.numbers]
-    left = Counter(read.number)
-    for j, k in costs:
-        left[k] -= 1
-        if program.columns[j] == TIED:
-            f.tied_by = size(values[k][0])
-        elif values[k][0]:
-            f.costs += 1
-            f.cost_sizes.append(size(values[k][0]))
-    for k, count in left.items():
-        if count and values[k][0]:
-            f.entries += count
-            f.sizes.append(size(values[k][0]))
-    if not all(held for _, held in values):
-        f.lost += [(f"{program.rows[i + 1]} {program.columns[j]}", read.numbers[k].decode())
-                   for i, j, k in zip(*read.entries()) if not values[k][1]]
-
-
 def columns_of(program: Program) -> dict[str, int]:
     """By kind, and those that are free or fixed."""
     read = program.read
@@ -146,17 +136,6 @@ def columns_of(program: Program) -> dict[str, int]:
     whole = len(program.whole)
     return {"continuous": len(bounds) - whole, "binary": binary, "integer": whole - binary,
             "free": bounds.count((None, None)), "fixed": sum(low is not None and low == high for low, high in bounds)}
-
-
-def sense_line(f: Figures) -> str:
-    line = f.sense()
-    if not f.costs:
-        line += ", no objective but a constant"
-    if f.constant() != "0" and f.tied_by is None:
-        line += f", constant {f.constant()}"
-    if f.tied_by is not None:
-        line += f"; tied to column z by row zdef, times {f.tied_by}"
-    return line
 
 
 def row_name(row: str, names: Names) -> str:
@@ -169,7 +148,7 @@ def lines_of(f: Figures, factors: dict[str, str], names: Names) -> list[str]:
     kinds = ", ".join(f"{f.columns[kind]} {kind}" for kind in KINDS)
     lost = [f"{text[:45]} ({where})" for where, text in f.lost]
     scaled = [f"{row_name(row, names)} by {factor}" for row, factor in factors.items() if factor != "1"]
-    lines = [f"sense         {sense_line(f)}", f"columns       {sum(map(f.columns.__getitem__, KINDS))}: {kinds}; "
+    lines = [f"sense         {f.sense_line()}", f"columns       {sum(map(f.columns.__getitem__, KINDS))}: {kinds}; "
              f"{f.columns['free']} free, {f.columns['fixed']} fixed",
              f"rows          {len(f.rows())}: {signs}; {len(f.program.read.ranges)} with two sides",
              f"entries       {f.entries} in rows, {f.costs} in the objective",
@@ -183,26 +162,15 @@ def lines_of(f: Figures, factors: dict[str, str], names: Names) -> list[str]:
     return lines
 
 
-def factors_of(bridge: Bridge, nl: str, objective: str, rows: list[str]) -> dict[str, str]:
-    """What `export` multiplied each written row by: duals of 1, as `return` gives them back."""
-    if not rows:
-        return {}
-    answer = f"answer 1\nobjno {objective}\n" + "".join(f"row {r} 1\n" for r in rows)
-    with tempfile.TemporaryDirectory(prefix="nl-bridge-") as folder:
-        path = fill(os.path.join(folder, "ones.txt"), answer.encode())
-        duals = duals_of(bridge.text("return", nl, path))
-    return {row: duals[int(row[1:])] for row in rows}
-
-
 class Stats:
     """Of an .nl file, or of an MPS file's own program. Refused where there is no program."""
 
     def __init__(self, model: Subject, objective: str = "0") -> None:
-        self.figures = figures_of(model.program(objective))
+        self.figures = Figures(model.program(objective))
         self.notes, self.names = list(model.notes), model.names()
         self.factors: dict[str, str] = {}
         if model.own is None:
-            self.factors = factors_of(model.bridge, model.path, objective, self.figures.rows())
+            self.factors = factors_of(model.bridge, model.path, self.figures.rows(), objective)
         else:
             self.figures.lost = [(self.in_names(where), text) for where, text in self.figures.lost]
 

@@ -4,14 +4,13 @@ numbers: sums of doubles are made in the order of the terms, sums of whole numbe
 from __future__ import annotations
 
 from array import array
-from functools import cached_property
+from functools import cached_property, lru_cache
 from itertools import accumulate
-from typing import Any, Dict, Iterable, List, Mapping, NamedTuple, Sequence, Tuple
+from typing import Any, Iterable, List, Mapping, NamedTuple, Sequence, Tuple
 
 MANY = 20_000                   # terms from which on NumPy is worth its start
 EXACT = 53                      # bits of whole numbers that doubles hold
 PART = 26                       # bits of a part of a wide coefficient
-LOADED: List[Any] = []          # once loaded, or once missed
 Pairs = List[List[Tuple[int, int]]]
 Entries = Tuple["array[int]", "array[int]", "array[int]"]     # rows, columns, and which numbers
 
@@ -23,15 +22,14 @@ class Line(NamedTuple):
     numbers: array[int]
 
 
+@lru_cache(maxsize=None)
 def numpy() -> Any:
     """None where it is not there."""
-    if not LOADED:
-        try:
-            import numpy as found
-            LOADED.append(found)
-        except ImportError:
-            LOADED.append(None)
-    return LOADED[0]
+    try:
+        import numpy as found
+    except ImportError:
+        return None
+    return found
 
 
 class Terms:
@@ -41,7 +39,7 @@ class Terms:
         self.n, self.rows = n, rows
 
     def count(self) -> int:
-        return sum(map(len, self.rows))
+        return sum(self.lengths)
 
     def sums(self, x: Sequence[int]) -> List[int]:
         """Of whole numbers: of each row at values of columns."""
@@ -72,9 +70,6 @@ class Terms:
         """Of doubles: the greatest coefficient of each row, in size, times that of its column."""
         return [max([abs(a) * sizes[j] for j, a in row], default=0.0) for row in self.rows]
 
-    def of_rows(self, rows: Sequence[int]) -> Dict[int, List[Tuple[int, int]]]:
-        return {i: self.rows[i] for i in rows}
-
     def inside(self, rows: Sequence[int], columns: Sequence[int]) -> Pairs:
         """These rows in these columns, by the places that columns have among them."""
         place = {j: k for k, j in enumerate(columns)}
@@ -104,7 +99,6 @@ class Arrays(Terms):
     def __init__(self, m: int, n: int, row: Any, column: Any, number: Any, table: Sequence[Any]) -> None:
         self.m, self.n = m, n
         self.row, self.column_of, self.number, self.table = row, column, number, table
-        self.parts: List[Tuple[int, Any]] = []
 
     @cached_property
     def rows(self) -> Pairs:                # type: ignore[override]
@@ -115,13 +109,12 @@ class Arrays(Terms):
         ends = list(accumulate(self.lengths))
         return [pairs[a:b] for a, b in zip([0, *ends], ends)]
 
-    def count(self) -> int:
-        return len(self.row)
-
     def sums(self, x: Sequence[int]) -> List[int]:
         return self.exact(self.row, self.m, self.column_of, x)
 
     def without(self, values: List[int], y: Mapping[int, int], by: int = 1) -> List[int]:
+        if not y:
+            return values
         given = [0] * self.m
         for i, v in y.items():
             given[i] = v
@@ -146,12 +139,6 @@ class Arrays(Terms):
         np.maximum.at(found, self.row, abs(self.doubles()) * np.array(sizes)[self.column_of])
         return list(found.tolist())
 
-    def of_rows(self, rows: Sequence[int]) -> Dict[int, List[Tuple[int, int]]]:
-        found: Dict[int, List[Tuple[int, int]]] = {i: [] for i in rows}
-        for i, j, a in self.chosen(self.row, self.m, rows) if rows else ():
-            found[i].append((j, a))
-        return found
-
     def column(self, j: int) -> List[Tuple[int, int]]:
         ends = numpy().array((j, j + 1), dtype=self.column_of.dtype)    # of another all are copied
         start, stop = self.column_of.searchsorted(ends).tolist()
@@ -163,27 +150,17 @@ class Arrays(Terms):
         return list(numpy().bincount(self.row, minlength=self.m).tolist())
 
     def inside(self, rows: Sequence[int], columns: Sequence[int]) -> Pairs:
-        found: Dict[int, List[Tuple[int, int]]] = {i: [] for i in rows}
-        place = {j: k for k, j in enumerate(columns)}
-        for i, j, a in self.chosen(self.column_of, self.n, columns):
-            if i in found:
-                found[i].append((place[j], a))
-        return list(found.values())
-
-    def chosen(self, part: Any, count: int, wanted: Sequence[int]) -> Iterable[Tuple[int, int, int]]:
-        """Rows, columns and coefficients of terms whose place in this part is wanted."""
-        np = numpy()
-        inside = np.zeros(count, bool)
-        inside[list(wanted)] = True
-        k = np.flatnonzero(inside[part])
-        values = map(self.table.__getitem__, self.number[k].tolist())
-        return zip(self.row[k].tolist(), self.column_of[k].tolist(), values)
+        i, j = places_of(rows, self.m)[self.row], places_of(columns, self.n)[self.column_of]
+        k = numpy().flatnonzero((i >= 0) & (j >= 0))
+        found: Pairs = [[] for _ in rows]
+        for to, at, number in zip(i[k].tolist(), j[k].tolist(), self.number[k].tolist()):
+            found[to].append((at, self.table[number]))
+        return found
 
     def exact(self, to: Any, count: int, at: Any, x: Sequence[Any]) -> List[int]:
         """Sums by `to` of coefficients times `x[at]`: by parts of both, so that each sum of
         products is a whole number that doubles hold."""
         np = numpy()
-        self.split()
         room = EXACT - self.width() - int(np.bincount(to).max(initial=1)).bit_length()
         found: List[int] = [0] * count
         for shift, digits in limbs(x, max(room, 1)):
@@ -198,11 +175,19 @@ class Arrays(Terms):
         """The bits of a part of a coefficient."""
         return min(max(int(v).bit_length() for v in self.table), PART)
 
-    def split(self) -> None:
-        if not self.parts:
-            np = numpy()
-            self.parts = [(shift, np.array(digits, dtype=float)[self.number])
-                          for shift, digits in limbs(self.table, self.width())]
+    @cached_property
+    def parts(self) -> List[Tuple[int, Any]]:
+        """Coefficients by the digits that doubles hold."""
+        return [(shift, numpy().array(digits, dtype=float)[self.number])
+                for shift, digits in limbs(self.table, self.width())]
+
+
+def places_of(chosen: Sequence[int], count: int) -> Any:
+    """Of each of `count` its place among the chosen, -1 of others."""
+    np = numpy()
+    found = np.full(count, -1)
+    found[list(chosen)] = np.arange(len(chosen))
+    return found
 
 
 def limbs(x: Sequence[int], bits: int) -> Iterable[Tuple[int, List[int]]]:
@@ -218,23 +203,8 @@ def limbs(x: Sequence[int], bits: int) -> Iterable[Tuple[int, List[int]]]:
 
 
 def entries_of(entries: Entries, row: int) -> Line:
-    np = numpy() if len(entries[0]) > MANY else None
-    if np is None:
-        chosen = [at for at, i in enumerate(entries[0]) if i == row]
-        columns, numbers = (array("i", [part[at] for at in chosen]) for part in entries[1:])
-    else:
-        chosen = np.flatnonzero(np.frombuffer(entries[0], np.int32) == row)
-        columns, numbers = (array("i", np.frombuffer(part, np.int32)[chosen].tobytes()) for part in entries[1:])
-    return Line(columns, numbers)
-
-
-def numbers_used(row: array[int], number: array[int], to: Sequence[int]) -> List[int]:
-    """Which numbers stand in rows that have a place in `to`, which is -1 of others."""
-    np = numpy() if len(row) > MANY else None
-    if np is None:
-        return sorted({k for i, k in zip(row, number) if to[i] >= 0})
-    kept = np.array(to, np.int32)[np.frombuffer(row, np.int32)] >= 0
-    return list(np.flatnonzero(np.bincount(np.frombuffer(number, np.int32)[kept])).tolist())
+    chosen = [at for at, i in enumerate(entries[0]) if i == row]
+    return Line(*(array("i", [part[at] for at in chosen]) for part in entries[1:]))
 
 
 def terms_of(m: int, n: int, entries: Entries, table: Sequence[Any], to: Sequence[int]) -> Terms:

@@ -51,7 +51,7 @@ def in_order(given: Mapping[str, T], names: Sequence[str]) -> Sequence[T]:
 
 def exact_decimal(value: Fraction) -> str | None:
     """The decimal text of a fraction, or None where it has none that `bridge` holds."""
-    rest, twos, fives = value.denominator, 0, 0
+    rest, fives = value.denominator, 0
     twos = (rest & -rest).bit_length() - 1
     rest >>= twos
     while rest % 5 == 0:
@@ -94,15 +94,8 @@ def text_of(value: Number) -> tuple[str, bool]:
     """(text, exact). A double is told as its shortest decimal, which counts as exact: what is
     checked is what is written. False says that a fraction has only a nearest decimal."""
     if isinstance(value, float):
-        if not math.isfinite(value):
-            raise BadValue(str(value))
-        if value == 0:
-            return "0", True
-        text = repr(value)
-        return (text[:-2] if text.endswith(".0") else text), True
-    exact = value if isinstance(value, Fraction) else Fraction(value)
-    if exact.denominator == 1 and abs(exact.numerator) <= MOST_DIGITS:
-        return str(exact.numerator), True
+        return texts_of([float(value)])[0][0], True
+    exact = Fraction(value)
     decimal_text = exact_decimal(exact)
     return (near_decimal(exact), False) if decimal_text is None else (decimal_text, True)
 

@@ -5,15 +5,15 @@ from __future__ import annotations
 import math
 import re
 from fractions import Fraction
-from math import gcd, lcm
+from math import gcd
 from typing import NamedTuple
 
 from .program import Program
-from .values import exact_decimal
+from .ruling import FINAL
+from .values import exact_decimal, wholes_of
 
 LINE = re.compile(r"(?:(optimal|feasible|bound) (\S+)|within (\S+) (\S+)|(infeasible|unbounded))"
                   r"(?: of objective (\d+))?")
-SETTLED = ("optimal", "infeasible", "unbounded")        # claims that nothing can be added to
 MOST_PLACES = 15                # digits of a decimal that is told in full
 
 
@@ -27,7 +27,7 @@ class Said(NamedTuple):
     objective: int = 0
 
     def is_settled(self) -> bool:
-        return self.word in SETTLED
+        return self.word in FINAL
 
 
 class Multiples(NamedTuple):
@@ -74,12 +74,10 @@ def covers(new: Said, old: Said, maximise: bool) -> bool:
 
 def multiples(program: Program) -> Multiples | None:
     """None where a column with a cost is continuous, or none has a cost."""
-    costs = {name: Fraction(text) for name, text in program.costs.items()}
-    if not costs or any(name not in program.whole for name in costs):
+    numbers, scale = wholes_of([text.encode() for text in program.costs.values()])
+    if not any(numbers) or any(name not in program.whole for name in program.costs):
         return None
-    scale = lcm(*(cost.denominator for cost in costs.values()))
-    step = Fraction(gcd(*(int(cost * scale) for cost in costs.values())), scale)
-    return Multiples(-Fraction(program.objective_rhs), step) if step else None
+    return Multiples(-Fraction(program.objective_rhs), Fraction(gcd(*numbers), scale))
 
 
 def decimal(value: Fraction) -> str:
@@ -107,10 +105,6 @@ def share(part: Fraction, of: Fraction) -> str:
     return f" ({percent(part / of)})" if of else ""
 
 
-def better(maximise: bool) -> str:
-    return "above" if maximise else "below"
-
-
 def limit_words(bound: Fraction, maximise: bool, steps: Multiples | None, which: str = "") -> str:
     """`no point has more than 59.6, and at whole points the objective goes by 1: none has more than 59`."""
     more = "more" if maximise else "less"
@@ -123,10 +117,11 @@ def limit_words(bound: Fraction, maximise: bool, steps: Multiples | None, which:
 
 def in_words(said: Said, maximise: bool, steps: Multiples | None = None) -> str:
     """The claim about the objective in words."""
+    better = "above" if maximise else "below"
     if said.word == "infeasible":
         return "no point satisfies the model"
     if said.word == "unbounded":
-        return f"the objective goes {better(maximise)} every number"
+        return f"the objective goes {better} every number"
     if said.value is None:
         assert said.bound is not None
         return limit_words(said.bound, maximise, steps)
@@ -137,4 +132,4 @@ def in_words(said: Said, maximise: bool, steps: Multiples | None = None) -> str:
         return point + ", and none is better"
     away = abs(said.bound - said.value)
     return (f"{point}, and {limit_words(said.bound, maximise, steps, 'the bound ')}; the bound is "
-            f"{decimal(away)}{share(away, said.value)} {better(maximise)} the point's")
+            f"{decimal(away)}{share(away, said.value)} {better} the point's")

@@ -1,54 +1,40 @@
-"""The simplex method in fractions, duals in doubles, and planes, over random programs: what they
-say is judged by other means."""
+"""The simplex method in fractions, duals in doubles, planes, lemmas and cliques, over random programs: what they say is
+judged by other means."""
 
 from __future__ import annotations
 
-import contextlib
 import itertools
 import random
-from unittest import TestCase, main, mock
+from fractions import Fraction as F
+from unittest import TestCase
 
-from support import NEEDS_CLP, NEEDS_PROGRAM, PROGRAM, Case
-from bridge_drivers import solvers
-from bridge_drivers.bridge import Bridge
-from bridge_drivers.certify import doubles, points
-from bridge_drivers.certify.claims import Certifying, Given, certified
+from certify_search import Certified
+from support import NEEDS_CLP, NEEDS_PROGRAM, Case
+from bridge_drivers.certify import doubles, lemmas, points, spine
+from bridge_drivers.certify.claims import Given, certified
 from bridge_drivers.certify.clp import State
 from bridge_drivers.certify.leaves import Closer
 from bridge_drivers.certify.model import Box, Model
 from bridge_drivers.certify.simplex import Ended, Simplex
-from bridge_drivers.certify.watch import Watch
-from bridge_drivers.program import Program
+from claim_models import BINARY, built
 from misleading import Misleading
 from misleading_kinds import models
-from models import MODELS, nl, whole
+from models import MODELS, nl, real, whole
 
 MOST_STEPS = 3000
 
 
 def program(rng: random.Random, n: int, m: int) -> Model:
     """Of n columns and m rows of all kinds, with ranges, free columns, and small numbers."""
-    text = ["NAME nl", *(["OBJSENSE", " MAX"] if rng.random() < 0.5 else []), "ROWS", " N obj"]
-    text += [f" {rng.choice('EGL')} c{i}" for i in range(m)] + ["COLUMNS"]
-    for j in range(n):
-        cost = rng.choice(["1", "-2", "0.5", "3", "-1e-12", "0"])
-        text += [f" x{j} obj {cost}"]
-        text += [f" x{j} c{i} {rng.choice(['1', '-1', '2', '0.3', '-7', '1e-9'])}"
-                 for i in range(m) if rng.random() < 0.6]
-    text += ["RHS"]
-    text += [f" RHS c{i} {rng.choice(['0', '1', '5', '-2', '2.5'])}" for i in range(m)]
-    ranged = [i for i in range(m) if rng.random() < 0.3]
-    text += ["RANGES", *(f" RNG c{i} {rng.choice(['1', '3'])}" for i in ranged)] if ranged else []
-    text += ["BOUNDS"]
-    for j in range(n):
-        kind = rng.random()
-        if kind < 0.2:
-            text += [f" FR BND x{j}"]
-        elif kind < 0.5:
-            text += [f" UP BND x{j} {rng.choice(['4', '1e20', '0.5'])}"]
-        elif kind < 0.6:
-            text += [f" LO BND x{j} -3", f" UP BND x{j} 7"]
-    return Model("\n".join([*text, "ENDATA", ""]).encode(), {}, m)
+    columns, rows, costs = [], [], ["1", "-2", "0.5", "3", "-1e-12", "0"]
+    for _ in range(n):
+        ends = [(None, None), (0, "4"), (0, "1e20"), (0, "0.5"), (-3, 7), (0, None), (0, None)]
+        columns.append(real(*rng.choice(ends)))
+    for _ in range(m):
+        terms = {j: rng.choice(["1", "-1", "2", "0.3", "-7", "1e-9"]) for j in range(n) if rng.random() < 0.6}
+        at = rng.choice([0, 1, 5, -2, 2.5])
+        rows.append((*rng.choice([(at, at), (None, at), (at, None), (at, at + rng.choice([1, 3]))]), terms))
+    return built(columns, rows, rng.choice(["min", "max"]), [rng.choice(costs) for _ in range(n)])
 
 
 def ended(p: Model, rng: random.Random) -> Ended:
@@ -81,7 +67,7 @@ class Fractions(TestCase):
                 assert found.point is not None
                 self.assertTrue(p.fits(found.point))
                 if found.claim == "unbounded":
-                    self.assertTrue(points.is_ray(p, found.ray))
+                    self.assertTrue(points.is_ray(p.cone(), found.ray))
                 else:
                     closer = Closer(p, p.value(found.point))
                     leaf = closer.attempt(closer.of_fractions(found.rows, False), box)
@@ -99,31 +85,17 @@ class Fractions(TestCase):
 
 @NEEDS_PROGRAM
 class Programs(Case):
-    def work(self, text: bytes, proves: bool = True) -> Certifying:
-        self.put(text)
-        bridge, path = Bridge(PROGRAM, lambda argv: None), self.stub + ".nl"
-        return Certifying(bridge, path, self.folder, Program(bridge.text("export", path)), 0, Watch(60.0), proves)
+    work = Certified.work
 
-    def claim(self, text: bytes, is_there: bool, wanted: str) -> str:
-        work = self.work(text)
-        work.load()
-        which = mock.patch("shutil.which", lambda name: None)
-        with contextlib.nullcontext() if is_there else which:
-            found = work.by_qsopt()
-            self.assertEqual(found is not None, is_there and "optimal" in wanted)
-            with mock.patch("bridge_drivers.certify.contradictions.PIVOTS", -1.0):
-                return next(work.by_simplex()).line
-
-    def test_qsopt_and_pivots(self) -> None:
-        """Nearly singular ones, by QSopt_ex where its program is there, and in whole numbers."""
-        solver = solvers.load("esolver")
+    def test_pivots(self) -> None:
+        """Nearly singular ones, in whole numbers."""
         for model in models(4):
             if model.is_linear() and any(model.costs.values()):
                 wanted = "unbounded" if model.is_endless else \
                     "infeasible" if model.best is None else f"optimal {model.best}"
-                for is_there in [False, True] if solver.place() else [False]:
-                    with self.subTest(model=model.name, by_qsopt=is_there):
-                        self.assertEqual(self.claim(model.text(), is_there, wanted), wanted)
+                work = self.work(model.text())
+                work.load()
+                self.assertEqual(next(work.by_simplex()).line, wanted, model.name)
 
     def test_planes(self) -> None:
         """Columns, and rows with the same terms up to a factor, without a whole number between."""
@@ -207,5 +179,56 @@ class Doubles(TestCase):
         self.assertGreater(closed, 40)
 
 
-if __name__ == "__main__":
-    main()
+class Rows(Case):
+    """Proposed rows hold at all points."""
+
+    def test_lemma(self) -> None:
+        """y <= 10 x, y <= 7: y - 7 x <= 0."""
+        p = built([real(0, 7), BINARY], [(None, 0, {0: 1, 1: -10})], "min", (1, 0))
+        bound, = lemmas.variable_bounds(p)[0]
+        self.assertEqual(bound, (10.0, 1, 0, 1.0))
+        counts = lemmas.Counts(p, [7.0, 0.7])
+        divisor = lemmas.screened(counts, {0: 1.0}, lemmas.MULTIPLES)
+        found = lemmas.rounded(counts, {0: 1.0}, divisor)
+        self.assertEqual((found.terms, found.at), ({0: 1, 1: -7}, 0))
+        self.assertEqual((found.form, found.low), ({1: -1}, -1))
+        self.assertIsNotNone(lemmas.proved(p, found))
+
+    def test_lemmas(self) -> None:
+        """Any combination of rows, with decimals, at any x: the lemma holds at all points, and
+        both of its leaves close."""
+        rng, made = random.Random(3), 0
+        for _ in range(300):
+            tops = [rng.randint(1, 3) for _ in range(4)]
+            terms = [{j: f"{rng.randint(-9, 9)}.{rng.choice('05')}" for j in range(4)} for _ in range(3)]
+            sides = [f"{rng.randint(0, 15)}.5" for _ in range(3)]
+            p = built([real(0, tops[0]), *(whole(0, top) for top in tops[1:])], [
+                (None, sides[0], terms[0]), (f"-{sides[1]}", None, terms[1]), (None, sides[2], terms[2])])
+            counts = lemmas.Counts(p, [rng.uniform(0, top) for top in tops])
+            shares = {i: rng.choice((-0.5, 1 / 3, 1.0, 2.0, 0.7)) for i in range(3)}
+            divisor = lemmas.screened(counts, shares, lemmas.IN_TABLEAU)
+            found = divisor and lemmas.rounded(counts, shares, divisor)
+            if not found:
+                continue
+            made += 1
+            self.assertIsNotNone(lemmas.proved(p, found))
+            for point in itertools.product((F(0), F(1, 2), F(1)), *(range(t + 1) for t in tops[1:])):
+                if p.fits(list(map(F, point))):
+                    self.assertLessEqual(sum(a * point[j] for j, a in found.terms.items()), found.at)
+        self.assertGreater(made, 20)
+
+
+class Cliques(Case):
+    def test_cliques(self) -> None:
+        """Of conflicts in rows of two and in a knapsack, a complement among them."""
+        p = built([BINARY] * 3, [(None, 1, {0: 1, 1: 1}), (None, 1, {0: 1, 2: 1}),
+                                    (None, -1, {1: -1, 2: -1}), (None, 7, {0: 5, 1: 4, 2: 1})])
+        near = spine.conflicts(p)
+        self.assertEqual(near[(0, 1)], {(1, 1), (2, 1)})
+        self.assertEqual(near[(1, -1)], {(2, -1)})
+        q = p.with_rows([({1: 1, 2: 1}, None, 1)])
+        found = list(spine.cliques(q, [0.5, 0.5, 0.5]))
+        self.assertEqual([(c.depth, c.terms, c.at) for c in found], [(0.5, {0: 1, 1: 1, 2: 1}, 1)])
+
+
+del Certified           # its tests are run where it stands

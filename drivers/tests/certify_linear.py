@@ -10,48 +10,37 @@ from unittest import TestCase, mock
 
 from certify_search import Certified
 from support import NEEDS_CLP, NEEDS_PROGRAM
-from bridge_drivers.certify import bases, decimals, points, short, sparse
+from bridge_drivers.certify import bases, short, sparse
 from bridge_drivers.certify.claims import Given, certified
 from bridge_drivers.certify.clp import State
 from bridge_drivers.certify.leaves import Closer, Multipliers
 from bridge_drivers.certify.model import Box, Model, over_one
-from bridge_drivers.certify.numbers import width
+from bridge_drivers.certify.leaves import width
 from bridge_drivers.certify.sparse import NoSolution, Wide
 import families
 from families import made
+from claim_models import built
 from models import nl, real
 
 NEEDS_SCIPY = unittest.skipUnless(sparse.tools(), "no SciPy")
 
-TWO = b"""NAME nl
-ROWS
- N obj
- G c0
- L c1
-COLUMNS
- x0 obj 2
- x0 c0 3
- x0 c1 1
- x1 obj 3
- x1 c0 2
- x1 c1 -1.5
-RHS
- RHS c0 4
- RHS c1 1.25
-BOUNDS
- UP BND x1 7
-ENDATA
-"""
 OPTIMUM = [F(17, 13), F(1, 26)]
 
 
 def two() -> Model:
     """min 2 x0 + 3 x1; both rows are tight at the optimum."""
-    return Model(TWO, {}, 2)
+    return built([real(), real(0, 7)], [(4, None, {0: 3, 1: 2}), (None, "1.25", {0: 1, 1: "-1.5"})], "min", (2, 3))
+
+
+def rounding(p: Model) -> short.Rounding:
+    """From CLP's optimum."""
+    clp = p.relaxation()
+    assert clp.solve() is State.OPTIMAL
+    return short.Rounding(p, clp.keep(), clp.values(), 1.0)
 
 
 def without_scipy():
-    return mock.patch.object(sparse, "LOADED", [None])
+    return mock.patch.object(bases, "tools", lambda: None)
 
 
 class Fractions(TestCase):
@@ -65,12 +54,6 @@ class Fractions(TestCase):
             self.assertEqual([F(v, found.den) for v in found.numbers], wanted)
         self.assertIsNone(sparse.near([round(F(10007, 20011) * 2 ** 20)], 20, 1))
 
-    def test_combined(self) -> None:
-        for count in (1, 2, 3, 5, 8):
-            digits = [[k + 1, -k] for k in range(count)]
-            wanted = [sum(row[c] << 8 * (count - 1 - k) for k, row in enumerate(digits)) for c in (0, 1)]
-            self.assertEqual(sparse.combined(digits, 8), wanted)
-
 
 @NEEDS_SCIPY
 class Squares(TestCase):
@@ -80,7 +63,7 @@ class Squares(TestCase):
         for n in (1, 2, 5, 40):
             rows = [[(j, rng.randint(-50, 50)) for j in range(n) if j == i or rng.random() < 0.2] for i in range(n)]
             rows = [[(j, a or 1) for j, a in row] for row in rows]
-            square = sparse.Square(sparse.tools(), rows, 20_000)
+            square = sparse.Square(rows, 20_000)
             side = [rng.randint(-9, 9) for _ in range(n)]
             x = square.solve(side)
             for row, s in zip(rows, side):
@@ -91,31 +74,30 @@ class Squares(TestCase):
                 self.assertEqual(at, s * y.den)
 
     def test_faults(self) -> None:
-        tools = sparse.tools()
         with self.assertRaisesRegex(NoSolution, "singular"):
-            sparse.Square(tools, [[(0, 1), (1, 2)], [(0, 2), (1, 4)]], 400).solve([1, 0])
+            sparse.Square([[(0, 1), (1, 2)], [(0, 2), (1, 4)]], 400).solve([1, 0])
         with self.assertRaisesRegex(NoSolution, "too wide"):
-            sparse.Square(tools, [[(0, 2 ** 70)]], 400)
+            sparse.Square([[(0, 2 ** 70)]], 400)
         with self.assertRaisesRegex(NoSolution, "right side"):
-            sparse.Square(tools, [[(0, 3)]], 400).solve([2 ** 60])
+            sparse.Square([[(0, 3)]], 400).solve([2 ** 60])
         rows = [[(0, 97), (9, 1)]] + [[(k - 1, 1), (k, 97)] for k in range(1, 10)]
         with self.assertRaises(Wide) as caught:
-            sparse.Square(tools, rows, 60).solve([1] + [0] * 9)
+            sparse.Square(rows, 60).solve([1] + [0] * 9)
         self.assertEqual(str(caught.exception), "more than 30 bits")
 
 
 class Bases(TestCase):
     def judged(self) -> None:
         p = two()
-        found = bases.optimum(p, points.Basis([0, 1], [0, 1]), [1.3, 0.04])
-        self.assertEqual(found.point, OPTIMUM)
-        self.assertEqual({i: F(y, found.den) for i, y in found.duals.items()}, {0: F(12, 13), 1: F(-10, 13)})
-        self.assertEqual(width(found.point), 5)
+        point, leaf = bases.optimum(p, bases.Basis([0, 1], [0, 1]), [1.3, 0.04])
+        self.assertEqual(point, OPTIMUM)
+        self.assertEqual({i: F(y, leaf.den) for i, y in leaf.numbers.items()}, {0: F(12, 13), 1: F(-10, 13)})
+        self.assertEqual(width(point), 5)
         for columns, rows, x, why in (([0], [0], [1.3, 0.0], "row 1 is broken"),
                                       ([1], [0], [0.0, 2.0], "column 0 could be better"),
                                       ([0, 1], [1], [1.3, 0.0], "not square")):
             with self.assertRaisesRegex(NoSolution, why):
-                bases.optimum(p, points.Basis(columns, rows), x)
+                bases.optimum(p, bases.Basis(columns, rows), x)
 
     def test_by_hand(self) -> None:
         with without_scipy():
@@ -131,8 +113,8 @@ class Bases(TestCase):
 class Shorts(TestCase):
     def test_alone(self) -> None:
         """Columns that stand in one equation alone, with a coefficient of 1 first."""
-        p = Model(TWO.replace(b" G c0\n L c1\n", b" E c0\n L c1\n").replace(b" x1 c1 -1.5\n", b"")
-                  .replace(b"RHS\n", b" x2 c0 1\n x3 c1 1\nRHS\n", 1), {}, 2)
+        p = built([real(), real(0, 7), real(), real()],
+                     [(4, 4, {0: 3, 1: 2, 2: 1}), (None, "1.25", {0: 1, 3: 1})], "min", (2, 3))
         self.assertEqual(short.alone(p), {0: (2, 1)})
 
     def test_bounds(self) -> None:
@@ -141,7 +123,7 @@ class Shorts(TestCase):
         self.assertIsNone(short.trivial(p.with_costs([F(1), F(-1)]).with_bounds([0, 0], [None, None])))
         self.assertEqual(short.shortened(p, F(1, 10 ** 12)), 0)
         self.assertEqual(short.shortened(p, F(10, 3)), F("3.333333333"))
-        found = max(short.roundings(Closer(p, None), [12 / 13, -10 / 13]), key=lambda one: one.bound())
+        found = max(short.roundings(Closer(p, None), {0: 12 / 13, 1: -10 / 13}), key=lambda one: one.bound())
         self.assertLess(0, F(71, 26) - found.bound())
         self.assertLess(F(71, 26) - found.bound(), F(1, 10 ** 9))
 
@@ -164,9 +146,7 @@ class Shorts(TestCase):
     def test_points(self) -> None:
         """Near the optimum, within rows and bounds."""
         p = two()
-        clp = p.relaxation()
-        self.assertIs(clp.solve(), State.OPTIMAL)
-        found = next(short.Rounding(p, clp.keep(), clp.values(), 1.0).points())
+        found = next(rounding(p).points())
         self.assertTrue(p.fits(found.point))
         self.assertLess(p.value(found.point) - p.value(OPTIMUM), F(1, 10 ** 7))
         self.assertLessEqual(over_one(found.point)[1], 10 ** 9)
@@ -174,44 +154,17 @@ class Shorts(TestCase):
     @NEEDS_CLP
     def test_step_by_step(self) -> None:
         """Rows without room between them are met exactly, others get room."""
-        text = b"""NAME nl
-ROWS
- N obj
- L c0
- G c1
- G c2
- E c3
-COLUMNS
- x0 obj 1.1
- x0 c0 1.3
- x0 c1 1.3
- x0 c2 7.1
- x1 obj 2.3
- x1 c0 0.7
- x1 c1 0.7
- x1 c2 3.3
- x2 obj 3.1
- x2 c2 1
- x2 c3 1.9
- x3 obj 0.3
- x3 c3 -0.7
-RHS
- RHS c0 2.9
- RHS c1 2.9
- RHS c2 13
- RHS c3 0.1
-ENDATA
-"""
-        p = Model(text, {}, 4)
-        clp = p.relaxation()
-        self.assertIs(clp.solve(), State.OPTIMAL)
-        rounding = short.Rounding(p, clp.keep(), clp.values(), 1.0)
-        self.assertEqual((rounding.alone, rounding.equations), ({3: (3, -7)}, {}))
-        self.assertIsNone(rounding.solved(9))
-        found = next(rounding.points())
+        p = built([real()] * 4, [
+            (None, "2.9", {0: "1.3", 1: "0.7"}), ("2.9", None, {0: "1.3", 1: "0.7"}),
+            (13, None, {0: "7.1", 1: "3.3", 2: 1}), ("0.1", "0.1", {2: "1.9", 3: "-0.7"})],
+                     "min", ("1.1", "2.3", "3.1", "0.3"))
+        made = rounding(p)
+        self.assertEqual((made.alone, made.equations), ({3: (3, -7)}, {}))
+        self.assertIsNone(made.solved(9))
+        found = next(made.points())
         self.assertEqual(found.way, "rounding is taken up by a basis of 1 equation and 1 row")
         self.assertTrue(p.fits(found.point))
-        self.assertLess(abs(p.value(found.point) - F(clp.objective())), F(1, 10 ** 6))
+        self.assertLess(abs(p.value(found.point) - F("2.617004048583")), F(1, 10 ** 6))
 
 
 @NEEDS_CLP
@@ -219,11 +172,11 @@ class Starts(TestCase):
     def test_basis(self) -> None:
         """CLP goes on from a basis: no step is left from the optimal one."""
         clp = two().relaxation()
-        clp.start([0, 1], [0, 1], [1.3, 0.04])
+        clp.start(bases.Basis([0, 1], [0, 1]), [1.3, 0.04])
         self.assertEqual(clp.basis(), ([0, 1], [0, 1]))
         self.assertIs(clp.solve(0), State.OPTIMAL)
         other = two().relaxation()
-        other.start([], [], [0.0, 7.0])
+        other.start(bases.Basis([], []), [0.0, 7.0])
         self.assertEqual(other.basis(), ([], []))
         self.assertIs(other.solve(), State.OPTIMAL)
 
@@ -241,7 +194,7 @@ class Linear(Certified):
         """Whose point and bound are that near."""
         work, verdict = self.verdict(text)
         self.assertEqual(verdict.claim(), "within", verdict.line)
-        self.assertLessEqual(abs(verdict.value - verdict.bound()), most * abs(verdict.value))
+        self.assertLessEqual(abs(verdict.value - F(verdict.line.split()[1])), most * abs(verdict.value))
         self.assertRegex(verdict.note, f"^{self.WIDE}{way}$")
 
     def test_families(self) -> None:
@@ -254,15 +207,10 @@ class Linear(Certified):
 
     def test_basis_of_equations(self) -> None:
         """Equations of which none has a column of its own: what rounding leaves goes through a basis of them."""
-        p = Model(self.exported(made("decimal_flow", 300)), {}, 18)
-        clp = p.relaxation()
-        self.assertIs(clp.solve(), State.OPTIMAL)
-        found = next(short.Rounding(p, clp.keep(), clp.values(), 1.0).points())
+        p = Model(self.work(made("decimal_flow", 300)).program, {}, 18)
+        found = next(rounding(p).points())
         self.assertEqual(found.way, "rounding is taken up by a basis of 18 equations")
         self.assertTrue(p.fits(found.point))
-
-    def exported(self, text: bytes) -> bytes:
-        return self.work(text).program.text
 
     def test_whole_data(self) -> None:
         """The answer's basis is enough, with SciPy or without."""
@@ -293,8 +241,8 @@ class Linear(Certified):
             self.assertEqual(verdict.claim(), "optimal", verdict.line)
             clp, _ = work.relaxation()
             work.note, (own, *others) = "", work.bases(clp)
-            self.assertEqual(list(work.by_bases(iter([own]))), [])
-            self.assertEqual(next(work.by_bases(iter(others))).value, verdict.value)
+            self.assertEqual(list(work.by_bases([own])), [])
+            self.assertEqual(next(work.by_bases(others)).value, verdict.value)
 
     def test_refused_text(self) -> None:
         """An optimum that `bridge verify` finds too wide: short numbers come next."""
@@ -318,8 +266,7 @@ class Linear(Certified):
                   [("min", 0, {0: "0.3", 1: "0.9", 2: "0.7"})])
         work, verdict = self.verdict(text)
         self.assertEqual(verdict.claim(), "optimal", verdict.line)
-        clp, _ = work.relaxation()
-        for found in short.Rounding(work.model, clp.keep(), clp.values(), 1.0).points():
+        for found in rounding(work.model).points():
             self.assertTrue(work.model.fits(found.point))
 
     def test_pairs(self) -> None:
@@ -338,7 +285,7 @@ class Pairs(TestCase):
             a, b, rest = rng.randint(-99999, 99999) or 7, rng.randint(1, 10 ** 7), \
                 F(rng.randint(-10 ** 9, 10 ** 9), 10 ** rng.randint(0, 3))
             is_high = rng.random() < 0.5
-            found = decimals.pair([(0, a)], [(1, b)], rest, [False, is_high])
+            found = short.pair([(0, a)], [(1, b)], rest, [False, is_high])
             if found is None:
                 continue
             self.assertEqual(a * found[0] + b * found.get(1, 0), rest)

@@ -1,67 +1,41 @@
-"""The parts of the search that need neither `bridge` nor CLP: numbers, elimination, leaves, trees,
-texts, lattices, equations, cuts, lemmas, points."""
+"""The parts of the search that need neither `bridge` nor CLP: numbers, elimination, leaves, trees, texts, lattices,
+equations, points, and the forecasts of plans."""
 
 from __future__ import annotations
 
+import math
 import random
 from fractions import Fraction as F
+from types import SimpleNamespace
 from unittest import TestCase, mock
 
 from support import Case
 from bridge_drivers import miss
-from bridge_drivers.certify import directions, equations, exact, points, text
-from bridge_drivers.certify.leaves import Closer, Multipliers
+from bridge_drivers.certify import directions, equations, exact, leaves, points, text
+from bridge_drivers.certify.leaves import Closer, Multipliers, is_narrow
 from bridge_drivers.certify.model import Box, Model, Unfit
-from bridge_drivers.certify.numbers import is_narrow, written
-from bridge_drivers.certify.text import Naming, Plane
-from bridge_drivers.certify.tree import Cut, Empty, Leaf, Split, Spool, count, rows_used
+from bridge_drivers.certify.plans import LEAST_TURN, Plan, Plans
+from bridge_drivers.certify.text import Naming
+from bridge_drivers.certify.parts import Empty, Split, count, leaf, rows_used
 from bridge_drivers.program import Program
+from claim_models import built
+from models import whole
 
-TEXT = b"""NAME nl
-OBJSENSE
- MAX
-ROWS
- N obj
- L c0
- G c2
-COLUMNS
- x0 obj 1
- x0 c0 3
- M0 'MARKER' 'INTORG'
- x1 obj 2
- x1 c0 4
- x1 c2 2
- x2 c0 -2
- x2 c2 4
- M1 'MARKER' 'INTEND'
-RHS
- RHS obj -0.5
- RHS c0 6
- RHS c2 1
-RANGES
- RNG c2 4
-BOUNDS
- FR BND x0
- UP BND x1 2.5
- UP BND x2 3
-ENDATA
-"""
+SECTIONS = ("OBJSENSE", "ROWS", "COLUMNS", "RHS", "RANGES", "BOUNDS")
 
-LARGE_BOUND = b"""NAME nl
-OBJSENSE
- MAX
-ROWS
- N obj
- L c0
-COLUMNS
- x0 obj 1
- x0 c0 2
-RHS
- RHS c0 1999999999999
-BOUNDS
- UP BND x0 1e12
-ENDATA
-"""
+
+def exported(records: str) -> bytes:
+    """An exported text by its records."""
+    lines = (record if record in SECTIONS else " " + record for record in records.split("; "))
+    return "\n".join(["NAME nl", *lines, "ENDATA", ""]).encode()
+
+
+TEXT = exported("OBJSENSE; MAX; ROWS; N obj; L c0; G c2; COLUMNS; x0 obj 1; x0 c0 3; M0 'MARKER' 'INTORG'; x1 obj 2; "
+                "x1 c0 4; x1 c2 2; x2 c0 -2; x2 c2 4; M1 'MARKER' 'INTEND'; RHS; RHS obj -0.5; RHS c0 6; RHS c2 1; "
+                "RANGES; RNG c2 4; BOUNDS; FR BND x0; UP BND x1 2.5; UP BND x2 3")
+LARGE_BOUND = exported("OBJSENSE; MAX; ROWS; N obj; L c0; COLUMNS; x0 obj 1; x0 c0 2; RHS; RHS c0 1999999999999; "
+                       "BOUNDS; UP BND x0 1e12")
+STEEP = exported("ROWS; N obj; G c0; COLUMNS; x0 obj 1; x0 c0 3; x1 obj 1e9; x1 c0 3e9; RHS; RHS c0 7")
 
 
 def model() -> Model:
@@ -74,7 +48,7 @@ class Numbers(TestCase):
         for value, wanted in ((F(0), "0"), (F(7000), "7000"), (F(70000), "7e4"), (F(-1, 2), "-.5"),
                               (F(1, 3), "1/3"), (F(13, 4), "3.25"), (F(1, 1024), "1/1024"),
                               (F(-12, 10), "-1.2"), (3, "3")):
-            self.assertEqual(written(value), wanted)
+            self.assertEqual(text.written(value), wanted)
             self.assertEqual(F(wanted), value)
 
     def test_narrow(self) -> None:
@@ -136,8 +110,8 @@ class Models(TestCase):
     def test_miss_by_a_row_of_its_own_size(self) -> None:
         """Without a floor; what is near 0 beside a coefficient is measured by that."""
         def program(a: str, b: str, side: str, bound: str = "20") -> Program:
-            return Program(f"NAME nl\nROWS\n N obj\n L c0\nCOLUMNS\n x0 c0 {a}\n x1 c0 {b}\n"
-                           f"RHS\n RHS c0 {side}\nBOUNDS\n UP BND x0 {bound}\nENDATA\n".encode())
+            return Program(exported(f"ROWS; N obj; L c0; COLUMNS; x0 c0 {a}; x1 c0 {b}; RHS; RHS c0 {side}; BOUNDS; "
+                                    f"UP BND x0 {bound}"))
         for words, x, share, is_much in (
                 (("3e-11", "2e-11", "5e-11"), ("20", "20"), 95 / 60, True),
                 (("3e-11", "2e-11", "5e-11"), ("1", "1"), 0, False),
@@ -152,11 +126,11 @@ class Models(TestCase):
         """More than rounding is much there."""
         for side, is_much in (("3.000001", True), ("3.00000000001", True),
                               ("2.9999999999999", False), ("3.0000000000000004", False)):
-            text = f"NAME nl\nROWS\n N obj\n G c0\nCOLUMNS\n x0 c0 1\n x1 c0 1\nRHS\n RHS c0 {side}\n"
-            program, x = Program(text.encode() + b"ENDATA\n"), {"x0": "1", "x1": "2"}
+            text = exported(f"ROWS; N obj; G c0; COLUMNS; x0 c0 1; x1 c0 1; RHS; RHS c0 {side}")
+            program, x = Program(text), {"x0": "1", "x1": "2"}
             self.assertEqual(miss.miss(program, x, ["x0", "x1"]).is_much(), is_much)
             self.assertFalse(miss.miss(program, x, ["x0"]).is_much())
-            p = Model(text.encode() + b"ENDATA\n", {}, 1).with_whole([True, True])
+            p = Model(text, {}, 1).with_whole([True, True])
             self.assertEqual(points.broken(p, [1.0, 2.0]) > F(1, 10 ** 12), is_much)
 
 
@@ -188,21 +162,9 @@ class Leaves(TestCase):
 
     def test_shorter(self) -> None:
         """Duals that miss the cost of a column without an upper bound by less than is rounded."""
-        p = Model(b"""NAME nl
-ROWS
- N obj
- G c0
-COLUMNS
- x0 obj 1
- x0 c0 3
- x1 obj 1e9
- x1 c0 3e9
-RHS
- RHS c0 7
-ENDATA
-""", {}, 1)
+        p = Model(STEEP, {}, 1)
         y, box = {0: 1 / 3 + 1e-13}, Box(p.lo, p.hi)
-        with mock.patch.object(Closer, "roundings", lambda *words: iter(())):
+        with mock.patch.multiple(leaves, DIGITS=(), DENOMINATORS={}):
             found = Closer(p, F(7, 3) - F(1, 10 ** 8)).close(y, False, box)
             self.assertIsNone(Closer(p, F(7, 3)).close(y, False, box))
         self.assertLess(F(found.leaf.numbers[0], found.leaf.den), F(1, 3))
@@ -217,19 +179,18 @@ class Texts(Case):
     def test_tree(self) -> None:
         """Splits, an empty box, a form that is split twice, and a leaf under the objective."""
         p = model().with_rows([])
-        spool = Spool()
-        places = [spool.put(Multipliers({0: -2, 3: 4}, 3, False)),
-                  spool.put(Multipliers({3: -1}, 1, True)), spool.put(Multipliers({}, 1, False))]
-        a, b, c = (Leaf(place, added) for place, added in zip(places, ((3,), (3,), ())))
+        a, b, c = (leaf(given, added) for given, added in (
+            (Multipliers({0: -2, 3: 4}, 3, False), (3,)), (Multipliers({3: -1}, 1, True), (3,)),
+            (Multipliers({}, 1, False), ())))
         q = p.with_rows([({1: 1, 2: 2}, None, None)])
-        tree = Split(1, 0, Cut(3, 4, b, Cut(3, 6, b, a)), Split(2, -1, Empty(2, 0), c))
+        tree = [Split(1, 0), Split(6, 4), b, Split(6, 6), b, a, Split(2, -1), Empty(2, 0), c]
         self.assertEqual((count(tree), rows_used(tree)), (11, {3}))
-        self.assertEqual(list(text.tree_lines(q, tree, spool, Naming({}, 3, -1))), [
+        self.assertEqual(list(text.tree_lines(q, tree, Naming({}, 3, -1))), [
             "split 1 0", "plane 2 4", "1 1", "2 2", "weights 1", "3 -1",
             "plane 2 6", "1 1", "2 2", "weights 1", "4 -1", "duals 2", "0 2/3", "4 -4/3",
             "split 2 -1", "plane 1 0", "2 1", "weights 1", "3 -1", "weights 1", "3 1", "duals 0"])
-        self.assertEqual(list(text.leaf_lines(spool.get(places[0]),
-                                              Naming({3: 5}, 6, -1, Plane(4, F(1, 2))), {})),
+        self.assertEqual(list(text.leaf_lines(a.multipliers(),
+                                              Naming({3: 5}, 6, -1, (4, F(1, 2))), {})),
                          ["weights 3", "0 -2/3", "4 -.5", "5 4/3"])
 
     def test_heads(self) -> None:
@@ -257,14 +218,14 @@ class Lattices(TestCase):
         self.assertFalse(directions.Reduction([[1, 2], [2, 4]]).run())
 
     def test_parity(self) -> None:
-        rows = [equations.Equality(0, {0: F(12), 1: F(21), 2: F(33)}, F(500))]
-        self.assertEqual(equations.multipliers(rows), [F(1, 3)])
-        rows = [equations.Equality(0, {0: F(2), 1: F(4)}, F(6)), equations.Equality(1, {0: F(1, 2), 1: F(-1)}, F(1, 2))]
-        u = equations.multipliers(rows)
-        self.assertEqual((sum(v * row.side for v, row in zip(u, rows))).denominator, 2)
-        for j in (0, 1):
-            self.assertEqual(sum(v * row.terms[j] for v, row in zip(u, rows)).denominator, 1)
-        self.assertIsNone(equations.multipliers(rows[:1]))
+        columns = [whole()] * 3
+        found = equations.parity(built(columns, [(500, 500, {0: 12, 1: 21, 2: 33})]))
+        self.assertEqual(found, ({0: 4, 1: 7, 2: 11}, 166, {0: F(1, 3)}, {0: F(1, 3)}))
+        rows = [(6, 6, {0: 2, 1: 4}), ("0.5", "0.5", {0: "0.5", 1: -1})]
+        found = equations.parity(built(columns, rows))
+        sums = [sum(u * F((2, "0.5", 4, -1, 6, "0.5")[2 * k + i]) for i, u in found.low.items()) for k in range(3)]
+        self.assertEqual([v.denominator for v in sums], [1, 1, 2])
+        self.assertIsNone(equations.parity(built(columns, rows[:1])))
 
 
 class Points(TestCase):
@@ -282,7 +243,7 @@ class Points(TestCase):
         self.assertEqual(found, [F(2, 3), F(1), F(0)])
 
     def test_ray(self) -> None:
-        p = model().with_costs([F(1), F(0), F(0)])
+        p = model().with_costs([F(1), F(0), F(0)]).cone()
         self.assertTrue(points.is_ray(p, [F(-1), F(0), F(0)]))
         for wrong in ([F(1), F(0), F(0)], [F(0), F(0), F(0)], [F(-1), F(1), F(0)]):
             self.assertFalse(points.is_ray(p, wrong))
@@ -291,3 +252,37 @@ class Points(TestCase):
         """A large value that is near its bound in doubles, and not at it."""
         p = Model(LARGE_BOUND, {}, 1)
         self.assertEqual(points.nearest(p, [999999999999.5]), [F(1999999999999, 2)])
+
+
+class Forecasts(TestCase):
+    """Which plan goes on, and what else there is time for."""
+
+    def plan(self, share: float, spent: float) -> Plan:
+        return Plan("", [], SimpleNamespace(share=lambda: share), spent)
+
+    def plans(self) -> Plans:
+        """After ten seconds; no plan has a tree."""
+        plans = Plans(model(), F(1), lambda x: None, "", SimpleNamespace(spent=lambda: 10.0))
+        plans.started, plans.goes = 0.0, lambda plan, seconds: False
+        return plans
+
+    def test_expected(self) -> None:
+        self.assertEqual(self.plan(0.25, 2.0).expected(), 6.0)
+        plan = self.plan(0.0, 2.0)
+        self.assertEqual(plan.expected(), math.inf)
+        plan.guessed, plan.factor = 3.0, 4.0
+        self.assertEqual(plan.expected(), 12.0)
+
+    def test_room(self) -> None:
+        """A share of what the first plan needs in all, less what went to others; not more than half of what is left of
+        it."""
+        for share, spent, room in ((0.5, 10.0, 2.0), (0.5, 9.0, 0.9), (0.9999, 10.0, 0.0005),
+                                   (0.0, 10.0, 3.0), (0.0, 8.0, 1.0)):
+            self.assertAlmostEqual(self.plans().room(self.plan(share, spent)), room, 3)
+        self.assertEqual(self.plans().room(None), math.inf)
+
+    def test_misses(self) -> None:
+        """A plan that goes on longer than it said counts as twice that."""
+        plan = self.plan(0.9999, 10.0)
+        self.plans().turn(plan, plan, 0.0)
+        self.assertAlmostEqual(plan.expected(), 2 * LEAST_TURN)

@@ -17,17 +17,19 @@ import threading
 import time
 import unittest
 from concurrent.futures import Future
-from typing import Iterator
+from pathlib import Path
+from typing import Callable, Iterator
 from unittest import mock
 
 from certify_search import SECONDS, Certified
 from support import HERE, PROGRAM
 from bridge_drivers.bridge import Bridge
-from bridge_drivers.certify import crowd, pool as pools, portion, text
-from bridge_drivers.certify.claims import Certifying, certified
+from bridge_drivers.certify import crowd, pool as pools, text
+from bridge_drivers.certify.claims import Certifying, Verdict, certified
 from bridge_drivers.certify.parts import Better
+from bridge_drivers.certify.plans import Plans
 from bridge_drivers.certify.pool import Pool, Processes, pool_of
-from bridge_drivers.certify.watch import Paused, Watch
+from bridge_drivers.certify.watch import Paused, Stopped, Watch
 from bridge_drivers.interrupts import SIGNALS, Interrupted
 from bridge_drivers.program import Program
 from models import nl, real, whole
@@ -44,12 +46,14 @@ class Here(Pool):
     def submit(self, given):
         self.portions += 1
         future: Future = Future()
-        found = portion.work(pickle.loads(pickle.dumps(given)))
-        future.set_result(pickle.loads(pickle.dumps(found)))
+        try:
+            future.set_result(pickle.loads(pickle.dumps(pools.work(pickle.loads(pickle.dumps(given))))))
+        except (Stopped, Better) as fault:
+            future.set_exception(pickle.loads(pickle.dumps(fault)))
         return future
 
 
-class Counting(portion.Until):
+class Counting(Watch):
     """Pauses a portion at its fifth look."""
 
     looks = 0
@@ -75,77 +79,79 @@ def random_model(rng: random.Random, mixed: bool) -> bytes:
 class Pooled(Certified):
     @contextlib.contextmanager
     def few(self, nodes: int = 3) -> Iterator[None]:
-        with mock.patch("bridge_drivers.certify.crowd.AT_HOME", nodes), \
-                mock.patch("bridge_drivers.certify.portion.Until", Counting):
+        with self.at_home(nodes), mock.patch("bridge_drivers.certify.pool.Watch", Counting):
             yield
 
-    def pooled(self, made: bytes, pool: Pool):
-        found = self.found(made)
-        if found.claim() != "optimal":
-            return None
-        work, plans = self.plans(made, found.value)
+    def at_home(self, nodes: int = 3):
+        return mock.patch("bridge_drivers.certify.crowd.AT_HOME", nodes)
+
+    def pooled(self, pool: Pool, found: Verdict, better: int = 0) -> tuple[Certifying, Plans]:
+        """The plans for the value of what was found, or a worse one, by a pool."""
+        work, plans = self.plans(self.bytes_of(".nl"), found.value - better)
         plans.pool = pool
-        return found, work, plans
+        return work, plans
+
+    def until(self, is_true: Callable[[], bool], seconds: float = LONG) -> None:
+        end = time.monotonic() + seconds
+        while not is_true():
+            self.assertLess(time.monotonic(), end)
+            time.sleep(0.05)
+
+    def optimal(self, seed: int, count: int) -> Iterator[Verdict]:
+        """Random models that have an optimum; each is the stub meanwhile."""
+        rng = random.Random(seed)
+        for k in range(count):
+            found = self.found(random_model(rng, k % 2 == 1))
+            if found.claim() == "optimal":
+                yield found
+
+    def accepted(self, work: Certifying, plans: Plans, found: Verdict) -> None:
+        head = text.head("optimal", 0, None, found.point)
+        self.assertEqual(work.judged(head, plans.best.path).line, found.line)
+
+    def searched(self, pool: Pool, found: Verdict | None = None) -> None:
+        """The verdict is that of one process."""
+        self.addCleanup(pool.close)
+        found = found or self.found(random_model(random.Random(11), False))
+        work, plans = self.pooled(pool, found)
+        self.assertTrue(plans.goes(plans.begun("plain"), SECONDS), plans.told())
+        self.accepted(work, plans, found)
 
 
 class Portions(Pooled):
     def test_random(self) -> None:
         """The whole text is accepted."""
         rng, searched = random.Random(5), 0
-        for k in range(60):
+        for found in self.optimal(5, 60):
             pool = Here(rng.randint(1, 4))
-            made = self.pooled(random_model(rng, k % 2 == 1), pool)
-            if made is None:
-                continue
-            found, work, plans = made
             with self.few():
-                self.assertTrue(plans.goes(plans.begun("plain"), SECONDS), plans.told())
-            lines = text.head("optimal", 0, None, found.point)
-            verdict = work.judged(lines, plans.best.path)
-            self.assertEqual(verdict.line, found.line, k)
+                self.searched(pool, found)
             searched += pool.portions > 4
         self.assertGreater(searched, 10)
 
     def test_bounds(self) -> None:
         """Of what is closed when the time is over."""
-        rng, told = random.Random(6), 0
-        for k in range(40):
-            made = self.pooled(random_model(rng, k % 2 == 1), Here(2))
-            if made is None:
-                continue
-            found, work, plans = made
-            most = 8
+        told = 0
+        for found in self.optimal(6, 40):
+            (work, plans), most = self.pooled(Here(2), found), 8
             with self.few():
                 while not plans.goes(plans.begun("plain"), SECONDS, most):
                     most += 8
-                    bound, path = plans.bounded()
-                    head = text.head("bound", 0, work.model.sign * bound)
-                    self.assertEqual(work.judged(head, path).claim(), "bound")
-                    self.assertLessEqual(bound, work.model.sign * found.value)
+                    self.assertLessEqual(self.bound(work, plans), work.model.sign * found.value)
                     told += 1
-            head = text.head("optimal", 0, None, found.point)
-            self.assertEqual(work.judged(head, plans.best.path).line, found.line, k)
+            self.accepted(work, plans, found)
         self.assertGreater(told, 20)
 
     def test_better(self) -> None:
         """A point that a portion finds comes through; what is left has a bound all the same."""
-        rng, caught, told = random.Random(7), 0, 0
-        for _ in range(20):
-            made = random_model(rng, False)
-            found = self.found(made)
-            if found.claim() != "optimal":
-                continue
-            work, plans = self.plans(made, found.value - 3)
-            plans.pool = Here(2)
+        caught, told = 0, 0
+        for found in self.optimal(7, 20):
+            work, plans = self.pooled(Here(2), found, 3)
             with self.few(0), self.assertRaises(Better) as better:
                 plans.goes(plans.begun("plain"), SECONDS)
             self.assertTrue(work.model.fits(better.exception.point))
             caught += 1
-            bounded = plans.bounded()
-            if bounded is not None:
-                head = text.head("bound", 0, work.model.sign * bounded[0])
-                self.assertEqual(work.judged(head, bounded[1]).claim(), "bound")
-                told += 1
+            told += self.bound(work, plans) is not None
         self.assertGreater(min(caught, told), 5)
 
     def test_other_claims(self) -> None:
@@ -160,7 +166,7 @@ class Portions(Pooled):
             self.assertGreater(pool.portions, 0)
 
 
-def killing(given: portion.Portion) -> portion.Outcome:
+def killing(given: pools.Portion) -> pools.Outcome:
     os.kill(os.getpid(), signal.SIGKILL)
     raise AssertionError
 
@@ -168,11 +174,8 @@ def killing(given: portion.Portion) -> portion.Outcome:
 class OfThisMachine(Pooled):
     def test_processes(self) -> None:
         """One is killed: its portion is worked by another. Where all are, this process goes on alone, and says so."""
-        made = random_model(random.Random(11), False)
         for kills in (0, 1, 99):
             pool, left = Processes(2), [kills]
-            self.addCleanup(pool.close)
-            found, work, plans = self.pooled(made, pool)
             submit = pool.executor
 
             def submitted():
@@ -182,32 +185,24 @@ class OfThisMachine(Pooled):
                     for _ in range(2):          # each of both, before they take a portion
                         executor.submit(killing, None)
                 return executor
-            with mock.patch.object(pool, "executor", submitted), mock.patch("bridge_drivers.certify.crowd.AT_HOME", 3):
-                self.assertTrue(plans.goes(plans.begun("plain"), SECONDS), plans.told())
+            with mock.patch.object(pool, "executor", submitted), self.at_home():
+                self.searched(pool)
             self.assertEqual(bool(pool.fault), kills == 99, pool.fault)
-            head = text.head("optimal", 0, None, found.point)
-            self.assertEqual(work.judged(head, plans.best.path).line, found.line)
             pool.close()
             self.assertEqual(multiprocessing.active_children(), [])
 
     def test_no_processes(self) -> None:
         """Where none can be started this process goes on alone, and says so."""
         pool = Processes(2)
-        found, work, plans = self.pooled(random_model(random.Random(11), False), pool)
-        with mock.patch("os.fork", side_effect=BlockingIOError("no more processes")), \
-                mock.patch("bridge_drivers.certify.crowd.AT_HOME", 3):
-            self.assertTrue(plans.goes(plans.begun("plain"), SECONDS), plans.told())
+        with mock.patch("os.fork", side_effect=BlockingIOError("no more processes")), self.at_home():
+            self.searched(pool)
         self.assertIn("no more processes", pool.fault)
-        pool.close()
 
     def test_spawned(self) -> None:
         """Where processes start anew, as on other systems."""
-        with mock.patch.object(pools, "START", "spawn"):
-            pool = Processes(2)
-            self.addCleanup(pool.close)
-            found, work, plans = self.pooled(random_model(random.Random(11), False), pool)
-            with mock.patch("bridge_drivers.certify.crowd.AT_HOME", 3):
-                self.assertTrue(plans.goes(plans.begun("plain"), SECONDS), plans.told())
+        pool = Processes(2)
+        with mock.patch.object(pools, "START", "spawn"), self.at_home():
+            self.searched(pool)
         self.assertEqual(pool.fault, "")
 
     def started(self) -> tuple[subprocess.Popen, list[int]]:
@@ -218,28 +213,19 @@ class OfThisMachine(Pooled):
                                  stderr=subprocess.STDOUT, text=True, start_new_session=True)
         self.addCleanup(child.stdout.close)
         self.addCleanup(child.kill)
-        end = time.monotonic() + LONG
-        while len(below(child.pid)) < 2 and child.poll() is None and time.monotonic() < end:
-            time.sleep(0.1)
+        self.until(lambda: len(below(child.pid)) > 1 or child.poll() is not None)
         self.assertIsNone(child.poll())
         return child, below(child.pid)
 
-    def gone(self, others: list[int]) -> bool:
-        end = time.monotonic() + LONG / 10
-        while any(map(goes, others)) and time.monotonic() < end:
-            time.sleep(0.05)
-        return not any(map(goes, others))
-
     def test_ends(self) -> None:
-        """An interrupt of a terminal ends the search, and tells so; a signal or the end of the
-        first process ends all."""
+        """An interrupt of a terminal ends the search, and tells so; another signal, or the end of this process, all."""
         for number, told in ((signal.SIGINT, "not proved: interrupted"), (signal.SIGTERM, "15"), (signal.SIGKILL, "")):
             child, others = self.started()
             self.assertEqual(len(others), 2)
             (os.killpg if number == signal.SIGINT else os.kill)(child.pid, number)
             out, _ = child.communicate(timeout=LONG)
             self.assertEqual(out.strip(), told)
-            self.assertTrue(self.gone(others), number)
+            self.until(lambda: not any(map(goes, others)), LONG / 10)
 
 
 NEEDS_DASK = unittest.skipUnless(importlib.util.find_spec("distributed"), "no distributed of Dask")
@@ -261,53 +247,36 @@ class OfACluster(Pooled):
 
     def cluster(self, *paths: str) -> tuple[str, list[subprocess.Popen]]:
         """Its address, and a worker for each path where Python looks."""
-        place = os.path.join(self.folder, "scheduler.json")
-        self.start("dask_scheduler", "--host", "127.0.0.1", "--port", "0", "--no-dashboard", "--scheduler-file", place)
-        self.until(lambda: os.path.exists(place) and os.path.getsize(place) > 0)
-        with open(place, encoding="utf-8") as f:
-            address = json.load(f)["address"]
-        workers = [self.start("dask_worker", address, "--no-nanny", "--nthreads", "1",
-                              "--no-dashboard", path=path) for path in paths]
+        place = Path(self.folder, "scheduler.json")
+        self.start("dask_scheduler", "--host=127.0.0.1", "--port=0", "--no-dashboard", f"--scheduler-file={place}")
+        self.until(lambda: place.exists() and place.stat().st_size > 0)
+        address = json.loads(place.read_text())["address"]
+        workers = [self.start("dask_worker", address, "--no-nanny", "--nthreads", "1", "--no-dashboard", path=path)
+                   for path in paths]
         with importlib.import_module("distributed").Client(address) as client:
             client.wait_for_workers(len(paths), timeout=LONG)
         return address, workers
 
-    def until(self, is_true) -> None:
-        end = time.monotonic() + LONG
-        while not is_true():
-            self.assertLess(time.monotonic(), end)
-            time.sleep(0.1)
-
-    def searched(self, pool: Pool) -> None:
-        """The verdict is that of one process."""
-        self.addCleanup(pool.close)
-        found, work, plans = self.pooled(random_model(random.Random(11), False), pool)
-        with mock.patch("bridge_drivers.certify.crowd.AT_HOME", 3):
-            self.assertTrue(plans.goes(plans.begun("plain"), SECONDS), plans.told())
-        head = text.head("optimal", 0, None, found.point)
-        self.assertEqual(work.judged(head, plans.best.path).line, found.line)
-
     def test_cluster(self) -> None:
-        """The verdict of one process, with a worker that lacks the package, which is told; after an
-        interrupt; and where another worker dies."""
+        """The verdict of one process, with a worker that lacks the package, which is told; after an interrupt; and
+        where another worker dies."""
         address, workers = self.cluster(PACKAGE, PACKAGE, self.folder)
         pool = pool_of(0, address)
         self.assertEqual((pool.workers, pool.fault), (2, ""))
         self.assertRegex(pool.note, "^1 of 3 workers of the cluster lack bridge_drivers")
-        self.searched(pool)
-        self.assertGreater(pool.spent, 0)
-        self.interrupted(pool)
-        self.assertEqual([worker.poll() for worker in workers], [None] * 3)
-        workers[0].kill()
-        self.searched(pool)
-        self.assertEqual(pool.fault, "")
-
-    def interrupted(self, pool: Pool) -> None:
+        with self.at_home(), mock.patch.object(pool, "submit", wraps=pool.submit) as submit:
+            self.searched(pool)
+        submit.assert_called()
         work = self.work(families.made("split", 6), pool=pool)
         timer = threading.Timer(3, os.kill, (os.getpid(), signal.SIGINT))
         timer.start()
         self.addCleanup(timer.cancel)
         self.assertEqual(certified(work, "infeasible").line, "not proved: interrupted")
+        self.assertEqual([worker.poll() for worker in workers], [None] * 3)
+        workers[0].kill()
+        with self.at_home():
+            self.searched(pool)
+        self.assertEqual(pool.fault, "")
 
 
 class WithoutACluster(Pooled):
@@ -316,19 +285,20 @@ class WithoutACluster(Pooled):
         with mock.patch.object(pools, "CONNECT", 0.5):
             pool = pool_of(0, "tcp://127.0.0.1:9")
         self.assertRegex(pool.fault, "^no scheduler of Dask at tcp:|^cluster= needs Dask")
-        found, work, plans = self.pooled(random_model(random.Random(11), False), pool)
-        self.assertTrue(plans.goes(plans.begun("plain"), SECONDS), plans.told())
+        self.searched(pool)
+
+
+def ps(*words: str) -> list[str]:
+    return subprocess.run(["ps", "-o", *words], capture_output=True, text=True).stdout.split()
 
 
 def below(pid: int) -> list[int]:
     """The processes that a process started."""
-    found = subprocess.run(["ps", "-o", "pid=", "--ppid", str(pid)], capture_output=True, text=True)
-    return [int(word) for word in found.stdout.split()]
+    return [int(word) for word in ps("pid=", "--ppid", str(pid))]
 
 
 def goes(pid: int) -> bool:
-    found = subprocess.run(["ps", "-o", "stat=", "-p", str(pid)], capture_output=True, text=True)
-    return found.stdout.strip()[:1] not in ("", "Z")
+    return any(word[0] != "Z" for word in ps("stat=", "-p", str(pid)))
 
 
 def long(path: str, folder: str) -> None:

@@ -7,13 +7,13 @@ import math
 import os
 import random
 import signal
-import subprocess
-import sys
 import time
 from fractions import Fraction as F
+from pathlib import Path
+from typing import Sequence
 from unittest import mock
 
-from support import HERE, NEEDS_CLP, NEEDS_PROGRAM, PROGRAM, Case
+from support import NEEDS_CLP, NEEDS_PROGRAM, PROGRAM, Case
 from bridge_drivers.bridge import Bridge, Late
 from bridge_drivers.certify import text
 from bridge_drivers.certify.claims import Certifying, Given, Verdict, certified
@@ -28,8 +28,8 @@ import families
 from claim_models import BINARY, CLAIMED
 from models import MODELS, nl, real, whole
 
-COMMAND = os.path.join(HERE, "..", "bin", "bridge-certify")
 SECONDS = 20.0
+KNAP = [F(1), F(1), F(0)]       # the point of `knap`
 
 
 @NEEDS_PROGRAM
@@ -45,10 +45,30 @@ class Certified(Case):
         """Whatever is true: the search for a contradiction finds a point where there is one."""
         return certified(self.work(text), "infeasible")
 
+    def claimed(self, name: str, *words, proves: bool = True, **others) -> Verdict:
+        """Of a small program, by what was answered."""
+        return certified(self.work(CLAIMED[name].text, proves, **others), *words)
+
     def plans(self, text: bytes, value: F) -> tuple[Certifying, Plans]:
         work = self.work(text)
         work.load()
         return work, Plans(work.model, work.model.sign * value, work.exact, self.folder, work.watch)
+
+    def bound(self, work: Certifying, plans: Plans) -> F | None:
+        """What the stopped searches have, where they have something."""
+        bound, path = plans.bounded() or (None, "")
+        if bound is not None:
+            self.is_bound(work, work.model.sign * bound, path)
+        return bound
+
+    def is_bound(self, work: Certifying, value: F, path: str) -> None:
+        self.assertEqual(work.judged(text.head("bound", 0, value), path).line, f"bound {value}")
+
+    def stopped(self, name: str, most: int) -> tuple[Certifying, Plans]:
+        """A plain search that ended after so many nodes."""
+        work, plans = self.plans(CLAIMED[name].text, CLAIMED[name].value)
+        self.assertFalse(plans.goes(plans.begun("plain"), SECONDS, most), name)
+        return work, plans
 
 
 class Models(Certified):
@@ -66,16 +86,21 @@ class Models(Certified):
             n = rng.randint(2, 4)
             low = [rng.randint(-2, 0) for _ in range(n)]
             top = [rng.randint(1, 4) for _ in range(n)]
-            rows = []
-            for _ in range(rng.randint(1, 4)):
-                terms = {j: rng.randint(-6, 6) or 1 for j in range(n)}
-                at = rng.randint(-6, 12)
-                rows.append(rng.choice([(None, at, terms), (at, None, terms), (at, at + 3, terms)]))
+            rows = self.rows(rng, n, rng.randint(1, 4), range(-6, 13), [-6, -5, -4, -3, -2, -1, 1, 1, 2, 3, 4, 5, 6], 3)
             costs = {j: rng.choice([rng.randint(-9, 9) or 1, f"{rng.randint(1, 5)}.5"]) for j in range(n)}
             sense, constant = rng.choice(["min", "max"]), rng.randint(0, 3)
             best = self.best(low, top, rows, sense, costs, constant)
             made = nl([whole(*ends) for ends in zip(low, top)], rows, [(sense, constant, costs)])
             self.assertEqual(self.found(made).line, "infeasible" if best is None else f"optimal {best}", k)
+
+    @staticmethod
+    def rows(rng: random.Random, n: int, m: int, sides: Sequence[int], numbers: Sequence, *widths: int) -> list:
+        """Upper sides, lower sides, and ranges of these widths."""
+        found = []
+        for _ in range(m):
+            terms, at = {j: rng.choice(numbers) for j in range(n)}, rng.choice(sides)
+            found.append(rng.choice([(None, at, terms), (at, None, terms), *((at, at + w, terms) for w in widths)]))
+        return found
 
     @staticmethod
     def best(low, top, rows, sense, costs, constant) -> F | None:
@@ -93,14 +118,9 @@ class Models(Certified):
             n = rng.randint(2, 4)
             columns = [real(*rng.choice([(0, None), (None, None), ("-1.5", 3), (0, "2.5")]))
                        if j < n // 2 else whole(*rng.choice([(-2, 3), ("-1.5", "2.5"), (0, None)])) for j in range(n)]
-            rows = []
-            for _ in range(rng.randint(0, 3)):
-                terms = {j: rng.choice([1, 2, -1, 3, -2, "0.5", 7]) for j in range(n)}
-                at = rng.randint(-4, 8)
-                rows.append(rng.choice([(None, at, terms), (at, None, terms), (at, at, terms), (at, at + 2, terms)]))
+            rows = self.rows(rng, n, rng.randint(0, 3), range(-4, 9), [1, 2, -1, 3, -2, "0.5", 7], 0, 2)
             costs = {j: rng.choice([1, -2, 3, "0.25"]) for j in range(n)}
-            work = self.work(nl(columns, rows, [(rng.choice(["min", "max"]), 0, costs)]))
-            verdict = certified(work, "either")
+            verdict = certified(self.work(nl(columns, rows, [(rng.choice(["min", "max"]), 0, costs)])), "either")
             self.assertTrue(verdict.is_proved(), f"{k}: {verdict.line}")
 
     def test_linear(self) -> None:
@@ -113,81 +133,68 @@ class Models(Certified):
             self.assertEqual(verdict.line, "unbounded", name)
 
     def test_one_leaf(self) -> None:
-        """In the second that a run without `prove` has: what is optimal, else that the point is
-        feasible; a bound where it is wanted; the bound of a relaxation."""
-        for name, x, line in (("knap", (1, 1, 0), "optimal 17"), ("knap", (0, 1, 0), "optimal 17"),
-                              ("at_bound", (1, 1, 2), "optimal 2"), ("at_bound", (1, 0, 1), "optimal 2"),
-                              ("at_bound", (1, 1, 1), "optimal 2")):
-            work = self.work(CLAIMED[name].text, False)
-            verdict = certified(work, "point", Given(x))
-            self.assertEqual(verdict.line, line)
-        given = Given([F(1), F(1), F(0)])
+        """In the second that a run without `prove` has: what is optimal, else that the point is feasible; a bound where
+        it is wanted; the bound of a relaxation."""
+        for name, x in (("knap", (1, 1, 0)), ("knap", (0, 1, 0)), ("at_bound", (1, 1, 2)), ("at_bound", (1, 0, 1)),
+                        ("at_bound", (1, 1, 1))):
+            verdict = self.claimed(name, "point", Given(x), proves=False)
+            self.assertEqual(verdict.line, f"optimal {CLAIMED[name].value}")
+        given = Given(KNAP)
         with mock.patch("bridge_drivers.certify.search.MOST_DEPTH", -1):
             for bounds, line in ((False, "feasible 17"), (True, "within 19 17")):
-                work = self.work(CLAIMED["knap"].text, False, bounds=bounds)
-                self.assertEqual(certified(work, "point", given).line, line)
-        verdict = certified(self.work(CLAIMED["knap"].text, relaxed=True), "point", given)
-        self.assertEqual(f"{float(F(verdict.line.split()[1])):.4f}", "19.2308")
-        self.assertTrue(verdict.line.startswith("bound "))
+                self.assertEqual(self.claimed("knap", "point", given, proves=False, bounds=bounds).line, line)
+        word, value = self.claimed("knap", "point", given, relaxed=True).line.split()
+        self.assertEqual((word, f"{float(F(value)):.4f}"), ("bound", "19.2308"))
 
     def test_answers_that_are_mended(self) -> None:
-        """An objective column that is off by the digits of a solver, or by more, where an equation
-        gives it by the others: the good point stays, with a search and without."""
+        """An objective column that is off by the digits of a solver, or by more, where an equation gives it by the
+        others: the good point stays, with a search and without."""
         made = nl([whole(0, 9), whole(0, 9), whole(0, 10 ** 7)],
                   [(0, 0, {0: 123457, 1: 98765, 2: -1}), (None, 11, {0: 1, 1: 1})], [("max", 0, {2: 1})])
         best = 9 * 123457 + 2 * 98765
-        for off in (-3, 4, 5000):
-            for proves in (True, False):
-                work = self.work(made, proves)
-                with mock.patch.object(Plans, "goes", lambda *_: False):
-                    verdict = certified(work, "point", Given([9.0, 2.0, float(best + off)]))
-                self.assertRegex(verdict.line, rf"^(feasible|optimal|within \S+) {best}$")
-                self.assertEqual(verdict.point, [9, 2, best])
+        for off, proves in itertools.product((-3, 4, 5000), (True, False)):
+            with mock.patch.object(Plans, "goes", lambda *_: False):
+                verdict = certified(self.work(made, proves), "point", Given([9.0, 2.0, float(best + off)]))
+            self.assertRegex(verdict.line, rf"^(feasible|optimal|within \S+) {best}$")
+            self.assertEqual(verdict.point, [9, 2, best])
 
     def test_wrong_values(self) -> None:
         """Where a point is better than the value, the search finds one."""
         for name in ("knap", "cover", "mixed", "tied", "odd_cycle"):
-            value = CLAIMED[name].value
-            work, _ = self.plans(CLAIMED[name].text, value)
-            worse = value + work.model.sign
-            _, plans = self.plans(CLAIMED[name].text, worse)
+            made, value = CLAIMED[name]
+            sign = self.plans(made, value)[0].model.sign
             with self.assertRaises(Better) as caught:
-                plans.try_all()
-            self.assertLess(caught.exception.value, work.model.sign * worse)
+                self.plans(made, value + sign)[1].try_all()
+            self.assertLess(caught.exception.value, sign * value + 1)
+
+
+WEIGHTS = (35, 27, 23, 19, 15, 15, 12, 8, 6, 3)
+KNAPSACK = nl([BINARY] * 10, [(None, 39, dict(enumerate(WEIGHTS))), (None, 40, {j: 3 + j for j in range(10)})],
+              [("max", 0, {j: w + j % 3 for j, w in enumerate(WEIGHTS)})])
 
 
 class Spines(Certified):
     """Plans that small models do not come to by themselves."""
 
-    def accepted(self, work: Certifying, plans: Plans, value: F) -> None:
-        """As a bound, which needs no point."""
-        self.assertIsNotNone(plans.best, plans.told())
-        verdict = work.judged(text.head("bound", 0, value), plans.best.path)
-        self.assertEqual(verdict.line, f"bound {value}")
+    def below(self, plans: Plans, *kinds: str) -> None:
+        """There is a tree below rows of these kinds."""
+        plans.best, rows = None, plans.maker.cuts(kinds, [], plans.until(SECONDS / 2))
+        self.assertTrue(plans.goes(plans.begun("cuts", rows), SECONDS), plans.told())
 
     def test_cuts(self) -> None:
         cycles = [(1, None, {(i + 5 * k): 1, (i + 1) % 5 + 5 * k: 1}) for k in range(3) for i in range(5)]
         made = nl([BINARY] * 15, cycles, [("min", 0, dict.fromkeys(range(15), 1))])
-        weights = (35, 27, 23, 19, 15, 15, 12, 8, 6, 3)
-        knapsack = nl([BINARY] * 10, [(None, 39, dict(enumerate(weights))),
-                                      (None, 40, {j: 3 + j for j in range(10)})],
-                      [("max", 0, {j: w + j % 3 for j, w in enumerate(weights)})])
-        for model, value in ((made, F(9)), (knapsack, F(44)), (CLAIMED["cover"].text, F("9.25"))):
+        for model, value in ((made, F(9)), (KNAPSACK, F(44)), CLAIMED["cover"]):
             work, plans = self.plans(model, value)
             for kinds in (("row",), ("clique", "row")):
-                rows = plans.maker.cuts(kinds, [], plans.until(SECONDS))
-                self.assertTrue(plans.goes(plans.begun("cuts", rows), SECONDS), plans.told())
-                self.accepted(work, plans, value)
-                plans.best = None
+                self.below(plans, *kinds)
+                self.is_bound(work, value, plans.best.path)
 
     def test_lemmas(self) -> None:
-        work, plans = self.plans(CLAIMED["lots"].text, F("14.3"))
-        rows = plans.maker.cuts(("row",), [], plans.until(SECONDS))
-        self.assertTrue(rows)
-        self.assertTrue(plans.goes(plans.begun("lemma", rows), SECONDS), plans.told())
-        with open(plans.best.path) as f:
-            self.assertIn("lemma ", f.read())
-        self.accepted(work, plans, F("14.3"))
+        work, plans = self.plans(*CLAIMED["lots"])
+        self.below(plans, "row")
+        self.assertIn("lemma ", Path(plans.best.path).read_text())
+        self.is_bound(work, CLAIMED["lots"].value, plans.best.path)
 
     def test_thin(self) -> None:
         """Wide columns under an equation with large numbers."""
@@ -198,116 +205,87 @@ class Spines(Certified):
         self.assertLess(os.path.getsize(verdict.path), 2000)
 
     def test_cliques(self) -> None:
-        """Pigeons of which no two share a hole: the program with cliques has no point. Each clique
-        is a chain of planes whose parts beyond are one leaf each."""
+        """Pigeons of which no two share a hole: the program with cliques has no point. Each clique is a chain of planes
+        whose parts beyond are one leaf each."""
         for size in (6, 9):
             work = self.work(families.made("pigeons", size))
             work.load()
             plans = work.plans_for(work.model.without_cost(), None)
-            rows = plans.maker.cuts(("clique", "row"), [], plans.until(SECONDS / 2))
-            self.assertTrue(plans.goes(plans.begun("clique", rows), SECONDS), plans.told())
-            self.assertLessEqual(plans.best.figures.nodes, 2 * (size - 1) * (size - 2) + 1)
+            self.below(plans, "clique", "row")
+            self.assertLessEqual(plans.best.nodes, 2 * (size - 1) * (size - 2) + 1)
             self.assertEqual(work.by_tree(plans.best).line, "infeasible")
 
     def test_no_point(self) -> None:
         """Numbers that no sum of coins makes: forms of a lattice, also where a solver has nothing."""
-        for size in (4, 5):
-            for claim in ("infeasible", "nothing"):
-                work = self.work(families.made("frobenius", size))
-                verdict = certified(work, claim)
-                self.assertEqual(verdict.line, "infeasible")
-                self.assertLess(os.path.getsize(verdict.path), 20_000)
+        for size, claim in itertools.product((4, 5), ("infeasible", "nothing")):
+            verdict = certified(self.work(families.made("frobenius", size)), claim)
+            self.assertEqual(verdict.line, "infeasible")
+            self.assertLess(os.path.getsize(verdict.path), 20_000)
 
     def test_bounds(self) -> None:
         """What a search has that was stopped, for objectives with steps and without."""
-        for name, value, most in (("odd_cycle", F(3), 0), ("mixed", F("43.25"), 1),
-                                  ("eqknap", F(14), 4), ("lots", F("14.3"), 2)):
-            work, plans = self.plans(CLAIMED[name].text, value)
-            self.assertFalse(plans.goes(plans.begun("plain"), SECONDS, most), name)
-            bound, path = plans.bounded()
-            verdict = work.judged(text.head("bound", 0, work.model.sign * bound), path)
-            self.assertEqual(verdict.line, f"bound {work.model.sign * bound}", name)
-            self.assertLessEqual(bound, work.model.sign * value)
+        for name, most in (("odd_cycle", 0), ("mixed", 1), ("eqknap", 4), ("lots", 2)):
+            work, plans = self.stopped(name, most)
+            self.assertLessEqual(self.bound(work, plans), work.model.sign * CLAIMED[name].value)
 
     def test_first_tree(self) -> None:
         """It is told; a shorter text is looked for where that is wanted."""
-        weights = (35, 27, 23, 19, 15, 15, 12, 8, 6, 3)
-        made = nl([BINARY] * 10, [(None, 39, dict(enumerate(weights))),
-                                  (None, 40, {j: 3 + j for j in range(10)})],
-                  [("max", 0, {j: w + j % 3 for j, w in enumerate(weights)})])
         for shortens in (False, True):
-            _, plans = self.plans(made, F(44))
+            _, plans = self.plans(KNAPSACK, F(44))
             plans.shortens = shortens
-            with mock.patch("bridge_drivers.certify.turns.SHORT", 1):
+            with mock.patch("bridge_drivers.certify.plans.SHORT", 1):
                 plans.try_all()
             self.assertEqual(len(plans.told()) > 1, shortens, plans.told())
 
     def test_bound_of_a_part_that_does_not_close(self) -> None:
         """It has that of both parts; and nothing is told below what bounds of columns say."""
-        for name, value in (("mixed", F("43.25")), ("lots", F("14.3"))):
-            work, plans = self.plans(CLAIMED[name].text, value)
-            self.assertFalse(plans.goes(plans.begun("plain"), SECONDS, 2), name)
+        for name in ("mixed", "lots"):
+            work, plans = self.stopped(name, 2)
             with mock.patch.object(Search, "own_bound", lambda search, above: above.base):
-                bound, path = plans.bounded()
-            verdict = work.judged(text.head("bound", 0, work.model.sign * bound), path)
-            self.assertEqual(verdict.claim(), "bound", verdict.line)
+                bound = self.bound(work, plans)
             least = trivial(work.model)
             self.assertTrue(least is None or least <= bound)
         self.assertEqual((least, plans.rounded(-0.001)), (0, 0))
 
     def test_looser_bound(self) -> None:
         """A bound that does not close is lowered."""
-        work, plans = self.plans(CLAIMED["lots"].text, F("14.3"))
-        self.assertFalse(plans.goes(plans.begun("plain"), SECONDS, 4))
+        work, plans = self.stopped("lots", 4)
         ended, tries = Crowd.ended_at, []
 
         def ending(search, goal):
             tries.append(goal.target)
             return None if len(tries) < 2 else ended(search, goal)
         with mock.patch.object(Crowd, "ended_at", ending):
-            bound, path = plans.bounded()
+            self.assertIsNotNone(self.bound(work, plans))
         self.assertEqual(sorted(tries, reverse=True), tries)
-        verdict = work.judged(text.head("bound", 0, work.model.sign * bound), path)
-        self.assertEqual(verdict.claim(), "bound", verdict.line)
 
 
 class Limits(Certified):
     def test_within(self) -> None:
         """One text for the point and the bound where the time is over."""
-        made = CLAIMED["eqknap"].text
-        work = self.work(made)
-        look = Search.look
+        made, look = CLAIMED["eqknap"].text, Search.look
 
         def looking(search: Search) -> None:
             if search.nodes > 3 and search.aim.target is not None:
                 work.watch.is_stopped = True
             look(search)
-        with mock.patch.object(Search, "look", looking):
-            verdict = certified(work, "point", Given([F(1), F(4), F(6.0)]))
-        self.assertRegex(verdict.line, r"^not proved|^within")
-        optimum = self.found(made).point
-        work = self.work(made)
-        with mock.patch.object(Search, "look", looking):
-            verdict = certified(work, "point", Given(optimum))
-        self.assertRegex(verdict.line, r"^within \d+ 14$")
+        for point, line in (([F(1), F(4), F(6)], r"^not proved|^within"), (self.found(made).point, r"^within \d+ 14$")):
+            work = self.work(made)
+            with mock.patch.object(Search, "look", looking):
+                self.assertRegex(certified(work, "point", Given(point)).line, line)
 
     def test_a_step_that_never_looks_at_the_clock(self) -> None:
         """It is ended, and what is known then is judged: all within a tenth and 5 s."""
         def endless(*words: object) -> None:
             while True:
                 time.sleep(0.01)
-        knap = CLAIMED["knap"].text
-        for part, claim, given, made, lines in (
-                ("bridge_drivers.certify.contradictions.parity", "infeasible", None, knap,
-                 "not proved: time"),
-                ("bridge_drivers.certify.search.Search.run", "point", [F(1), F(1), F(0)], knap,
-                 r"within \S+ 17"),
-                ("bridge_drivers.certify.plans.Plans.bounded", "point", [F(1), F(1), F(0)], knap,
-                 r"(optimal|within \S+) 17")):
-            work = self.work(made)
-            work.watch = Watch(1.0)
-            start = time.monotonic()
-            with mock.patch(part, endless):
+        for part, claim, given, lines in (
+                ("contradictions.parity", "infeasible", None, "not proved: time"),
+                ("crowd.Crowd.resume", "point", KNAP, r"within \S+ 17"),
+                ("plans.Plans.bounded", "point", KNAP, r"(optimal|within \S+) 17")):
+            work = self.work(CLAIMED["knap"].text)
+            work.watch, start = Watch(1.0), time.monotonic()
+            with mock.patch("bridge_drivers.certify." + part, endless):
                 verdict = certified(work, claim, Given(given))
             self.assertLess(time.monotonic() - start, 30)
             self.assertRegex(verdict.line, f"^{lines}$", part)
@@ -325,28 +303,26 @@ class Limits(Certified):
 
     def test_a_tree_that_is_too_deep(self) -> None:
         """The point stays, with the bound of the relaxation."""
-        work = self.work(CLAIMED["eqknap"].text)
         with mock.patch("bridge_drivers.certify.search.MOST_DEPTH", -1), \
                 mock.patch.object(Search, "best_bound", lambda *_: -math.inf):
-            verdict = certified(work, "point", Given([F(2), F(7), F(5)]))
-        self.assertRegex(verdict.line, r"^within \S+ 14$")
+            self.assertRegex(self.claimed("eqknap", "point", Given([F(2), F(7), F(5)])).line, r"^within \S+ 14$")
 
     def test_late_verdict(self) -> None:
         work = self.work(CLAIMED["knap"].text)
+        call = work.bridge.call
 
         def late(*words: str):
+            if words[0] != "verify":
+                return call(*words)
             self.assertIsNotNone(work.bridge.limit)
             raise Late("verify")
-        call = work.bridge.call
-        with mock.patch.object(work.bridge, "call", lambda *words: late(*words)
-                               if words[0] == "verify" else call(*words)):
-            verdict = certified(work, "point", Given([F(1), F(1), F(0)]))
+        with mock.patch.object(work.bridge, "call", late):
+            verdict = certified(work, "point", Given(KNAP))
         self.assertEqual(verdict.line, "not proved: time: bridge verify was ended before its verdict")
 
     def test_interrupt_and_progress(self) -> None:
         """An interrupt ends the search and no more; lines of progress where it takes long."""
-        work, lines = self.work(CLAIMED["eqknap"].text), list[str]()
-        look = Search.look
+        lines, look = list[str](), Search.look
 
         def looking(search: Search) -> None:
             search.watch.told -= 6
@@ -357,24 +333,9 @@ class Limits(Certified):
         old = signal.signal(signal.SIGINT, signal.default_int_handler)
         try:
             with mock.patch.object(Search, "look", looking):
-                verdict = certified(work, "infeasible")
+                verdict = self.claimed("eqknap", "infeasible")
             self.assertEqual(signal.getsignal(signal.SIGINT), signal.default_int_handler)
         finally:
             signal.signal(signal.SIGINT, old)
         self.assertRegex(verdict.line, "^(not proved: interrupted|feasible|within)")
         self.assertRegex(lines[-1], r"^bridge-certify: certificate, \d+ of 20 s, \d+ nodes, \d+ open$")
-
-
-class Commands(Certified):
-    def command(self, *words: str) -> subprocess.CompletedProcess:
-        return subprocess.run([sys.executable, COMMAND, *words], stdin=subprocess.DEVNULL,
-                              capture_output=True, text=True)
-
-    def test_words(self) -> None:
-        for words, status, said in (((), 3, "usage"), (("-h",), 0, ""), (("-=",), 0, ""),
-                                    (("m", "speed=9"), 3, "unknown option speed;"),
-                                    (("m", "driver=none"), 3, "driver=none: cbc, clp, "),
-                                    (("m",), 4, "m.nl: no such file")):
-            ended = self.command(*words)
-            self.assertEqual(ended.returncode, status, ended.stderr)
-            self.assertIn(said, ended.stderr)

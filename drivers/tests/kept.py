@@ -1,39 +1,41 @@
-"""Certificates that are kept: nothing that stands there is lost, and what cannot be written is told."""
+"""Nothing of the user's is lost: what stands at a place where a command writes stays, unless `overwrite=1`, a model
+stays always, by whatever path, and so does a certificate that says more; and what cannot be written is told."""
 
 from __future__ import annotations
 
 import os
-import resource
-import signal
-import subprocess
 import sys
 import unittest
 from fractions import Fraction as F
+from pathlib import Path
 from unittest import mock
 
-from support import HERE, NEEDS_PROGRAM, PROGRAM, Case
-from models import MODELS
-from tables import rows_of
+from support import DRIVERS, NEEDS_PROGRAM, Case, ended
+from models import MODELS, rows_of
 
 from bridge_drivers import files, solvers, verdicts
 from bridge_drivers.bridge import Bridge, Late, Reply
-from bridge_drivers.keeping import Keeper, Kept
+from bridge_drivers.certificates import Kept, keep
+from bridge_drivers.files import Places, own_folder
 from bridge_drivers.program import Program
 from bridge_drivers.verdicts import Said
 
-CERTIFY = os.path.join(HERE, "..", "bin", "bridge-certify")
 OPTIMAL = b"certificate 1\noptimal 0\npoint 0\nduals 0\n"
-NEEDS_CBC = unittest.skipUnless(solvers.load("cbc").place(), "no cbc")
+OLDER = b"letters\n"
 STANDS = "it stands there, and this run did not make it; overwrite=1 replaces it"
 
 
-class Covers(unittest.TestCase):
+def said(line: str) -> Said:
+    found = verdicts.read(line)
+    assert found is not None, line
+    return found
+
+
+class Claims(unittest.TestCase):
+    """Verdicts in numbers and in words: which number is the bound, from which side, and by how much."""
+
     def test_which_says_as_much(self) -> None:
         """New, old, and whether the new one says all that the old one says, maximising."""
-        def said(line: str) -> Said:
-            found = verdicts.read(line)
-            assert found is not None, line
-            return found
         for new, old, wanted in rows_of("kept", "covers"):
             self.assertEqual(verdicts.covers(said(new), said(old), True), wanted == "yes", (new, old))
         self.assertTrue(verdicts.covers(said("feasible 6"), said("feasible 7"), False))
@@ -44,20 +46,11 @@ class Covers(unittest.TestCase):
         for line in ("leaf 0 gap 17", "optimal", "optimal x", "not proved: x", "feasible 1/0"):
             self.assertIsNone(verdicts.read(line))
 
-
-class InWords(unittest.TestCase):
-    """Claims in words: which number is the bound, from which side, and by how much."""
-
-    def words(self, line: str, maximise: bool = True, steps: "verdicts.Multiples | None" = None) -> str:
-        said = verdicts.read(line)
-        assert said is not None
-        return verdicts.in_words(said, maximise, steps)
-
-    def test_claims(self) -> None:
+    def test_words(self) -> None:
         for line, sense, words in rows_of("kept", "words"):
-            self.assertEqual(self.words(line, sense == "max"), words)
-        self.assertEqual(self.words("bound 1" + "0" * 400), "no point has more than 1e400")
-        self.assertRegex(self.words("bound 12345678901234567/3"), r"than about 4\.1152263e\+15$")
+            self.assertEqual(verdicts.in_words(said(line), sense == "max", None), words)
+        self.assertEqual(verdicts.in_words(said("bound 1" + "0" * 400), True, None), "no point has more than 1e400")
+        self.assertRegex(verdicts.in_words(said("bound 12345678901234567/3"), True, None), r"about 4\.1152263e\+15$")
 
     def test_a_bound_of_a_whole_objective(self) -> None:
         """It is rounded to a value that the objective can have."""
@@ -66,29 +59,24 @@ class InWords(unittest.TestCase):
                           b" RHS obj -0.25\nBOUNDS\nENDATA\n")
         steps = verdicts.multiples(program)
         self.assertEqual(steps, verdicts.Multiples(F(1, 4), F(1, 2)))
-        self.assertEqual(self.words("bound 59.6", True, steps), "no point has more than 59.6, and "
-                         "at whole points the objective goes by 0.5: none has more than 59.25")
-        self.assertEqual(self.words("bound 59.6", False, steps), "no point has less than 59.6, and "
-                         "at whole points the objective goes by 0.5: none has less than 59.75")
-        self.assertEqual(self.words("bound 59.75", True, steps), "no point has more than 59.75")
+        for line, sense, words in rows_of("kept", "steps"):
+            self.assertEqual(verdicts.in_words(said(line), sense == "max", steps), words)
         program.costs["x2"] = "1"
         self.assertIsNone(verdicts.multiples(program))
 
 
-class Keeping(Case):
+class Certificates(Case):
     """Over a `bridge` that says a line of each older certificate."""
 
-    def keep(self, line: str, says: "str | None", overwrite: bool = False) -> Kept:
+    def keep(self, line: str, says: "str | None", overwrite: bool = False, target: str = "") -> Kept:
         """Nothing is said in time where it says None."""
-        bridge, source = Bridge([], lambda argv: None), os.path.join(self.folder, "source")
+        bridge, source = Bridge([], lambda argv: None), Path(self.folder, "source")
         self.put(b"model")
-        with open(source, "wb") as f:
-            f.write(OPTIMAL)
+        source.write_bytes(OPTIMAL)
         status = int(verdicts.read(says or "") is None)
         reply = Reply(status, f"{says}\n".encode(), "") if says is not None else Late("verify")
         with mock.patch.object(bridge, "call", side_effect=[reply]):
-            keeper = Keeper(bridge, self.stub + ".nl", True, overwrite)
-            return keeper.kept(source, line, self.target)
+            return keep(bridge, self.stub + ".nl", True, overwrite, str(source), line, target or self.target)
 
     @property
     def target(self) -> str:
@@ -102,15 +90,14 @@ class Keeping(Case):
             kept = self.keep(line, says)
             self.assertEqual((self.bytes_of(".certificate") == older, kept.path, kept.failed),
                              (True, self.target if proves else None, not proves), kept.line)
-            self.assertEqual(kept.line, f"{self.target} stays as it is: it proves `{says}`; "
-                                        "overwrite=1 replaces it" if proves else
-                             f"the certificate is not kept: {self.target}: {STANDS}")
+            self.assertEqual(kept.line, f"{self.target} stays as it is: it proves `{says}`; overwrite=1 replaces it"
+                             if proves else f"the certificate is not kept: {self.target}: {STANDS}")
             self.assertEqual(self.keep(line, says, True).path, self.target)
             self.assertEqual(self.bytes_of(".certificate"), OPTIMAL)
 
     def test_other_files(self) -> None:
         """What is no certificate, or cannot be judged in time, stays; an empty file does not."""
-        for there, says, stays in ((b"letters\n", "", True), (OPTIMAL + b"\n", None, True), (b"", "", False)):
+        for there, says, stays in ((OLDER, "", True), (OPTIMAL + b"\n", None, True), (b"", "", False)):
             self.put(there, ".certificate")
             kept = self.keep("optimal 17", says)
             self.assertEqual((kept.failed, self.bytes_of(".certificate")), (stays, there if stays else OPTIMAL))
@@ -121,9 +108,8 @@ class Keeping(Case):
         """No empty or partial file is left."""
         for target, why in (("/nonexistent/x", "No such file or directory"), (self.folder, "Is a directory"),
                             ("/dev/full", "No space left on device")):
-            with mock.patch.object(Keeping, "target", target):
-                kept = self.keep("optimal 17", "")
-            self.assertEqual(kept, Kept(f"the certificate is not kept: {target}: {why}", None, True))
+            self.assertEqual(self.keep("optimal 17", "", target=target),
+                             Kept(f"the certificate is not kept: {target}: {why}", None, True))
         self.put(OPTIMAL[:-8], ".certificate")
         os.chmod(self.target, 0o444)
         kept = self.keep("optimal 17", "", True)
@@ -133,23 +119,21 @@ class Keeping(Case):
 
     def test_standard_output(self) -> None:
         """Where it is a file, the certificate is added to it."""
-        code = ("import os, sys; sys.path[:0] = sys.argv[1:2]; from bridge_drivers.files import "
-                "write; print('before'); write('/dev/stdout', open(sys.argv[2], 'rb').read()); print('behind')")
+        code = ("import sys; from bridge_drivers.files import write; print('before'); "
+                "write('/dev/stdout', open(sys.argv[1], 'rb').read()); print('behind')")
         self.put(OPTIMAL, ".certificate")
         with open(self.stub, "wb") as out:
-            subprocess.run([sys.executable, "-c", code, os.path.join(HERE, ".."), self.target], stdout=out, check=True)
+            ended([sys.executable, "-c", code, self.target], capture_output=False, stdout=out, cwd=DRIVERS)
         self.assertEqual(self.bytes_of(), b"before\n" + OPTIMAL + b"behind\n")
 
     def test_links_and_modes(self) -> None:
         """A link stays one, and a file keeps its mode."""
-        real = os.path.join(self.folder, "real")
-        with open(real, "wb"):
-            os.chmod(real, 0o640)
+        real = Path(self.folder, "real")
+        real.touch(0o640)
         os.symlink(real, self.target)
         self.assertIsNotNone(self.keep("optimal 17", "").path)
         self.assertTrue(os.path.islink(self.target))
-        self.assertEqual(os.stat(real).st_mode & 0o777, 0o640)
-        self.assertEqual(self.bytes_of(".certificate"), OPTIMAL)
+        self.assertEqual((real.stat().st_mode & 0o777, real.read_bytes()), (0o640, OPTIMAL))
 
     def test_interrupts_wait(self) -> None:
         """A signal while it is written comes after that."""
@@ -158,33 +142,66 @@ class Keeping(Case):
             self.keep("optimal 17", "")
         self.assertEqual(seen, [True])
 
-
-@NEEDS_PROGRAM
-class Certify(Case):
-    @NEEDS_CBC
-    def test_failures_leave_an_older_one(self) -> None:
-        self.calls("kept", "failure")
-
-    @NEEDS_CBC
-    def test_a_full_disk_is_named(self) -> None:
-        """Files that may not grow: the fault has the name of its file."""
-        self.put(MODELS["product"].text)
-
-        def small() -> None:
-            signal.signal(signal.SIGXFSZ, signal.SIG_IGN)
-            resource.setrlimit(resource.RLIMIT_FSIZE, (64, 64))
-        ended = subprocess.run([sys.executable, CERTIFY, self.stub, "bridge=" + " ".join(PROGRAM)],
-                               stdin=subprocess.DEVNULL, capture_output=True, text=True, check=False, preexec_fn=small)
-        self.assertNotEqual(ended.returncode, 0)
-        self.assertRegex(ended.stderr + ended.stdout, r"/\S+( could not be run or written)?: File too large")
-        self.assertNotIn("None", ended.stderr + ended.stdout)
-
-
-class Naming(Case):
     def test_faults_without_a_file(self) -> None:
-        with self.assertRaises(OSError) as caught, files.naming("the file"):
-            raise OSError(28, "No space left on device")
-        self.assertEqual(caught.exception.filename, "the file")
-        with self.assertRaises(OSError) as caught, files.naming("the file"):
-            raise OSError(28, "No space left on device", "another")
-        self.assertEqual(caught.exception.filename, "another")
+        for words, name in ((("the disk is full",), "the file"), (("the disk is full", "another"), "another")):
+            with self.assertRaises(OSError) as caught, files.naming("the file"):
+                raise OSError(28, *words)
+            self.assertEqual(caught.exception.filename, name)
+
+
+class Rule(Case):
+    def place(self, end: str) -> str:
+        return self.stub + end
+
+    def test_what_stays(self) -> None:
+        """By what stands there, and whether overwrite=1 is said."""
+        for text, end in ((b"model", ".nl"), (OLDER, ".other"), (b"", ".empty"), (b"new", ".same")):
+            self.put(text, end)
+        os.symlink(self.place(".nl"), self.place(".link"))
+        os.link(self.place(".nl"), self.place(".hard"))
+        os.symlink(self.place(".none"), self.place(".dangling"))
+        for ends, stays, always in (((".nl", ".link", ".hard"), True, True), ((".other",), True, False),
+                                    ((".empty", ".same", ".new", ".dangling"), False, False)):
+            for end, overwrite in ((end, overwrite) for end in ends for overwrite in (False, True)):
+                places = Places([self.place(".nl"), self.place(".gone")], overwrite)
+                wanted = always if overwrite else stays
+                if wanted:
+                    with self.assertRaises(FileExistsError):
+                        places.write(self.place(end), b"new")
+                else:
+                    places.write(self.place(end), b"new")
+                    self.assertEqual(self.bytes_of(end), b"new")
+        self.assertEqual(self.bytes_of(".nl"), b"model")
+        with self.assertRaises(FileExistsError):
+            Places([self.place(".nl")]).remove(self.place(".link"))
+
+    def test_nothing_beside_is_lost(self) -> None:
+        """A name that a new file could have while it is written."""
+        self.put(OLDER, f".sol.{os.getpid()}.part")
+        Places([]).write(self.place(".sol"), b"new")
+        self.assertEqual((self.bytes_of(".sol"), self.bytes_of(f".sol.{os.getpid()}.part")), (b"new", OLDER))
+        self.assertEqual(len(os.listdir(self.folder)), 2)
+
+    def test_folders(self) -> None:
+        kept = os.path.join(self.folder, "a", "b")
+        self.assertEqual([own_folder(kept, "x"), own_folder(kept, "x")], [kept, kept])
+        for number in (1, 2):
+            Path(kept, "file").write_bytes(OLDER)
+            self.assertEqual(own_folder(kept, "x"), os.path.join(kept, f"x-{number}"))
+
+    @NEEDS_PROGRAM
+    def test_kept_folders(self) -> None:
+        """Also the folder of the model, with files of each name that a run writes."""
+        names = ("text.nl", "model.mps", "answer.txt", "bridge.sol", "solver.log", "certificate", "stub.mps")
+        for driver in solvers.NAMES:
+            with self.subTest(driver=driver):
+                self.put(MODELS["product"].text)
+                for name in names:
+                    Path(self.folder, name).write_bytes(OLDER)
+                before = {path: path.read_bytes() for path in Path(self.folder).rglob("*") if path.is_file()}
+                with mock.patch("os.getcwd", lambda: self.folder):
+                    done = self.replay(driver, "product", self.stub, "keep=" + self.folder)
+                self.assertEqual({path: path.read_bytes() for path in before}, before)
+                own = os.path.join(self.folder, f"bridge-{driver}-1")
+                self.assertIn(f"the files in between are in {own}\n", done.stdout)
+                self.assertIn("bridge.sol", os.listdir(own))

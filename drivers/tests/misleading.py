@@ -1,39 +1,46 @@
-"""Small models that mislead solvers in doubles, each with what is true of it by an exact method of its own: all points
-of a small box with all vertices of what two continuous variables leave, in fractions; or by how it is made."""
+"""Small models that mislead solvers in doubles, each with what is true of it: by how it is made, or by an exact method
+of its own, all points of a small box with all vertices of what continuous variables leave, in fractions."""
 
 from __future__ import annotations
 
 import itertools
+from dataclasses import dataclass
 from fractions import Fraction as F
-from typing import Iterator, List, Mapping, NamedTuple, Optional, Sequence, Tuple, Union
+from functools import cached_property
+from typing import Iterator, List, Mapping, Optional, Sequence, Tuple, Union
 
 from models import nl
 
-Number = Union[int, str]
+Number = Union[int, str, F]
 Column = Tuple[str, Optional[Number], Optional[Number]]     # C or I, and its bounds
 Row = Tuple[Optional[Number], Optional[Number], Mapping[int, Number]]
-Point = List[F]
+Half = Tuple[Sequence[F], F]                                # coefficients of columns, at most this
 
 ROUNDING = F(1, 10 ** 12)       # of the largest term of a row: what doubles may leave
 CLOSE = F(1, 10 ** 9)           # of the largest term of the objective
 
 
-class Misleading(NamedTuple):
-    """Continuous columns come first. `best` is None where there is no point; `is_endless`: there is no best one."""
+@dataclass
+class Misleading:
+    """Continuous columns come first. `known` is the best value, None where there is no point, left out where it is to
+    be found; `is_endless`: there is no best one."""
 
     name: str
     columns: Sequence[Column]
     rows: Sequence[Row]
     sense: str
     costs: Mapping[int, Number]
-    best: F | None
+    known: F | str | None = "to be found"
     is_endless: bool = False
+
+    @cached_property
+    def best(self) -> F | None:
+        return best_of(self.columns, self.rows, self.sense, self.costs) if isinstance(self.known, str) else self.known
 
     def text(self) -> bytes:
         return nl(list(self.columns), list(self.rows), [(self.sense, 0, dict(self.costs))])
 
     def is_exact(self, point: Sequence[F]) -> bool:
-        """Whether a point is optimal in fractions."""
         return not self.fault(point, F(0), F(0))
 
     def is_linear(self) -> bool:
@@ -49,12 +56,10 @@ class Misleading(NamedTuple):
             if misses(lo, hi, [value], rounding):
                 return f"x{j} is beyond a bound"
         for i, (low, high, terms) in enumerate(self.rows):
-            parts = [F(a) * point[j] for j, a in terms.items()]
-            if misses(low, high, parts, rounding):
+            if misses(low, high, [F(a) * point[j] for j, a in terms.items()], rounding):
                 return f"row {i} is broken"
         parts = [F(c) * point[j] for j, c in self.costs.items()]
-        room = close * max(abs(self.best), *map(abs, parts))
-        if abs(sum(parts) - self.best) > room:
+        if abs(sum(parts) - self.best) > close * max(abs(self.best), *map(abs, parts)):
             return f"its objective is {float(sum(parts)):.12g}, not {float(self.best):.12g}"
         return ""
 
@@ -67,19 +72,13 @@ def misses(low: Number | None, high: Number | None, parts: Sequence[F], rounding
     return lo is not None and lo - at > rounding * size or hi is not None and at - hi > rounding * size
 
 
-# the exact method -------------------------------------------------------------------
-
-Half = Tuple[List[F], F]                                # coefficients of columns, at most this
-
-
 def best_of(columns: Sequence[Column], rows: Sequence[Row], sense: str, costs: Mapping[int, Number]) -> F | None:
     """Over all points of the whole columns, each with the vertices of the continuous ones."""
     free = sum(kind == "C" for kind, _, _ in columns)
-    boxes = [range(int(lo), int(hi) + 1) for _, lo, hi in columns[free:]]
-    values = []
+    boxes = [range(-(-F(lo) // 1), F(hi) // 1 + 1) for _, lo, hi in columns[free:]]
+    at, values = [F(costs.get(j, 0)) for j in range(len(columns))], []
     for whole in itertools.product(*boxes):
         halves = list(halves_of(columns, rows, free, whole))
-        at = [F(costs.get(j, 0)) for j in range(len(columns))]
         start = sum(c * v for c, v in zip(at[free:], whole))
         values += [start + sum(c * v for c, v in zip(at, vertex)) for vertex in vertices(free, halves)]
     return (max if sense == "max" else min)(values, default=None)
@@ -99,21 +98,22 @@ def halves_of(columns: Sequence[Column], rows: Sequence[Row], free: int, whole: 
         yield [-a for a in part], -F(columns[j][1])
 
 
-def vertices(free: int, halves: Sequence[Half]) -> Iterator[Point]:
-    """Of what lies in all halves, a bounded part of at most two dimensions."""
+def vertices(free: int, halves: Sequence[Half]) -> Iterator[List[F]]:
+    """Of what lies in all halves."""
     for chosen in itertools.combinations(halves, free):
         point = crossing(chosen)
         if point is not None and all(sum(a * v for a, v in zip(part, point)) <= side for part, side in halves):
             yield point
 
 
-def crossing(lines: Sequence[Half]) -> Point | None:
-    """The one point on none, one or two of them."""
-    if not lines:
-        return []
-    if len(lines) == 1:
-        (a,), side = lines[0]
-        return [side / a] if a else None
-    ((a, b), s), ((c, d), t) = lines
-    det = a * d - b * c
-    return [(s * d - b * t) / det, (a * t - s * c) / det] if det else None
+def crossing(lines: Sequence[Half]) -> List[F] | None:
+    """The one point on as many lines as there are columns, where there is one."""
+    rows = [[*part, side] for part, side in lines]
+    for k in range(len(rows)):
+        at = next((i for i in range(k, len(rows)) if rows[i][k]), None)
+        if at is None:
+            return None
+        rows[k], rows[at] = rows[at], rows[k]
+        pivot = rows[k] = [a / rows[k][k] for a in rows[k]]
+        rows = [row if i == k else [a - row[k] * b for a, b in zip(row, pivot)] for i, row in enumerate(rows)]
+    return [row[-1] for row in rows]

@@ -24,8 +24,7 @@ from fractions import Fraction as F
 from typing import Any, NamedTuple, TextIO
 
 sys.dont_write_bytecode = True
-HERE = os.path.dirname(os.path.abspath(__file__))
-sys.path[:0] = [HERE]
+sys.path[:0] = [os.path.dirname(os.path.abspath(__file__))]
 
 from misleading import Misleading               # noqa: E402
 from misleading_kinds import EACH, models       # noqa: E402
@@ -35,7 +34,7 @@ from bridge_drivers.codes import Code           # noqa: E402
 from bridge_drivers.driver import Driver        # noqa: E402
 from bridge_drivers.solving import Solving      # noqa: E402
 
-OWN = {"second": "1", "each": str(EACH), "time": "10", "workers": "4", "log": ""}
+OWN = {"second": "1", "each": str(EACH), "time": "10", "workers": "4", "log": os.devnull}
 
 
 class Judged(NamedTuple):
@@ -71,23 +70,24 @@ def judged(folder: str, driver: str, model: Misleading, options: list[str]) -> J
     status = NotingDriver(driver).main([stub, "-AMPL", "-e", *options])
     if status != 0:
         return Judged(-1, f"it ended with {status}")
-    return told(model, Sol(stub + ".sol"))
-
-
-def told(model: Misleading, sol: Sol) -> Judged:
-    """Of a .sol: infeasible and unbounded are claims too, where they are proved."""
-    wrong, last = "", sol.message[-1]
-    if any("a fault of the driver" in line for line in sol.message):
-        wrong = "a fault of the driver"
-    elif not sol.is_allowed():
-        wrong = "no code above this line"
-    elif sol.code == 0:
-        wrong = model.fault(sol.values) if sol.values or not model.columns else "no values"
-    elif last == "infeasible" and model.best is not None:
-        wrong = "there is a point"
-    elif last == "unbounded" and not model.is_endless:
-        wrong = "there is a best point" if model.best is not None else "there is no point"
+    sol = Sol(stub + ".sol")
+    wrong, last = fault(model, sol), sol.message[-1]
     return Judged(sol.code, f"{wrong} ({last})" if wrong else "", "" if wrong else lost(model, sol), last)
+
+
+def fault(model: Misleading, sol: Sol) -> str:
+    """Infeasible and unbounded are claims too, where they are proved."""
+    if "a fault of the driver" in sol.text:
+        return "a fault of the driver"
+    if not sol.is_allowed():
+        return "no code above this line"
+    if sol.code == 0:
+        return model.fault(sol.values) if sol.values or not model.columns else "no values"
+    if sol.message[-1] == "infeasible" and model.best is not None:
+        return "there is a point"
+    if sol.message[-1] == "unbounded" and not model.is_endless:
+        return "there is no point" if model.best is None else "there is a best point"
+    return ""
 
 
 def lost(model: Misleading, sol: Sol) -> str:
@@ -99,8 +99,7 @@ def lost(model: Misleading, sol: Sol) -> str:
             or own.code == Code.UNBOUNDED and model.is_endless and sol.code != 300:
         return f"it said so ({last})"
     if own.code == Code.SOLVED and own.values is not None and sol.code != 0:
-        names = [f"x{j}" for j in range(len(model.columns))]
-        point = [F(own.values[name]) for name in names]
+        point = [F(own.values[f"x{j}"]) for j in range(len(model.columns))]
         point = [F(round(v)) if kind == "I" else v for v, (kind, _, _) in zip(point, model.columns)]
         return f"its point is optimal ({last})" if model.is_exact(point) else ""
     return ""
@@ -122,7 +121,7 @@ def main() -> int:
     print(f"{len(chosen)} models, {sum(m.best is None for m in chosen)} without a point, "
           f"{sum(m.is_endless for m in chosen)} without an end", flush=True)
     wrong = 0
-    with open(own["log"] or os.devnull, "a+", encoding="utf-8") as log:
+    with open(own["log"], "a+", encoding="utf-8") as log:
         log.seek(0)
         known = {key: Judged(*found) for key, *found in map(json.loads, log)}
         for driver in [w for w in words if w in solvers.NAMES] or solvers.NAMES:
@@ -130,7 +129,7 @@ def main() -> int:
                 wrong += run(driver, [m for m in chosen if takes(driver, m)],
                              [f"prove={way}", *options], int(own["workers"]), known, log)
     print(f"{wrong} wrong")
-    return 1 if wrong else 0
+    return int(wrong > 0)
 
 
 def run(driver: str, chosen: list[Misleading], options: list[str], workers: int,

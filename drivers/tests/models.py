@@ -1,16 +1,29 @@
-"""Small models as text .nl files, with what every driver must answer."""
+"""Rows of tables, and small models of them as text .nl files and as MPS files, with what every driver must answer."""
 
 from __future__ import annotations
 
 import collections
+import itertools
 import re
 from dataclasses import dataclass, field
 from fractions import Fraction as F
-from typing import Iterable, Mapping, Sequence, Union
+from pathlib import Path
+from typing import Iterable, Mapping, NamedTuple, Sequence, Union
 
-from tables import rows_of
-
+FOLDER = Path(__file__).resolve().parent / "tables"
+ESCAPE = re.compile(r"\\(?:[nrt\\]|x[0-9a-f]{2})")
 Text = Union[int, str]
+
+
+def rows_of(table: str, kind: str = "") -> list[list[str]]:
+    """Of `tables/NAME.txt`: cells between ` | `, with remarks behind `# `. In a table of several kinds of rows the
+    first cell is the kind. Behind four blanks the line before goes on; `\\n`, `\\x1b` and two `\\` are as in Python."""
+    lines = Path(FOLDER, table + ".txt").read_text(encoding="utf-8").split("\n")
+    text = "\n".join(line for line in lines if line.strip() and not line.startswith("# "))
+    text = re.sub(r" \|$", " | ", text.replace("\n    ", ""), flags=re.M)
+    rows = [ESCAPE.sub(lambda at: at[0].encode().decode("unicode_escape"), line).split(" | ")
+            for line in text.split("\n")]
+    return [row[1:] for row in rows if row[0] == kind] if kind else rows
 
 
 def nl(variables, rows=(), objectives=(), trees: Mapping[int, Sequence[str]] = {}) -> bytes:
@@ -22,17 +35,14 @@ def nl(variables, rows=(), objectives=(), trees: Mapping[int, Sequence[str]] = {
     for i in range(len(rows)):
         out += [f"C{i}", *trees.get(i, ["n0"])]
     for i, (sense, constant, _) in enumerate(objectives):
-        out += [f"O{i} {int(sense == 'max')}"]
-        out += constant if isinstance(constant, list) else [f"n{constant}"]
+        out += [f"O{i} {int(sense == 'max')}", *(constant if isinstance(constant, list) else [f"n{constant}"])]
     if rows:
-        out += ["r"] + [side(lo, hi) for lo, hi, _ in rows]
-    out += ["b"] + [side(lo, hi) for _, lo, hi in variables]
+        out += ["r", *(side(lo, hi) for lo, hi, _ in rows)]
+    out += ["b", *(side(lo, hi) for _, lo, hi in variables)]
     if variables:
-        out.append(f"k{len(variables) - 1}")
-        total, found = 0, collections.Counter(j for _, _, terms in rows for j in terms)
-        for j in range(len(variables) - 1):
-            total += found[j]
-            out.append(str(total))
+        found = collections.Counter(j for _, _, terms in rows for j in terms)
+        sums = itertools.accumulate(found[j] for j in range(len(variables) - 1))
+        out += [f"k{len(variables) - 1}", *map(str, sums)]
     for letter, items in (("J", rows), ("G", objectives)):
         for i, (_, _, terms) in enumerate(items):
             if terms:
@@ -89,7 +99,6 @@ def end(word: str) -> Text | None:
 
 
 def terms_of(words: str) -> dict[int, str]:
-    """Coefficients by column."""
     pairs = (word.split("*") if "*" in word else (str(j), word) for j, word in enumerate(words.split()))
     return {int(j): a for j, a in pairs if a != "_"}
 
@@ -126,9 +135,26 @@ def model_of(code: str, *cells: str) -> Model:
 
 
 MODELS = {name: model_of(*cells) for name, *cells in rows_of("models")}
-FAR = {name: (text_of(cells), int(best)) for name, best, *cells in rows_of("far")}
+FAR = {name: text_of(cells) for name, *cells in rows_of("far")}
 
 
 def is_solved(name: str) -> bool:
     """Whether a solver is reached at all."""
     return MODELS[name].code < 500 and name != "crossed"
+
+
+class Mps(NamedTuple):
+    """The last line that is wanted, and values where the optimum is one point alone."""
+
+    text: str
+    line: str
+    values: Mapping[str, F]
+
+
+# the texts of `fixed` are read in fixed columns, too: three bounded columns; the constant is minus 5.5
+FIXED = Path(FOLDER, "fixed.mps").read_text(encoding="ascii")
+BOTH = {name: FIXED.replace(old, new) for name, old, new in rows_of("mps", "fixed")}
+KNAP = {"ONE": F(1), "TWO": F(1), "THREE": F(0)}
+MPS = {**{name: Mps(text, "optimal -23/2", KNAP) for name, text in BOTH.items()},
+       **{name: Mps(text.replace(" / ", "\n") + "\n", line, {x: F(v) for x, v in (word.split("=") for word in said)})
+          for name, line, text, *said in rows_of("mps", "model")}}

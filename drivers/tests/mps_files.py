@@ -1,59 +1,49 @@
-"""MPS files as models: how they are told apart and read, and what drivers and `nl-bridge` say."""
+"""MPS files as models: how they are told apart and read, what drivers and `nl-bridge` say; the one reader of MPS text
+and the arrays that it makes, with NumPy and without, against texts read line by line."""
 
 from __future__ import annotations
 
-import os
-import shutil
+import random
 import unittest
 from fractions import Fraction as F
+from pathlib import Path
+from unittest import mock
 
-from support import NEEDS_CLP, NEEDS_MPS, PROGRAM, Case, bridge, content, driven
-from tables import rows_of
+from support import NEEDS_CLP, NEEDS_MPS, NEEDS_PROGRAM, PROGRAM, Case, bridge, content, driven, needs
 
-from bridge_drivers import kinds, mps_file, solvers
+from bridge_drivers import kinds, mps_file, mps_reader, solvers, terms
 from bridge_drivers.bridge import Refused
-from bridge_drivers.importing import lists_of
-from bridge_drivers.mps_mended import BOM, mended
-from bridge_drivers.mps_text import program_of
+from bridge_drivers.certify.model import Model
+from bridge_drivers.miss import miss, misses
+from bridge_drivers.mps_file import BOM, lists_of, mended
+from bridge_drivers.mps_reader import Text
+from bridge_drivers.program import program_of
+from models import BOTH, FIXED, MODELS, MPS, rows_of
 from plain import Plain, random_text
-from mps_models import BLANK, FAULTS, FIXED_TEXT, MODELS
 
 SOLVERS = [name for name in solvers.NAMES if solvers.load(name).place()]
+FAULTY = "NAME t\nROWS\n N o\n L cap\nCOLUMNS\n x o 1\n x cap 2\nRHS\n RHS cap 9\nBOUNDS\n UP b x 4\nENDATA\n"
+BLANK = FIXED.replace("    ONE       COST", "    MY ONE    COST")
+SEEDS = 150
+NEEDS_NUMPY = unittest.skipUnless(terms.numpy(), "no NumPy")
+WIDE = (3, 10 ** 6, 10 ** 40)
 
 
 class Texts(unittest.TestCase):
     """The written form in the words of `bridge export`."""
 
-    def text(self, written: str) -> str:
-        return program_of(written.encode()).text.decode()
-
     def test_all_sections(self) -> None:
-        written = ("NAME p\nOBJSENSE\n MAX\nROWS\n E e\n N cost\n L l\n N other\n G g\nCOLUMNS\n"
-                   " a cost 1\n a e 2\n M0 'MARKER' 'INTORG'\n b other 3\n c l -4\n"
-                   " M1 'MARKER' 'INTEND'\n d g 1\n f e 0\nRHS\n RHS cost -5\n RHS e 6\n"
-                   " RHS other 9\nRANGES\n RNG e -2\n RNG l -3\n RNG g 1\nBOUNDS\n UP BND a -1\n"
-                   " UI BND d 7\n FX BND c 2\n MI BND f\nENDATA\n")
-        self.assertEqual(self.text(written), (
-            "NAME nl\nOBJSENSE\n MAX\nROWS\n N obj\n L c0\n L c1\n G c2\nCOLUMNS\n x0 obj 1\n"
-            " x0 c0 2\n M0 'MARKER' 'INTORG'\n x1 obj 0\n x2 c1 -4\n x3 c2 1\n"
-            " M1 'MARKER' 'INTEND'\n x4 c0 0\nRHS\n RHS obj -5\n RHS c0 6\nRANGES\n RNG c0 2\n"
-            " RNG c1 3\n RNG c2 1\nBOUNDS\n MI BND x0\n UP BND x0 -1\n LO BND x1 0\n PL BND x1\n"
-            " FX BND x2 2\n LO BND x3 0\n UP BND x3 7\n FR BND x4\nENDATA\n"))
-        names = program_of(written.encode()).names
-        assert names is not None
-        self.assertEqual((names.row(1), names.column(4), names.objective(0)), ("l", "f", "objective 0 (cost)"))
+        (written, exported), = rows_of("mps", "text")
+        own = program_of(written.encode())
+        self.assertEqual(own.text.decode(), exported)
+        assert own.names is not None
+        told = (own.names.row(1), own.names.column(4), own.names.objective(0))
+        self.assertEqual(told, ("l", "f", "objective 0 (cost)"))
 
     def test_notes(self) -> None:
         """On what other readers take otherwise, and on nothing else."""
-        columns = "".join(f" {name} o 1\n" for name in "abcdefg")
-        p = program_of((f"ROWS\n N o\nCOLUMNS\n M0 'MARKER' 'INTORG'\n{columns}"
-                        " M1 'MARKER' 'INTEND'\n x o 1\n y o 1\n z o 1\nRHS\nBOUNDS\n"
-                        " PL BND b\n UP BND c 3\n LO BND d 0\n UP BND x -1\n UP BND y 0\n"
-                        " MI BND z\n UP BND z -3\nENDATA\n").encode())
-        self.assertEqual(p.notes, [
-            "whole columns without bounds go from 0 on: a, e, f and 1 more; cbc and glpsol, where "
-            "they read the file, take 0 and 1 for their bounds",
-            "columns with an upper bound below 0 and no lower one have no lower end: x"])
+        (text, *notes), = rows_of("mps", "notes")
+        self.assertEqual(program_of(text.encode()).notes, notes)
 
     def test_nothing_but_an_objective(self) -> None:
         p = program_of(b"ROWS\n N o\nCOLUMNS\nRHS\n RHS o 0\nENDATA\n")
@@ -68,19 +58,17 @@ class Texts(unittest.TestCase):
 
 
 class Mended(unittest.TestCase):
-    """Texts as others write them."""
-
     def text(self, *bounds: str, head: str = "NAME p\n") -> bytes:
         return (head + "ROWS\n N cost\n L c1\nCOLUMNS\n x cost 1 c1 1\n inf cost 2 c1 1\nRHS\n"
                 " RHS c1 4\nBOUNDS\n" + "".join(f" {b}\n" for b in bounds) + "ENDATA\n").encode()
 
     def test_what_stays(self) -> None:
         """Also where columns and rows have such names; bounds that no number can have stay for the refusal."""
-        for given in (self.text("UP BND x 3", "LO BND inf 1"), self.text("UP inf 3"),
-                      self.text("UP BND x -inf"), self.text("LO BND x inf"),
-                      self.text("FX BND x inf"), self.text("UP BND x infant"),
-                      self.text(head="NAME p\nOBJSENSE\n MAXIMIZE\n"), self.text(head="NAME p\nOBJNAME\n other\n")):
-            self.assertEqual(mended(given), (given, []))
+        for bounds in (["UP BND x 3", "LO BND inf 1"], ["UP inf 3"], ["UP BND x -inf"], ["LO BND x inf"],
+                       ["FX BND x inf"], ["UP BND x infant"]):
+            self.assertEqual(mended(self.text(*bounds)), (self.text(*bounds), []))
+        for head in ("OBJSENSE\n MAXIMIZE\n", "OBJNAME\n other\n"):
+            self.assertEqual(mended(self.text(head=head)), (self.text(head=head), []))
 
     def test_what_is_mended(self) -> None:
         """Each spelling of a bound, with a set's name and without, and in any order with others."""
@@ -92,11 +80,9 @@ class Mended(unittest.TestCase):
                 self.assertEqual(notes[0], "2 bounds of infinity are read as none")
         self.assertEqual(mended(self.text("UP x inf"))[1][0], "a bound of infinity is read as none")
         plain = self.text()
-        for given, wanted in (
-                (BOM + plain, plain), (self.text(head="NAME p\nOBJNAME\n cost\n"), plain),
-                *((self.text(head=f"NAME p\nOBJSENSE\n {word}\n"),
-                   self.text(head=f"NAME p\nOBJSENSE\n {short}\n"))
-                  for word, short in (("MAXIMISE", "MAX"), ("Minimise", "Min")))):
+        for given, wanted in ((BOM + plain, plain), (self.text(head="NAME p\nOBJNAME\n cost\n"), plain),
+                              *((self.text(head=f"OBJSENSE\n {word}\n"), self.text(head=f"OBJSENSE\n {short}\n"))
+                                for word, short in (("MAXIMISE", "MAX"), ("Minimise", "Min")))):
             got, notes = mended(given)
             self.assertEqual((got, notes[-1]), (wanted, "what is judged is the text with these changes"))
 
@@ -104,11 +90,10 @@ class Mended(unittest.TestCase):
 class Kinds(Case):
     def test_what_is_one(self) -> None:
         for name, data, wanted in rows_of("files", "kind"):
-            path = os.path.join(self.folder, name)
-            with open(path, "wb") as f:
-                f.write(content(data))
-            self.assertEqual(kinds.is_mps(path), wanted == "MPS", name)
-            os.unlink(path)
+            path = Path(self.folder, name)
+            path.write_bytes(content(data))
+            self.assertEqual(kinds.is_mps(str(path)), wanted == "MPS", name)
+            path.unlink()
         self.assertFalse(kinds.is_mps(self.folder))
 
     def test_stubs(self) -> None:
@@ -119,48 +104,45 @@ class Kinds(Case):
     def test_names_with_blanks(self) -> None:
         self.put(BLANK.encode(), ".mps")
         line = BLANK[:BLANK.index("MY ONE")].count("\n") + 1
-        self.assertTrue(mps_file.has_blank_name(self.stub + ".mps", line))
-        self.assertFalse(mps_file.has_blank_name(self.stub + ".mps", line + 1))
-        self.assertFalse(mps_file.has_blank_name(self.stub + ".mps", 1000))
+        self.assertEqual([mps_file.has_blank_name(self.stub + ".mps", at) for at in (line, line + 1, 1000)],
+                         [True, False, False])
 
 
 @NEEDS_MPS
 class Read(Case):
-    """What the program reads."""
-
     def read(self, text: str, form: str = "") -> mps_file.Reading:
         self.put(text.encode(), ".mps")
         return mps_file.reading(bridge(), self.stub + ".mps", form)
 
-    def refused(self, text: str) -> str:
+    def refused(self, text: str, form: str = "") -> str:
         with self.assertRaises(Refused) as caught:
-            self.read(text)
+            self.read(text, form)
         return caught.exception.line().replace(self.stub, "m")
 
     def test_forms(self) -> None:
-        for name, model in MODELS.items():
-            for form in ("free", "fixed"):
-                if form in model.forms:
-                    self.assertEqual(self.read(model.text, form).form, form, name)
-                else:
-                    with self.assertRaises(Refused, msg=name):
-                        self.read(model.text, form)
+        for name, model in MPS.items():
             read = self.read(model.text)
-            self.assertEqual(read.form, "free", name)
-            self.assertEqual(bool(read.notes), name == "cut", name)
+            self.assertEqual((read.form, bool(read.notes)), ("free", name == "cut"), name)
+            self.assertEqual(self.read(model.text, "free").form, "free", name)
+            if name in BOTH:
+                self.assertEqual(self.read(model.text, "fixed").form, "fixed", name)
+            else:
+                self.refused(model.text, "fixed")
         pair = "    RHS       COST              -5.5   CAP                 10"
         for old, new, form in (         # no set's name, a number that is not looked at, a remark
                 ("    RHS       COST", "              COST", "free"),
                 (" BV BND       TWO", " FR BND       TWO                  3 ", "free"),
                 (pair, pair + "   a remark", "fixed")):
-            read = self.read(FIXED_TEXT.replace(old, new))
+            read = self.read(FIXED.replace(old, new))
             self.assertEqual((read.form, read.notes), (form, []))
 
     def test_refusals(self) -> None:
         """The word that is at fault, and what helps with it alone."""
         self.assertRegex(self.refused(BLANK), "^m.mps line 8: bad line of .*: names with blanks are not read$")
-        for text, line in FAULTS:
-            self.assertEqual(self.refused(text), f"m.mps line {line}")
+        self.assertEqual(self.refused(FIXED.replace("ENDATA", "SOS")),
+                         "m.mps line 18: bad section `SOS`: special ordered sets are not read")
+        for old, new, line in rows_of("mps", "fault"):
+            self.assertEqual(self.refused(FAULTY.replace(old, new)), f"m.mps line {line}")
 
     def test_as_import_has_it(self) -> None:
         """Random programs against those that `import` and `export` make of them."""
@@ -172,12 +154,11 @@ class Read(Case):
             if made.status:             # such as one with an empty interval
                 continue
             self.put(made.out)
-            own = Plain(program_of(text).text)
+            own, names = Plain(program_of(text).text), program_of(text).names
             other = Plain(bridge().text("export", self.stub + ".nl"))
-            names = program_of(text).names
             assert names is not None
-            at = {names.column(j): f"x{j}" for j in range(len(own.low))}
-            place = {f"x{k}": at[name.decode()] for k, name in enumerate(lists_of(text).columns)}
+            at = {names.column(j): f"x{j}" for j in range(len(own.ends))}
+            place = {f"x{k}": at[name.decode()] for k, name in enumerate(lists_of(text)[1])}
             for ours, theirs in ((own.bounds(), other.bounds()), (own.whole, other.whole)):
                 self.assertEqual({place[x]: told for x, told in theirs.items()}, ours, text)
             self.assertEqual({(row, place[x]): a for (row, x), a in other.entries.items() if a},
@@ -187,60 +168,174 @@ class Read(Case):
             taken += 1
         self.assertGreater(taken, 8)
 
-
-@NEEDS_MPS
-@unittest.skipUnless(SOLVERS, "no solver")
-class Driven(Case):
-    """With solvers."""
-
-    def told(self, solver: str, text: str, *words: str) -> dict:
-        self.put(text.encode(), ".mps")
-        ended = driven(solver, self.stub + ".mps", "json=1", "wantsol=6", *words)
-        return self.is_report(ended, "bridge-" + solver)
-
+    @needs("solver")
     @NEEDS_CLP
-    def test_all(self) -> None:
+    def test_solved(self) -> None:
         """Each model through two drivers, in turn."""
-        for at, (name, model) in enumerate(MODELS.items()):
+        for at, (name, model) in enumerate(MPS.items()):
+            self.put(model.text.encode(), ".mps")
             for solver in {SOLVERS[(at + k) % len(SOLVERS)] for k in (0, 3)}:
                 with self.subTest(driver=solver, model=name):
-                    told = self.told(solver, model.text, "prove=1")
+                    ended = driven(solver, self.stub + ".mps", "json=1", "wantsol=6", "prove=1")
+                    told = self.is_report(ended, "bridge-" + solver)
                     if told["code"] == 505:
                         self.assertIn(solver, ("clp", "esolver"))
                         continue
-                    self.assertEqual((told["text"], told["code"]), (model.line, model.code))
-                    if model.values is not None:
-                        values = {x: F(told["values"][x]) for x in model.values}
-                        self.assertEqual(values, {x: F(v) for x, v in model.values.items()})
+                    code = {"infeasible": 200, "unbounded": 300}.get(model.line, 0)
+                    self.assertEqual((told["text"], told["code"]), (model.line, code))
+                    self.assertEqual({x: F(told["values"][x]) for x in model.values}, model.values)
 
-    def test_lines(self) -> None:
-        self.calls("files", "line")
-
-    def test_refusals(self) -> None:
-        self.calls("files", "driver")
-        self.assertEqual(os.listdir(self.folder), ["stub.mps"])
-
-    def test_certificates(self) -> None:
-        """Beside the model, for each of its ends; the model itself is never written over."""
-        self.calls("files", "certificate")
-
-
-@NEEDS_MPS
-class Front(Case):
-    """`nl-bridge`."""
-
-    def test_calls(self) -> None:
-        self.calls("files", "front")
-
-
-@unittest.skipUnless(PROGRAM and shutil.which("sh"), "no bridge, or no shell")
-class OlderProgram(Case):
     def test_one_that_judges_no_mps_files(self) -> None:
-        """It is told by the command that it lacks."""
+        """An older program is told by the command that it lacks."""
         program = self.script("older", "case $1 in verify_*) echo 'bad words' >&2; exit 3;; esac\n"
                               f"exec {PROGRAM[0]} \"$@\"")
-        self.put(FIXED_TEXT.encode(), ".mps")
+        self.put(FIXED.encode(), ".mps")
         read = mps_file.reading(bridge([program]), self.stub + ".mps")
         with self.assertRaises(Refused) as caught:
-            mps_file.judged(bridge([program]), self.stub + ".mps", self.folder, read)
+            mps_file.judged(bridge([program]), self.stub + ".mps", self.stub + ".probe", read)
         self.assertEqual(caught.exception.line(), "this bridge does not know the command `verify_mps` (bad words)")
+
+
+def over(numbers, unit):
+    return [None if v is None else F(v, unit) for v in numbers]
+
+
+class Reading(Case):
+    def same(self, text: bytes) -> None:
+        """What is read of a text, its program, and the model of that."""
+        plain, read, own = Plain(text), Text(text), program_of(text)
+        rows, columns = plain.constraints(), list(plain.ends)
+        self.assertEqual([name.decode() for name in read.constraints], rows)
+        self.assertEqual([name.decode() for name in read.columns], columns)
+        self.assertEqual((read.maximise, read.objective.decode(), read.whole),
+                         (plain.maximise, plain.objective(), list(plain.whole.values())))
+        names = {i: row for i, row in enumerate([*rows, None, plain.objective()])}
+        found = {(names[i % (len(rows) + 2)], columns[j]): F(read.numbers[k].decode())
+                 for i, j, k in zip(*read.entries()) if i != mps_reader.OTHER}
+        kept = {(row, column): a for (row, column), a in plain.entries.items() if row in (*rows, plain.objective())}
+        self.assertEqual(found, kept)
+        *sides, scale = read.sides()
+        self.assertEqual(list(zip(*(over(part, scale) for part in sides))), list(plain.sides().values()))
+        self.same_program(plain, Plain(own.text), {at: a for at, a in kept.items() if a})
+        self.same_model(plain, Model(own, {}, len(rows)))
+
+    def same_program(self, plain: Plain, own: Plain, entries: dict) -> None:
+        """As it is exported: other names, no other N rows."""
+        row = {f"c{i}": name for i, name in enumerate(plain.constraints())}
+        column = {f"x{j}": name for j, name in enumerate(plain.ends)}
+        self.assertEqual({row[i]: pair for i, pair in own.sides().items()}, plain.sides())
+        self.assertEqual({column[j]: pair for j, pair in own.bounds().items()}, plain.bounds())
+        self.assertEqual({column[j]: whole for j, whole in own.whole.items()}, plain.whole)
+        found = {(row.get(i, plain.objective()), column[j]): a for (i, j), a in own.entries.items() if a}
+        self.assertEqual(found, entries)
+
+    def same_model(self, plain: Plain, p: Model) -> None:
+        sign, columns = -1 if plain.maximise else 1, list(plain.ends)
+        costs = [plain.entries.get((plain.objective(), name), F(0)) for name in columns]
+        self.assertEqual([sign * c for c in p.cost], costs)
+        self.assertEqual(sign * p.constant, -plain.rhs.get(plain.objective(), 0))
+        rows = [{j: a for (i, j), a in plain.entries.items() if i == row and a} for row in plain.constraints()]
+        self.assertEqual([{columns[j]: F(a, p.scale) for j, a in row} for row in p.rows], rows)
+        self.assertEqual(list(zip(over(p.lo, p.unit), over(p.hi, p.unit))), list(plain.bounds().values()))
+        self.assertEqual(list(zip(over(p.side_lo, p.unit), over(p.side_hi, p.unit))), list(plain.sides().values()))
+
+    def test_random_ones(self) -> None:
+        for seed in range(SEEDS):
+            with self.subTest(seed=seed):
+                self.same(random_text(seed))
+
+    @NEEDS_NUMPY
+    def test_random_ones_as_arrays(self) -> None:
+        with mock.patch.object(terms, "MANY", 0):
+            self.test_random_ones()
+
+    def test_blocks(self) -> None:
+        """Columns and bounds that go on in the next one, and long lines."""
+        for size in (1, 20, 100):
+            with mock.patch.object(mps_reader, "BLOCK", size):
+                for seed in range(20):
+                    self.same(random_text(seed))
+        name = "a" * 1000
+        with mock.patch.object(mps_reader, "BLOCK", 10):
+            self.same(f"ROWS\n N {name}\nCOLUMNS\n x {name} 1\nRHS\nENDATA\n".encode())
+
+    def test_a_tied_objective(self) -> None:
+        """3 (2 x0 - x1 + 5 - z) = 0."""
+        text = (b"NAME nl\n%sROWS\n N obj\n E c0\n E zdef\nCOLUMNS\n x0 zdef 6\n x1 zdef -3\n"
+                b" x1 c0 1\n z obj 1\n z zdef -3\nRHS\n RHS zdef -15\nBOUNDS\n FR BND x0\n"
+                b" FR BND x1\n FR BND z\nENDATA\n")
+        for sense, sign in ((b"", 1), (b"OBJSENSE\n MAX\n", -1)):
+            p = Model(text % sense, {}, 1)
+            self.assertEqual((p.n, p.rows, p.cost, p.constant), (2, [[(1, 1)]], [2 * sign, -sign], 5 * sign))
+
+    def test_rows_times_factors(self) -> None:
+        text = (b"NAME nl\nROWS\n N obj\n L c1\n G c2\nCOLUMNS\n x0 c1 3\n x0 c2 0.5\n x1 c1 1\n"
+                b"RHS\n RHS c1 4\nENDATA\n")
+        p = Model(text, {1: 6}, 3)
+        self.assertEqual([[(j, F(a, p.scale)) for j, a in row] for row in p.rows],
+                         [[], [(0, F(1, 2)), (1, F(1, 6))], [(0, F(1, 2))]])
+        self.assertEqual(over(p.side_hi, p.unit), [None, F(2, 3), None])
+        self.assertEqual((p.scale, p.unit), (6, 3))
+
+    @NEEDS_PROGRAM
+    def test_exported_ones(self) -> None:
+        """The small models, as `export` writes them."""
+        for model in MODELS.values():
+            self.put(model.text)
+            reply = bridge().call("export", self.stub + ".nl")
+            if reply.status == 0 and b" zdef\n" not in reply.out:
+                plain = Plain(reply.out)
+                places = [int(row[1:]) for row in plain.constraints()]
+                p = Model(reply.out, {}, max([-1, *places]) + 1)
+                p.terms = terms.Terms(p.n, [p.rows[i] for i in places])
+                p.side_lo, p.side_hi = ([part[i] for i in places] for part in (p.side_lo, p.side_hi))
+                self.same_model(plain, p)
+
+
+@NEEDS_NUMPY
+class Arrays(unittest.TestCase):
+    """The same as lists, to the last digit."""
+
+    def both(self, seed: int, table: list) -> tuple[terms.Terms, terms.Terms]:
+        chance, m, n = random.Random(seed), 1 + seed % 9, 1 + seed % 7
+        entries = sorted((chance.randrange(n), chance.randrange(-2, m),
+                          chance.randrange(len(table))) for _ in range(30))
+        columns, rows, numbers = (terms.array("i", part) for part in zip(*entries))
+        words = (m, n, (rows, columns, numbers), table, [*range(m), -1, -1])
+        plain = terms.terms_of(*words)
+        with mock.patch.object(terms, "MANY", 0):
+            return plain, terms.terms_of(*words)
+
+    def test_whole_numbers(self) -> None:
+        for seed in range(60):
+            chance, wide = random.Random(seed), WIDE[seed % 3]
+            one, other = self.both(seed, [chance.randint(-wide, wide) for _ in range(9)])
+            self.assertEqual((one.rows, one.count()), (other.rows, other.count()))
+            for size in WIDE:
+                x = [chance.randint(-size, size) for _ in range(one.n)]
+                self.assertEqual(one.sums(x), other.sums(x))
+                y = {i: chance.randint(-size, size) for i in range(0, len(one.rows), 2)}
+                self.assertEqual(one.without(one.n * [7], y, 3), other.without(one.n * [7], y, 3))
+            weights = [chance.randint(1, wide) for _ in range(one.n)]
+            self.assertEqual((one.lengths, one.sizes(weights)), (other.lengths, other.sizes(weights)))
+            self.assertEqual([sorted(column) for column in one.columns], [other.column(j) for j in range(one.n)])
+            rows, columns = range(0, len(one.rows), 2), range(0, one.n, 2)
+            self.assertEqual(one.inside(rows, columns), other.inside(rows, columns))
+
+    def test_doubles(self) -> None:
+        for seed in range(60):
+            chance = random.Random(seed)
+            one, other = self.both(seed, [chance.uniform(-9, 9) for _ in range(9)])
+            x = [chance.choice([0.0, chance.uniform(-1e9, 1e9)]) for _ in range(one.n)]
+            self.assertEqual(one.activities(x), other.activities(x))
+            sizes = list(map(abs, x))
+            self.assertEqual(one.greatest(sizes), other.greatest(sizes))
+
+    def test_misses(self) -> None:
+        for seed in range(60):
+            program, chance = program_of(random_text(seed)), random.Random(seed)
+            values = {c: repr(chance.uniform(-9, 9)) for c in program.columns}
+            one = list(misses(program, values, program.whole))
+            with mock.patch.object(terms, "MANY", 0):
+                self.assertEqual(list(misses(program, values, program.whole)), one)
+                self.assertEqual(miss(program, values), max([*misses(program, values, ()), (0.0, 0.0, "")]))

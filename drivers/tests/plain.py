@@ -8,7 +8,9 @@ from fractions import Fraction as F
 from typing import Optional, Tuple
 
 Ends = Tuple[Optional[F], Optional[F]]
-KINDS = {"LO": "l", "LI": "l", "UP": "u", "UI": "u", "FX": "lu", "MI": "-", "PL": "+", "FR": "-+"}
+INFINITE = F(10) ** 1000
+WITH_VALUE = ("LO", "UP", "FX", "LI", "UI")
+TYPES = ("", "", "UP", "LO", "LO UP", "FX", "MI", "MI UP", "PL", "FR", "BV", "UI", "LI", "LI UI")
 
 
 class Plain:
@@ -21,8 +23,7 @@ class Plain:
         self.rhs: dict[str, F] = {}
         self.ranges: dict[str, F] = {}
         self.entries: dict[tuple[str, str], F] = {}
-        self.low: dict[str, F | None] = {}
-        self.high: dict[str, F | None] = {}
+        self.ends: dict[str, list[F | None]] = {}
         self.whole: dict[str, bool] = {}
         part, in_whole = "", False
         for line in text.decode().split("\n"):
@@ -37,8 +38,7 @@ class Plain:
                 in_whole = words[2] == "'INTORG'"
             elif part == "COLUMNS":
                 self.entries[words[1], words[0]] = F(words[2])
-                self.low.setdefault(words[0], None)
-                self.high.setdefault(words[0], None)
+                self.ends.setdefault(words[0], [None, None])
                 self.whole.setdefault(words[0], in_whole)
             elif part in ("RHS", "RANGES"):
                 (self.rhs if part == "RHS" else self.ranges)[words[1]] = F(words[2])
@@ -46,24 +46,21 @@ class Plain:
                 self.bound(words[0], words[2], *words[3:])
 
     def bound(self, kind: str, column: str, value: str = "0") -> None:
-        infinite = F(10) ** 1000
-        if kind in ("BV", "LI", "UI"):
-            self.whole[column] = True
-        for letter in KINDS.get(kind, ""):
-            ends, end = {"l": (self.low, F(value)), "u": (self.high, F(value)),
-                         "-": (self.low, -infinite), "+": (self.high, infinite)}[letter]
-            ends[column] = end
-        if kind == "BV":
-            self.low[column], self.high[column] = F(0), F(1)
+        ends = self.ends[column]
+        self.whole[column] |= kind in ("BV", "LI", "UI")
+        for at, kinds, end in ((0, ("LO", "LI", "FX"), F(value)), (1, ("UP", "UI", "FX"), F(value)),
+                               (0, ("MI", "FR"), -INFINITE), (1, ("PL", "FR"), INFINITE),
+                               (0, ("BV",), F(0)), (1, ("BV",), F(1))):
+            if kind in kinds:
+                ends[at] = end
 
     def bounds(self) -> dict[str, Ends]:
         """None where there are none."""
         found: dict[str, Ends] = {}
-        for column, low in self.low.items():
-            high = self.high[column]
+        for column, (low, high) in self.ends.items():
             if low is None and (high is None or high >= 0):
                 low = F(0)
-            low, high = (None if end is None or abs(end) >= F(10) ** 1000 else end for end in (low, high))
+            low, high = (None if end is None or abs(end) >= INFINITE else end for end in (low, high))
             found[column] = low, high
         return found
 
@@ -108,12 +105,8 @@ def random_text(seed: int, most: int = 8) -> bytes:
     lines += ["RHS", *(f" RHS {row} {number(chance)}" for _, row in rows if chance.random() < .6)]
     ranges = [f" RNG {row} {number(chance)}" for kind, row in rows if kind != "N" and chance.random() < .3]
     lines += ["RANGES", *ranges] if ranges else []
-    bounds = [f" {kind} BND {column}" + (f" {number(chance)}" if kind in LEFT else "")
+    bounds = [f" {kind} BND {column}" + (f" {number(chance)}" if kind in WITH_VALUE else "")
               for column in columns for kind in chance.choice(TYPES).split()]
     chance.shuffle(bounds)
     lines += ["BOUNDS", *bounds] if bounds else []
     return "\n".join([*lines, "ENDATA", ""]).encode()
-
-
-LEFT = ("LO", "UP", "FX", "LI", "UI")
-TYPES = ("", "", "UP", "LO", "LO UP", "FX", "MI", "MI UP", "PL", "FR", "BV", "UI", "LI", "LI UI")

@@ -18,23 +18,11 @@ except ImportError:
 SOLVERS = [name for name in ("cbc", "glpsol", "esolver") if shutil.which(name)]
 
 
-@unittest.skipIf(pulp is None, "no PuLP")
-class Texts(unittest.TestCase):
-    def test_completed(self) -> None:
-        """The sense and the objective's constant are put back."""
-        text = "*SENSE:Maximize\nNAME          MODEL\nROWS\n N  OBJ\nCOLUMNS\nRHS\nBOUNDS\nENDATA\n"
-        self.assertEqual(pulp_solver.completed(text, True, "OBJ", 2.5).split("\n"),
-                         ["*SENSE:Maximize", "NAME          MODEL", "OBJSENSE", " MAX", "ROWS",
-                          " N  OBJ", "COLUMNS", "RHS", "    RHS       OBJ  -2.5", "BOUNDS", "ENDATA", ""])
-        self.assertEqual(pulp_solver.completed(text, False, "OBJ", 0), text)
-
-
 def problem_of(objective, *constraints, sense: int = 1) -> "pulp.LpProblem":
     """One of these, with their names; the sense is 1 for the least, -1 for the greatest value."""
     problem = pulp.LpProblem("p", sense)
-    problem += objective
-    for constraint in constraints:
-        problem += constraint
+    for part in (objective, *constraints):
+        problem += part
     return problem
 
 
@@ -44,22 +32,21 @@ class Solves(Case):
     def command(self, solver: str, **words) -> "pulp_solver.BridgeCmd":
         return pulp_solver.BridgeCmd(os.path.join(BIN, "bridge-" + solver), msg=False, **words)
 
-    def solve(self, solver: str, problem: "pulp.LpProblem", **words) -> "pulp_solver.BridgeCmd":
+    def solve(self, solver: str, problem: "pulp.LpProblem", status: str = "Optimal", **words) -> str:
+        """The last line that is told."""
         command = self.command(solver, **words)
         command.tmpDir = self.folder
         problem.solve(command)
-        self.assertEqual(os.listdir(self.folder), [])
-        return command
+        self.assertEqual((os.listdir(self.folder), pulp.LpStatus[problem.status]), ([], status))
+        return command.message.split("\n")[-1]
 
     def test_linear(self) -> None:
         for solver in SOLVERS:
             x, y = pulp.LpVariable("x", 0), pulp.LpVariable("y", 0, 4)
             problem = problem_of(3 * x + 2 * y + 5, (3 * x + y <= 10, "first"), (x + y <= 7, "second"), sense=-1)
-            command = self.solve(solver, problem)
-            self.assertEqual(pulp.LpStatus[problem.status], "Optimal")
+            self.assertEqual(self.solve(solver, problem), "optimal 19")
             self.assertEqual((x.value(), y.value(), pulp.value(problem.objective)), (2, 4, 19))
             self.assertEqual([problem.constraints[n].pi for n in ("first", "second")], [1, 0])
-            self.assertEqual(command.message.split("\n")[-1], "optimal 19")
 
     def test_order_of_variables(self) -> None:
         """Integer, binary and continuous ones, mixed, each with a value of its own."""
@@ -72,9 +59,7 @@ class Solves(Case):
     def test_other_statuses(self) -> None:
         for bound, sense, status in ((2, 1, "Infeasible"), (None, -1, "Unbounded")):
             x = pulp.LpVariable("x", 0, bound)
-            problem = problem_of(1 * x, x >= 3, sense=sense)
-            self.solve(SOLVERS[0], problem)
-            self.assertEqual(pulp.LpStatus[problem.status], status)
+            self.solve(SOLVERS[0], problem_of(1 * x, x >= 3, sense=sense), status)
 
     def test_reduced_costs_and_slacks(self) -> None:
         """Where all are 0 they are 0.0. Slacks are set as PuLP counts them, and what another
@@ -90,8 +75,7 @@ class Solves(Case):
             self.assertEqual([v.dj for v in (x, y)], [0.0, 0.0])
             self.assertEqual({n: c.slack for n, c in problem.constraints.items()}, {"both": 0, "apart": 0, "room": 3.5})
             problem += x <= 1
-            self.solve(solver, problem)
-            self.assertEqual(pulp.LpStatus[problem.status], "Infeasible")
+            self.solve(solver, problem, "Infeasible")
             self.assertEqual([(v.varValue, v.dj) for v in (x, y)], [(None, None)] * 2)
             self.assertEqual({(c.slack, c.pi) for c in problem.constraints.values()}, {(None, None)})
 
@@ -102,9 +86,8 @@ class Solves(Case):
             problem = problem_of(2 * x)
             problem.addConstraint(pulp.LpConstraint(2 * x, pulp.LpConstraintGE, name, 3))
             problem.constraints = {name: next(iter(problem.constraints.values()))}
-            command = self.solve(SOLVERS[0], problem, options=["outlev=0"])
-            self.assertEqual((x.value(), command.message.split("\n")[-1]), (2, "optimal 4"))
-            command.written(problem, self.stub)
+            self.assertEqual((self.solve(SOLVERS[0], problem, options=["outlev=0"]), x.value()), ("optimal 4", 2))
+            self.command(SOLVERS[0]).written(problem, self.stub)
             self.assertIn(f" G  {told}\n", Path(self.stub).read_text())
             os.unlink(self.stub)
 
@@ -115,8 +98,9 @@ class Solves(Case):
         with self.assertRaisesRegex(pulp.PulpSolverError, "takes no integer variables, and the "
                                                           "model has 1; mip=False drops that"):
             self.solve("clp", problem)
-        for relaxed, last in ((problem, "optimal 2"), (problem_of(2 * x, (2 * x >= 3, "both")), "bound 3")):
-            self.assertEqual(self.solve("clp", relaxed, mip=False).message.split("\n")[-1], last)
+        self.assertEqual(self.solve("clp", problem, mip=False), "optimal 2")
+        relaxed = problem_of(2 * x, (2 * x >= 3, "both"))
+        self.assertEqual(self.solve("clp", relaxed, mip=False), "bound 3")
 
     def test_files_that_are_kept(self) -> None:
         x = pulp.LpVariable("left", 1)
@@ -132,6 +116,13 @@ class Solves(Case):
 @unittest.skipIf(pulp is None, "no PuLP")
 class Manners(unittest.TestCase):
     """What needs neither solver nor bridge."""
+
+    def test_completed(self) -> None:
+        """The sense and the objective's constant are put back."""
+        text = "*SENSE:Maximize\nNAME          MODEL\n{}ROWS\n N  OBJ\nCOLUMNS\nRHS\n{}BOUNDS\nENDATA\n".format
+        self.assertEqual(pulp_solver.completed(text("", ""), True, "OBJ", 2.5),
+                         text("OBJSENSE\n MAX\n", "    RHS       OBJ  -2.5\n"))
+        self.assertEqual(pulp_solver.completed(text("", ""), False, "OBJ", 0), text("", ""))
 
     def test_empty_interval(self) -> None:
         """Also one that PuLP's own MPS would lose."""

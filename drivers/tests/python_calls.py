@@ -1,55 +1,58 @@
-"""The calls of Python: the examples of PYTHON.md, what they raise, and that nothing is written that was not named."""
+"""The calls of Python: the examples of PYTHON.md, what they raise, that nothing is written that was not named; reports,
+as commands print them with `json=1`, are as their schema says; certificates in words, as pictures and pages."""
 
 from __future__ import annotations
 
 import contextlib
 import io
-import json
 import os
 import re
 import shutil
 import unittest
+import xml.etree.ElementTree as xml
 from fractions import Fraction as F
+from pathlib import Path
+from typing import Any
 
-import reports
-from support import DRIVERS, EXAMPLES, NEEDS_CLP, NEEDS_MPS, NEEDS_PROGRAM, Case
-from tables import rows_of
+from support import DRIVERS, EXAMPLES, NEEDS_CLP, NEEDS_MPS, NEEDS_PROGRAM, PROGRAM, RULE, Case, bridge, content, \
+    ended, faults, needs, ran
+from models import MODELS, rows_of, text_of as model_text
 
 import bridge_drivers
-from bridge_drivers import Report, certify, explain, figures, solve, solvers, verify
+from bridge_drivers import BridgeError, Report, certify, explain, figures, interface, solve, verify
+from bridge_drivers.bridge import built
+from bridge_drivers.explained import page, reading
+from bridge_drivers.explained.command import Explaining, Files
+from bridge_drivers.explained.picture import MOST_DEPTH, MOST_SHOWN, Picture
+from bridge_drivers.inputs import Input, Subject
+from bridge_drivers.printable import printable
 
-PAGE = os.path.join(DRIVERS, "PYTHON.md")
-HAS_CBC = solvers.load("cbc").place() is not None
-
-
-def blocks() -> list[str]:
-    with open(PAGE, encoding="utf-8") as f:
-        return re.findall(r"(?s)```python\n(.*?)```", f.read())
+PAGE = Path(DRIVERS, "PYTHON.md")
+BROWSER = shutil.which("chromium") or shutil.which("google-chrome")
+SVG = "{http://www.w3.org/2000/svg}"
+TEXTS = {name: model_text(cells) for name, *cells in rows_of("explains", "model")}
 
 
 @NEEDS_PROGRAM
 class Calls(Case):
     def setUp(self) -> None:
         super().setUp()
-        old = os.getcwd()
-        self.addCleanup(os.chdir, old)
-        for name in os.listdir(EXAMPLES):
-            shutil.copy(os.path.join(EXAMPLES, name), self.folder)
+        self.addCleanup(os.chdir, os.getcwd())
+        shutil.copytree(EXAMPLES, self.folder, dirs_exist_ok=True)
         os.chdir(self.folder)
 
     def checked(self, report: Report) -> Report:
-        """As the schema wants it."""
-        told = json.loads(json.dumps(report.object()))
-        self.assertEqual(reports.faults(told, reports.schema()), [])
+        self.as_schema(report.object())
         return report
 
     @NEEDS_MPS
     @NEEDS_CLP
-    @unittest.skipUnless(HAS_CBC, "no cbc")
+    @needs("cbc")
     def test_examples(self) -> None:
         """What they print is what stands behind `#`."""
-        self.assertGreaterEqual(len(blocks()), 3)
-        for block in blocks():
+        blocks = re.findall(r"(?s)```python\n(.*?)```", PAGE.read_text(encoding="utf-8"))
+        self.assertGreaterEqual(len(blocks), 3)
+        for block in blocks:
             self.assertLessEqual(block.count("\n"), 10)
             wanted = re.findall(r"(?m)^ *print\(.*\) +# (.*)$", block)
             out = io.StringIO()
@@ -58,33 +61,33 @@ class Calls(Case):
             got = re.sub(r"CBC [\d.]+:", "CBC 2.10.8:", out.getvalue()).split("\n")
             self.assertEqual(got[:-1], wanted)
 
-    @unittest.skipUnless(HAS_CBC, "no cbc")
+    @needs("cbc")
     def test_nothing_is_written_or_printed(self) -> None:
         before, out = sorted(os.listdir(".")), io.StringIO()
         with contextlib.redirect_stdout(out), contextlib.redirect_stderr(out):
-            report = self.checked(solve("knap", "cbc"))
+            told = self.checked(solve("knap", "cbc"))
             self.checked(certify("knap"))
             self.checked(verify("knap.nl", "knap.certificate"))
             self.checked(explain("knap", "knap.certificate"))
             self.checked(figures("knap"))
         self.assertEqual((sorted(os.listdir(".")), out.getvalue()), (before, ""))
-        self.assertEqual((report.code, report.values, report.value), (0, {"a": "1", "b": "1", "z": "0"}, F(17)))
+        self.assertEqual((told.code, told.values, told.value), (0, {"a": "1", "b": "1", "z": "0"}, F(17)))
         solve("knap", "cbc", wantsol=1)
         self.assertEqual(sorted(os.listdir(".")), sorted([*before, "knap.sol"]))
 
     def test_what_is_not_proved(self) -> None:
         self.put(b"certificate 1\nbound 0 16\nduals 0\n", ".certificate")
-        report = self.checked(verify("knap", self.stub + ".certificate"))
-        self.assertEqual((report.status, report.claim, report.text), (1, None, "leaf 0 gap 29"))
-        report = explain("knap", self.stub + ".certificate")
-        self.assertEqual((report.explained["holds"], report.explained["leaf"]), (False, 0))
+        told = self.checked(verify("knap", self.stub + ".certificate"))
+        self.assertEqual((told.status, told.claim, told.text), (1, None, "leaf 0 gap 29"))
+        told = explain("knap", self.stub + ".certificate")
+        self.assertEqual((told.explained["holds"], told.explained["leaf"]), (False, 0))
 
     def test_what_is_raised(self) -> None:
         """Each by a call; the report in it is that of the command."""
         for call, kind, status, code in rows_of("python_calls"):
             name, *words = call.split()
             options = dict(word.split("=") for word in words if "=" in word)
-            with self.assertRaises(getattr(bridge_drivers, kind)) as caught:
+            with self.subTest(call=call), self.assertRaises(getattr(bridge_drivers, kind)) as caught:
                 getattr(bridge_drivers, name)(*words[:len(words) - len(options)], **options)
             fault = caught.exception
             self.assertEqual((str(fault.status), str(fault.code or "-")), (status, code), call)
@@ -94,5 +97,223 @@ class Calls(Case):
         """`certify` is a folder of modules, too, which must not take the call's place."""
         from bridge_drivers.certify import claims
         self.assertTrue(callable(bridge_drivers.certify) and claims)
-        put = set(bridge_drivers.__all__)
-        self.assertEqual(put - set(dir(bridge_drivers)), set())
+        self.assertEqual(set(bridge_drivers.__all__) - set(dir(bridge_drivers)), set())
+
+
+class Reports(unittest.TestCase):
+    def test_the_rules_are_followed(self) -> None:
+        """The check itself finds what is wrong."""
+        good = Report("c").object()
+        self.assertEqual(faults(good, RULE), [])
+        for key, value in (("status", "0"), ("claim", "proved"), ("value", {"exact": "1"}),
+                           ("value", {"exact": "1.5", "double": 1.5}), ("lines", "x"),
+                           ("code", 600), ("sums", {}), ("other", 1), ("seconds", True)):
+            self.assertNotEqual(faults({**good, key: value}, RULE), [], key)
+        self.assertEqual(faults({k: v for k, v in good.items() if k != "bound"}, RULE), ["$ lacks bound"])
+
+    def test_numbers(self) -> None:
+        self.assertEqual(interface.number(F(173, 4)), {"exact": "173/4", "double": 43.25})
+        self.assertEqual(interface.number(F(10) ** 400), {"exact": "1" + "0" * 400, "double": None})
+        self.assertIsNone(interface.number(None))
+
+    def test_claims(self) -> None:
+        told = Report("c")
+        told.take_line("within 19 35/2 of objective 2")
+        self.assertEqual((told.claim, told.value, told.bound, told.objective), ("within", F(35, 2), F(19), 2))
+        said = told.object()
+        self.assertEqual((said["claim"], said["objective"], said["value"]["exact"],
+                          said["bound"]["double"]), ("within", 2, "35/2", 19.0))
+        self.assertEqual(faults(said, RULE), [])
+
+
+@NEEDS_PROGRAM
+class Objects(Case):
+    """Of commands as processes, beside the rows of `reports`; nothing else is on standard output."""
+
+    def called(self, *words: str) -> dict[str, Any]:
+        return self.is_report(ran(*words, "json=1"), words[0])
+
+    def test_sums_and_the_program(self) -> None:
+        shutil.copytree(EXAMPLES, self.folder, dirs_exist_ok=True)
+        model, certificate = (os.path.join(self.folder, "knap" + end) for end in (".nl", ".certificate"))
+        told = self.called("nl-bridge", "verify", model, certificate)
+        self.assertEqual((told["sums"]["program"], told["sums"]["certificate"]),
+                         (interface.sum_of(PROGRAM[0]), interface.sum_of(certificate)))
+        facts = built(PROGRAM[0])
+        told = self.called("nl-bridge", "version")
+        self.assertEqual((told["program"], told["proved"]), (PROGRAM, facts["proved"] == "yes" if facts else None))
+
+    @NEEDS_CLP
+    def test_drivers(self) -> None:
+        self.put(MODELS["knap"].text)
+        self.put(b"a\nb\nz\n", ".col")
+        for driver in ("cbc", "glpsol", "lp_solve"):
+            told = self.called("bridge-" + driver, self.stub, "-AMPL", "prove=1", "wantsol=2", "outlev=1",
+                               f"certificate={self.stub}.new", "overwrite=1")
+            if told["code"] != 503:
+                self.assertEqual(told["values"], {"a": "1", "b": "1", "z": "0"})
+                self.assertEqual((told["code"], told["claim"], told["certificate"]), (0, "optimal", self.stub + ".new"))
+                self.assertEqual(self.sol().message, told["lines"])
+
+
+def model(name: str) -> bytes:
+    """Of the table, of the small ones, or an example."""
+    return TEXTS.get(name) or content("model diet" if name == "diet" else f"example {name}.nl")
+
+
+def certificate(words: str) -> bytes:
+    """Its lines behind the first, with ` / ` between; an example; `no TEXT`, which is none; or `tree DEPTH CLAIM`."""
+    kind, _, rest = words.partition(" ")
+    if kind in ("example", "no"):
+        return content(words.removeprefix("no "))
+    lines = words.split(" / ")
+    if kind == "tree":
+        depth, claim = rest.split(" ", 1)
+        lines = ["duals 0"]
+        for level in reversed(range(int(depth))):       # all splits, with leaves without numbers
+            lines = [f"split {level} 0", *lines, *lines]
+        lines.insert(0, claim)
+    return "\n".join(["certificate 1", *lines, ""]).encode()
+
+
+class Texts(Case):
+    def test_reading(self) -> None:
+        (text, *nodes), = rows_of("explains", "nodes")
+        self.put(certificate(text), ".certificate")
+        c = reading.read(self.stub + ".certificate")
+        self.assertEqual((c.claim, c.objective, c.point, c.ray), ("optimal", 0, {1: F(1)}, None))
+        self.assertEqual([f"{n.kind} {n.line} {n.parent} {n.part} {n.depth} {n.leaf} {n.size} {n.leaves}"
+                          for n in c.nodes], nodes)
+        self.assertEqual((c.children(0), c.children(4), c.children(6), c.path(6)), ([1, 4], [5, 6], [], [0, 4, 6]))
+        self.assertEqual((c.nodes[5].pairs, c.place_of_leaf(3)), ([(0, ".5")], 6))
+        self.put(certificate("bound 0 1 / split 0 0 / duals 0"), ".certificate")
+        self.assertRaises(ValueError, reading.read, self.stub + ".certificate")
+
+
+@NEEDS_PROGRAM
+class Explained(Case):
+    def given(self, name: str, words: str) -> Files:
+        self.put(model(name))
+        self.put(certificate(words), ".certificate")
+        return Files(self.stub + ".nl", self.stub + ".certificate")
+
+    def object(self, name: str = "knap", words: str = "example knap.certificate") -> Explaining:
+        files = self.given(name, words)
+        reply = bridge().call("verify", *files[:2])
+        given = Input(files.model, files.model, self.stub, False)
+        return Explaining(Subject(bridge(), given, given.path), files, reply.out.decode().strip(), reply.status == 0)
+
+    def test_lines(self) -> None:
+        """Of each the model, names of variables, the certificate, the status, and lines in their order."""
+        for name, names, words, status, *wanted in rows_of("explains", "case"):
+            with self.subTest(certificate=words):
+                files = self.given(name, words)
+                self.put(names.replace("-", "").replace(" ", "\n").encode(), ".col")
+                try:
+                    told = interface.explain(self.stub, files.certificate)
+                except BridgeError as fault:
+                    told = fault.report
+                self.as_schema(told.object())
+                more = told.refusal["more"] if told.refusal else []
+                lines = "\n".join([*told.lines, *more]).replace(self.stub, "m").split("\n")
+                found = [line for line in lines if line in wanted]
+                self.assertEqual((told.status, found), (int(status), wanted), lines)
+
+    def test_sums(self) -> None:
+        """Their lines add up to what the program tells of a leaf, in one width, nothing cut."""
+        for name, given in rows_of("explains", "sum"):
+            told = self.object(name, given)
+            assert told.bounds is not None
+            found = re.fullmatch(r"leaf (\d+) gap (\S+)", told.verdict)
+            if found is not None:
+                at = told.certificate.place_of_leaf(int(found[1]))
+                self.assertEqual(told.bounds.shown(at, told.bounds.part(at)), F(found[2]))
+            for one in page.sums(told.wording, [
+                    d.place for d in told.tree().drawn
+                    if told.certificate.nodes[d.place].is_leaf()]):
+                products = [F(line.split(")")[-1].split("=")[0].strip()) for line in one.lines if "\u00d7" in line]
+                total = told.bounds.shown(one.place, told.bounds.part(one.place))
+                self.assertEqual((sum(products), F(one.lines[-1].split("=")[0])), (total, total))
+                self.assertEqual(len({len(line) for line in one.lines}), 1)
+                self.assertIn(one.lines[-1].strip(), told.page())
+
+    def test_the_objective_by_its_name(self) -> None:
+        """A plane on it, whatever it is multiplied by, and turned."""
+        for factor, low, high in ((1, "objective \u2264 16", "objective \u2265 17"),
+                                  (-1, "objective \u2265 -16", "objective \u2264 -17")):
+            pairs = " / ".join(f"{j} {factor * a}" for j, a in enumerate((10, 7, 12)))
+            told = self.object("knap", f"bound 0 17 / plane 3 16 / {pairs} / duals 0 / duals 0")
+            parts = [part.part for part in told.tree().drawn]
+            self.assertEqual(parts, ["all points", low, high])
+
+    def test_picture(self) -> None:
+        told = self.object()
+        root = xml.fromstring(told.picture())
+        groups = root.findall(SVG + "g")
+        self.assertEqual([g.get("class") for g in groups],
+                         ["cut", "duals", "cut", "cut", "duals", "weights", "weights"])
+        self.assertEqual([[t.text for t in g.findall(SVG + "text")] for g in groups[:3]],
+                         [["6", "all points", "bound 17", "split x2"],
+                          ["7", "x2 \u2264 0", "bound 17", "closes by bounds alone"],
+                          ["8", "x2 \u2265 1", "bound 12", "split x0"]])
+        self.assertEqual(len(root.findall(SVG + "path")), 6 + 1)
+
+    def test_without_a_tree(self) -> None:
+        told = self.object("endless", "feasible 0 / point 0")
+        texts = [t.text for t in xml.fromstring(told.picture()).iter(SVG + "text")]
+        self.assertEqual(texts, ["the certificate has no tree"])
+        self.assertNotIn("Its tree", told.page())
+
+    def test_folded(self) -> None:
+        """A large tree is folded to a depth, but for the path to the leaf that fails."""
+        for claim, fails in (("bound 0 45", False), ("bound 0 40", True)):
+            told = self.object("wide", f"tree 9 {claim}")
+            picture = Picture(told.wording, told.fails, told.holds)
+            depths = [told.certificate.nodes[d.place].depth for d in picture.drawn]
+            root = xml.fromstring(picture.svg(True))
+            kinds = [g.get("class") for g in root.findall(SVG + "g")]
+            if fails:
+                self.assertIn(told.fails, [d.place for d in picture.drawn])
+                self.assertGreaterEqual(kinds.count("fails"), 1)
+            else:
+                self.assertNotIn("fails", kinds)
+                self.assertLessEqual(len(depths), MOST_SHOWN)
+                self.assertLessEqual(max(depths), MOST_DEPTH)
+            self.assertGreater(kinds.count("folded"), 1)
+            self.assertIn("+ 30 nodes, 16 leaves", [t.text for t in root.iter(SVG + "text")])
+
+    def test_all_that_do_not_close_are_marked(self) -> None:
+        told = self.object("knap", "tree 3 bound 0 10")
+        picture = Picture(told.wording, told.fails, told.holds)
+        self.assertEqual([picture.closes(at) for at, node in enumerate(told.certificate.nodes)
+                          if node.is_leaf()], [True, False, True, False, True, False, False, False])
+
+    def test_names_are_escaped(self) -> None:
+        self.put(b"<b>&\n\x1b[31mb\nz\n", ".col")
+        told = self.object()
+        for text in (told.page(), told.picture()):
+            self.assertNotIn("<b>", text)
+            self.assertEqual(printable(text), text)
+            self.assertIn("&lt;b&gt;&amp; \u2264 0", text)
+        xml.fromstring(told.picture())
+
+    @unittest.skipUnless(BROWSER, "no chromium")
+    def test_in_a_browser(self) -> None:
+        """In two widths: nothing but the tree is wider than the page, no sum is cut off, nothing is
+        fetched, and the tree is drawn."""
+        told = self.object("wide", "tree 9 bound 0 40")
+        page = told.page()
+        self.assertNotRegex(page, r"""(?i)<script|<link|<img|url\(|src=|href=""")
+        probe = ("<script>document.title = [document.documentElement.scrollWidth <= innerWidth, "
+                 "[...document.querySelectorAll('pre')].filter(it => it.scrollWidth <= it.clientWidth).length, "
+                 "document.querySelectorAll('svg rect').length, "
+                 "document.querySelector('.fails rect').getBoundingClientRect().width > 100, "
+                 "innerWidth].join(' ')</script></body>")
+        self.put(page.replace("</body>", probe).encode(), ".html")
+        boxes, blocks = page.count("<rect "), page.count("<pre ")
+        self.assertGreater(blocks, 1)
+        for width in (1280, 500):
+            done = ended([BROWSER, "--headless=new", "--no-sandbox", "--disable-gpu", f"--window-size={width},900",
+                          f"--user-data-dir={self.folder}/profile", "--dump-dom", f"file://{self.stub}.html"],
+                         timeout=120)
+            self.assertIn(f"<title>true {blocks} {boxes} true {width}</title>", done.stdout, done.stderr)

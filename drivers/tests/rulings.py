@@ -15,7 +15,6 @@ STOPPED, EITHER = Code.LIMIT_WITH_POINT, Code.INFEASIBLE_OR_UNBOUNDED
 INFEASIBLE, UNBOUNDED = Code.INFEASIBLE, Code.UNBOUNDED
 SAID = (SOLVED, UNSURE, STOPPED, LIMIT, INFEASIBLE, EITHER, UNBOUNDED)
 CLAIMS = ("", "optimal", "within", "feasible", "bound", "infeasible", "unbounded")
-WITH_POINT = (SOLVED, UNSURE, STOPPED)
 FLAGS = ("linear", "is_gap", "mended", "closes", "within_gap", "is_beyond", "contradicted",
          "by_doubles", "is_open", "checked", "strict")
 

@@ -1,61 +1,76 @@
-"""One way to say it: help, options in any order, what a model may be, exit statuses."""
+"""One way to say it: help, options in any order, what a model may be, what shells complete; and refusals in words:
+expressions, places, names, and what a file is that is no model."""
 
 from __future__ import annotations
 
 import bz2
 import gzip
-import itertools
 import lzma
 import os
+import pty
 import re
+import select
+import shutil
+import signal
 import subprocess
+import sys
+import time
 import unittest
 from pathlib import Path
 
-from support import HAS_CLP, NEEDS_PROGRAM, TOP, Case, called
-from models import MODELS
-from tables import rows_of
+from support import BIN, TOP, Case, called, ended
+from models import MODELS, rows_of
 
-from bridge_drivers import commands, front, solvers, words
+from bridge_drivers import commands, explaining, faults, front, kinds, solvers
+from bridge_drivers.bridge import Refused, Reply
 from bridge_drivers.certify.command import Command
-from bridge_drivers.codes import STATUSES, Status
+from bridge_drivers.codes import Failure, Status
 from bridge_drivers.driver import Driver
-from bridge_drivers.inputs import Absent, Inputs
-from bridge_drivers.near import near
-from bridge_drivers.options import BadOption, Option, Options, Range
+from bridge_drivers.inputs import Inputs
+from bridge_drivers.names import Names
+from bridge_drivers.printable import near
+from bridge_drivers.nl import expression
+from bridge_drivers.options import BadOption, Option, Options, Range, words_of
 
-SCRIPTS = ("acceptance", "bench", "dev", "drivers", "packaging")
-HAS_CBC = solvers.load("cbc").place() is not None
+ASK = """source {folder}/completion
+COMP_WORDS=({words}) COMP_CWORD=$(({count} - 1))
+_nl_bridge 2>/dev/null
+printf '%s\\n' "${{COMPREPLY[@]}}"
+"""
+HEAD = b"g3 1 1 0\n 3 1 1 0 0\n" + b" 0 0\n" * 8
+PRODUCT = HEAD + (b"C0\no54\n3\no2\nn5\nv1\no2\nv0\no0\nv1\nn3\nv2\nO0 0\nn0\nr\n1 4\nb\n0 0 1\n0 0 1\n0 0 1\n")
+NONLINEAR = "line 17: nonlinear"
+WORKED = ("refusals", "export")     # the second has what is wide
 
 
 class Help(unittest.TestCase):
+    def same(self, *texts: "tuple[int, str, str]") -> str:
+        """What is printed in each way, on standard output, with status 0."""
+        self.assertEqual(len(set(texts)), 1, texts)
+        status, out, err = texts[0]
+        self.assertEqual((status, err), (0, ""))
+        return out
+
     def test_of_each_word(self) -> None:
-        """In three ways the same, on standard output, with an example that is a call of it."""
+        """In three ways the same, with an example that is a call of it."""
         for word in set(commands.WORDS) - {"help"}:
-            texts = [called(lambda: front.command(call)) for call in (
-                ["help", word], [word, "--help"], [word, "-h"], [word, "x", "json=1", "-h"])]
-            self.assertEqual(len(set(texts)), 1, word)
-            status, out, err = texts[0]
-            self.assertEqual((status, err), (0, ""))
+            out = self.same(*(called(lambda: front.command(call)) for call in (
+                ["help", word], [word, "--help"], [word, "-h"], [word, "x", "json=1", "-h"])))
             self.assertTrue(out.startswith("usage: nl-bridge "), out)
             for line in re.findall(r"(?m)^example: nl-bridge (.*)$", out):
                 self.assertEqual(line.split()[0], word)
                 front.read(line.split())
             self.assertLessEqual(max(map(len, out.split("\n"))), 100)
-        for word in ("help", "-h", "-?", "--help", "-="):
-            self.assertEqual(called(lambda: front.command([word])), (0, commands.usage(), ""))
+        ways = (called(lambda: front.command([word])) for word in ("help", "-h", "-?", "--help", "-="))
+        self.assertEqual(self.same(*ways), commands.usage())
         self.assertEqual(called(lambda: front.command([])), (3, "", commands.usage()))
 
     def test_of_each_driver(self) -> None:
-        """Options with their values."""
         for name in (*solvers.NAMES, "certify"):
             driver = Command("cbc") if name == "certify" else Driver(name)
-            texts = [called(lambda: driver.main(call)) for call in (
-                ["-h"], ["--help"], ["help"], ["knap", "timelim=9", "-?"])]
-            texts.append(called(lambda: front.command(["help", "bridge-" + name])))
-            self.assertEqual(len(set(texts)), 1, name)
-            status, out, err = texts[0]
-            self.assertEqual((status, err), (0, ""))
+            out = self.same(*(called(lambda: driver.main(call)) for call in (
+                ["-h"], ["--help"], ["help"], ["knap", "timelim=9", "-?"])),
+                called(lambda: front.command(["help", "bridge-" + name])))
             example = out.rstrip("\n").split("\n")[-1]
             self.assertTrue(example.startswith(f"example: bridge-{name} "), example)
             driver.options.take(example.split()[3:])
@@ -67,90 +82,70 @@ class Help(unittest.TestCase):
             self.assertIn("(0, 1 or 2; 0)", flat)
             self.assertIn("a number from 0 on", flat)
 
-    def test_scripts(self) -> None:
-        """What can be called in a clone tells what it is, on standard output."""
-        found = [os.path.join(folder, name) for folder in SCRIPTS
-                 for name in sorted(os.listdir(os.path.join(TOP, folder)))
-                 if os.access(os.path.join(TOP, folder, name), os.X_OK)
-                 and os.path.isfile(os.path.join(TOP, folder, name))]
-        self.assertGreater(len(found), 20)
-        for script, word in zip(found, itertools.cycle(("--help", "-h"))):
-            ran = subprocess.run([os.path.join(TOP, script), word], capture_output=True,
-                                 text=True, check=False, timeout=300)
-            self.assertEqual((ran.returncode, ran.stderr), (0, ""), script)
-            self.assertIn(os.path.basename(script), ran.stdout)
 
+class Words(unittest.TestCase):
+    def refused(self, told: str, *options: str) -> None:
+        with self.assertRaisesRegex(BadOption, told):
+            Options().take(list(options))
 
-class Options_(unittest.TestCase):
     def test_did_you_mean(self) -> None:
-        known = Command("cbc").options
         for word, meant in rows_of("surface", "near"):
             with self.assertRaisesRegex(BadOption, f"did you mean `{meant}`\\?"):
-                known.take([word + "=1"])
+                Command("cbc").options.take([word + "=1"])
         self.assertEqual(near("veryfy", commands.WORDS), " did you mean `verify`?")
         self.assertEqual(near("gap", commands.WORDS), "")
         for unknown in (["foo"], ["foo=1"], ["-foo"], ["timelim=1", "foo", "2"]):
-            with self.assertRaisesRegex(BadOption, "^unknown option foo; -= lists the options$"):
-                Options().take(unknown)
-        with self.assertRaisesRegex(BadOption, "^no value for timelim$"):
-            Options().take(["timelim"])
+            self.refused("^unknown option foo; -= lists the options$", *unknown)
+        self.refused("^no value for timelim$", "timelim")
 
-    def test_certify_takes_those_of_each_driver(self) -> None:
-        for name in solvers.NAMES:
-            for option in Driver(name).options.known.values():
-                Command(name).options.find(option.name)
-
-    def test_ranges(self) -> None:
-        """Each default is in its range, and what is not is told with what is."""
-        for name in solvers.NAMES:
-            for option in Driver(name).options.known.values():
-                if option.default != "":
-                    self.assertEqual(option.read(str(option.default)), option.default)
-                if isinstance(option.kind, Range):
-                    for bad in ("-1", "x", "nan", "1e400"):
-                        with self.assertRaisesRegex(BadOption, f"{option.kind} is wanted"):
-                            option.read(bad)
-        for name, word in (("prove", "2"), ("outlev", "3"), ("wantsol", "16"), ("objno", "0"),
-                           ("only", "lp"), ("format", "nl")):
-            with self.assertRaisesRegex(BadOption, f"^{name}={word}: .* is wanted$"):
-                Options().take([f"{name}={word}"])
+    def test_options_of_each_driver(self) -> None:
+        """bridge-certify takes them, too; a default is in its range, and what is not is told with what is."""
+        every = [(name, option) for name in solvers.NAMES for option in Driver(name).options.known.values()]
+        for name, option in every:
+            Command(name).options.find(option.name)
+            if option.default != "":
+                self.assertEqual(option.read(str(option.default)), option.default)
+            for bad in ("-1", "x", "nan", "1e400") if isinstance(option.kind, Range) else ():
+                with self.assertRaisesRegex(BadOption, f"{option.kind} is wanted"):
+                    option.read(bad)
+        for option in ("prove=2", "outlev=3", "wantsol=16", "objno=0", "only=lp", "format=nl"):
+            self.refused(f"^{option}: .* is wanted$", option)
         self.assertEqual(str(Option("x", 0, int, "").kind), "a whole number from 0 on")
 
     def test_any_order(self) -> None:
         for call in ("knap -AMPL prove=1 timelim 3 -e", "prove=1 knap -AMPL timelim 3 -e",
                      "-AMPL -e prove=1 timelim=3 -- knap", "prove = 1 timelim= 3 -e -AMPL knap",
                      "-prove 1 -AMPL --timelim =3 -e knap"):
-            found = words.read(call.split())
-            options = Options()
+            found, options = words_of(call.split()), Options()
             options.take(found.options)
             self.assertEqual((found.stub, found.ampl, found.echo, found.save, options.prove,
                               options.timelim), ("knap", True, False, False, 1, 3.0), call)
         for call, stub in (("-- -x=1", "-x=1"), ("-", "-"), ("./a=b", "./a=b")):
-            self.assertEqual(words.read(call.split()).stub, stub)
+            self.assertEqual(words_of(call.split()).stub, stub)
 
     def test_any_order_of_the_front(self) -> None:
         wanted = front.Call("explain", ["m", "c"], False, True, {"svg": "s"})
-        for call in (["explain", "m", "c", "--svg", "s", "json=1"], ["json=1", "--svg=s", "explain",
-                     "m", "c"], ["explain", "json=1", "m", "--svg", "s", "--", "c"]):
-            self.assertEqual(front.read(call), wanted)
+        for call in ("explain m c --svg s json=1", "json=1 --svg=s explain m c", "explain json=1 m --svg s -- c"):
+            self.assertEqual(front.read(call.split()), wanted)
         self.assertEqual(front.read(["export", "--", "-x"]).rest, ["-x"])
         self.assertEqual(front.read(["export", "-"]).rest, ["-"])
-        call = front.read(["--svg=s", "explain", "m", "--html", "h", "--", "-c"])
-        self.assertEqual((call.rest, call.pages), (["m", "-c"], {"html": "h", "svg": "s"}))
+        found = front.read("--svg=s explain m --html h -- -c".split())
+        self.assertEqual((found.rest, found.pages), (["m", "-c"], {"html": "h", "svg": "s"}))
         for bad in ("export m -x", "export m json=1", "stats m --html=h", "explain m c --pdf x",
                     "explain m c --html", "verify m c --html x"):
             self.assertRaises(front.BadWords, front.read, bad.split())
         for bad in ("explain", "explain m c d"):
             self.assertRaises(front.BadWords, front.done, front.read(bad.split()))
+        for call, is_wrong in rows_of("front", "words"):
+            self.assertEqual(bool(front.wrong_words(call.split())), is_wrong == "wrong", call)
+        self.assertFalse(front.wrong_words(["nl", "\udcff"]))
 
 
 class Models(Case):
-    """What a model may be."""
-
     def test_files(self) -> None:
-        nl, mps = MODELS["knap"].text, b"NAME\nROWS\n N o\nCOLUMNS\nRHS\nENDATA\n"
-        packers = (("", lambda data: data), (".gz", gzip.compress), (".bz2", bz2.compress), (".xz", lzma.compress))
-        for data, end in ((nl, ".nl"), (mps, ".mps")):
+        mps = b"NAME\nROWS\n N o\nCOLUMNS\nRHS\nENDATA\n"
+        packers = (("", bytes), (".gz", gzip.compress), (".bz2", bz2.compress), (".xz", lzma.compress))
+        for data, end in ((MODELS["knap"].text, ".nl"), (mps, ".mps")):
             for packed, pack in packers:
                 self.put(pack(data), end + packed)
                 with Inputs() as inputs:
@@ -158,42 +153,207 @@ class Models(Case):
                     self.assertEqual(Path(given.path).read_bytes(), data)
                 self.assertEqual((given.stub, given.is_mps, bool(given.notes)),
                                  (self.stub, end == ".mps", bool(packed)))
-                self.assertFalse(inputs.made and os.path.exists(inputs.made.name))
+                self.assertFalse(inputs.made and os.path.exists(inputs.made))
         with Inputs() as inputs:
             self.assertEqual(inputs.model(self.stub).path, self.stub + ".nl")
-            self.assertIsNone(inputs.made)
+            self.assertEqual(inputs.made, "")
             os.rename(self.stub + ".nl", self.stub + ".txt")
             self.assertEqual(inputs.model(self.stub + ".txt").is_mps, False)
             for word in (self.stub, self.folder, "/nonexistent"):
-                self.assertRaises(Absent, inputs.model, word)
+                with self.assertRaises(Failure) as caught:
+                    inputs.model(word)
+                self.assertEqual(caught.exception.status, Status.UNREAD)
 
     def test_a_pipe_by_its_name(self) -> None:
         os.mkfifo(self.stub + ".mps")
-        with subprocess.Popen(["sh", "-c", f"printf 'NAME\\n' > {self.stub}.mps"]):
-            with Inputs() as inputs:
-                given = inputs.model(self.stub + ".mps")
-                self.assertEqual((Path(given.path).read_bytes(), given.is_mps, given.stub),
-                                 (b"NAME\n", True, self.stub))
-
-    @NEEDS_PROGRAM
-    def test_each_command(self) -> None:
-        """Of one model in each form each says the same; of one that is damaged, too; a driver on
-        standard input, what is written beside it being called stdin."""
-        self.calls("surface", "form")
-        self.calls("surface", "damaged")
-        if HAS_CBC and HAS_CLP:
-            self.calls("surface", "stdin")
+        with subprocess.Popen(["sh", "-c", f"printf 'NAME\\n' > {self.stub}.mps"]), Inputs() as inputs:
+            given = inputs.model(self.stub + ".mps")
+            self.assertEqual((Path(given.path).read_bytes(), given.is_mps, given.stub), (b"NAME\n", True, self.stub))
 
 
-class Statuses(Case):
-    def test_the_table(self) -> None:
-        """One meaning each; `documents` looks after that of the README."""
-        self.assertEqual(set(STATUSES), set(Status))
-        for status in commands.PROVED:
-            self.assertIn(STATUSES[status], commands.usage().replace("\n        ", " "))
+class Completion(Case):
+    """By the shells themselves where they are there."""
 
-    @NEEDS_PROGRAM
-    def test_each(self) -> None:
-        """By calls that end so; a refusal points to `explain`, and a word that is not known to one that is near."""
-        for kind in ("status", "refusal", "meant", *(["certify"] if HAS_CBC else [])):
-            self.calls("surface", kind)
+    def setUp(self) -> None:
+        super().setUp()
+        shell = self._testMethodName.split("_")[1]
+        if shell != "all" and not shutil.which(shell):
+            self.skipTest("no " + shell)
+        self.path = Path(self.folder, "_nl-bridge" if shell == "zsh" else "completion")
+        self.path.write_text(front.completion(shell) if shell != "all" else "", encoding="utf-8")
+
+    def test_all_commands(self) -> None:
+        for text in map(front.completion, ("bash", "fish", "zsh")):
+            for name in os.listdir(BIN):
+                self.assertIn(f" {name}", text)
+
+    def test_bash(self) -> None:
+        for name in ("a.nl", "a.certificate", "b.txt", "c.mps", "c.mps.gz", "c.gz"):
+            Path(self.folder, name).touch()
+        for call, answers in rows_of("completions", "bash"):
+            quoted = " ".join("'" + word + "'" for word in call.split())
+            code = ASK.format(folder=self.folder, words=quoted, count=len(call.split()))
+            status, out, err = ended(["bash", "-c", code], cwd=self.folder)
+            self.assertEqual((sorted(out.split()), err), (answers.split(), ""), call)
+
+    def test_fish(self) -> None:
+        rows = rows_of("completions", "fish")
+        code = f"source {self.path}; " + "; ".join(f"complete -C '{call}'; echo END" for call, _ in rows)
+        status, out, err = ended(["fish", "--no-config", "-c", code], cwd=self.folder,
+                                 env={**os.environ, "HOME": self.folder})
+        answers = [re.findall(r"(?m)^[^\t\n]+", part) for part in out.split("END\n")[:-1]]
+        self.assertEqual((answers, err), ([wanted.split() for _, wanted in rows], ""))
+
+    def test_zsh(self) -> None:
+        """As it is typed, on a terminal of its own."""
+        child, terminal = pty.fork()
+        if child == 0:
+            os.execvpe("zsh", ["zsh", "-f", "-i"], {**os.environ, "TERM": "dumb"})
+        try:
+            os.write(terminal, f"PS1='> '; fpath=({self.folder} $fpath); autoload -Uz compinit; "
+                               f"compinit -u -d {self.folder}/dump; print rea''dy\n".encode())
+            seen(terminal, "ready")
+            for typed, answer in rows_of("completions", "zsh"):
+                os.write(terminal, f"{typed}\t".encode())
+                self.assertIn(typed + answer, seen(terminal, answer).replace("\x07", ""))
+                os.write(terminal, b"\x15\n")
+        finally:
+            os.kill(child, signal.SIGKILL)
+            os.waitpid(child, 0)
+            os.close(terminal)
+
+
+def seen(terminal: int, text: str) -> str:
+    """What a terminal shows until the text is there, or thirty seconds are over."""
+    shown, end = "", time.monotonic() + 30
+    while text not in shown and time.monotonic() < end:
+        if select.select([terminal], [], [], 0.2)[0]:
+            shown += os.read(terminal, 4096).decode("utf-8", "replace")
+    return shown
+
+
+def in_words(text: str, names: Names | None = None, mark: int = -1) -> str:
+    """An expression of words that stand for lines."""
+    return expression([w.encode() + b"\n" for w in text.split()], names or Names(""), mark)
+
+
+class Expressions(Case):
+    def test_in_words(self) -> None:
+        """Of operators, what is no expression, a defined variable, the mark, long sums of which
+        the first parts stand, and the marked one."""
+        terms = [f"v{j}" for j in range(1000)]
+        marked = [*terms[:500], "o2 v7 v8", *terms[501:]]
+        for text, words, *more in rows_of("refusals", "expression"):
+            columns, mark = (int(more[k]) if k < len(more) else -k for k in (0, 1))
+            self.assertEqual(in_words(text, Names("", columns) if columns else None, mark), words)
+        self.assertEqual(in_words("o54 1000 " + " ".join(terms)), "(x0 + x1 + x2 + x3 + x4 + x5 + ..)")
+        self.assertIn(" + >>(x7 * x8)<< + ..", in_words("o54 1000 " + " ".join(marked), mark=502))
+        lines = [b"f0 2\t#gamma\n", b"v0 # speed of sound\n", b"h3:abc\n"]
+        self.assertEqual(expression(lines, Names("")), "gamma(speed of sound, 'abc')")
+
+    def test_deep_ones(self) -> None:
+        """No recursion, and no line of a million characters."""
+        deep = "o16 " * 100000 + "o2 v0 v1"
+        self.assertLess(len(in_words(deep)), 100)
+        text = in_words(deep, mark=100000)
+        self.assertEqual((">>(x0 * x1)<<" in text, len(text) < 200), (True, True))
+
+
+class Refusals(Case):
+    """Of a text with a product on line 17."""
+
+    def setUp(self) -> None:
+        super().setUp()
+        self.put(PRODUCT)
+        self.nl = self.stub + ".nl"
+
+    def line(self, told: str, *words: str, shown: str = "m.nl") -> str:
+        return explaining.in_words(words or ("export", self.nl), "refused " + told, {self.nl: shown})
+
+    def test_lines(self) -> None:
+        """Expressions, places, and the files of the words, among which a fault is counted."""
+        for words, told, line in rows_of("refusals", "line"):
+            self.assertEqual(self.line(told, *words.replace("NL", self.nl).split()), line)
+        for number, place in ((2, "header"), (23, "objective 0"), (26, "constraint 0"),
+                              (25, "sides of constraints"), (29, "variable 1"), (27, "bounds")):
+            self.assertIn(f"m.nl line {number}: {place}: ", self.line(f"line {number}: x"))
+        self.put(PRODUCT.replace(b"o2\nv0", b"o6\nv0"))
+        self.assertEqual(self.line("line 17: refused opcode 6"),
+                         "m.nl line 17: constraint 0: less(x0, (x1 + 3)) is not linear (refused opcode 6)")
+        self.put(b"NAME\nROWS\n")
+        self.assertEqual(self.line("line 1: bad first line"),
+                         "m.nl line 1: bad first line: it is an MPS file: `bridge-certify m.nl` "
+                         "and the drivers take it, `nl-bridge import m.nl m-2.nl` makes m-2.nl of it")
+
+    def test_names_beside_the_model(self) -> None:
+        self.put(b"Cap\nProfit\n", ".row")
+        self.put(b"a\nb\n\nz\n", ".col")
+        self.assertEqual(self.line(NONLINEAR, shown=self.nl),
+                         self.nl + " line 17: constraint 0 (Cap): (a * (b + 3)) is nonlinear")
+        self.assertIn(".nl: objective 0 (Profit): objective too wide (",
+                      self.line("objective 0: objective too wide", shown=self.nl))
+
+    def test_input_faults(self) -> None:
+        missing = os.path.join(self.folder, "missing.sol")
+        fault = Refused("check", Reply(4, b"", "input fault"), ["check", self.nl, missing], {missing: "x.sol"})
+        self.assertEqual(fault.line(), "x.sol: input fault (No such file or directory)")
+
+    def test_controls_of_a_terminal(self) -> None:
+        """Of names, comments, paths and lines around: they are shown and not obeyed."""
+        self.put(PRODUCT.replace(b"v0\no0", b"v0\t# \x1b[2Jspeed\no0"))
+        self.put(b"Cap\x1b]0;title\x07\n", ".row")
+        self.put("a\x1b[31m\x9b1m\nb\rc\nz\n".encode(), ".col")
+        line = self.line(NONLINEAR, shown=self.nl)
+        self.assertEqual(line, self.nl + " line 17: constraint 0 (Cap\\x1b]0;title\\x07): "
+                               "(a\\x1b[31m\\x9b1m * (b\\x0dc + 3)) is nonlinear")
+        self.assertEqual(self.line(NONLINEAR, shown="m\x1b[1m.nl"),
+                         "m\\x1b[1m.nl line 17: constraint 0: (\\x1b[2Jspeed * (x1 + 3)) is nonlinear")
+        more = "\n".join(explaining.Refusal(["export", self.nl], "refused " + NONLINEAR, {}).more())
+        self.assertIn("\\x1b[2Jspeed", more)
+        self.assertNotRegex(line + more, "[\x00-\x08\x0b-\x1f\x7f-\x9f]")
+
+    def test_more(self) -> None:
+        """The whole expression, what helps, the lines around."""
+        more = explaining.Refusal(["export", self.nl], "refused " + NONLINEAR, {}).more()
+        self.assertEqual(more[0], "in: ((5 * x1) + >>(x0 * (x1 + 3))<< + x2)")
+        self.assertTrue(more[1].startswith("what helps: "))
+        self.assertEqual((more[4], len(more)), (">     17 o2", 8))
+
+    def test_each_that_is_provoked_is_listed(self) -> None:
+        """Those of the worked texts, in `nl-bridge help refusals`."""
+        sys.path.append(os.path.join(TOP, "acceptance"))
+        import texts
+        for case in (case for name in WORKED for case in texts.cases(name)):
+            if case.told.startswith("refused "):
+                told = explaining.parsed(case.told.rstrip("\n"))
+                assert told is not None, case.told
+                reason = faults.OPCODE.sub("refused opcode", told.reason)
+                self.assertTrue(reason in faults.MEANING, f"{case.name}: {reason}")
+        text = faults.listed()
+        for row in faults.MEANING.values():
+            self.assertIn(f"  {row.reasons}:", text)
+            self.assertTrue(row.text or row.more, row.reasons)
+
+
+class Kinds(Case):
+    """Files that are no .nl, by what is in them and by their names."""
+
+    def test_named_ones(self) -> None:
+        for name, data, told in rows_of("refusals", "file"):
+            path = Path(self.folder, name)
+            path.write_bytes(data.encode("latin-1"))
+            line = kinds.no_model(str(path)).replace(self.folder + os.sep, "")
+            self.assertTrue(line.startswith(f"{name} {told}"), line)
+            path.unlink()
+
+    def test_others(self) -> None:
+        self.assertEqual(kinds.no_model(self.stub), self.stub + ".nl: no such file")
+        self.assertEqual(kinds.no_model(self.folder), self.folder + " is a folder")
+        for end in (".mps", ".mps.gz"):
+            self.assertEqual(kinds.no_model("missing" + end), f"missing{end}: no such file")
+        self.put(b"\x7fELF\x02", ".mps")
+        self.assertFalse(kinds.is_mps(self.stub + ".mps"))
+        self.assertIn("is a program (ELF)", kinds.no_model(self.stub + ".mps"))
+        self.put(b"NAME\nROWS\n", ".mps")
+        self.assertTrue(kinds.no_model(self.stub).startswith(
+            f"{self.stub}.nl: no such file; {self.stub}.mps is an MPS file: "))

@@ -20,18 +20,11 @@ sys.dont_write_bytecode = True
 os.environ["PYTHONDONTWRITEBYTECODE"] = "1"         # also where drivers are processes
 HERE = os.path.dirname(os.path.abspath(__file__))
 sys.path[:0] = [HERE]
-MODULES = ("units", "readers", "stored_runs", "statuses", "manners", "last_lines", "kept",
-           "untouched", "processes", "end_to_end", "mps_files", "pulp_class",
-           "certify_parts", "certify_rows", "certify_exact", "certify_search", "certify_pool",
-           "certify_turns", "certify_linear", "told", "rulings", "settled_table", "front",
-           "refusals", "figures", "installs", "explains", "surface", "python_calls", "documents",
-           "reports", "completions", "colours", "packages")
 
 
 def main() -> int:
     loader = unittest.TestLoader()
-    names = sys.argv[1:] or list(MODULES)
-    suite = loader.loadTestsFromNames(names)
+    suite = loader.loadTestsFromNames(sys.argv[1:]) if sys.argv[1:] else loader.discover(HERE, "*.py")
     stream = io.StringIO()
     result = unittest.TextTestRunner(stream=stream, verbosity=0).run(suite)
     bad = len(result.failures) + len(result.errors)

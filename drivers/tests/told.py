@@ -1,30 +1,296 @@
-"""What the progress line of a search has told, a point or a bound, is what the last line has at
-least: over families by size, searched for some seconds, from no point and from a bad one."""
+"""What is told of an answer: each status of the tables through a driver, and the tables against what solvers themselves
+can print; the last line of a message and the code above it, over stored runs; and that the last line has at least what
+the progress line of a search has told, from no point and from a bad one."""
 
 from __future__ import annotations
 
 import contextlib
+import copy
+import glob
+import json
+import os
 import re
 import unittest
 from fractions import Fraction as F
 from unittest import mock
 
-from support import NEEDS_CLP, NEEDS_PROGRAM, PROGRAM, Case
-from bridge_drivers import verdicts
-from bridge_drivers.bridge import Bridge
-from bridge_drivers.certify.claims import Certifying, certified
+from support import NEEDS_CLP, NEEDS_PROGRAM, Case, Injected, Reply, bridge, content, ended
+from bridge_drivers import sol, solvers, verdicts
+from bridge_drivers.certificates import Certifier
+from bridge_drivers.certify.claims import Certifying, Verdict, certified
 from bridge_drivers.certify.plans import Plans
-from bridge_drivers.certify.watch import Watch
+from bridge_drivers.certify.watch import Over, Watch
+from bridge_drivers.codes import Code, Status
 from bridge_drivers.program import Program
 from bridge_drivers.progress import Progress, detailed
+from bridge_drivers.solvers import statuses
+from bridge_drivers.solvers.statuses import Says
 from families import made
+from models import MODELS, rows_of, text_of
+from stored import STOPPED
+import stored
 
+LIBRARIES = "/usr/lib/x86_64-linux-gnu/"
+TABLES = {"cbc": statuses.COIN, "clp": statuses.COIN, "lp_solve": statuses.LP_SOLVE,
+          "glpsol": statuses.GLPK, "highs": statuses.HIGHS, "esolver": statuses.ESOLVER}
+VALUES = "Actual values of the variables:"
+REPORTS = {                             # sentences of GLPK that say no status of an answer
+    "OPTIMAL LP SOLUTION FOUND", "OPTIMAL SOLUTION FOUND", "INTEGER OPTIMAL SOLUTION FOUND",
+    "INTEGER OPTIMAL SOLUTION FOUND BY MIP PREPROCESSOR", "OPTIMAL SOLUTION FOUND BY LP PREPROCESSOR"}
 PLANS = "bridge_drivers.certify.plans."
 SECONDS = 1.5
 DIGITS = F(1, 10 ** 9)          # ten digits are told
 FAMILIES = (("knapsack", 30), ("knapsack", 45), ("lots", 14), ("lots", 20), ("packing", 8),
             ("packing", 11), ("stock", 4), ("split", 3), ("pigeons", 8))
 NUMBER = re.compile(r"\b(incumbent|bound) (\S+?)(?:,|$)")
+
+
+def words_of(table: "list[Says] | tuple[Says, ...]") -> set[str]:
+    return {row.words for row in table}
+
+
+class Strings(unittest.TestCase):
+    """The tables have each status that is in the programs."""
+
+    def strings(self, *patterns: str) -> list[str]:
+        """The texts of programs that end with a 0."""
+        found = [path for pattern in patterns for path in sorted(glob.glob(pattern))[:1]]
+        if not found:
+            self.skipTest("a solver's library is not there")
+        return [text.decode("ascii").strip() for path in found for text in re.findall(
+            rb"[\x20-\x7e\n]{2,}(?=\x00)", open(path, "rb").read())]
+
+    def between(self, path: str, first: str, last: str) -> set[str]:
+        texts = self.strings(path)
+        start = texts.index(first)
+        return {text for text in texts[start:texts.index(last, start) + 1] if text[0].isalpha() or text[0] == "("}
+
+    def test_coin(self) -> None:
+        """One block of texts, from the first status to the last."""
+        known, gap = words_of(statuses.COIN), "(within gap tolerance)"
+        for name in ("libCbcSolver.so.3", "libClpSolver.so.1"):
+            texts = self.between(LIBRARIES + name, "Optimal", "Status unknown")
+            self.assertLessEqual(texts - {gap}, known, name)
+            self.assertTrue(gap not in texts or f"Optimal {gap}" in known)
+
+    def test_lp_solve(self) -> None:
+        """What stands after a run, in the order of its codes."""
+        texts = self.between("/usr/bin/lp_solve", "Suboptimal solution", "lp_solve failed")
+        self.assertEqual(texts, words_of(statuses.LP_SOLVE))
+
+    def test_glpk(self) -> None:
+        pattern = r"[A-Z][A-Z ;]+(SOLUTION|TERMINATED|APPLICATION|FOUND|PREPROCESSOR)"
+        texts = {text for text in self.strings(LIBRARIES + "libglpk.so.*") if re.fullmatch(pattern, text)}
+        self.assertEqual(texts - REPORTS, words_of(statuses.GLPK))
+
+    def test_highs(self) -> None:
+        code = ("import json, scipy.optimize._highs._highs_constants as c; print(json.dumps({k: "
+                "int(getattr(c, k)) for k in dir(c) if k.startswith('MODEL_STATUS')}))")
+        done = ended(["/usr/bin/python3", "-c", code])
+        if done.returncode:
+            self.skipTest("no SciPy that tells HiGHS's statuses")
+        codes = {"INFEASIBLE": Code.INFEASIBLE, "OPTIMAL": Code.SOLVED,
+                 "UNBOUNDED": Code.UNBOUNDED, "REACHED_TIME_LIMIT": Code.LIMIT,
+                 "UNBOUNDED_OR_INFEASIBLE": Code.INFEASIBLE_OR_UNBOUNDED, "REACHED_ITERATION_LIMIT": Code.LIMIT}
+        for name, number in json.loads(done.stdout).items():
+            row = statuses.row_of(statuses.HIGHS, str(number))
+            self.assertIsNotNone(row, name)
+            self.assertEqual(row.code, codes.get(name.removeprefix("MODEL_STATUS_"), row.code), name)
+
+    def test_esolver(self) -> None:
+        found = [re.fullmatch(r"status =? ?([A-Z_]+)|([A-Z_]+) \(ending now\)", text)
+                 for text in self.strings("/usr/bin/esolver", LIBRARIES + "libqsopt_ex.so.*")]
+        self.assertEqual({at[1] or at[2] for at in found if at}, words_of(statuses.ESOLVER))
+
+
+def changed(driver: str, run: dict, row: Says, has_point: bool) -> dict:
+    """The stored run of a model with another status, by the solver's format."""
+    run = copy.deepcopy(run)
+    files, log = run["files"], run["logs"]["solver.log"]
+    if driver in ("cbc", "clp"):
+        end = "" if has_point else " " + statuses.NO_POINT
+        files["answer.txt"][0] = f"{row.words}{end} - objective value 17.0"
+    elif driver == "lp_solve":
+        run["logs"]["solver.log"] = ["", row.words, *(log if has_point else log[:log.index(VALUES) - 1])]
+    elif driver == "highs":
+        answer = json.loads(files["answer.json"][0])
+        answer["status"], answer["message"] = 4, f"told (HiGHS Status {row.words}: told)"
+        answer["values"] = answer["values"] if has_point else None
+        files["answer.json"] = [json.dumps(answer)]
+    elif driver == "glpsol":
+        log.append(row.words)
+        lettered(files, " o ", " f " if has_point else " u ")
+    else:
+        files["answer.sol"][0] = f"status = {row.words}"
+    return run
+
+
+def lettered(files: dict, old: str, new: str) -> None:
+    """The status line of GLPK's answer with other letters."""
+    files["answer.txt"] = [line.replace(old, new) if line.startswith("s ") else line for line in files["answer.txt"]]
+
+
+@NEEDS_PROGRAM
+class Each(Case):
+    """Without a search: the code is what the status says."""
+
+    def code_of(self, driver: str, model: str, run: dict, *words: str) -> tuple[int, str]:
+        self.put(MODELS[model].text)
+        done = self.replay(driver, model, self.stub, "-AMPL", "-e", "check=0", *words, run=run)
+        self.assertEqual(done.returncode, 0, done.stderr)
+        return self.sol().code, self.sol().message[0]
+
+    def test_each_row(self) -> None:
+        for driver, table in TABLES.items():
+            model = "knap" if solvers.load(driver).integers else "diet"
+            run = stored.runs(driver)[model]
+            for row in table:
+                for has_point in (True, False):
+                    with self.subTest(driver=driver, status=row.words, point=has_point):
+                        code, line = self.code_of(driver, model, changed(driver, run, row, has_point))
+                        self.assertEqual(code, self.wanted(driver, row, has_point), line)
+
+    @staticmethod
+    def wanted(driver: str, row: Says, has_point: bool) -> int:
+        """A point is a point, whatever the status; without one little is an answer."""
+        if driver == "esolver":
+            has_point = row.code == Code.SOLVED
+        if row.code == Code.LIMIT:
+            return Code.LIMIT_WITH_POINT if has_point else Code.LIMIT
+        if row.code in (Code.UNSURE, Code.NO_ANSWER):
+            return Code.UNSURE if has_point else Code.NO_ANSWER
+        return row.code
+
+    def test_unknown_ones(self) -> None:
+        """A status of no table, with a point: judged, and told in its own words."""
+        row = Says("Quite done", Code.UNSURE, "")
+        for driver in ("cbc", "clp", "lp_solve", "highs", "glpsol"):
+            model = "diet" if driver == "clp" else "knap"
+            run = changed(driver, stored.runs(driver)[model], row, True)
+            if driver == "glpsol":
+                lettered(run["files"], " f ", " q ")
+            code, line = self.code_of(driver, model, run)
+            self.assertEqual(code, 100)
+            told = {"glpsol": "q", "highs": "told (HiGHS Status Quite done: told)"}
+            self.assertIn(f"a point, and it ended with `{told.get(driver, 'Quite done')}`", line)
+
+    def test_letters_of_glpk(self) -> None:
+        for row in statuses.GLPK_FILE:
+            model, old = ("knap", " o ") if len(row.words) == 1 else ("diet", " f f ")
+            run = copy.deepcopy(stored.runs("glpsol")[model])
+            lettered(run["files"], old, f" {' '.join(row.words)} ")
+            code, line = self.code_of("glpsol", model, run)
+            has_point = row.words[0] in "of" or row.code == Code.UNSURE
+            self.assertEqual(code, self.wanted("glpsol", row, has_point), (row, line))
+
+    def test_real_ones(self) -> None:
+        """Runs that were really made, of a limit, a gap or an interrupt: `stored.py statuses`.
+
+        Where the time of the search is enough to prove the optimum, the code is 0.
+        """
+        runs = stored.runs("statuses")
+        self.assertEqual(set(runs), set(STOPPED))
+        for name, real in STOPPED.items():
+            with self.subTest(run=name):
+                self.put(real.text())
+                done = self.replay(real.driver, "", self.stub, "-AMPL", "-e", *real.options, run=runs[name])
+                if not real.codes:
+                    self.assertEqual(done.returncode, Status.INTERRUPTED)
+                    self.assertIn(real.told, done.stderr)
+                    self.assertFalse(os.path.exists(self.stub + ".sol"))
+                    continue
+                self.assertEqual(done.returncode, 0, done.stderr)
+                sol = self.sol()
+                is_proved = sol.message[-1].startswith("optimal ")
+                self.assertIn(sol.code, (0,) if is_proved else real.codes, sol.text)
+                self.assertIn(real.told, sol.text)
+
+
+@NEEDS_PROGRAM
+class Claims(Case):
+    """What the rows of `answers` cannot say."""
+
+    def last(self, driver: str, name: str, *words: str) -> str:
+        self.of_words(["solves", driver, name, *words])
+        return self.sol().message[-1]
+
+    def test_strict(self) -> None:
+        """A status of its own where the question is left open."""
+        self.put(MODELS["knap"].text)
+        for line, status, code in (("within 19 17", 7, 100), ("optimal 17", 0, 0)):
+            verdict = Verdict(line, [F(1), F(1), F(0)], "kept", value=F(17))
+            with mock.patch.object(Certifier, "verdict", lambda *_: verdict):
+                ended = self.replay("cbc", "knap", self.stub, "strict=1", "-s")
+                self.assertEqual((ended.returncode, self.sol().code), (status, code))
+
+    @NEEDS_CLP
+    def test_a_ray_that_there_was_no_time_for(self) -> None:
+        """A point alone earns no code 0 where the objective may have no end."""
+        open_end = text_of(["I 0 - x3", "max 0 : 10 7 12", "- 18 : 10 7 -12"])
+        for text, wanted in ((MODELS["knap"].text, (0, "optimal 17")), (open_end, (100, "feasible 17"))):
+            self.put(text)
+            with mock.patch("bridge_drivers.certify.points.ray", side_effect=Over("time")):
+                self.replay("cbc", "knap", self.stub, "-AMPL")
+            self.assertEqual((self.sol().code, self.sol().message[-1]), wanted)
+        self.assertIn("(code 100: no bound is proved)", self.sol().message[0])
+        self.replay("cbc", "knap", self.stub, "-AMPL")
+        self.assertEqual((self.sol().message[-1], self.sol().code), ("unbounded", 300))
+
+    def test_seconds(self) -> None:
+        """A certificate has not more than `timelim`, also without prove=1."""
+        for words, seconds in (((), 1.0), (("timelim=0.25",), 0.25), (("timelim=9",), 1.0),
+                               (("prove=1",), 60.0), (("prove=1", "timelim=7"), 7.0)):
+            with mock.patch("bridge_drivers.certificates.Watch", wraps=Watch) as made:
+                self.last("cbc", "product", *words)
+            self.assertEqual(made.call_args.args[0], seconds, words)
+
+    def test_a_large_answer_as_it_stands(self) -> None:
+        """Where the time of its certificate is over: where it is none itself, that is told."""
+        late = mock.patch("bridge_drivers.certificates.certified", lambda *_: Verdict("not proved: time"))
+        with mock.patch("bridge_drivers.certificates.LARGE", 1), late:
+            self.assertEqual(self.last("lp_solve", "diet"), "optimal 22/5")
+            self.of_words(["answer=x0 4 => x0 3", "solves", "lp_solve", "diet"])
+            self.assertEqual(self.sol().message[-1], "not proved: time")
+
+    def test_duals_that_do_not_fit(self) -> None:
+        """They are left out, which a line tells; the values are checked without them."""
+        def refuses(text: str) -> "Reply | None":
+            wide = "\nrow c0 1\n" in text and "\ncol " in text
+            return Reply(2, b"", "refused row 0: dual too wide") if wide else None
+        with mock.patch.dict(Injected.says, {"return": refuses}):
+            line = self.last("clp", "product")
+        sol = self.sol()
+        self.assertRegex(sol.message[1], "^duals are left out: .*dual too wide")
+        self.assertEqual((line, len(sol.values), sol.duals, sol.suffixes), ("optimal 19", 2, [], {}))
+
+    def test_a_screen(self) -> None:
+        """Without asking, at most a screen of values."""
+        self.put(MODELS["thirds"].text)
+        ended = self.replay("esolver", "thirds", self.stub, "wantsol=14", "-e")
+        self.assertEqual([line.split()[0] for line in ended.stdout.splitlines()],
+                         ["x0", "x1", "duals", "c0", "c1"])     # z and zdef are not the model's
+        told = list(sol.screen([(f"x{j}", str(j % 2)) for j in range(100)]))
+        self.assertEqual((len(told), told[0]), (sol.SCREEN + 1, "x1 1"))
+        self.assertIn("(80 values more: wantsol=2 prints all", told[-1])
+
+    def test_each_failure(self) -> None:
+        """With -AMPL a .sol and 0, without it none, with failexit none and the status."""
+        for file, code, status, text, call in rows_of("manners", "failure"):
+            self.put(content(file))
+            driver, name, *words = call.split()
+            for more, wanted in (["-AMPL"], 0), ([], int(status)), (["-AMPL", "failexit=1"], int(status)):
+                with self.subTest(call=call, more=more):
+                    self.put(b"an older answer", ".sol")
+                    ended = self.replay(driver, name, self.stub, *more, *words)
+                    self.assertEqual(ended.returncode, wanted, ended.stderr)
+                    self.assertIn(text, ended.stderr)
+                    if more == ["-AMPL"]:
+                        sol = self.sol()
+                        self.assertEqual((sol.code, sol.values, sol.duals), (int(code), [], []))
+                        self.assertIn(text, sol.text)
+                        self.assertNotIn("proved", sol.text)
+                    elif more:
+                        self.assertFalse(os.path.exists(self.stub + ".sol"), "an older answer stays")
 
 
 class Noting(Progress):
@@ -43,26 +309,24 @@ class Noting(Progress):
 @NEEDS_PROGRAM
 @NEEDS_CLP
 class Told(Case):
-    def told(self, text: bytes, proves: bool) -> tuple[Noting, "verdicts.Said | None", str]:
+    def told(self, name: str, size: int, proves: bool) -> tuple[Noting, str]:
         """What was told of a search from no point, and the last line."""
-        self.put(text)
-        bridge = Bridge(PROGRAM, lambda argv: None)
-        program = Program(bridge.text("export", self.stub + ".nl"))
+        self.put(made(name, size))
+        program = Program(bridge().text("export", self.stub + ".nl"))
         noting = Noting(program.maximise)
-        work = Certifying(bridge, self.stub + ".nl", self.folder, program, 0,
+        work = Certifying(bridge(), self.stub + ".nl", self.folder, program, 0,
                           Watch(SECONDS, noting), proves, bounds=True)
         with mock.patch("bridge_drivers.certify.watch.EVERY", 0.01):
-            verdict = certified(work, "nothing")
-        return noting, verdicts.read(verdict.line), verdict.line
+            return noting, certified(work, "nothing").line
 
     def judge(self, name: str, size: int) -> int:
         """How much was told."""
-        noting, said, line = self.told(made(name, size), True)
-        sign = 1 if noting.maximise else -1
-        if said is not None and said.word == "infeasible":
+        noting, line = self.told(name, size, True)
+        said, sign = verdicts.read(line), 1 if noting.maximise else -1
+        if line.startswith("infeasible"):
             return 0
         for key, told in noting.best.items():
-            got = None if said is None else said.bound if key == "bound" else said.value
+            got = said and (said.bound if key == "bound" else said.value)
             self.assertIsNotNone(got, f"{key} {float(told)}: {line}")
             by = sign * (told - got) if key == "bound" else sign * (got - told)
             self.assertGreaterEqual(by, -DIGITS * max(1, abs(told)), f"{key} {float(told)}: {line}")
@@ -73,28 +337,21 @@ class Told(Case):
         count, whole = 0, Plans.try_all
 
         def once(plans: Plans) -> None:
-            if plans.folder not in self.searched:
-                self.searched.append(plans.folder)
+            if plans.folder not in searched:
+                searched.append(plans.folder)
                 whole(plans)
         for name, size in FAMILIES:
             for way, patch in (("", contextlib.nullcontext()), ("no time", mock.patch(PLANS + "RESERVE", 1.0)),
                                ("over", mock.patch(PLANS + "Plans.try_all", once))):
+                searched: list[str] = []
                 with self.subTest(family=name, size=size, way=way), patch:
-                    self.searched: list[str] = []
                     count += self.judge(name, size)
         self.assertGreater(count, len(FAMILIES))
 
     def test_without_prove(self) -> None:
-        """No bound is told that the time of a short run might not be enough for."""
+        """No bound is told that the time of a short run might not be enough for; those of rows that are still being
+        made are no claim."""
         for name, size in FAMILIES[:6:2]:
-            noting, _, _ = self.told(made(name, size), False)
-            self.assertNotIn("bound", noting.best)
-
-    def test_bounds_of_cuts(self) -> None:
-        """Those of rows that are still being made are no claim."""
+            self.assertNotIn("bound", self.told(name, size, False)[0].best)
         self.assertEqual(detailed({"cuts": 3, "bound": 7.0}), "3 cuts")
         self.assertEqual(detailed({"nodes": 3, "bound": 7.0}), "bound 7, 3 nodes")
-
-
-if __name__ == "__main__":
-    unittest.main()

@@ -1,26 +1,32 @@
-"""Decimals, options, words, exported texts, binary files, .sol texts, verdicts in words."""
+"""Decimals, exported texts and their figures, imports with names, binary files, .sol texts, what is shown while a run
+goes on and in colour, interrupts."""
 
 from __future__ import annotations
 
+import contextlib
 import io
 import os
+import pty
 import signal
 import struct
 import subprocess
 import sys
 import time
 from fractions import Fraction as F
+from pathlib import Path
 from unittest import mock
 
-from support import HERE, Case
-from bridge_drivers import binary_nl, bridge, kinds, nl, progress, sol, solvers, values
-from bridge_drivers.bridge import Refused, Reply
+from support import BIN, EXAMPLES, HERE, NEEDS_PROGRAM, Case, bridge as program
+from bridge_drivers import bridge, console, kinds, mps_file, nl, progress, sol, solvers, stats, values
+from bridge_drivers.bridge import Bridge, Refused, Reply
+from bridge_drivers.codes import Failure
 from bridge_drivers.interrupts import SIGNALS, Interrupted, Signals, with_child
+from bridge_drivers.names import Names
 from bridge_drivers.program import Program
-from models import MODELS
-from tables import rows_of
+from models import MODELS, rows_of
 
-BINARY = os.path.join(HERE, "binary")
+BINARY = Path(HERE, "binary")
+TEXTS = {name: text.encode() for name, text in rows_of("figures", "text")}
 
 
 class Decimals(Case):
@@ -28,12 +34,9 @@ class Decimals(Case):
         zeros = "0" * 390
         for number, text, kind in [*rows_of("units", "decimal"), ["1/3" + zeros, "0", "near"]]:
             value = float(number[:-1]) if number.endswith("f") else F(number)
-            exact = kind == "exact"
             got, is_exact = values.text_of(value)
-            self.assertEqual(is_exact, exact, value)
-            if text:
-                self.assertEqual(got, text)
-            if exact and isinstance(value, F):
+            self.assertEqual((is_exact, got), (kind == "exact", text or got), value)
+            if is_exact and isinstance(value, F):
                 self.assertEqual(F(got), value)
             else:
                 self.assertLessEqual(abs(F(got) - F(value)), max(abs(F(value)) / 10 ** 16, F(1, 10 ** 380)))
@@ -44,23 +47,17 @@ class Decimals(Case):
 
 class Texts(Case):
     def test_program(self) -> None:
-        p = Program(b"NAME nl\nOBJSENSE\n MAX\nROWS\n N obj\n L c0\nCOLUMNS\n x0 obj 2\n"
-                    b" M0 'MARKER' 'INTORG'\n x1 c0 1\n x2 obj 5\n x2 c0 1\n"
-                    b" M1 'MARKER' 'INTEND'\n z c0 1\nRHS\n RHS obj -3\n RHS c0 1\nENDATA\n")
+        p = Program(TEXTS["program"])
         self.assertEqual((p.rows, p.columns, p.whole), (["obj", "c0"], ["x0", "x1", "x2", "z"], {"x1", "x2"}))
         self.assertEqual((p.maximise, p.costs, p.objective_rhs), (True, {"x0": "2", "x2": "5"}, "-3"))
         self.assertEqual(p.at([1, 9, 0.5, 9]).value, 7.5)
-        self.assertTrue(p.free_name().startswith(b"NAME nl FREE\nOBJSENSE"))
-        self.assertNotIn(b"OBJSENSE", p.without_sense())
+        self.assertTrue(solvers.load("cbc").text(p).startswith(b"NAME nl FREE\nOBJSENSE"))
+        self.assertNotIn(b"OBJSENSE", solvers.load("glpsol").text(p))
         empty = Program(b"NAME nl\nROWS\n N obj\nCOLUMNS\nRHS\nENDATA\n")
         self.assertEqual((empty.columns, empty.constraints, empty.whole), ([], [], set()))
 
     def test_far_sides_and_bounds(self) -> None:
-        text = b"NAME nl\nROWS\n N obj\n G c0\nCOLUMNS\n x0 obj 1e31\n x0 c0 1e32\n" \
-               b" x1 obj 1\n x2e30 obj 1\nRHS\n RHS obj -1e40\n RHS c0 -1e30\n" \
-               b"RANGES\n RNG c0 100000000000000000000.5\n" \
-               b"BOUNDS\n LO BND x0 0\n UP BND x0 99999999999999999999\n FX BND x1 1e25\n FR BND x2e30\nENDATA\n"
-        p = Program(text)
+        p = Program(TEXTS["far"])
         self.assertEqual([p.far(size) for size in (1e20, 1e21, 1e25, 1e30, 1e31)], [4, 2, 2, 1, 0])
 
     def test_refusals(self) -> None:
@@ -70,63 +67,99 @@ class Texts(Case):
     def test_bare_sol(self) -> None:
         self.put(MODELS["knap"].text)
         text = sol.bare(self.stub + ".nl", 501, 2, ["bridge-cbc: no"])
-        self.assertEqual(text.decode().split("\n"),
-                         ["bridge-cbc: no", "", "Options", "3", "1", "1", "0", "1", "0", "3", "0", "objno 2 501", ""])
+        self.assertEqual(text, b"bridge-cbc: no\n\nOptions\n3\n1\n1\n0\n1\n0\n3\n0\nobjno 2 501\n")
         self.assertEqual(sol.with_message(text, ["a", "b"]), text.replace(b"bridge-cbc: no", b"a\nb"))
         for broken in (b"", b"g3 1 1", b"g3 1 1 0\nx y\n", b"gx\n1 1\n"):
             self.put(broken)
             self.assertRaises((ValueError, IndexError), sol.bare, self.stub + ".nl", 501, 0, [""])
 
+    def test_shortest_numbers(self) -> None:
+        for old, new, count in rows_of("units", "shortest"):
+            self.assertEqual(nl.shortest_numbers(old.encode()), (new.encode(), int(count)))
+
+
+class Figures(Case):
+    def test_lines(self) -> None:
+        figures = stats.Figures(Program(TEXTS["exported"]))
+        lines = stats.lines_of(figures, {"c0": "3", "c2": "1"}, Names(""))
+        self.assertEqual([[line] for line in lines], rows_of("figures", "line"))
+
+    def test_a_tied_objective(self) -> None:
+        lines = stats.lines_of(stats.Figures(Program(TEXTS["tied"])), {}, Names(""))
+        self.assertEqual(lines[0], "sense         minimise; tied to column z by row zdef, times 3")
+        self.assertTrue(lines[1].startswith("columns       1: 1 continuous"))
+
+    def test_what_doubles_hold(self) -> None:
+        self.assertEqual([text for text in ("0.1", "0.5", "1e400", str(2 ** 100), str(2 ** 100 + 1), "1e-400", "0")
+                          if not stats.is_held(F(text))], ["1e400", str(2 ** 100 + 1), "1e-400"])
+
+    def test_factors(self) -> None:
+        """They are what `return` makes of duals of 1."""
+        class Returning(Bridge):
+            def call(self, *words: str) -> Reply:
+                assert Path(words[2]).read_text() == "answer 1\nobjno 0\nrow c0 1\nrow c2 1\n"
+                return Reply(0, b"\nOptions\n3\n1\n1\n0\n3\n3\n1\n0\n6\n0\n7\nobjno 0 0\n", "")
+        factors = sol.factors_of(Returning([], lambda argv: None), "m.nl", ["c0", "c2"])
+        self.assertEqual(factors, {"c0": "6", "c2": "7"})
+
+
+class Importing(Case):
+    def test_order(self) -> None:
+        """Continuous, binary, integer, each in the order of the columns; constraints, then the objective."""
+        self.assertEqual(mps_file.lists_of(TEXTS["kinds"]), (
+            [b"both", b"cap", b"cost"], [b"c", b"'MARKER'", b"b", b"v", b"i", b"low"]))
+
+    @NEEDS_PROGRAM
+    def test_against_the_program(self) -> None:
+        """The kinds of the .nl are those of the names, and so are the bounds."""
+        self.put(TEXTS["kinds"], ".mps")
+        line = mps_file.imported(program(), self.stub + ".mps", self.stub + ".nl")
+        self.assertEqual(line, f"{self.stub}.nl is written, with the names of 2 constraints and 6 "
+                               f"variables in {self.stub}.row and {self.stub}.col")
+        lines = self.bytes_of(".nl").decode().split("\n")
+        self.assertEqual(lines[6].split()[:2], ["2", "2"])
+        at = lines.index("b") + 1
+        self.assertEqual(lines[at:at + 6], ["2 0", "2 0", "0 0 1", "0 0 1", "0 0 9", "1 -1"])
+        names = Names(self.stub)
+        self.assertEqual([names.column(j) for j in range(6)], ["c", "'MARKER'", "b", "v", "i", "low"])
+
 
 class Files(Case):
     def test_binary(self) -> None:
-        names = [n for n in sorted(os.listdir(BINARY)) if n.endswith(".bin.nl")]
+        names = sorted(BINARY.glob("*.bin.nl"))
         self.assertTrue(names)
-        for name in names:
-            target = self.stub + ".nl"
-            got = nl.prepared(os.path.join(BINARY, name), target, False)
-            self.assertIn("not proved", got.notes[0])
-            with open(got.path, "rb") as a, open(os.path.join(BINARY, name[:-7] + ".text.nl"), "rb") as b:
-                self.assertEqual(a.read(), b.read(), name)
-            with open(os.path.join(BINARY, name), "rb") as f:
-                data = f.read()
-            for cut in (data[:-3], data[:100], data + b"?", b"b"):
-                with open(self.stub + ".cut.nl", "wb") as f:
-                    f.write(cut)
-                self.assertRaises(kinds.Damaged, nl.prepared, self.stub + ".cut.nl", target, False)
+        cut, target = Path(self.stub + ".cut.nl"), self.stub + ".nl"
+        for path in names:
+            got = nl.prepared(str(path), target, False)
+            self.assertIn("not proved", got[1][0])
+            self.assertEqual(Path(got[0]).read_bytes(), Path(str(path).replace(".bin.", ".text.")).read_bytes(), path)
+            data = path.read_bytes()
+            for bad in (data[:-3], data[:100], data + b"?", b"b"):
+                cut.write_bytes(bad)
+                self.assertRaises(kinds.Damaged, nl.prepared, str(cut), target, False)
 
     def test_big_endian(self) -> None:
         """The other byte order, and an S segment."""
         head = b"b3 1 1 0\n 1 0 0 0 0\n 0 0\n 0 0\n 0 0 0\n 0 0 2 1\n" + b" 0 0 0 0 0\n 0 0\n 0 0\n 0 0 0 0 0\n"
         body = b"b0" + struct.pack(">dd", 0.5, 0.1 + 0.2) + \
             b"S" + struct.pack(">iii", 4, 1, 4) + b"rc\0\0" + struct.pack(">id", 0, 2.0)
-        self.assertEqual(binary_nl.text_of_binary(head + body).decode().split("\n")[10:],
+        self.assertEqual(nl.Binary(head + body).text().decode().split("\n")[10:],
                          ["b", "0 0.5 0.30000000000000004", "S4 1 rc", "0 2", ""])
-
-    def test_shortest_numbers(self) -> None:
-        for old, new, count in rows_of("units", "shortest"):
-            self.assertEqual(nl.shortest_numbers(old.encode()), (new.encode(), int(count)))
-        same = b"0 0.123456789 1.5\n3 123456789012345678\nx0.90000000000000002\n"
-        self.assertEqual(nl.shortest_numbers(same), (same, 0))
 
     def test_is_ours(self) -> None:
         """iproute2's `bridge` is passed over on the PATH."""
-        first, other, ours = (os.path.join(self.folder, n) for n in ("first", "other", "ours"))
-        for folder, script in ((first, "echo bad words >&2; exit 255"), (other, "echo usage >&2; exit 3"),
-                               (ours, "echo bad words >&2; exit 3")):
-            os.mkdir(folder)
-            with open(os.path.join(folder, "bridge"), "w") as f:
-                f.write(f"#!/bin/sh\n{script}\n")
-            os.chmod(os.path.join(folder, "bridge"), 0o755)
-        path = os.pathsep.join([first, other, ours])
-        with mock.patch.dict(os.environ, {"PATH": path, "BRIDGE": ""}):
+        for name, script in (("first", "echo bad words >&2; exit 255"), ("other", "echo usage >&2; exit 3"),
+                             ("ours", "echo bad words >&2; exit 3")):
+            os.mkdir(os.path.join(self.folder, name))
+            self.script(name + "/bridge", script)
+        first, other, ours = (os.path.join(self.folder, name) for name in ("first", "other", "ours"))
+        with mock.patch.dict(os.environ, {"PATH": os.pathsep.join([first, other, ours]), "BRIDGE": ""}):
             self.assertEqual(bridge.find("", []), [os.path.join(ours, "bridge")])
             self.assertEqual(bridge.find("a 'b c'", []), ["a", "b c"])
             self.assertEqual(bridge.find("", [os.path.join(other, "bridge")]), [os.path.join(other, "bridge")])
         with mock.patch.dict(os.environ, {"PATH": other, "BRIDGE": ""}):
-            self.assertRaisesRegex(bridge.Missing, "is another program", bridge.find, "", [])
-        missing = bridge.Bridge(["/nonexistent/bridge"], lambda argv: None)
-        self.assertRaises(bridge.Missing, missing.call, "export", "x")
+            self.assertRaisesRegex(Failure, "is another program", bridge.find, "", [])
+        self.assertRaises(Failure, program(["/nonexistent/bridge"]).call, "export", "x")
 
 
 class Terminal(io.StringIO):
@@ -135,8 +168,6 @@ class Terminal(io.StringIO):
 
 
 class Shown(Case):
-    """What is told while a run goes on."""
-
     def test_line(self) -> None:
         shown = progress.Progress("bridge-cbc")
         shown.begin("cbc", 60)
@@ -161,8 +192,7 @@ class Shown(Case):
             text = stream.getvalue()
             if in_place and stream.isatty():
                 self.assertNotIn("\n", text)
-                self.assertEqual(text[:len(progress.CLEAR)], progress.CLEAR)
-                self.assertEqual(text[-len(progress.CLEAR):], progress.CLEAR)
+                self.assertTrue(text.startswith(progress.CLEAR) and text.endswith(progress.CLEAR), text)
             else:
                 self.assertEqual(set(text.split("\n")), {"bridge-cbc: cbc, 0 s", ""})
             shown.stop()
@@ -170,23 +200,70 @@ class Shown(Case):
 
     def test_logs(self) -> None:
         """What solvers tell, in the objective's own sense."""
-        least, most = (Program(b"NAME nl\n" + sense + b"ROWS\n N obj\nCOLUMNS\nRHS\nENDATA\n")
-                       for sense in (b"", b"OBJSENSE\n MAX\n"))
         for name, sense, line, known in rows_of("units", "log"):
-            told = solvers.load(name).said(line, most if sense == "max" else least)
+            text = f"NAME nl\nOBJSENSE\n {sense.upper()}\nROWS\n N obj\nCOLUMNS\nRHS\nENDATA\n"
+            told = solvers.load(name).said(line, Program(text.encode()))
             pairs = (word.split("=") for word in known.split())
             self.assertEqual(told, {key: float(value) for key, value in pairs}, line)
+
+
+class Broken(Terminal):
+    def write(self, text: str) -> int:
+        raise OSError(28, "No space left on device")
+
+
+class Colours(Case):
+    """The verdict in colour, on terminals alone; a solver's own controls stay visible beside it."""
+
+    def told(self, stream: io.StringIO, **environment: str) -> str:
+        with mock.patch.dict(os.environ, {"NO_COLOR": "", "TERM": "xterm", **environment}):
+            console.tell_all(["CBC: \x1b[5m", "feasible 17"], console.Output(stream))  # type: ignore
+        return stream.getvalue()
+
+    def test_streams(self) -> None:
+        for line, wanted in rows_of("colours"):
+            self.assertEqual(console.colour_of(line), getattr(console, wanted), line)
+        plain = "CBC: \\x1b[5m\nfeasible 17\n"
+        self.assertEqual(self.told(Terminal()), "CBC: \\x1b[5m\n\x1b[33mfeasible 17\x1b[0m\n")
+        self.assertEqual(self.told(io.StringIO()), plain)
+        self.assertEqual(self.told(Terminal(), NO_COLOR="1"), plain)
+        self.assertEqual(self.told(Terminal(), TERM="dumb"), plain)
+        with self.assertRaises(console.OutputBroken):
+            self.told(Broken())
+        output = console.Output(io.StringIO())
+        output.writelines(["a\x1b[1m\n", "b\tc\n"])
+        self.assertEqual(output.getvalue(), "a\\x1b[1m\nb\tc\n")
+
+    def on_a_terminal(self, *words: str, **environment: str) -> tuple[int, bytes]:
+        ours, theirs = pty.openpty()
+        done = subprocess.run([sys.executable, os.path.join(BIN, words[0]), *words[1:]], cwd=EXAMPLES,
+                              stdin=subprocess.DEVNULL, stdout=theirs, stderr=subprocess.PIPE,
+                              env={**os.environ, "NO_COLOR": "", "TERM": "xterm", **environment})
+        os.close(theirs)
+        told = b""
+        with open(ours, "rb", buffering=0) as stream, contextlib.suppress(OSError):     # its end, after what it holds
+            for piece in iter(lambda: stream.read(65536), b""):
+                told += piece
+        return done.returncode, told.replace(b"\r\n", b"\n")
+
+    @NEEDS_PROGRAM
+    def test_verify(self) -> None:
+        words = ["nl-bridge", "verify", "knap.nl", "knap.certificate"]
+        self.assertEqual(self.on_a_terminal(*words), (0, b"\x1b[32moptimal 17\x1b[0m\n"))
+        self.assertEqual(self.on_a_terminal(*words, NO_COLOR="1"), (0, b"optimal 17\n"))
+        status, told = self.on_a_terminal("nl-bridge", "explain", *words[2:])
+        self.assertEqual((status, told.split(b"\n")[0]), (0, b"\x1b[32mknap.certificate holds of "
+                                                             b"knap.nl: optimal 17\x1b[0m"))
 
 
 class Interrupts(Case):
     def setUp(self) -> None:
         super().setUp()
-        signals, old = Signals(), signal.getsignal(signal.SIGTERM)
-        patch = mock.patch.dict(vars(SIGNALS), vars(signals))
+        patch = mock.patch.dict(vars(SIGNALS), vars(Signals()))
         patch.start()
         self.addCleanup(patch.stop)
-        self.addCleanup(signal.signal, signal.SIGTERM, old)
-        signal.signal(signal.SIGTERM, SIGNALS.came)
+        for number in (signal.SIGTERM, signal.SIGINT):
+            self.addCleanup(signal.signal, number, signal.signal(number, SIGNALS.came))
 
     def test_while_a_process_is_started(self) -> None:
         """The process that nobody knew of yet has ended."""
@@ -202,8 +279,6 @@ class Interrupts(Case):
 
     def test_the_first_interrupt_of_a_block(self) -> None:
         """It is the receiver's, the second one ends the run."""
-        old = signal.signal(signal.SIGINT, SIGNALS.came)
-        self.addCleanup(signal.signal, signal.SIGINT, old)
         got: list[int] = []
         with self.assertRaises(Interrupted), SIGNALS.first_to(lambda: got.append(1)):
             signal.raise_signal(signal.SIGINT)

@@ -1,36 +1,40 @@
-"""The exact optimum that a basis has: its point, its duals, and that both stand."""
+"""The exact optimum that a basis has, and bases that come nearer to it: what CLP's point and duals miss
+is found exactly, made greater, and solved again from the basis before (Gleixner, Steffy and Wolter 2016)."""
 
 from __future__ import annotations
 
+import math
 from fractions import Fraction
-from typing import NamedTuple, Sequence
+from typing import Iterator, List, Sequence, Tuple
 
+from .clp import Basis, Clp, Linear, State
 from .exact import solved
-from .model import Model, Point, over_one
-from .points import Basis, Placed, place
-from .sparse import NoSolution, Solution, Square, Tools, tools
+from .leaves import Multipliers
+from .model import Model, Point, Side, over_one
+from .points import Placed, place
+from .sparse import NoSolution, Solution, Square, tools
 
 BY_HAND = 300                   # unknowns of a system that is eliminated without SciPy
 WORK = 4_000_000                # digits of all unknowns that are made at most
 MOST_DIGITS = 40_000            # digits of an unknown at most
 LEAST_DIGITS = 320              # digits that tell each fraction of 127 bits
-
-
-class Optimum(NamedTuple):
-    """A point, and duals by row over one denominator."""
-
-    point: Point
-    duals: dict[int, int]
-    den: int
+ROUNDS = 5
+BITS = 400                      # binary places of the point and the duals
+LEAST = 2.0 ** -900             # of a miss that counts
+STEP = 30                       # binary digits by which a miss is made greater at most, a round
+FAR = 1e20                      # sides that are so far away after that are none
+STEEP = 1e12                    # costs are not greater after that
+FREE = 1e-5                     # how far from its end a column may go on
+Near = Tuple[Basis, List[float]]        # with values of columns
 
 
 def can_be_large() -> bool:
     return tools() is not None
 
 
-def optimum(p: Model, basis: Basis, x: Sequence[float]) -> Optimum:
-    """That of a basis whose values are near x. NoSolution where it has none, and where the basis
-    is not optimal; Wide where its numbers have too many bits to be found."""
+def optimum(p: Model, basis: Basis, x: Sequence[float]) -> tuple[Point, Multipliers]:
+    """Point and duals of a basis whose values are near x. NoSolution where it has none, and where the basis is not
+    optimal; Wide where its numbers have too many bits to be found."""
     placed = place(p, basis, x)
     if len(placed.columns) != len(placed.rows):
         raise NoSolution("the basis is not square")
@@ -40,61 +44,41 @@ def optimum(p: Model, basis: Basis, x: Sequence[float]) -> Optimum:
     for j, v in zip(placed.columns, found.numbers):
         full[j] = v
     y = {i: v for i, v in zip(placed.rows, duals.numbers) if v}
-    check_point(p, full, den)
-    check_duals(p, full, found.den, y, duals.den, placed)
-    shared: dict[int, Fraction] = {}
-    over = den * p.unit
-    for v in full:
-        if v not in shared:
-            shared[v] = Fraction(v, over)
-    return Optimum([shared[v] for v in full], {i: v * p.scale for i, v in y.items()}, duals.den * p.cost_scale)
+    for j, _ in p.broken_bounds(full, den):
+        raise NoSolution(f"bound {j} is broken")
+    for i, _ in p.broken_rows(full, den):
+        raise NoSolution(f"row {i} is broken")
+    check_duals(p, full, den, y, duals.den, placed)
+    shared = {v: Fraction(v, den * p.unit) for v in set(full)}
+    return [shared[v] for v in full], Multipliers({i: v * p.scale for i, v in y.items()},
+                                                  duals.den * p.cost_scale, False)
 
 
 def systems(p: Model, placed: Placed) -> tuple[Solution, Solution]:
     """The basic columns times `unit`, and the duals of tight rows times `cost_scale` over `scale`."""
-    inside, sides = placed.inside, placed.rest
+    rows, sides = placed.inside, placed.rest
     costs, n = [p.costs[j] for j in placed.columns], len(placed.columns)
-    with_scipy = tools()
-    if with_scipy is not None and n:
+    if can_be_large() and n:
         try:
-            return by_scipy(with_scipy, inside, sides, costs)
+            square = Square(rows, min(max(WORK // n, LEAST_DIGITS), MOST_DIGITS))
+            return square.solve(sides), square.solve(costs, True)
         except NoSolution:
             if n > BY_HAND:
                 raise
     if n > BY_HAND:
         raise NoSolution("SciPy is not there")
     turned: list[dict[int, int]] = [{} for _ in range(n)]
-    for r, row in enumerate(inside):
+    for r, row in enumerate(rows):
         for k, a in row:
             turned[k][r] = a
-    return by_hand([dict(row) for row in inside], sides), by_hand(turned, costs)
-
-
-def by_scipy(found: Tools, rows: list[list[tuple[int, int]]], sides: list[int],
-             costs: list[int]) -> tuple[Solution, Solution]:
-    most = min(max(WORK // len(rows), LEAST_DIGITS), MOST_DIGITS)
-    square = Square(found, rows, most)
-    return square.solve(sides), square.solve(costs, True)
+    return by_hand([dict(row) for row in rows], sides), by_hand(turned, costs)
 
 
 def by_hand(system: list[dict[int, int]], sides: Sequence[int]) -> Solution:
     values = solved(zip(system, sides))
     if values is None:
         raise NoSolution("the basis is singular, or takes too much work")
-    x = [values.get(k, Fraction(0)) for k in range(len(system))]
-    return Solution(*over_one(x))
-
-
-def check_point(p: Model, full: Sequence[int], den: int) -> None:
-    """`full` is over den times `unit`."""
-    for j, v in enumerate(full):
-        lo, hi = p.lo[j], p.hi[j]
-        if lo is not None and v < lo * den or hi is not None and v > hi * den:
-            raise NoSolution(f"bound {j} is broken")
-    by = p.scale * den
-    for i, (body, lo, hi) in enumerate(zip(p.terms.sums(full), p.side_lo, p.side_hi)):
-        if lo is not None and body < lo * by or hi is not None and body > hi * by:
-            raise NoSolution(f"row {i} is broken")
+    return Solution(*over_one([values.get(k, Fraction(0)) for k in range(len(system))]))
 
 
 def check_duals(p: Model, full: Sequence[int], den: int, y: dict[int, int], dual_den: int, placed: Placed) -> None:
@@ -107,3 +91,101 @@ def check_duals(p: Model, full: Sequence[int], den: int, y: dict[int, int], dual
             end = p.lo[j] if r > 0 else p.hi[j]
             if end is None or full[j] != end * den:
                 raise NoSolution(f"column {j} could be better")
+
+
+class Refining:
+    """`x` and `y` are whole, over 2^BITS; `up` and `dual_up` are the binary digits by which misses of the last round
+    were made greater. Rows that are no equations get a column that has their value, whose cost is their dual."""
+
+    def __init__(self, p: Model, clp: Clp, seconds: float) -> None:
+        self.p, self.seconds = p, seconds
+        self.x = [fixed(v) for v in clp.values()]
+        self.y = [fixed(v) for v in clp.duals()]
+        self.open = [i for i in range(p.m) if p.side_lo[i] is None or p.side_lo[i] != p.side_hi[i]]
+        self.up = self.dual_up = 0
+        self.basis = clp.basis()
+
+    def bases(self) -> Iterator[Near]:
+        """One a round, until nothing is missed."""
+        for _ in range(ROUNDS):
+            linear, missed, dual_missed = self.shifted()
+            self.up = next_up(self.up, missed)
+            self.dual_up = next_up(self.dual_up, dual_missed)
+            clp = Clp(self.enlarged(linear))
+            clp.seconds = self.seconds
+            clp.tighten(1e-9)
+            self.restart(clp)
+            if clp.solve_somehow() is not State.OPTIMAL:
+                return
+            self.x = [v + fixed(d, self.up) for v, d in zip(self.x, clp.values())]
+            self.y = [v + fixed(d, self.dual_up) for v, d in zip(self.y, clp.duals())]
+            self.basis = self.read(clp)
+            yield self.basis, [v / (1 << BITS) for v in self.x]
+
+    def restart(self, clp: Clp) -> None:
+        """From the basis of the round before, around its point: what is not basic stands near 0."""
+        n, rows = self.p.n, set(self.basis.rows)
+        free = [n + k for k, i in enumerate(self.open) if i not in rows]
+        clp.start(Basis([*self.basis.columns, *free], list(rows.union(self.open))), [0.0] * clp.n)
+
+    def read(self, clp: Clp) -> Basis:
+        """In the program's own rows."""
+        (columns, rows), n = clp.basis(), self.p.n
+        free = {self.open[j - n] for j in columns if j >= n}
+        return Basis([j for j in columns if j < n], [i for i in rows if i not in free])
+
+    def shifted(self) -> tuple[Linear, float, float]:
+        """The program around the point and under the duals, with what is missed most."""
+        p, one = self.p, 1 << BITS
+        lo = [less(end, v * p.unit, p.unit) for end, v in zip(p.lo, self.x)]
+        hi = [less(end, v * p.unit, p.unit) for end, v in zip(p.hi, self.x)]
+        sides = [(less(a, at * p.unit, p.unit, p.scale), less(b, at * p.unit, p.unit, p.scale))
+                 for at, a, b in zip(p.terms.sums(self.x), p.side_lo, p.side_hi)]
+        reduced = p.terms.without([c * p.scale * one for c in p.costs], dict(enumerate(self.y)), p.cost_scale)
+        cost = [r / (p.scale * p.cost_scale << BITS) for r in reduced]
+        cost += [self.y[i] / one for i in self.open]
+        lo += [sides[i][0] for i in self.open]
+        hi += [sides[i][1] for i in self.open]
+        columns = p.columns.with_units((i, -1.0) for i in self.open)
+        missed = max([0.0, *filter(None, lo), *(-v for v in filter(None, hi)),
+                      *(abs(a) for a, b in sides if a is not None and a == b)])
+        for i in self.open:
+            sides[i] = (0.0, 0.0)
+        return Linear(lo, hi, cost, sides, columns), missed, dual_missed(lo, hi, cost)
+
+    def enlarged(self, linear: Linear) -> Linear:
+        up, dual_up = 2.0 ** self.up, 2.0 ** self.dual_up
+
+        def far(end: float | None) -> float | None:
+            return None if end is None or abs(end) > FAR / up else end * up
+        return Linear([far(v) for v in linear.lo], [far(v) for v in linear.hi],
+                      [max(-STEEP, min(c * dual_up, STEEP)) for c in linear.cost],
+                      [(far(a), far(b)) for a, b in linear.sides], linear.columns)
+
+
+def dual_missed(lo: Sequence[float | None], hi: Sequence[float | None], cost: Sequence[float]) -> float:
+    """The greatest cost of a column that could go on in the direction that it wants."""
+    found = 0.0
+    for r, a, b in zip(cost, lo, hi):
+        end = a if r > 0 else b
+        if r and (end is None or abs(end) > FREE):
+            found = max(found, abs(r))
+    return found
+
+
+def fixed(value: float, up: int = 0) -> int:
+    """A double over 2^up, rounded to BITS places."""
+    p, q = value.as_integer_ratio()
+    return (p << BITS - up) // q
+
+
+def less(end: Side, at: int, unit: int, scale: int = 1) -> float | None:
+    """An end minus a value, which is over 2^BITS `unit` `scale`."""
+    return None if end is None else ((end * scale << BITS) - at) / (unit * scale << BITS)
+
+
+def next_up(up: int, missed: float) -> int:
+    """The digits that make a miss about 1, not too many more than before."""
+    if missed < LEAST:
+        return min(up + STEP, BITS - 64)
+    return max(0, min(-math.frexp(missed)[1], up + STEP, BITS - 64))

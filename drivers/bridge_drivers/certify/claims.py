@@ -1,77 +1,327 @@
-"""What is claimed of a model, the certificate of it, and the verdict of `bridge verify`."""
+"""What is claimed of a model, by what its solver said. Of a linear program: its exact optimum, from short numbers, a
+basis, or the simplex method in fractions; else a point and a bound in short numbers. Of an integer one: what trees over
+it show, and its relaxation."""
 
 from __future__ import annotations
 
+import itertools
 import math
-from typing import Callable, Iterator
+from fractions import Fraction
+from typing import Callable, Iterable, Iterator, Sequence
 
-from . import doubles, short
-from .clp import Clp, NoClp
-from .judging import WITHOUT, Given, Verdict
-from .model import Point, Unfit
+from . import doubles, points, short, simplex
+from .bases import Near, Refining, can_be_large, optimum
+from .clp import Clp, NoClp, State
+from .contradictions import Contradicting
+from .judging import NO_POINT, WITHOUT, Bound, Given, Verdict, wide_note
+from .leaves import Closed, Closer, is_narrow
+from .model import Box, Point, Unfit
+from .parts import Better
+from .plans import Plans
+from .sparse import NoSolution, Wide
 from .watch import KEPT, Over, Stopped
-from .whole_claims import WholeClaims
 from ..bridge import Refused
 
 __all__ = ["WITHOUT", "Certifying", "Given", "Verdict", "certified"]
+LARGE = 3000                    # coefficients: bases come first, where SciPy is there
+MOST_REFINED = 200_000          # coefficients of a program whose bases are bettered
+NO_EXACT = "no exact point has the answer's whole variables"
+ZERO, ROUNDING = Fraction(0), Fraction(1, 10 ** 12)     # of the largest term of a row
+MOST_BETTER = 100               # points that a search may find
+MOST_MENDED = 200               # nodes of a search beside an answer
 
 
-class Certifying(WholeClaims):
-    """One model, by what its solver said."""
+class Certifying(Contradicting):
+    """One model. `older` are plans for another value: those that had the closest bound."""
 
     given = Given()
+    older: Plans | None = None
 
-    def from_point(self, point: Point) -> Iterator[Verdict]:
+    def claimed_of(self, claim: str, given: Given) -> Verdict:
+        """Of `point`, `infeasible`, `unbounded`, `either` or `nothing`."""
+        calls: dict[str, Callable[[], Verdict]] = {
+            "point": self.of_point, "infeasible": lambda: self.best(self.infeasible()), "nothing": self.of_nothing,
+            "unbounded": self.of_unbounded, "either": self.of_either}
+        self.given = given
+        self.load()
+        return calls[claim]()
+
+    def of_point(self) -> Verdict:
+        """That a point is optimal, else that it is feasible, with a bound where there is one."""
         if self.linear:
-            yield from self.linear_optimum(Given(point))
-        else:
-            yield from self.whole_optimum(point)
+            return self.best(self.linear_optimum(self.given))
+        if self.relaxed:
+            return self.best(self.bounds())
+        x, by = self.given.values, ZERO
+        assert x is not None
+        point = self.exact(x)
+        if point is None:
+            by = points.broken(self.model, x)
+            self.contradicted = by > ROUNDING or points.is_contradicted(self.model, x, self.clp_seconds())
+            if by > ROUNDING:
+                point = self.mended(x)
+        return self.without_exact(x, by) if point is None else self.best(self.whole_optimum(point))
 
-    def of_infeasible(self, given: Given = Given()) -> Verdict:
-        """A contradiction; where a point is found, the optimum."""
-        return self.best(self.infeasible())
+    def of_nothing(self) -> Verdict:
+        """Where the solver has no point: of an integer program a plane, with `proves` a contradiction or a point where
+        a search finds it; else a bound."""
+        is_whole = not self.linear and not self.relaxed
+        return self.best(itertools.chain(self.planes() if is_whole else (),
+                                         self.infeasible() if is_whole and self.proves else (), self.bounds()))
 
-    def of_unbounded(self, given: Given = Given()) -> Verdict:
+    def of_unbounded(self) -> Verdict:
         """A point and a ray; else what is optimal, or a bound."""
         verdict = self.without_point_or_end()
         if verdict.is_proved() or self.relaxed and not self.linear:
             return verdict
-        found = self.best(self.bounded_after_all())
+        tries = not self.linear and (self.proves or short.trivial(self.model) is not None)
+        found = self.best(itertools.chain(self.infeasible() if tries else (), self.bounds()))
         return found if found.is_proved() else verdict
 
-    def bounded_after_all(self) -> Iterator[Verdict]:
-        """Where no ray was found."""
-        if self.linear:
-            yield from self.linear_optimum(Given())
-            return
-        if self.proves or short.trivial(self.model) is not None:
-            yield from self.infeasible()
-        yield from self.bounds()
+    def of_either(self) -> Verdict:
+        """Where the solver does not say whether it is infeasible or unbounded."""
+        verdict = self.without_point_or_end()
+        return verdict if verdict.is_proved() else self.best(self.infeasible())
 
     def without_point_or_end(self) -> Verdict:
         """By a plane, which is asked first, or by a point and a ray."""
         verdict = self.best(self.planes())
         return verdict if verdict.is_proved() else self.unbounded()
 
-    def of_either(self, given: Given = Given()) -> Verdict:
-        """Where the solver does not say whether it is infeasible or unbounded."""
-        verdict = self.without_point_or_end()
-        return verdict if verdict.is_proved() else self.best(self.infeasible())
+    def from_point(self, point: Point) -> Iterator[Verdict]:
+        return self.linear_optimum(Given(point)) if self.linear else self.whole_optimum(point)
 
-    def of_point(self, given: Given) -> Verdict:
-        """That a point is optimal, else that it is feasible, with a bound where there is one."""
-        if self.relaxed and not self.linear:
-            return self.best(self.bounds())
+    def linear_optimum(self, given: Given) -> Iterator[Verdict]:
+        """`optimal` from short numbers, else from a basis, else in fractions; a large program from
+        a basis at once. Where its numbers are too wide, a point and a bound in short ones."""
+        p = self.model
+        is_large = p.terms.count() > LARGE and can_be_large() and any(p.costs)
+        if is_large and given.basis is not None and given.values is not None:
+            yield from self.by_bases([(given.basis, given.doubles())])
+        clp, state = self.relaxation(given)
+        if state is not State.OPTIMAL:
+            clp = None
+        if not is_large or clp is None:
+            yield from self.at_points(given, clp)
+        if state is State.UNBOUNDED:
+            yield self.unbounded()
+        if clp is not None:
+            yield from self.by_bases(self.bases(clp))
+        if not self.note and simplex.is_small(p):
+            yield from self.by_simplex(given if clp is None else Given(clp.values(), None, clp.basis()))
+        self.note = self.note or "no basis was found that is exactly optimal"
+        if clp is not None:
+            self.know_leaves(short.short_duals(p, clp, self.clp_seconds()))
+            yield from self.short_points(clp)
+        if self.point is None:
+            yield Verdict(NO_POINT)
+            yield from self.infeasible()
+        self.know_trivial()
+        yield from self.endless()
+        yield from self.told()
+
+    def at_points(self, given: Given, clp: Clp | None) -> Iterator[Verdict]:
+        """Narrow points, each with a leaf that meets it."""
+        seen: list[Point] = []
+        for point in self.linear_points(given, clp):
+            if point is None or point in seen or not all(map(is_narrow, point)):
+                continue
+            seen.append(point)
+            self.know_point(point)
+            leaf = self.linear_leaf(clp, given, self.model.value(point))
+            if leaf is not None:
+                yield self.one_leaf(leaf.leaf, "optimal", point)
+
+    def linear_points(self, given: Given, clp: Clp | None) -> Iterator[Point | None]:
+        """Near the answer, else the vertex of its basis; then the vertex of CLP's, and near that."""
+        p, count = self.model, 0
+        if given.values is not None:
+            for count, point in enumerate(points.near(p, given.values), 1):
+                yield point
+            if given.basis is not None and not count:
+                yield points.vertex(p, given.basis, given.doubles())
+        if clp is not None:
+            self.watch.progress.tell("the exact vertex")
+            yield points.vertex(p, clp.basis(), clp.values())
+            yield from points.near(p, clp.values())
+
+    def bases(self, clp: Clp) -> Iterator[Near]:
+        """CLP's, then such that come nearer to the exact optimum."""
+        yield clp.basis(), clp.values()
+        if self.model.terms.count() <= MOST_REFINED:
+            yield from Refining(self.model, clp, self.clp_seconds()).bases()
+
+    def by_bases(self, bases: Iterable[Near]) -> Iterator[Verdict]:
+        """`optimal` by the first basis that is exactly optimal, where its numbers are narrow."""
+        for basis, x in bases if not self.note else ():
+            try:
+                point, leaf = optimum(self.model, basis, x)
+            except NoSolution:
+                continue
+            except Wide as wide:
+                self.note = wide_note(str(wide))
+                return
+            yield from self.at_optimum(point, leaf)
+            return
+
+    def short_points(self, clp: Clp) -> Iterator[Verdict]:
+        """`within` by short numbers, at the first that is near the bound, else at the best."""
+        p, note, bound, refused = self.model, self.note, self.shown, ""
+        far: list[tuple[Fraction, Point]] = []
+        for by_rows in (False, True) if p.terms.count() <= MOST_REFINED else (False,):
+            for made in short.Rounding(p, clp.keep(), clp.values(), self.clp_seconds(), by_rows).points():
+                self.know_point(made.point)
+                if bound is None:
+                    continue
+                at = p.value(made.point)
+                self.note = both(note, made.way)
+                if at - bound.value > short.NEAR * max(Fraction(1), abs(at)):
+                    far.append((at, made.point))
+                    continue
+                verdict = self.claimed("within", bound, made.point)
+                refused = verdict.line
+                yield verdict
+        self.note = note
+        for _, point in sorted(far):
+            assert bound is not None
+            verdict = self.claimed("within", bound, point)
+            refused = verdict.line
+            yield verdict
+        if refused:
+            self.note = both(note, f"points of few digits: {refused.partition(': ')[2]}")
+
+    def linear_leaf(self, clp: Clp | None, given: Given, value: Fraction) -> Closed | None:
+        closer, box, closed = Closer(self.model, value), Box(self.model.lo, self.model.hi), None
+        if not any(self.model.costs):
+            return closer.close({}, False, box)
+        self.watch.progress.tell("exact duals")
+        if clp is not None:
+            closed = closer.close(dict(enumerate(clp.duals())), False, box) or \
+                closer.exactly(closer.basis_duals(*clp.basis()), False, box)
+        if closed is None and given.duals is not None:
+            y = self.minimised(given.duals)
+            closed = closer.close({i: float(v) for i, v in y.items()}, False, box)
+            if closed is None and all(isinstance(v, Fraction) for v in y.values()):
+                closed = closer.exactly({i: Fraction(v) for i, v in y.items()}, False, box)
+        return closed
+
+    def know_leaves(self, found: Iterable[short.ShortDuals]) -> None:
+        for duals in found:
+            self.know_leaf(duals.leaf)
+
+    def know_trivial(self) -> None:
+        """The bound that bounds of columns have."""
+        value = short.trivial(self.model)
+        if value is not None:
+            self.know_bound(self.bound_of(short.NOTHING, value))
+
+    def mended(self, x: Sequence[float | Fraction]) -> Point | None:
+        """A point beside an answer some of whose whole values are off by the digits that a solver
+        prints, or are given by equations."""
+        for frees in (False, True):
+            near = points.loosened(self.model, x, frees)
+            try:
+                until = self.watch.spent() + self.watch.left() / 4
+                self.shared(near).resume(until, MOST_MENDED)
+            except Better as better:
+                return better.point
+            except (NoClp, Stopped):
+                pass
+        return None
+
+    def without_exact(self, x: Sequence[float | Fraction], by: Fraction) -> Verdict:
+        """Where no exact point has the answer's whole variables, which miss rows by that share: a
+        contradiction, or whatever the search finds. An answer that breaks rows by rounding alone
+        is meant, but for planes of whole numbers and a relaxation whose optimum is whole: only with
+        `proves` more is tried, and no worse point takes its place."""
+        p, verdict = self.model, Verdict(WITHOUT + NO_EXACT)
+        if 0 < by <= ROUNDING:
+            verdict = Verdict(f"{WITHOUT}rows of whole variables are missed by {float(by):.2g} of "
+                              "their largest term, which is rounding")
+        is_asked, are_whole = self.proves or self.contradicted or not by, p.scale == p.unit == 1
+        found = self.best(self.infeasible() if is_asked else itertools.chain(
+            self.planes() if are_whole else (), (end for end in self.in_the_end() if end.claim() == "optimal")))
+        is_worse = found.point is not None and found.claim() != "optimal" and \
+            p.value(found.point) > p.value([Fraction(v) for v in x])
+        if found.is_proved() and (self.contradicted or not is_worse):
+            return found
+        return verdict._replace(contradicted=self.contradicted)
+
+    def whole_optimum(self, point: Point) -> Iterator[Verdict]:
+        """A ray, else a tree at the value of a point, then of each better one that the search finds."""
+        p = self.model
+        self.know_point(point)
+        yield from self.endless()
+        if short.trivial(p) == p.value(point):      # bounds of columns alone say it
+            yield self.one_leaf(short.NOTHING, "optimal", point)._replace(duals={})
+        plans = self.planned(point)
+        point = self.point or point
+        if plans.best is not None:
+            yield self.by_tree(plans.best, point)
+        told = plans.told() or [str(NoClp())]
+        if self.proves or self.bounded:
+            self.know_root()
+        yield from self.in_the_end()
+        yield from self.told()
+        yield Verdict(WITHOUT + self.watch.why(told[-1]), point)
+
+    def planned(self, point: Point) -> Plans:
+        """The plans that were tried at the best point; where better ones do not end, at the last but one."""
+        p = self.model
+        for _ in range(MOST_BETTER):
+            plans = self.plans_for(p, p.value(point))
+            self.know_point(point)
+            self.point, self.plans = point, plans
+            if self.points:
+                self.watch.incumbent = float(p.sign * p.value(self.points[0]))
+            try:
+                if self.proves:
+                    plans.try_all()
+                else:
+                    plans.run_plain()
+                return plans
+            except Better as better:
+                point = better.point
+                self.older = max(filter(None, (self.older, plans)), key=Plans.stands_at)
+            except NoClp:
+                return plans
+        self.know_point(point)
+        return plans
+
+    def know_searched(self) -> None:
+        """The closest bound that a stopped search has, whatever value it was for."""
+        for plans in sorted(filter(None, (self.plans, self.older)), key=lambda p: -p.stands_at()):
+            told, bounded = "; ".join(plans.told()), plans.bounded()
+            if bounded is not None:
+                self.know_bound(Bound(bounded[0], lambda: iter(()), bounded[1], told))
+                return
+
+    def know_root(self) -> None:
+        """The bound of the searches, and of the relaxation: that of its exact optimum where it is had."""
+        self.know_searched()
+        if self.shown is not None and not self.proves:
+            return
+        p, (clp, state) = self.model, self.relaxation()
+        if clp is None or state is not State.OPTIMAL or not any(p.costs):
+            return
+        self.know_leaves(short.short_duals(p, clp, self.clp_seconds()))
+        closer = Closer(p, None)
+        closed = closer.exactly(closer.basis_duals(*clp.basis()), False, Box(p.lo, p.hi))
+        if closed is not None:
+            self.know_leaf(closed.leaf, True)
+
+    def bounds(self) -> Iterator[Verdict]:
+        """Of a linear program what is true of it, of another one a bound."""
         if self.linear:
-            return self.best(self.linear_optimum(given))
-        assert given.values is not None
-        return self.of_values(given.values)
-
-    def of_nothing(self, given: Given = Given()) -> Verdict:
-        """Where the solver has no point: what a search finds, else a bound."""
-        if self.linear or self.relaxed:
-            return self.best(self.bounds())
-        return self.best(self.whole_without_point())
+            yield from self.linear_optimum(Given())
+        else:
+            if self.relaxation()[1] is State.INFEASIBLE:
+                yield from self.infeasible()
+            self.know_root()
+            yield from self.in_the_end()
+        self.know_trivial()
+        yield from self.told()
+        yield Verdict(WITHOUT + "there is no point")
 
     def known(self) -> Iterator[Verdict]:
         """What there is where the time is over: a tree, the best point, the closest bound."""
@@ -80,35 +330,30 @@ class Certifying(WholeClaims):
             yield self.by_tree(self.plans.best, point)
         try:
             with self.watch.alarmed(self.watch.to_end() - KEPT):
-                if self.linear:
-                    self.know_given_leaf(self.given)
-                elif point is not None and (self.proves or self.bounded):
+                if self.linear and self.given.duals is not None:
+                    self.know_leaves(short.roundings(Closer(self.model, None), self.own_duals()))
+                elif not self.linear and point is not None and (self.proves or self.bounded):
                     self.know_root()
         except Over:
             self.watch.disarm()
         yield from self.told()
         yield Verdict(WITHOUT + self.watch.why("time"), contradicted=self.contradicted)
 
+    def own_duals(self) -> dict[int, float]:
+        """Those of the answer in doubles."""
+        return {i: float(y) for i, y in self.minimised(self.given.duals or {}).items()}
+
     def by_doubles(self, verdict: Verdict) -> Verdict:
         """With what the answer's own duals say, where the time of a run without `proves` is over."""
-        x, y = self.given.values, self.given.duals
-        is_linear = self.linear or self.relaxed
-        if self.proves or not is_linear or x is None or y is None or verdict.claim() == "optimal":
-            return verdict
-        p = self.model
-        duals = {i: float(p.sign * self.factors.get(i, 1) * v) for i, v in y.items()}
-        if not doubles.closes(p, [float(v) for v in x], duals):
+        is_told = self.given.values is not None and self.given.duals is not None
+        if self.proves or not is_told or not (self.linear or self.relaxed) or verdict.claim() == "optimal" \
+                or not doubles.closes(self.model, self.given.doubles(), self.own_duals()):
             return verdict
         return verdict._replace(by_doubles=True, note=doubles.NOTE)
 
-    def claimed_of(self, claim: str, given: Given) -> Verdict:
-        """Of `point`, `infeasible`, `unbounded`, `either` or `nothing`."""
-        calls: dict[str, Callable[[Given], Verdict]] = {
-            "point": self.of_point, "infeasible": self.of_infeasible, "nothing": self.of_nothing,
-            "unbounded": self.of_unbounded, "either": self.of_either}
-        self.given = given
-        self.load()
-        return calls[claim](given)
+
+def both(note: str, more: str) -> str:
+    return f"{note}; {more}" if more else note
 
 
 def certified(work: Certifying, claim: str, given: Given = Given()) -> Verdict:

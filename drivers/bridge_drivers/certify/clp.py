@@ -1,4 +1,5 @@
-"""CLP in this process, by its C interface. It starts each relaxation from the basis before it."""
+"""Linear programs in doubles, and CLP in this process, by its C interface: each relaxation starts from the basis before
+it."""
 
 from __future__ import annotations
 
@@ -7,36 +8,28 @@ import ctypes.util
 import enum
 import math
 import time
-from typing import Any, NamedTuple, Optional, Sequence
+from array import array
+from typing import Any, Iterable, List, NamedTuple, Optional, Sequence, Tuple
 
-from .columns import Columns
+from ..terms import Arrays, Terms, numpy
 
 INFINITE = 1.7976931348623157e308       # COIN's own
 STATUS_BITS = 7
 STOPPED = 3                             # by time or iterations
 STATUS_FREE, STATUS_BASIC, STATUS_UPPER, STATUS_LOWER = 0, 1, 2, 3
-SMALL = 1e-3                            # numbers that are scaled
+SMALL = 1e-3                            # numbers that are made greater
 ITERATIONS = 100_000                    # of one relaxation
 PORTION = 1.0                           # seconds of the processor, which is what CLP counts
 NAMES = ("libClp.so.1", "libClp.so", "libClp.1.dylib", "libClp.dylib")
 End = Optional[float]
 
-P, I, D = ctypes.c_void_p, ctypes.c_int, ctypes.c_double
-CALLS: dict[str, tuple[Any, list[Any]]] = {
-    "newModel": (P, []), "deleteModel": (None, [P]), "setLogLevel": (None, [P, I]),
-    "loadProblem": (None, [P, I, I, P, P, P, P, P, P, P, P]),
-    "setSmallElementValue": (None, [P, D]),
-    "chgColumnLower": (None, [P, P]), "chgColumnUpper": (None, [P, P]),
-    "chgRowLower": (None, [P, P]), "chgRowUpper": (None, [P, P]),
-    "chgObjCoefficients": (None, [P, P]),
-    "numberIterations": (I, [P]), "setNumberIterations": (None, [P, I]),
-    "setMaximumIterations": (None, [P, I]),
-    "setMaximumSeconds": (None, [P, D]), "setPrimalTolerance": (None, [P, D]),
-    "dual": (I, [P, I]), "primal": (I, [P, I]), "status": (I, [P]),
-    "objectiveValue": (D, [P]), "primalColumnSolution": (P, [P]), "dualRowSolution": (P, [P]),
-    "infeasibilityRay": (P, [P]), "freeRay": (None, [P, P]),
-    "statusArray": (P, [P]), "copyinStatus": (None, [P, P]),
-}
+TYPES = {"P": ctypes.c_void_p, "I": ctypes.c_int, "D": ctypes.c_double, "-": None}
+# what each call answers, and what it takes
+CALLS = """newModel:P deleteModel:-P setLogLevel:-PI loadProblem:-PIIPPPPPPPP setSmallElementValue:-PD
+    chgColumnLower:-PP chgColumnUpper:-PP chgRowLower:-PP chgRowUpper:-PP chgObjCoefficients:-PP
+    numberIterations:IP setNumberIterations:-PI setMaximumIterations:-PI setMaximumSeconds:-PD setPrimalTolerance:-PD
+    dual:IPI primal:IPI status:IP objectiveValue:DP primalColumnSolution:PP dualRowSolution:PP
+    infeasibilityRay:PP freeRay:-PP statusArray:PP copyinStatus:-PP"""
 LOADED: list[ctypes.CDLL | None] = []           # once loaded, or once missed
 
 
@@ -45,37 +38,57 @@ class NoClp(Exception):
         super().__init__("CLP's library (coinor-libclp1) is not installed")
 
 
-class State(enum.Enum):
-    """How a relaxation ended. OTHER: stopped, or it has no optimum that CLP finds."""
-
-    OPTIMAL = 0
-    INFEASIBLE = 1
-    UNBOUNDED = 2
-    OTHER = 3
+# how a relaxation ended; OTHER: stopped, or it has no optimum that CLP finds
+State = enum.Enum("State", "OPTIMAL INFEASIBLE UNBOUNDED OTHER", start=0)
 
 
-class Scaled(NamedTuple):
-    """By how much a program's columns, rows and costs are made greater: tolerances are of fixed
-    size, and hide what small numbers say."""
+class Basis(NamedTuple):
+    """Basic columns, and rows that are not basic."""
 
-    columns: list[float]
-    rows: list[float]
-    cost: float
-
-    @classmethod
-    def of(cls, linear: Linear) -> Scaled:
-        """Powers of two, where both bounds of a column, all coefficients of a row or all costs are small."""
-        ends = ([abs(end) for end in pair if end] for pair in zip(linear.lo, linear.hi))
-        columns = [enlarging(max(sizes, default=1.0)) if None not in (lo, hi) else 1.0
-                   for sizes, lo, hi in zip(ends, linear.lo, linear.hi)]
-        most = linear.columns.greatest(len(linear.sides), columns)
-        costs = [abs(c) / by for c, by in zip(linear.cost, columns)]
-        return cls(columns, [enlarging(size) for size in most], enlarging(max(costs, default=0.0)))
+    columns: List[int]
+    rows: List[int]
 
 
-def enlarging(size: float) -> float:
-    """The power of two that makes a small number about 1."""
-    return 2.0 ** -math.frexp(size)[1] if 0 < size < SMALL else 1.0
+class Columns(NamedTuple):
+    """The entries of the column j are those from `starts[j]` on: `index` are their rows, `value`
+    their coefficients. Each is an array, or one of NumPy."""
+
+    starts: Any
+    index: Any
+    value: Any
+
+    def with_units(self, units: Iterable[Tuple[int, float]]) -> Columns:
+        """With one column more for each row and coefficient."""
+        starts, index, value = array("i", self.starts), array("i", self.index), array("d", self.value)
+        for i, a in units:
+            index.append(i)
+            value.append(a)
+            starts.append(len(index))
+        return Columns(starts, index, value)
+
+    def over(self, by: Sequence[float]) -> Columns:
+        """Coefficients over what columns are made greater by."""
+        if all(one == 1 for one in by):
+            return self
+        each = (one for j, one in enumerate(by) for _ in range(self.starts[j], self.starts[j + 1]))
+        return self._replace(value=array("d", [a / one for a, one in zip(self.value, each)]))
+
+
+def columns_of(terms: Terms, m: int, scale: int) -> Columns:
+    """The terms of `m` rows over their scale, those of a column by row."""
+    if isinstance(terms, Arrays):
+        np = numpy()
+        key = terms.column_of.astype(np.int64) * m + terms.row
+        order = slice(None) if (np.diff(key) > 0).all() else np.argsort(key, kind="stable")
+        starts = np.concatenate([[0], np.cumsum(np.bincount(terms.column_of, minlength=terms.n))])
+        value = np.array([a / scale for a in terms.table])[terms.number[order]]
+        return Columns(starts.astype(np.int32), np.ascontiguousarray(terms.row[order]), value)
+    starts, index, value = array("i", [0]), array("i"), array("d")
+    for column in terms.columns:
+        index.extend([i for i, _ in column])
+        value.extend([a / scale for _, a in column])
+        starts.append(len(index))
+    return Columns(starts, index, value)
 
 
 class Linear(NamedTuple):
@@ -89,6 +102,11 @@ class Linear(NamedTuple):
     columns: Columns
 
 
+def enlarging(size: float) -> float:
+    """The power of two that makes a small number about 1."""
+    return 2.0 ** -math.frexp(size)[1] if 0 < size < SMALL else 1.0
+
+
 def library() -> ctypes.CDLL | None:
     """The library with the types of its calls, None where it is not there."""
     if not LOADED:
@@ -97,13 +115,12 @@ def library() -> ctypes.CDLL | None:
 
 
 def load() -> ctypes.CDLL | None:
-    found = ctypes.util.find_library("Clp")
-    for name in NAMES + ((found,) if found else ()):
+    for name in filter(None, (*NAMES, ctypes.util.find_library("Clp"))):
         try:
             lib = ctypes.CDLL(name)
-            for call, (result, words) in CALLS.items():
+            for call, _, types in (word.partition(":") for word in CALLS.split()):
                 function = getattr(lib, "Clp_" + call)
-                function.restype, function.argtypes = result, words
+                function.restype, *function.argtypes = map(TYPES.__getitem__, types)
             return lib
         except (OSError, AttributeError):
             continue
@@ -111,7 +128,7 @@ def load() -> ctypes.CDLL | None:
 
 
 def doubles(values: Sequence[float]) -> Any:
-    return (D * max(len(values), 1))(*values)
+    return (ctypes.c_double * max(len(values), 1))(*values)
 
 
 def buffer(kind: Any, values: Any) -> Any:
@@ -119,21 +136,18 @@ def buffer(kind: Any, values: Any) -> Any:
     return (kind * len(values)).from_buffer(values) if len(values) else (kind * 1)()
 
 
-def low(values: Sequence[End], by: Sequence[float]) -> Any:
-    return doubles([-INFINITE if v is None else v * b for v, b in zip(values, by)])
-
-
-def high(values: Sequence[End], by: Sequence[float]) -> Any:
-    return doubles([INFINITE if v is None else v * b for v, b in zip(values, by)])
+def ends(values: Iterable[End], none: float) -> Any:
+    return doubles([none if v is None else v for v in values])
 
 
 def read(place: int, count: int) -> list[float]:
-    return list((D * count).from_address(place)) if count else []
+    return list((ctypes.c_double * count).from_address(place)) if count else []
 
 
 class Clp:
-    """A relaxation whose bounds and sides change. What it answers is of the last `solve`. No solve
-    of any goes on after `until`, a time of the monotonic clock."""
+    """A relaxation whose bounds and sides change. What it answers is of the last `solve`. Each has so many `seconds`,
+    and none of any goes on after `until`, a time of the monotonic clock. Tolerances are of fixed size, and hide what
+    small numbers say: columns are made greater by `by`, and costs by `cost`; rows CLP scales itself."""
 
     until = math.inf
     seconds = math.inf
@@ -148,41 +162,40 @@ class Clp:
         if lib is None:
             raise NoClp()
         self.lib, self.model = lib, lib.Clp_newModel()
-        self.n, self.m = len(linear.columns), len(linear.sides)
-        self.scaled = scaled = Scaled.of(linear)
-        columns = linear.columns.scaled(scaled.columns, scaled.rows)
-        self.lo, self.hi = low(linear.lo, scaled.columns), high(linear.hi, scaled.columns)
-        self.side_lo = low([a for a, _ in linear.sides], scaled.rows)
-        self.side_hi = high([b for _, b in linear.sides], scaled.rows)
-        costs = [c / by * scaled.cost for c, by in zip(linear.cost, scaled.columns)]
-        given = [buffer(I, columns.starts), buffer(I, columns.index), buffer(D, columns.value)]
+        self.n, self.m = len(linear.cost), len(linear.sides)
+        self.by = [1.0 if None in pair else enlarging(max((abs(end) for end in pair if end), default=1.0))
+                   for pair in zip(linear.lo, linear.hi)]
+        costs = [c / by for c, by in zip(linear.cost, self.by)]
+        self.cost = enlarging(max((abs(c) for c in costs), default=0.0))
+        columns = linear.columns.over(self.by)
+        self.lo = ends((v and v * by for v, by in zip(linear.lo, self.by)), -INFINITE)
+        self.hi = ends((v and v * by for v, by in zip(linear.hi, self.by)), INFINITE)
+        self.side_lo = ends((a for a, _ in linear.sides), -INFINITE)
+        self.side_hi = ends((b for _, b in linear.sides), INFINITE)
+        given = [buffer(ctypes.c_int, columns.starts), buffer(ctypes.c_int, columns.index),
+                 buffer(ctypes.c_double, columns.value)]
         lib.Clp_setLogLevel(self.model, 0)
         lib.Clp_setSmallElementValue(self.model, 0.0)
         lib.Clp_loadProblem(self.model, self.n, self.m, *given, self.lo, self.hi,
-                            doubles(costs), self.side_lo, self.side_hi)
+                            doubles([c * self.cost for c in costs]), self.side_lo, self.side_hi)
 
     def __del__(self) -> None:
         if getattr(self, "model", None):
             self.lib.Clp_deleteModel(self.model)
             self.model = None
 
-    def limit(self, seconds: float) -> None:
-        """Of each solve from here on."""
-        self.seconds = seconds
-
     def tighten(self, tolerance: float) -> None:
         """By how much rows and bounds may be missed."""
         self.lib.Clp_setPrimalTolerance(self.model, tolerance)
 
     def bound(self, column: int, lo: End, hi: End) -> None:
-        by = self.scaled.columns[column]
+        by = self.by[column]
         self.lo[column] = -INFINITE if lo is None else lo * by
         self.hi[column] = INFINITE if hi is None else hi * by
 
     def side(self, row: int, lo: End, hi: End) -> None:
-        by = self.scaled.rows[row]
-        self.side_lo[row] = -INFINITE if lo is None else lo * by
-        self.side_hi[row] = INFINITE if hi is None else hi * by
+        self.side_lo[row] = -INFINITE if lo is None else lo
+        self.side_hi[row] = INFINITE if hi is None else hi
 
     def solve(self, most: int = ITERATIONS, again: bool = False) -> State:
         """`most` iterations; `again`: by the other simplex method, where one failed."""
@@ -209,22 +222,25 @@ class Clp:
             portion = min(2 * portion, (end - now) * seconds / max(now - began, seconds))
         return State(status) if status in (0, 1, 2) else State.OTHER
 
+    def solve_somehow(self) -> State:
+        """By either method."""
+        state = self.solve()
+        return state if state is State.OPTIMAL else self.solve(again=True)
+
     def objective(self) -> float:
-        return float(self.lib.Clp_objectiveValue(self.model)) / self.scaled.cost
+        return float(self.lib.Clp_objectiveValue(self.model)) / self.cost
 
     def values(self) -> list[float]:
-        found = read(self.lib.Clp_primalColumnSolution(self.model), self.n)
-        return [x / by for x, by in zip(found, self.scaled.columns)]
+        return [x / by for x, by in zip(read(self.lib.Clp_primalColumnSolution(self.model), self.n), self.by)]
 
     def duals(self) -> list[float]:
-        found = read(self.lib.Clp_dualRowSolution(self.model), self.m)
-        return [y * by / self.scaled.cost for y, by in zip(found, self.scaled.rows)]
+        return [y / self.cost for y in read(self.lib.Clp_dualRowSolution(self.model), self.m)]
 
     def row_of_inverse(self, column: int, kept: bytes) -> list[float]:
         """Of a basis: multipliers of rows that leave 1 in this basic column and 0 in the others,
         which are its duals where nothing else has a cost. The costs are lost."""
         costs = [0.0] * self.n
-        costs[column] = self.scaled.cost / self.scaled.columns[column]
+        costs[column] = self.cost / self.by[column]
         self.lib.Clp_chgObjCoefficients(self.model, doubles(costs))
         self.restore(kept)
         self.solve(0, again=True)
@@ -237,7 +253,7 @@ class Clp:
             return []
         weights = read(place, self.m)
         self.lib.Clp_freeRay(self.model, place)
-        return [y * by for y, by in zip(weights, self.scaled.rows)]
+        return weights
 
     def keep(self) -> bytes:
         """The basis, for `restore`."""
@@ -246,23 +262,20 @@ class Clp:
     def restore(self, kept: bytes) -> None:
         self.lib.Clp_copyinStatus(self.model, kept)
 
-    def start(self, columns: Sequence[int], rows: Sequence[int], x: Sequence[float]) -> None:
-        """The basis of these columns, and of all rows but these, for the next solve. What is not
-        basic stands at the end that is nearest at x."""
+    def start(self, basis: Basis, x: Sequence[float]) -> None:
+        """A basis for the next solve. What is not basic stands at the end that is nearest at x."""
         kept = bytearray([STATUS_BASIC] * (self.n + self.m))
-        is_basic = set(columns)
+        is_basic = set(basis.columns)
         for j in range(self.n):
             if j not in is_basic:
-                value = x[j] * self.scaled.columns[j]
-                kept[j] = standing(self.lo[j], self.hi[j], value)
-        for i in rows:
+                kept[j] = standing(self.lo[j], self.hi[j], x[j] * self.by[j])
+        for i in basis.rows:
             kept[self.n + i] = STATUS_UPPER if self.side_lo[i] <= -INFINITE else STATUS_LOWER
         self.restore(bytes(kept))
 
-    def basis(self) -> tuple[list[int], list[int]]:
-        """Basic columns, and rows that are not basic."""
+    def basis(self) -> Basis:
         basic = [status & STATUS_BITS == STATUS_BASIC for status in self.keep()]
-        return ([j for j in range(self.n) if basic[j]], [i for i in range(self.m) if not basic[self.n + i]])
+        return Basis([j for j in range(self.n) if basic[j]], [i for i in range(self.m) if not basic[self.n + i]])
 
 
 def standing(lo: float, hi: float, value: float) -> int:

@@ -1,5 +1,5 @@
-"""`bridge-certify MODEL [option=value ..]`: a certificate of what is true of a model, and the
-verdict of `bridge verify` on it. It takes the options of its driver."""
+"""`bridge-certify MODEL [option=value ..]`: a certificate of what is true of a model, and the verdict of `bridge
+verify` on it. It takes the options of its driver."""
 
 from __future__ import annotations
 
@@ -7,24 +7,21 @@ import os
 import shutil
 import sys
 import time
-from typing import Sequence, TextIO
+from typing import Sequence
 
-from .. import console, report, solvers
+from .. import console, interface, solvers
 from ..codes import Code, Failure, Status
 from ..driver import Driver, Run
-from ..options import AMOUNT, FILE, SWITCH, BadOption, Option, Options, Words
+from ..options import AMOUNT, FILE, SWITCH, BadOption, Option, Options, Text
 from ..solving import Result
 
 NAME = "bridge-certify"
 OPTIONS = (
-    Option("certificate", "", FILE, "where the certificate is written; - is standard output "
-                                    "(MODEL.certificate)"),
-    Option("driver", "cbc", Words(*solvers.NAMES), "the driver that finds a point"),
+    Option("certificate", "", FILE, "where the certificate is written; - is standard output (MODEL.certificate)"),
+    Option("driver", "cbc", Text(known=solvers.NAMES), "the driver that finds a point"),
     Option("prove", 1, SWITCH, "0: as a driver without prove=1"),
     Option("stats", 0, SWITCH, "1: a line of figures"),
-    Option("timelim", 60.0, AMOUNT, "seconds for the driver, and again for the certificate; 0: no "
-                                    "limit"),
-)
+    Option("timelim", 60.0, AMOUNT, "seconds for the driver, and again for the certificate; 0: no limit"))
 USAGE = """usage: {name} MODEL [option=value ..]
 
   finds what is true of MODEL by a solver and a search, writes a certificate of it, and tells the
@@ -33,9 +30,7 @@ USAGE = """usage: {name} MODEL [option=value ..]
   --      what follows is no option             -h  this text; help OPTION: one option
   Options may also stand in the variable {variable}.
 """
-EXAMPLE = """
-example: {name} mix timelim=60 certificate=mix.certificate
-"""
+EXAMPLE = "\nexample: {name} mix timelim=60 certificate=mix.certificate\n"
 
 
 class Finding(Run):
@@ -58,73 +53,58 @@ class Finding(Run):
     def deliver(self, result: Result) -> Status:
         """Where nothing is proved, nothing is done."""
         status = super().deliver(result)
-        if status in (Status.DONE, Status.NOT_SETTLED) and result.lines[-1].startswith("not pr"):
-            return Status.FAILED
-        return status
+        is_vain = status in (Status.DONE, Status.NOT_SETTLED) and result.lines[-1].startswith("not pr")
+        return Status.FAILED if is_vain else status
 
 
 class Command(Finding, Driver):
     """A finding that is told. With certificate=- the certificate is what standard output gets."""
 
-    usage_text, example_text = USAGE, EXAMPLE
-    is_hidden = False
+    usage_text, example_text, shows = USAGE, EXAMPLE, False
 
     def take_options(self) -> None:
         """What stands where the certificate is to be stays, unless overwrite=1."""
-        super().take_options()
         self.words.echo = False
+        super().take_options()
         given = self.options.certificate
-        self.is_hidden = given == "-"
-        if self.options.json and self.is_hidden:
+        self.is_quiet = given == "-"
+        if self.options.json and self.is_quiet:
             raise Failure(Code.BAD_OPTION, "json=1 and certificate=- both want standard output")
-        self.options.certificate = self.inputs.place() if self.is_hidden else given or self.model.stub + ".certificate"
-
-    def begin(self) -> None:
-        """The options are not told."""
-
-    def is_by_hand(self) -> bool:
-        """Values are shown where they are asked for."""
-        return False
-
-    def out(self) -> TextIO:
-        return sys.stderr if self.is_hidden else sys.stdout
+        self.options.certificate = self.inputs.place() if self.is_quiet else given or self.model.stub + ".certificate"
 
     def lines(self, result: Result) -> list[str]:
         """Where it is kept is not told of standard output."""
-        kept = result.end.kept if result.end else None
-        return [line for line in super().lines(result) if not (self.is_hidden and kept and line == kept.line)]
+        kept = result.kept.line if result.kept and self.is_quiet else None
+        return [line for line in super().lines(result) if line != kept]
 
     def deliver(self, result: Result) -> Status:
         status = super().deliver(result)
         if self.options.own["stats"] and result.figures:
-            print(f"{result.figures}; {time.process_time():.2f} s of the search", file=self.out())
-        if self.is_hidden and os.path.exists(self.options.certificate):
+            print(f"{result.figures}; {time.process_time():.2f} s of the search",
+                  file=sys.stderr if self.is_quiet else sys.stdout)
+        if self.is_quiet and os.path.exists(self.options.certificate):
             with open(self.options.certificate, encoding="ascii") as f:
                 shutil.copyfileobj(f, sys.stdout)
         return status
 
     def failed(self, fault: Failure) -> int:
         status = super().failed(fault)
-        if os.path.isfile(self.options.certificate) and not self.is_hidden:
+        if os.path.isfile(self.options.certificate) and not self.is_quiet:
             sys.stderr.write(f"{NAME}: {self.options.certificate} stays as it was\n")
         return status
 
 
 def solver_of(argv: Sequence[str]) -> str:
-    """The driver that the words name."""
-    options = Options(OPTIONS)
-    found = [word for word in (*argv, "driver=cbc") if word.startswith("driver=")]
-    return str(options.known["driver"].read(found[0].partition("=")[2]))
+    word = next(word for word in (*argv, "driver=cbc") if word.startswith("driver="))
+    return str(Options(OPTIONS).known["driver"].read(word.partition("=")[2]))
 
 
 def run(argv: Sequence[str]) -> int:
-    """The exit status."""
     try:
         command = Command(solver_of(argv))
     except BadOption as fault:
-        command = Command(solvers.NAMES[0])
-        return command.failed(Failure(Code.BAD_OPTION, str(fault)))
-    return report.reported(command, argv)
+        return Command(solvers.NAMES[0]).failed(fault)
+    return interface.reported(command, argv)
 
 
 def main() -> None:

@@ -2,19 +2,17 @@
 
 from __future__ import annotations
 
-from fractions import Fraction
+import math
 from typing import Iterator
 
-from . import points, qsopt, simplex, text
+from . import points, simplex, text
 from .clp import NoClp, State
 from .equations import hollow, parity
 from .judging import WITHOUT, Given, Judging, Verdict
 from .leaves import Closer
-from .model import Box, Model, Point
+from .model import Model, Point
 from .parts import Better
-from .watch import Paused, Stopped
-
-PIVOTS = 0.25                   # seconds of pivoting in whole numbers, before QSopt_ex
+from .watch import Stopped
 
 
 class Contradicting(Judging):
@@ -29,7 +27,7 @@ class Contradicting(Judging):
         yield from self.planes()
         try:
             if self.linear and simplex.is_small(self.model):
-                yield from self.where_it_fits(self.by_simplex)
+                yield from self.by_simplex()
             yield self.contradiction()
         except (NoClp, Stopped) as fault:
             yield from self.in_the_end()
@@ -38,8 +36,8 @@ class Contradicting(Judging):
             yield from self.from_point(better.point)
 
     def planes(self) -> Iterator[Verdict]:
-        """A whole column or row of whole columns without a whole number between its ends, or
-        equations without a whole solution: one plane, asked in each run."""
+        """A whole column or row of whole columns without a whole number between its ends, or equations without a whole
+        solution: one plane, asked in each run."""
         for found, what in ((hollow, "no whole number between two ends"),
                             (parity, "equations without a whole solution")):
             odd = found(self.model)
@@ -58,81 +56,45 @@ class Contradicting(Judging):
             raise Stopped(self.watch.why(plans.going[0].told.partition(": ")[2]))
         return self.by_tree(plans.best)
 
-    # in whole numbers --------------------------------------------------------------
-
     def in_the_end(self) -> Iterator[Verdict]:
-        """Of a small integer program whose search ends without a tree, in the time that is left:
-        what its relaxation has in fractions."""
-        if self.linear or not simplex.is_small(self.model):
-            return
-        try:
-            for verdict in self.where_it_fits(self.by_simplex):
-                yield verdict._replace(duals={})
-        except Stopped:
-            pass
+        """Of a small integer program whose search ends without a tree, in the time that is left: what its relaxation
+        has in fractions."""
+        if not self.linear and simplex.is_small(self.model):
+            yield from (verdict._replace(duals={}) for verdict in self.by_simplex() if verdict.is_proved())
 
     def by_simplex(self, given: Given = Given()) -> Iterator[Verdict]:
-        """What is true of a small linear program, from the basis that is given; of an integer one
-        where the point is whole, or there is none."""
-        p = self.model
+        """What is true of a small linear program, from the basis that is given; of an integer one where the point is
+        whole, or there is none."""
         self.watch.progress.tell("the simplex method in fractions")
-        ended = self.settled(given)
-        point = ended.point if ended.point is not None and p.fits(ended.point) else None
-        if ended.claim == "unbounded" and point is not None:
-            yield self.without_end(point, ended.ray)
-        is_infeasible = ended.claim == "infeasible"
-        leaf = Closer(p, None).of_fractions(ended.rows, is_infeasible)
+        try:
+            ended = self.ended(self.model, given)
+        except Stopped as fault:
+            yield Verdict(f"{WITHOUT}{fault}")
+            return
+        point, is_infeasible = ended.point, ended.claim == "infeasible"
+        leaf = Closer(self.model, None).of_fractions(ended.rows, is_infeasible)
         if is_infeasible:
             yield self.one_leaf(leaf, "infeasible", None)
-        if ended.claim == "optimal" and point is not None:
+        elif point is not None and self.model.fits(point) and ended.claim == "unbounded":
+            yield self.without_end(point, ended.ray)
+        elif point is not None and self.model.fits(point):
             self.know_point(point)
             self.know_leaf(leaf)
             yield from self.at_optimum(point, leaf)
 
-    def settled(self, given: Given) -> simplex.Ended:
-        """What is not soon done in whole numbers QSopt_ex has a try at, where it is there."""
-        if qsopt.place() is None:
-            return self.ended(self.model, given)
-        try:
-            return self.ended(self.model, given, PIVOTS)
-        except Paused:
-            return self.by_qsopt() or self.ended(self.model, given)
-
-    def by_qsopt(self) -> simplex.Ended | None:
-        """The optimum of QSopt_ex, where its point and duals are those of one."""
-        p = self.model
-        found = qsopt.optimum(self.program, self.folder, self.watch.until_over()) \
-            if self.linear and any(p.costs) else None
-        if found is None or not p.fits(found.values):
-            return None
-        rows = {i: p.sign * self.factors.get(i, 1) * y for i, y in found.duals.items() if y}
-        judged = Closer(p, None).judge(Closer(p, None).of_fractions(rows, False), Box(p.lo, p.hi))
-        if judged.sideless or Fraction(judged.bound, judged.scale) != p.value(found.values):
-            return None
-        return simplex.Ended("optimal", found.values, rows)
-
-    def ended(self, p: Model, given: Given = Given(), seconds: float = float("inf")) -> simplex.Ended:
-        until = self.watch.spent() + seconds
-
-        def look() -> None:
-            self.watch.look(0, until)
-        tableau = simplex.Simplex(p, look)
-        values = given.values or [0.0] * p.n
-        tableau.start(given.basis.columns if given.basis else [], [float(v) for v in values])
+    def ended(self, p: Model, given: Given = Given()) -> simplex.Ended:
+        tableau = simplex.Simplex(p, lambda: self.watch.look(0, math.inf))
+        tableau.start(given.basis.columns if given.basis else [], given.doubles() or [0.0] * p.n)
         return tableau.run()
-
-    # no end ------------------------------------------------------------------------
 
     def unbounded(self) -> Verdict:
         """By a point and a ray."""
         if self.relaxed and not self.linear:
             return Verdict(WITHOUT + "only the relaxation is unbounded")
         direction = self.ray()
-        if direction is None:
-            return Verdict(WITHOUT + "no exact ray was found")
-        point = self.some_point()
+        point = None if direction is None else self.some_point()
         if point is None:
-            return Verdict(WITHOUT + "no exact point was found")
+            return Verdict(f"{WITHOUT}no exact {'ray' if direction is None else 'point'} was found")
         return self.without_end(point, direction)
 
     def endless(self) -> Iterator[Verdict]:
@@ -150,13 +112,11 @@ class Contradicting(Judging):
         p = self.model
         if short_of_rays(p):
             return None
-        found, cone = points.ray(p), p.cone()
-        if found is None and simplex.is_small(cone):
-            direction = self.ended(cone).point
-            if direction is not None and points.is_ray(p, direction):
-                found = direction
+        cone = p.cone()
+        found = points.ray(cone)
+        direction = self.ended(cone).point if found is None and simplex.is_small(cone) else None
         self.has_looked = True
-        return found
+        return direction if direction is not None and points.is_ray(cone, direction) else found
 
     def is_open(self) -> bool:
         """Whether there may be a ray: there is no bound, and none was looked for to the end."""
@@ -167,17 +127,16 @@ class Contradicting(Judging):
         p = self.model.without_cost()
         if self.linear:
             clp = p.relaxation()
-            found = points.any_point(p, clp) if clp.solve() is State.OPTIMAL else None
-            if found is None and simplex.is_small(p):
-                return self.ended(p).point
-            return found
-        seconds = self.watch.left()
+            found = None
+            if clp.solve() is State.OPTIMAL:
+                found = next(points.near(p, clp.values()), None) or points.vertex(p, clp.basis(), clp.values())
+            return self.ended(p).point if found is None and simplex.is_small(p) else found
         try:
-            self.shared(p).resume(self.watch.spent() + seconds)
+            self.shared(p).resume(self.watch.spent() + self.watch.left())
         except Better as better:
             return better.point
         except Stopped:
-            pass
+            return None
         return None
 
 

@@ -1,13 +1,12 @@
 """Forms in which a program of few whole columns is thin, by reducing a lattice (LLL).
 
-They are split beside the columns where columns are free or wide, or rows are equations with large numbers.
-"""
+They are split beside the columns where columns are free or wide, or rows are equations with large numbers."""
 
 from __future__ import annotations
 
 from fractions import Fraction
 from math import gcd
-from typing import Dict, List, Mapping, NamedTuple, Sequence
+from typing import Dict, List, Mapping, Sequence, Tuple
 
 from .model import Model
 
@@ -23,13 +22,7 @@ MOST_ROUNDS = 20                # of taking equations away from a form
 
 Form = Dict[int, int]
 Matrix = List[List[int]]
-
-
-class Thin(NamedTuple):
-    """A form whose values lie within a width; its columns count from 0 among the wide ones."""
-
-    terms: Mapping[int, Fraction]
-    width: Fraction
+Thin = Tuple[Mapping[int, Fraction], Fraction]  # a form of wide columns, which count from 0, and its width
 
 
 class Reduction:
@@ -37,11 +30,10 @@ class Reduction:
     these. `d` and `lam` are the determinants and products of its orthogonal basis."""
 
     def __init__(self, rows: Matrix) -> None:
-        n = len(rows)
+        every = range(len(rows))
         self.rows = [list(row) for row in rows]
-        self.back = [[int(i == j) for j in range(n)] for i in range(n)]
-        self.d = [1] + [0] * n
-        self.lam = [[0] * n for _ in range(n)]
+        self.back = [[int(i == j) for j in every] for i in every]
+        self.d, self.lam = [1] + [0 for _ in every], [[0 for _ in every] for _ in every]
 
     def orthogonal(self, k: int) -> bool:
         """Row k against those before; False where it depends on them."""
@@ -67,37 +59,31 @@ class Reduction:
         for i in range(other):
             lam[k][i] -= q * lam[other][i]
 
-    def swap(self, k: int, last: int) -> None:
+    def swap(self, k: int) -> None:
         d, lam = self.d, self.lam
         for matrix in (self.rows, self.back):
             matrix[k], matrix[k - 1] = matrix[k - 1], matrix[k]
-        for j in range(k - 1):
-            lam[k][j], lam[k - 1][j] = lam[k - 1][j], lam[k][j]
+        lam[k][:k - 1], lam[k - 1][:k - 1] = lam[k - 1][:k - 1], lam[k][:k - 1]
         share = lam[k][k - 1]
         b = (d[k - 1] * d[k + 1] + share * share) // d[k]
-        for i in range(k + 1, last + 1):
-            t = lam[i][k]
-            lam[i][k] = (d[k + 1] * lam[i][k - 1] - share * t) // d[k]
-            lam[i][k - 1] = (b * t + share * lam[i][k]) // d[k + 1]
+        for row in lam[k + 1:]:
+            t = row[k]
+            row[k] = (d[k + 1] * row[k - 1] - share * t) // d[k]
+            row[k - 1] = (b * t + share * row[k]) // d[k + 1]
         d[k] = b
 
     def run(self) -> bool:
         """False where rows depend on each other, or it takes too long."""
-        d, lam, n = self.d, self.lam, len(self.rows)
-        if not self.orthogonal(0):
+        d, lam, k = self.d, self.lam, 1
+        if not all(map(self.orthogonal, range(len(self.rows)))):
             return False
-        k, last = 1, 0
         for _ in range(MOST_STEPS):
-            if k >= n:
+            if k >= len(self.rows):
                 return True
-            if k > last:
-                last = k
-                if not self.orthogonal(k):
-                    return False
             self.reduce(k, k - 1)
             size = d[k + 1] * d[k - 1] + lam[k][k - 1] ** 2
             if LOVASZ[1] * size < LOVASZ[0] * d[k] * d[k]:
-                self.swap(k, last)
+                self.swap(k)
                 k = max(1, k - 1)
             else:
                 for other in range(k - 2, -1, -1):
@@ -107,40 +93,30 @@ class Reduction:
 
 
 def thin_columns(p: Model, wide: Sequence[int]) -> list[Thin]:
-    found = []
-    for k, j in enumerate(wide):
-        lo, hi = p.lo[j], p.hi[j]
-        width = OPEN_WIDTH if lo is None or hi is None else Fraction(hi - lo, p.unit)
-        found.append(Thin({k: Fraction(1)}, max(width, Fraction(1, 2))))
-    return found
+    ends = [(p.lo[j], p.hi[j]) for j in wide]
+    widths = (OPEN_WIDTH if lo is None or hi is None else Fraction(hi - lo, p.unit) for lo, hi in ends)
+    return [({k: Fraction(1)}, max(width, Fraction(1, 2))) for k, width in enumerate(widths)]
 
 
 def thin_row(p: Model, i: int, place: Mapping[int, int]) -> Thin | None:
     """A row over wide columns alone, a missing side of which comes from bounds."""
-    row, lo, hi = p.rows[i], p.side_lo[i], p.side_hi[i]
-    if lo is None and hi is None or any(j not in place and (p.lo[j] is None or p.lo[j] != p.hi[j]) for j, _ in row):
+    row, sides = p.rows[i], (p.side_lo[i], p.side_hi[i])
+    if sides == (None, None) or any(j not in place and (p.lo[j] is None or p.lo[j] != p.hi[j]) for j, _ in row):
         return None
     terms = {place[j]: Fraction(a, p.scale) for j, a in row if j in place}
-    ends = [end_of(p, i, False) if lo is None else Fraction(lo, p.unit),
-            end_of(p, i, True) if hi is None else Fraction(hi, p.unit)]
-    if not terms or ends[0] is None or ends[1] is None:
-        return None
-    return sized(terms, ends[1] - ends[0])
+    lo, hi = (end_of(p, i, upper) if side is None else Fraction(side, p.unit) for upper, side in enumerate(sides))
+    return None if not terms or lo is None or hi is None else sized(terms, hi - lo)
 
 
-def end_of(p: Model, i: int, is_upper: bool) -> Fraction | None:
+def end_of(p: Model, i: int, upper: int) -> Fraction | None:
     """The least or greatest value of a row within bounds."""
-    total = Fraction(0)
-    for j, a in p.rows[i]:
-        end = p.hi[j] if (a > 0) == is_upper else p.lo[j]
-        if end is None:
-            return None
-        total += Fraction(a * end, p.scale * p.unit)
-    return total
+    ends = [(a, p.hi[j] if (a > 0) == upper else p.lo[j]) for j, a in p.rows[i]]
+    finite = [a * end for a, end in ends if end is not None]
+    return Fraction(sum(finite), p.scale * p.unit) if len(finite) == len(ends) else None
 
 
 def sized(terms: Mapping[int, Fraction], width: Fraction) -> Thin:
-    return Thin(terms, max(width, max(abs(a) for a in terms.values()) / BIG))
+    return terms, max(width, max(abs(a) for a in terms.values()) / BIG)
 
 
 def directions(p: Model, objective: Mapping[int, int] = {}, width: Fraction = Fraction(0)) -> list[Form]:
@@ -149,22 +125,16 @@ def directions(p: Model, objective: Mapping[int, int] = {}, width: Fraction = Fr
     if not 2 <= len(wide) <= MOST_COLUMNS:
         return []
     place = {j: k for k, j in enumerate(wide)}
-    thin = thin_columns(p, wide)
-    thin += [t for t in (thin_row(p, i, place) for i in range(p.m)) if t is not None]
     terms = {place[j]: Fraction(a) for j, a in objective.items() if j in place}
-    if terms:
-        thin.append(sized(terms, width))
-    reduction = Reduction([[int(t.terms[k] * PRECISION / t.width) if k in t.terms else 0
-                            for t in thin] for k in range(len(wide))])
+    thin = [*thin_columns(p, wide), *filter(None, (thin_row(p, i, place) for i in range(p.m))),
+            *([sized(terms, width)] if terms else [])]
+    reduction = Reduction([[int(terms[k] * PRECISION / width) if k in terms else 0 for terms, width in thin]
+                           for k in range(len(wide))])
     if not reduction.run():
         return []
-    back, d = reduction.back, reduction.d
-    order = sorted(range(len(wide)), key=lambda k: -Fraction(d[k + 1], d[k]))
-    found: list[Form] = []
-    equations = whole_equations(p, place)
-    for k in order:
-        form = {wide[j]: a for j, a in enumerate(back[k]) if a}
-        form = without(form, equations)
+    d, found, equations = reduction.d, list[Form](), whole_equations(p, place)
+    for k in sorted(range(len(wide)), key=lambda k: -Fraction(d[k + 1], d[k])):
+        form = without({wide[j]: a for j, a in enumerate(reduction.back[k]) if a}, equations)
         if len(form) > 1 and max(abs(a) for a in form.values()) < MOST_COEFFICIENT:
             sign = 1 if form[min(form)] > 0 else -1
             found.append({j: sign * a for j, a in form.items()})
@@ -173,27 +143,19 @@ def directions(p: Model, objective: Mapping[int, int] = {}, width: Fraction = Fr
 
 def whole_equations(p: Model, place: Mapping[int, int]) -> list[Form]:
     """Equations over wide columns in whole numbers without a common factor."""
-    found = []
-    for row, lo, hi in zip(p.rows, p.side_lo, p.side_hi):
-        if lo is not None and lo == hi and row and all(j in place for j, _ in row):
-            g = gcd(*(a for _, a in row))
-            found.append({j: a // g for j, a in row})
-    return found
+    rows = [row for row, lo, hi in zip(p.rows, p.side_lo, p.side_hi)
+            if lo is not None and lo == hi and row and all(j in place for j, _ in row)]
+    return [{j: a // gcd(*(a for _, a in row)) for j, a in row} for row in rows]
 
 
 def without(form: Form, equations: Sequence[Form]) -> Form:
     """The form that is the same at all points, with smaller coefficients: multiples of equations are taken away."""
     for _ in range(MOST_ROUNDS):
-        changed = False
+        before = dict(form)
         for terms in equations:
-            product = sum(a * form.get(j, 0) for j, a in terms.items())
-            size = sum(a * a for a in terms.values())
+            product, size = sum(a * form.get(j, 0) for j, a in terms.items()), sum(a * a for a in terms.values())
             q = (2 * product + size) // (2 * size)
-            if q:
-                changed = True
-                for j, a in terms.items():
-                    form[j] = form.get(j, 0) - q * a
-        form = {j: a for j, a in form.items() if a}
-        if not changed:
+            form = {j: v for j in {**form, **terms} if (v := form.get(j, 0) - q * terms.get(j, 0))} if q else form
+        if form == before:
             break
     return form

@@ -18,9 +18,10 @@ NOTE = "by doubles: the duals, rounded to the safe side, bound the objective to 
 
 
 def closes(p: Model, x: Sequence[float], y: Mapping[int, float]) -> bool:
-    """Whether the point misses nothing but rounding, and the duals bound the objective there, also
-    with what that rounding is worth by them; `y` by row, of the program minimised."""
-    x = inside(p, x)
+    """Whether the point misses nothing but rounding, and the duals bound the objective there, also with what that
+    rounding is worth by them; `y` by row, of the program minimised."""
+    x = [v - by if abs(by := beyond(v, lo, hi, p.unit)) <= OWN * max(1.0, abs(v)) else v
+         for v, lo, hi in zip(x, p.lo, p.hi)]       # at bounds that are missed by rounding
     missed = misses(p, x)
     if missed is None:
         return False
@@ -32,15 +33,9 @@ def closes(p: Model, x: Sequence[float], y: Mapping[int, float]) -> bool:
     return value - bound(p, x, y) + worth <= room
 
 
-def inside(p: Model, x: Sequence[float]) -> list[float]:
-    """At bounds that are missed by rounding."""
-    return [v - by if (by := beyond(v, lo, hi, p.unit)) and abs(by) <= OWN * max(1.0, abs(v))
-            else v for v, lo, hi in zip(x, p.lo, p.hi)]
-
-
 def misses(p: Model, x: Sequence[float]) -> list[float] | None:
-    """By how much rows are missed, and what doubles leave out of that; None where a row or bound is
-    missed by more than rounding."""
+    """By how much rows are missed, and what doubles leave out of that; None where a row or bound is missed by more than
+    rounding."""
     if any(beyond(v, lo, hi, p.unit) for v, lo, hi in zip(x, p.lo, p.hi)):
         return None
     found = []
@@ -56,9 +51,8 @@ def misses(p: Model, x: Sequence[float]) -> list[float] | None:
 
 def beyond(at: float, lo: Side, hi: Side, unit: int) -> float:
     """What is over the end that is passed."""
-    if lo is not None and at < lo / unit:
-        return at - lo / unit
-    return at - hi / unit if hi is not None and at > hi / unit else 0.0
+    least, most = -math.inf if lo is None else lo / unit, math.inf if hi is None else hi / unit
+    return at - least if at < least else at - most if at > most else 0.0
 
 
 def bound(p: Model, x: Sequence[float], y: Mapping[int, float]) -> float:
@@ -79,7 +73,7 @@ def bound(p: Model, x: Sequence[float], y: Mapping[int, float]) -> float:
             counts[j] += 1
     for j, d in enumerate(reduced):
         room, none = counts[j] * UNIT * sizes[j], NOISE * sizes[j]
-        least = min(at_least(p, j, d - room, x[j], none), at_least(p, j, d + room, x[j], none))
+        least = min(at_least(p, j, cost, x[j], none) for cost in (d - room, d + room))
         total += least
         size += abs(least)
     return total - (p.n + len(y) + 2) * UNIT * size

@@ -5,8 +5,8 @@ from __future__ import annotations
 
 from collections import Counter
 from fractions import Fraction
-from math import floor, gcd, lcm
-from typing import Dict, Iterator, List, Mapping, NamedTuple, Tuple
+from math import floor, gcd
+from typing import Dict, Iterator, List, NamedTuple, Tuple
 
 from .model import Model
 
@@ -67,99 +67,70 @@ def ends(p: Model, i: int, u: Fraction) -> Iterator[Tuple[bool, End]]:
             yield is_upper, (Fraction(side, p.unit), {})
 
 
-class Equality(NamedTuple):
-    row: int
-    terms: Mapping[int, Fraction]
-    side: Fraction
-
-
 def parity(p: Model) -> Parity | None:
-    rows = []
-    for i in range(p.m):
-        side = p.side_lo[i]
-        if side is not None and side == p.side_hi[i] and p.rows[i] and all(p.whole[j] for j, _ in p.rows[i]):
-            terms = {j: Fraction(a, p.scale) for j, a in p.rows[i]}
-            rows.append(Equality(i, terms, Fraction(side, p.unit)))
+    """By multipliers of equations over whole columns, under which the terms are whole and the side is not."""
+    rows = [i for i, side in enumerate(p.side_lo) if side is not None and side == p.side_hi[i]
+            and p.rows[i] and all(p.whole[j] for j, _ in p.rows[i])]
     if not rows or len(rows) > MOST_ROWS:
         return None
-    found = multipliers(rows)
+    by = [p.scale // gcd(p.scale, *(a for _, a in p.rows[i])) for i in rows]
+    terms = [{j: a * k // p.scale for j, a in p.rows[i]} for i, k in zip(rows, by)]
+    sides = [Fraction((p.side_lo[i] or 0) * k, p.unit) for i, k in zip(rows, by)]
+    found = broken([[row.get(j, 0) for row in terms] for j in sorted({j for row in terms for j in row})], sides)
     if found is None:
         return None
-    form: dict[int, Fraction] = {}
-    total = Fraction(0)
-    for row, u in zip(rows, found):
-        total += u * row.side
-        for j, a in row.terms.items():
+    form: Dict[int, Fraction] = {}
+    for k, u in found.items():
+        for j, a in terms[k].items():
             form[j] = form.get(j, Fraction(0)) + u * a
+    at = floor(sum(u * sides[k] for k, u in found.items()))
+    used = {rows[k]: u * by[k] for k, u in found.items() if u}
     whole = {j: int(a) for j, a in form.items() if a}
-    used = {row.row: u for row, u in zip(rows, found) if u}
-    return Parity(whole, floor(total), used, used) if whole else None
+    return Parity(whole, at, used, used) if whole else None
 
 
-def multipliers(rows: List[Equality]) -> list[Fraction] | None:
-    """u such that u times the terms is whole and u times the sides is not."""
-    numbers = sorted({j for row in rows for j in row.terms})
-    scale = [lcm(*(a.denominator for a in row.terms.values())) for row in rows]
-    columns = [[int(row.terms.get(j, 0) * k) for row, k in zip(rows, scale)] for j in numbers]
-    sides = [row.side * k for row, k in zip(rows, scale)]
-    found = Triangle(columns).broken(sides)
-    if found is None:
-        return None
-    return [found.get(i, Fraction(0)) * k for i, k in enumerate(scale)]
+def broken(columns: List[List[int]], sides: List[Fraction]) -> Dict[int, Fraction] | None:
+    """Multipliers by row for the first unknown that is not whole, of columns that whole operations make a lower
+    triangle, row by row; None where there is none, or where the equations contradict each other as they stand."""
+    rows: List[int] = []            # of the diagonal
+    values: List[Fraction] = []     # of its unknowns
+    for i, side in enumerate(sides):
+        start = len(rows)
+        if not cleared(columns, i, start):
+            return None
+        rest = side - sum(columns[k][i] * v for k, v in enumerate(values))
+        pivot = columns[start][i] if start < len(columns) else 0
+        if rest and not pivot:
+            return None
+        if pivot:
+            rows.append(i)
+            values.append(Fraction(rest) / pivot)
+            if values[-1].denominator != 1:
+                return row_of_inverse(columns, rows)
+    return None
 
 
-class Triangle:
-    """Columns that whole operations make a lower triangle, row by row. `pivots` are (row, column)
-    of its diagonal, `z` the values of its unknowns."""
-
-    def __init__(self, columns: List[List[int]]) -> None:
-        self.columns = columns
-        self.pivots: list[tuple[int, int]] = []
-        self.z: list[Fraction] = []
-
-    def broken(self, sides: List[Fraction]) -> dict[int, Fraction] | None:
-        """Multipliers by row for the first unknown that is not whole; None where there is none,
-        or where the equations contradict each other as they stand."""
-        for i, side in enumerate(sides):
-            start = len(self.pivots)
-            if not self.cleared(i, start):
-                return None
-            rest = side - sum(self.columns[j][i] * v for v, (_, j) in zip(self.z, self.pivots))
-            pivot = self.columns[start][i] if start < len(self.columns) else 0
-            if not pivot:
-                if rest:
-                    return None
-                continue
-            self.pivots.append((i, start))
-            self.z.append(Fraction(rest) / pivot)
-            if self.z[-1].denominator != 1:
-                return self.row_of_inverse()
-        return None
-
-    def cleared(self, i: int, start: int) -> bool:
-        """Leaves row i one number from `start` on, which stands there. False for long ones."""
-        c = self.columns
-        while True:
-            left = [j for j in range(start, len(c)) if c[j][i]]
-            if not left:
-                return True
-            least = min(left, key=lambda j: abs(c[j][i]))
-            if len(left) == 1:
+def cleared(c: List[List[int]], i: int, start: int) -> bool:
+    """Leaves row i one number from `start` on, which stands there. False for long ones."""
+    while True:
+        left = [j for j in range(start, len(c)) if c[j][i]]
+        least = min(left, key=lambda j: abs(c[j][i]), default=start)
+        if len(left) < 2:
+            if left:
                 c[start], c[least] = c[least], c[start]
-                return True
-            for j in left:
-                q = c[j][i] // c[least][i]
-                if j != least and q:
-                    c[j] = [x - q * y for x, y in zip(c[j], c[least])]
-            if max(abs(v) for v in c[least]) > MOST_NUMBER:
-                return False
+            return True
+        for j in left:
+            q = c[j][i] // c[least][i]
+            if j != least and q:
+                c[j] = [x - q * y for x, y in zip(c[j], c[least])]
+        if max(abs(v) for v in c[least]) > MOST_NUMBER:
+            return False
 
-    def row_of_inverse(self) -> dict[int, Fraction]:
-        """u with u times the triangle the last unit row."""
-        k = len(self.pivots)
-        u = [Fraction(0)] * k
-        for t in range(k - 1, -1, -1):
-            column = self.columns[self.pivots[t][1]]
-            rest = sum(u[s] * column[self.pivots[s][0]] for s in range(t + 1, k))
-            u[t] = (int(t == k - 1) - rest) / Fraction(column[self.pivots[t][0]])
-        return {row: v for (row, _), v in zip(self.pivots, u)}
+
+def row_of_inverse(columns: List[List[int]], rows: List[int]) -> Dict[int, Fraction]:
+    """u with u times the triangle the last unit row."""
+    u: Dict[int, Fraction] = {}
+    for k in reversed(range(len(rows))):
+        rest = int(k == len(rows) - 1) - sum(v * columns[k][i] for i, v in u.items())
+        u[rows[k]] = rest / Fraction(columns[k][rows[k]])
+    return u

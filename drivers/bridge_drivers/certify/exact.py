@@ -1,16 +1,19 @@
-"""Sparse linear systems, by elimination in whole numbers."""
+"""Sparse linear equations in whole numbers, and what solves them by elimination."""
 
 from __future__ import annotations
 
+from collections import defaultdict
 from fractions import Fraction
+from itertools import islice
 from math import gcd, lcm
 from typing import Dict, Iterable, Mapping, Tuple, Union
 
 Rational = Union[int, Fraction]
 Equation = Tuple[Mapping[int, Rational], Rational]      # coefficients of unknowns, right side
-Terms = Dict[int, int]
+Line = Dict[int, int]           # an equation with 0 on its right
+SIDE = -1                       # the unknown of a line that is -1: its coefficient is the right side
 WORK = 2_000_000                # numbers that are touched at most
-LOOKED_AT = 8                   # equations of the least length, for a pivot
+LOOKED_AT = 9                   # equations of the least length, for a pivot
 
 
 class TooLong(Exception):
@@ -21,91 +24,88 @@ class Contradiction(Exception):
     """A system without a solution."""
 
 
-def whole(terms: Mapping[int, Rational], side: Rational) -> tuple[Terms, int]:
-    """The equation in whole numbers without a common factor."""
-    if isinstance(side, int) and all(isinstance(a, int) for a in terms.values()):
-        return reduced({i: int(a) for i, a in terms.items() if a}, side)
-    exact = {i: Fraction(a) for i, a in terms.items() if a}
-    right = Fraction(side)
-    k = lcm(right.denominator, *(a.denominator for a in exact.values()))
-    return reduced({i: int(a * k) for i, a in exact.items()}, int(right * k))
+class Lines:
+    """Lines by name, without common factors, and where each unknown stands. `work` counts numbers that were touched."""
+
+    def __init__(self) -> None:
+        self.lines: dict[int, Line] = {}
+        self.at: defaultdict[int, set[int]] = defaultdict(set)
+        self.work = 0
+
+    def add(self, name: int, line: Line) -> None:
+        for k in line:
+            self.at[k].add(name)
+        self.put(name, line)
+
+    def put(self, name: int, line: Line) -> None:
+        g = gcd(*line.values())
+        self.lines[name] = {k: a // g for k, a in line.items()} if g > 1 else line
+
+    def take(self, name: int) -> Line:
+        return self.lines.pop(name)
+
+    def eliminated(self, name: int, unknown: int) -> Line:
+        """Takes a line away, and by multiples of it the unknown out of all others."""
+        line = self.take(name)
+        for k in line:
+            self.at[k].discard(name)
+        for other in self.at.pop(unknown):
+            rest = self.take(other)
+            q, p = rest.pop(unknown), line[unknown]
+            g = gcd(p, q)
+            keep, share = p // g, q // g
+            if keep != 1:
+                rest = {k: a * keep for k, a in rest.items()}
+            for k, a in line.items():
+                left = rest.get(k, 0) - share * a if k != unknown else 0
+                if left:
+                    rest[k] = left
+                    self.at[k].add(other)
+                elif rest.pop(k, 0):
+                    self.at[k].discard(other)
+            self.work += len(rest) + len(line)
+            self.put(other, rest)
+        return line
 
 
-def reduced(terms: Terms, side: int) -> tuple[Terms, int]:
-    g = gcd(side, *terms.values())
-    if g > 1:
-        return {i: a // g for i, a in terms.items()}, side // g
-    return terms, side
-
-
-class Elimination:
-    """The equations that are left by number, where each unknown stands, and numbers by length."""
+class Elimination(Lines):
+    """The lines that are left, and their names by the number of unknowns. It takes at most so much work."""
 
     def __init__(self, system: Iterable[Equation], most: int) -> None:
-        self.rows: dict[int, tuple[Terms, int]] = {}
-        self.at: dict[int, set[int]] = {}
-        self.lengths: dict[int, set[int]] = {}
-        self.work, self.most = 0, most
-        for k, (terms, side) in enumerate(system):
-            self.put(k, *whole(terms, side))
-            for i in self.rows[k][0] if k in self.rows else ():
-                self.at.setdefault(i, set()).add(k)
+        super().__init__()
+        self.most = most
+        self.lengths: defaultdict[int, set[int]] = defaultdict(set)
+        for name, (terms, side) in enumerate(system):
+            line = {k: a for k, a in (*terms.items(), (SIDE, side)) if a}
+            by = lcm(*(a.denominator for a in line.values()))
+            self.add(name, {k: int(a * by) for k, a in line.items()})
 
-    def put(self, number: int, terms: Terms, side: int) -> None:
-        """An equation; one without terms says whether there is a solution."""
-        if not terms:
-            if side:
-                raise Contradiction()
-            self.rows.pop(number, None)
-            return
-        self.rows[number] = terms, side
-        self.lengths.setdefault(len(terms), set()).add(number)
-
-    def pivot(self) -> tuple[int, int]:
-        """An equation of the least length, and in it the unknown that the fewest others have."""
-        least = min(length for length, numbers in self.lengths.items() if numbers)
-        best = (len(self.rows) + 1, -1, -1)
-        for count, k in enumerate(self.lengths[least]):
-            if count > LOOKED_AT or best[0] == 1:
-                break
-            best = min(best, min((len(self.at[i]), k, i) for i in self.rows[k][0]))
-        return best[1], best[2]
-
-    def take(self) -> tuple[int, Terms, int]:
-        """Takes an unknown out of all equations but one, which is answered with it."""
-        number, unknown = self.pivot()
-        terms, side = self.rows.pop(number)
-        self.lengths[len(terms)].discard(number)
-        for i in terms:
-            self.at[i].discard(number)
-        for other in list(self.at[unknown]):
-            self.subtract(other, terms, side, unknown)
-        self.at[unknown] = set()
-        return unknown, terms, side
-
-    def subtract(self, other: int, terms: Terms, side: int, unknown: int) -> None:
-        """A multiple of an equation, so that the unknown leaves the other one."""
-        rest, right = self.rows[other]
-        self.lengths[len(rest)].discard(other)
-        q, p = rest.pop(unknown), terms[unknown]
-        g = gcd(p, q)
-        keep, share = p // g, q // g
-        if keep != 1:
-            rest = {i: a * keep for i, a in rest.items()}
-        for i, a in terms.items():
-            if i == unknown:
-                continue
-            left = rest.get(i, 0) - share * a
-            if left:
-                rest[i] = left
-                self.at[i].add(other)
-            elif i in rest:
-                del rest[i]
-                self.at[i].discard(other)
-        self.work += len(rest) + len(terms)
+    def put(self, name: int, line: Line) -> None:
+        """One without unknowns says whether there is a solution."""
         if self.work > self.most:
             raise TooLong()
-        self.put(other, *reduced(rest, keep * right - share * side))
+        unknowns = len(line) - (SIDE in line)
+        if line and not unknowns:
+            raise Contradiction()
+        if line:
+            super().put(name, line)
+            self.lengths[unknowns].add(name)
+
+    def take(self, name: int) -> Line:
+        line = super().take(name)
+        self.lengths[len(line) - (SIDE in line)].discard(name)
+        return line
+
+    def next(self) -> tuple[int, Line]:
+        """Of a line of the least length the unknown that the fewest others have, which it answers from then on."""
+        least = min(length for length, names in self.lengths.items() if names)
+        best = (len(self.lines) + 1, 0, 0)
+        for name in islice(self.lengths[least], LOOKED_AT):
+            best = min(best, min((len(self.at[k]), name, k) for k in self.lines[name] if k != SIDE))
+            if best[0] == 1:
+                break
+        _, name, unknown = best
+        return unknown, self.eliminated(name, unknown)
 
 
 def solved(system: Iterable[Equation], most: int = WORK) -> dict[int, Fraction] | None:
@@ -114,16 +114,13 @@ def solved(system: Iterable[Equation], most: int = WORK) -> dict[int, Fraction] 
     done = []
     try:
         left = Elimination(system, most)
-        while left.rows:
-            done.append(left.take())
+        while left.lines:
+            done.append(left.next())
     except (Contradiction, TooLong):
         return None
-    values: dict[int, Fraction] = {}
-    for unknown, terms, side in reversed(done):
-        total = Fraction(side)
-        for i, a in terms.items():
-            value = values.get(i)
-            if value and i != unknown:
-                total -= a * value
-        values[unknown] = total / terms[unknown]
+    values = {SIDE: Fraction(-1)}
+    for unknown, line in reversed(done):
+        total = sum((a * values[k] for k, a in line.items() if k != unknown and values.get(k)), Fraction(0))
+        values[unknown] = -total / line[unknown]
+    del values[SIDE]
     return values

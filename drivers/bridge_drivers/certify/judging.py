@@ -10,18 +10,14 @@ from fractions import Fraction
 from typing import Callable, Iterator, Mapping, NamedTuple, Sequence
 
 from . import points, text
-from .clp import Clp, State, library
+from .clp import Basis, Clp, State, library
 from .crowd import Crowd
-from .leaves import Closer, Multipliers
+from .leaves import Closer, Multipliers, is_narrow, width
 from .model import Box, Model, Point, model_of
-from .numbers import is_narrow, width
 from .plans import Plans, Shaped, written
-from .points import Basis
-from .pool import Pool
-from .portion import Problem
+from .pool import Pool, Problem
 from .short import shortened
 from .text import Naming
-from .tree import Spool
 from .watch import Watch
 from ..bridge import Bridge, Late, Refused
 from ..files import naming
@@ -35,7 +31,6 @@ TREE = 0.75                     # of the seconds that are left, to judge a tree
 MOST_POINTS = 4                 # that are known at a time
 MOST_DIGITS = 15                # of a bound that is told as it is
 WIDTH = 127                     # bits of numbers in a certificate
-NOTHING = Multipliers({}, 1, False)     # the leaf of bounds alone
 
 
 class Given(NamedTuple):
@@ -45,6 +40,9 @@ class Given(NamedTuple):
     values: Sequence[float | Fraction] | None = None
     duals: Mapping[int, float | Fraction] | None = None
     basis: Basis | None = None
+
+    def doubles(self) -> list[float]:
+        return [float(v) for v in self.values or ()]
 
 
 class Verdict(NamedTuple):
@@ -71,10 +69,6 @@ class Verdict(NamedTuple):
     def claim(self) -> str:
         """The first word of a line that is proved, nothing of another one."""
         return self.line.split()[0] if self.is_proved() else ""
-
-    def bound(self) -> Fraction:
-        """That of `bound` and `within`."""
-        return Fraction(self.line.split()[1])
 
 
 class Bound(NamedTuple):
@@ -117,19 +111,24 @@ class Judging:
 
     def shared(self, p: Model) -> Crowd:
         """The search for a point."""
-        return Crowd(Problem(p, [], [], None, False), self.exact, Spool(), self.watch, self.pool)
+        return Crowd(Problem(p), self.exact, self.watch, self.pool)
 
     def load(self) -> None:
         if not hasattr(self, "model"):
-            self.model, self.factors = model_of(self.bridge, self.nl, self.folder, self.program)
+            self.model, self.factors = model_of(self.bridge, self.nl, self.program)
             self.linear = not any(self.model.whole)
             if not self.proves:
                 self.watch.restart()
                 Clp.restrict(self.watch.until_over())
 
-    # the text and its verdict ------------------------------------------------------
-
     def judged(self, lines: Iterator[str], tree: str | None = None, point: Point | None = None) -> Verdict:
+        """By `bridge verify`; where numbers are too wide for it, others go on."""
+        try:
+            return self.verified(lines, tree, point)
+        except Refused as fault:
+            return Verdict(WITHOUT + fault.line())
+
+    def verified(self, lines: Iterator[str], tree: str | None = None, point: Point | None = None) -> Verdict:
         """Writes the lines, and a tree from its file; asks `bridge verify`."""
         written(self.path, lines)
         if tree is not None:
@@ -161,15 +160,6 @@ class Judging:
             first = first or verdict
         return first or Verdict(WITHOUT + "no certificate was found")
 
-    def where_it_fits(self, verdicts: Callable[[], Iterator[Verdict]]) -> Iterator[Verdict]:
-        """Where numbers are too wide for a certificate, others go on."""
-        try:
-            yield from verdicts()
-        except Refused as fault:
-            yield Verdict(WITHOUT + fault.line())
-
-    # what is known -----------------------------------------------------------------
-
     def know_point(self, point: Point) -> None:
         """An exact point that a certificate can hold; the best stays."""
         if all(map(is_narrow, point)) and point not in self.points:
@@ -195,55 +185,46 @@ class Judging:
     def told(self) -> Iterator[Verdict]:
         """What is known, the strongest claim first: a better point may be too wide where another one is not."""
         bound = self.shown
-        claims: list[tuple[str, Point | None]] = []
         if bound is not None:
             for point in self.points:
                 is_met = bound.value >= self.model.value(point)
-                claims += [("optimal", point)] if is_met else [("within", point)]
-            claims.append(("bound", None))
-        claims += [("feasible", point) for point in self.points]
-        for claim, at in claims:
-            yield from self.where_it_fits(lambda: self.claimed(claim, bound, at))
-
-    def claimed(self, claim: str, bound: Bound | None, point: Point | None) -> Iterator[Verdict]:
-        """One claim of what is known."""
-        if bound is None or claim == "feasible":
+                yield self.claimed("optimal" if is_met else "within", bound, point)
+            yield self.claimed("bound", bound)
+        for point in self.points:
             self.figures = "a point"
             yield self.judged(text.head("feasible", self.objective, None, point), None, point)._replace(note=self.note)
-            return
+
+    def claimed(self, claim: str, bound: Bound, point: Point | None = None) -> Verdict:
+        """One claim by a bound."""
         value = self.model.sign * bound.value if claim in ("within", "bound") else None
         objective = None if claim == "infeasible" else self.objective
         self.figures = bound.figures
         lines = itertools.chain(text.head(claim, objective, value, point), bound.lines())
-        yield self.judged(lines, bound.path, point)._replace(
+        return self.judged(lines, bound.path, point)._replace(
             duals=bound.duals, note="" if claim == "optimal" else self.note)
 
     def by_tree(self, shaped: Shaped, point: Point | None = None) -> Verdict:
         """`optimal`, and without a point `infeasible`."""
-        self.figures = f"{shaped.name} plan, {shaped.figures.nodes} nodes, " \
-                       f"{shaped.figures.rows} rows, {shaped.size} bytes"
+        self.figures = f"{shaped.name} plan, {shaped.nodes} nodes, " \
+                       f"{shaped.rows} rows, {shaped.size} bytes"
         head = text.head("infeasible", None) if point is None else text.head("optimal", self.objective, None, point)
         return self.judged(head, shaped.path, point)
 
-    # one leaf ----------------------------------------------------------------------
-
-    def leaf_lines(self, leaf: Multipliers) -> Iterator[str]:
-        yield from text.leaf_lines(leaf, Naming({}, 0, self.model.sign), {})
-
-    def duals_of(self, leaf: Multipliers) -> dict[int, Fraction]:
-        """By row of the exported text."""
-        y = dict.fromkeys(range(self.model.m), Fraction(0))
-        for i, v in leaf.numbers.items():
-            y[i] = Fraction(self.model.sign * v, leaf.den * self.factors.get(i, 1))
-        return y
+    def minimised(self, duals: Mapping[int, float | Fraction]) -> dict[int, float | Fraction]:
+        """Duals of exported rows by row of the program, which is minimised."""
+        return {i: self.model.sign * self.factors.get(i, 1) * y for i, y in duals.items()}
 
     def bound_of(self, leaf: Multipliers, value: Fraction = Fraction(0)) -> Bound:
-        return Bound(value, lambda: self.leaf_lines(leaf), None,
-                     f"one leaf, {len(leaf.numbers)} duals", self.duals_of(leaf))
+        """Its duals are those of exported rows."""
+        sign, numbers = self.model.sign, leaf.numbers
+        y = dict.fromkeys(range(self.model.m), Fraction(0))
+        y.update((i, Fraction(sign * v, leaf.den * self.factors.get(i, 1))) for i, v in numbers.items())
+        return Bound(value, lambda: text.leaf_lines(leaf, Naming({}, 0, sign), {}), None,
+                     f"one leaf, {len(numbers)} duals", y)
 
     def one_leaf(self, leaf: Multipliers, claim: str, point: Point | None) -> Verdict:
         """`optimal`, or `infeasible`."""
-        return next(self.claimed(claim, self.bound_of(leaf), point))
+        return self.claimed(claim, self.bound_of(leaf), point)
 
     def at_optimum(self, point: Point, leaf: Multipliers) -> Iterator[Verdict]:
         """Both are exact; where they do not fit, the note says so."""
@@ -253,8 +234,6 @@ class Judging:
             verdict = self.one_leaf(leaf, "optimal", point)
             self.note = f"the exact optimum: {verdict.line.partition(': ')[2]}"
             yield verdict
-
-    # what CLP says -----------------------------------------------------------------
 
     def clp_seconds(self) -> float:
         return min(max(self.watch.left(), ONE_LEAF), MOST_CLP_SECONDS)
@@ -266,12 +245,9 @@ class Judging:
         self.watch.progress.tell("the relaxation by CLP")
         clp = self.model.relaxation()
         if given.basis is not None and given.values is not None:
-            clp.start(*given.basis, [float(v) for v in given.values])
-        clp.limit(self.clp_seconds() if self.proves or self.linear else ONE_LEAF)
-        state = clp.solve()
-        if state is not State.OPTIMAL:
-            state = clp.solve(again=True)
-        return clp, state
+            clp.start(given.basis, given.doubles())
+        clp.seconds = self.clp_seconds() if self.proves or self.linear else ONE_LEAF
+        return clp, clp.solve_somehow()
 
     def exact(self, x: Sequence[float | Fraction]) -> Point | None:
         return points.whole_point(self.model, x, self.clp_seconds())

@@ -1,15 +1,15 @@
-"""Leaves in few digits: duals as decimals or short fractions, judged in whole numbers by the rule
-of `bridge verify` before they are kept."""
+"""Leaves in few digits: duals as decimals or short fractions, judged in whole numbers by the rule of `bridge verify`
+before they are kept."""
 
 from __future__ import annotations
 
 import math
 from fractions import Fraction
-from typing import Iterator, Mapping, NamedTuple, Optional, Sequence
+from typing import Iterable, Iterator, Mapping, NamedTuple, Optional, Sequence
 
 from .exact import Equation, solved
 from .model import Box, Model
-from .numbers import is_narrow
+from ..values import MOST_DIGITS
 
 TINY = 1e-11                    # smaller duals count as 0
 DIGITS = (0, 1, 2, 3, 4, 5, 6, 7, 8, 9, 10, 12, 14)     # beyond the first of the greatest dual
@@ -25,6 +25,17 @@ SHORTER = (1e-10, 1e-8, 1e-6, 1e-4)     # by what share duals are made smaller a
 SHORTER_DIGITS = 13             # of them, beyond the first of the greatest dual
 
 
+def is_narrow(value: Fraction) -> bool:
+    """Whether numerator and denominator fit 128 bits."""
+    return abs(value.numerator) <= MOST_DIGITS and value.denominator <= MOST_DIGITS
+
+
+def width(values: Iterable[Fraction]) -> int:
+    """Bits of the widest numerator or denominator. Each object counts once: most stand many times."""
+    distinct = {id(v): v for v in values}.values()
+    return max((max(abs(v.numerator), v.denominator).bit_length() for v in distinct), default=0)
+
+
 class Multipliers(NamedTuple):
     """Duals or weights of rows, over a common denominator."""
 
@@ -38,8 +49,8 @@ class Multipliers(NamedTuple):
 
 
 class Closed(NamedTuple):
-    """A leaf that closes, the reduced costs, and what its bound has over the target, both in the
-    units of `Judged.scale`."""
+    """A leaf that closes, the reduced costs, and what its bound has over the target, both in the units of
+    `Judged.scale`."""
 
     leaf: Multipliers
     reduced: list[int]
@@ -47,8 +58,8 @@ class Closed(NamedTuple):
 
 
 class Judged(NamedTuple):
-    """The bound over `scale`, the reduced costs, and the columns without the side they need; the
-    bound means nothing where there are any."""
+    """The bound over `scale`, the reduced costs, and the columns without the side they need; the bound means nothing
+    where there are any."""
 
     bound: int
     scale: int
@@ -62,8 +73,6 @@ class Closer:
 
     def __init__(self, model: Model, target: Fraction | None, strict: bool = False) -> None:
         self.model, self.target, self.strict = model, target, strict
-
-    # the exact bound ---------------------------------------------------------------
 
     def judge(self, leaf: Multipliers, box: Box) -> Judged:
         p, lo, hi = self.model, box.lo, box.hi
@@ -91,59 +100,40 @@ class Closer:
         """Where the exact bound reaches the target; columns without a side are mended first."""
         g = math.gcd(leaf.den, *leaf.numbers.values())
         if g > 1:
-            numbers = {i: v // g for i, v in leaf.numbers.items()}
-            leaf = Multipliers(numbers, leaf.den // g, leaf.weights)
-        judged = self.judge(leaf, box)
-        if judged.sideless:
-            if len(judged.sideless) > MOST_MENDED:
-                return None
-            leaf = self.mended(leaf, box, judged.sideless)
-            judged = self.judge(leaf, box)
-            if judged.sideless:
-                return None
-        slack = self.slack(leaf.weights, judged)
-        return Closed(leaf, judged.reduced, slack) if slack >= 0 else None
-
-    def slack(self, weights: bool, judged: Judged) -> int:
-        if weights:
-            return judged.bound - 1
-        if self.target is None:
-            return 0
-        wanted, den = self.target.numerator * judged.scale, self.target.denominator
-        return judged.bound - (wanted // den + 1 if self.strict else -(-wanted // den))
+            leaf = Multipliers({i: v // g for i, v in leaf.numbers.items()}, leaf.den // g, leaf.weights)
+        leaf, judged = self.judged(leaf, box)
+        slack = judged.bound - 1 if leaf.weights else 0
+        if self.target is not None and not leaf.weights:
+            wanted, den = self.target.numerator * judged.scale, self.target.denominator
+            slack = judged.bound - (wanted // den + 1 if self.strict else -(-wanted // den))
+        return Closed(leaf, judged.reduced, slack) if slack >= 0 and not judged.sideless else None
 
     def has_side(self, row: int, y: Fraction | int) -> bool:
         p = self.model
         return y == 0 or (p.side_lo[row] if y > 0 else p.side_hi[row]) is not None
 
-    # mending -----------------------------------------------------------------------
-
-    def mended(self, leaf: Multipliers, box: Box, sideless: Sequence[int]) -> Multipliers:
-        """A column without the side that it needs gets the reduced cost 0, or the other sign: one
-        dual of its rows takes up the rest. What that breaks elsewhere is mended next."""
-        for _ in range(ROUNDS):
-            for j in sideless:
-                leaf = self.mend(leaf, box, j)
-            sideless = self.judge(leaf, box).sideless
-            if not sideless:
+    def judged(self, leaf: Multipliers, box: Box) -> tuple[Multipliers, Judged]:
+        """Each of few columns without the side that it needs gets the reduced cost 0, or the other sign: one dual of
+        its rows takes up the rest. What that breaks elsewhere is mended next."""
+        judged = self.judge(leaf, box)
+        for _ in range(ROUNDS if len(judged.sideless) <= MOST_MENDED else 0):
+            if not judged.sideless:
                 break
-        return leaf
+            for j in judged.sideless:
+                leaf = self.mend(leaf, box, j)
+            judged = self.judge(leaf, box)
+        return leaf, judged
 
     def mend(self, leaf: Multipliers, box: Box, column: int) -> Multipliers:
-        p, y = self.model, leaf.numbers
-        kc = 1 if leaf.weights else p.cost_scale
-        cost = 0 if leaf.weights else p.costs[column] * leaf.den * p.scale
+        p, y, lo, hi = self.model, leaf.numbers, box.lo[column], box.hi[column]
+        kc, cost = (1, 0) if leaf.weights else (p.cost_scale, p.costs[column] * leaf.den * p.scale)
         entries, lengths = p.terms.column(column), p.terms.lengths
         rest = cost - kc * sum(y.get(i, 0) * a for i, a in entries)
-        lo, hi = box.lo[column], box.hi[column]
         if not rest or (lo if rest > 0 else hi) is not None:
             return leaf
-        is_free = lo is None and hi is None
-        for i, a in sorted(entries, key=lambda t: (t[0] not in y, lengths[t[0]])):
-            found = self.with_share(leaf, i, rest, kc * a, is_free)
-            if found is not None:
-                return found
-        return leaf
+        found = (self.with_share(leaf, i, rest, kc * a, lo is None and hi is None)
+                 for i, a in sorted(entries, key=lambda t: (t[0] not in y, lengths[t[0]])))
+        return next(filter(None, found), leaf)
 
     def with_share(self, leaf: Multipliers, row: int, rest: int, a: int, is_free: bool) -> Multipliers | None:
         """The row's dual takes up the rest, exactly where the column is free."""
@@ -165,31 +155,29 @@ class Closer:
             del y[row]
         return Multipliers(y, den, leaf.weights)
 
-    # rounding ----------------------------------------------------------------------
-
     def rounded(self, y: Mapping[int, float], places: int, weights: bool) -> Multipliers:
         """Rounded at a decimal place, which may lie left of the point."""
         ten = 10 ** abs(places)
-        numbers = {}
-        for i, v in y.items():
-            whole = round(v * ten) if places >= 0 else round(v / ten) * ten
-            if whole and self.has_side(i, whole):
-                numbers[i] = whole
-        return Multipliers(numbers, 10 ** max(places, 0), weights)
+        over = {i: round(v * ten) if places >= 0 else round(v / ten) * ten for i, v in y.items()}
+        return Multipliers({i: v for i, v in over.items() if v and self.has_side(i, v)}, 10 ** max(places, 0), weights)
 
     def of_fractions(self, y: Mapping[int, Fraction], weights: bool) -> Multipliers:
         return self.of_pairs({i: (v.numerator, v.denominator) for i, v in y.items()}, weights)
 
     def of_pairs(self, y: Mapping[int, tuple[int, int]], weights: bool) -> Multipliers:
-        """Of numerators and denominators."""
         y = {i: v for i, v in y.items() if v[0] and self.has_side(i, v[0])}
         den = math.lcm(1, *{q for _, q in y.values()})
         return Multipliers({i: p * (den // q) for i, (p, q) in y.items()}, den, weights)
 
     def roundings(self, y: Mapping[int, float], weights: bool) -> Iterator[Multipliers]:
-        """In the order of their length."""
-        most = max((abs(v) for v in y.values()), default=0.0)
-        first = -math.floor(math.log10(most)) if most else 0
+        """In the order of their length. Weights of a contradiction are often small whole numbers times a factor;
+        smaller duals leave room in columns with costs above 0."""
+        sizes = [abs(v) for v in y.values()] or [1.0]
+        if weights:
+            for k in MULTIPLES if max(sizes) / min(sizes) < SPREAD else ():
+                yield self.rounded({i: v * k / min(sizes) for i, v in y.items()}, 0, True)
+            y = {i: v / max(sizes) for i, v in y.items()}
+        first = 0 if weights else -math.floor(math.log10(max(sizes)))
         digits = iter(DIGITS)
         for at in range(len(DIGITS) + len(DENOMINATORS)):
             den = DENOMINATORS.get(at)
@@ -197,52 +185,20 @@ class Closer:
                 yield self.rounded(y, first + next(digits), weights)
             else:
                 yield self.of_pairs({i: convergent(v, den) for i, v in y.items()}, weights)
+        for share in () if weights else SHORTER:
+            yield self.rounded({i: v * (1 - share) for i, v in y.items()}, SHORTER_DIGITS + first, False)
 
     def close(self, duals: Mapping[int, float], weights: bool, box: Box) -> Closed | None:
         """The shortest that closes."""
-        y: Mapping[int, float] = {i: v for i, v in duals.items() if abs(v) > TINY}
-        if weights:
-            if not y:
-                return None
-            closed = self.small_weights(y, box)
-            if closed is not None:
-                return closed
-            most = max(abs(v) for v in y.values())
-            y = {i: v / most for i, v in y.items()}
+        y = {i: v for i, v in duals.items() if abs(v) > TINY}
         seen = set()
-        for leaf in self.roundings(y, weights):
+        for leaf in self.roundings(y, weights) if y or not weights else ():
             key = (tuple(leaf.numbers.values()), leaf.den)
             if key not in seen and leaf.den <= MOST_DENOMINATOR:
                 seen.add(key)
                 closed = self.attempt(leaf, box)
                 if closed is not None:
                     return closed
-        return None if weights else self.shorter(y, box)
-
-    def shorter(self, y: Mapping[int, float], box: Box) -> Closed | None:
-        """Smaller duals leave room for rounding in columns with costs above 0."""
-        most = max((abs(v) for v in y.values()), default=0.0)
-        if not most:
-            return None
-        places = SHORTER_DIGITS - math.floor(math.log10(most))
-        for share in SHORTER:
-            less = {i: v * (1 - share) for i, v in y.items()}
-            leaf = self.rounded(less, places, False)
-            closed = self.attempt(leaf, box) if leaf.den <= MOST_DENOMINATOR else None
-            if closed is not None:
-                return closed
-        return None
-
-    def small_weights(self, y: Mapping[int, float], box: Box) -> Closed | None:
-        """Weights of a contradiction are often small whole numbers times a factor."""
-        sizes = [abs(v) for v in y.values()]
-        if max(sizes) / min(sizes) >= SPREAD:
-            return None
-        for k in MULTIPLES:
-            scaled = {i: v * k / min(sizes) for i, v in y.items()}
-            closed = self.attempt(self.rounded(scaled, 0, True), box)
-            if closed is not None:
-                return closed
         return None
 
     def exactly(self, y: Mapping[int, Fraction] | None, weights: bool, box: Box) -> Closed | None:
@@ -276,28 +232,27 @@ class Closer:
                         reduced[j] += y * a
         return Closed(leaf._replace(numbers=numbers), reduced, slack)
 
-    # bases -------------------------------------------------------------------------
-
     def basis_duals(self, basic: list[int], rows: list[int]) -> Optional[dict[int, Fraction]]:
         """The exact duals of a basis: the reduced costs of basic columns are 0."""
-        p, inside = self.model, set(rows)
+        p = self.model
         if len(basic) > MOST_BASIC or len(basic) != len(rows):
             return None
-        found = solved([({i: a for i, a in p.by_column[j] if i in inside}, p.costs[j] * p.scale) for j in basic])
+        found = solved_in(rows, ((dict(p.by_column[j]), p.costs[j] * p.scale) for j in basic))
         return None if found is None else {i: y / p.cost_scale for i, y in found.items() if y}
 
     def missing_duals(self, basic: list[int], rows: list[int]) -> Optional[dict[int, Fraction]]:
         """The same for the program of phase one, whose further columns come two a row."""
-        p, inside = self.model, set(rows)
-        system: list[Equation] = []
+        p, system = self.model, list[Equation]()
         for j in basic:
-            if j < p.n:
-                system.append(({i: a for i, a in p.by_column[j] if i in inside}, 0))
-            else:
-                i = (j - p.n) % p.m
-                one = 1 if j < p.n + p.m else -1
-                system.append(({i: p.row_unit(i)} if i in inside else {}, one))
-        return solved(system)
+            second, i = divmod(j - p.n, p.m)
+            system.append((dict(p.by_column[j]), 0) if j < p.n else ({i: p.row_unit(i)}, 1 - 2 * second))
+        return solved_in(rows, system)
+
+
+def solved_in(rows: Sequence[int], columns: Iterable[Equation]) -> Optional[dict[int, Fraction]]:
+    """The duals of these rows, by columns and their costs."""
+    inside = set(rows)
+    return solved([({i: a for i, a in terms.items() if i in inside}, cost) for terms, cost in columns])
 
 
 def added(reduced: int, box: Box, column: int) -> int | None:

@@ -3,23 +3,20 @@
 from __future__ import annotations
 
 import copy
-import os
 from array import array
 from fractions import Fraction
 from functools import cached_property
 from math import gcd, lcm
-from typing import Iterable, List, Mapping, NamedTuple, Optional, Sequence
+from typing import Iterable, Iterator, List, Mapping, NamedTuple, Optional, Sequence
 
 from ..bridge import Bridge
-from ..files import naming
 from ..nl import header
 from ..mps_reader import OBJECTIVE, Text
 from ..program import TIED, TIED_ROW, Program
-from ..sol import duals_of
-from ..terms import Pairs, Terms, entries_of, numbers_used, terms_of
+from ..sol import factors_of
+from ..terms import Pairs, Terms, entries_of, terms_of
 from ..values import reduced, wholes_of
-from .clp import Clp, Linear, enlarging
-from .columns import Columns, columns_of
+from .clp import Clp, Columns, Linear, columns_of, enlarging
 
 Side = Optional[int]
 Sides = List[Optional[int]]
@@ -94,7 +91,7 @@ class Model:
 
     def set_terms(self, read: Text, places: Sequence[int], factors: Mapping[int, int]) -> None:
         number, to = read.number, [*places, -1, -1]         # rows that are N stand last
-        used = numbers_used(read.row, number, to)
+        used = sorted({k for i, k in zip(read.row, number) if to[i] >= 0})
         by = [factors.get(i, 1) for i in to]
         pairs: dict[tuple[int, int], int] = {}
         if factors:
@@ -118,18 +115,14 @@ class Model:
         least = lcm(1, *factors.values())
         unit = lcm(scale, side_scale * least)
         by = [unit // (side_scale * factors.get(i, 1)) for i in places]
-        made = [[side * u for side, u in zip(part, by) if side is not None] for part in sides]
-        common = gcd(unit, *(v * (unit // scale) for v in ends), *made[0], *made[1])
+        made = [{i: side * u for i, side, u in zip(places, part, by) if i >= 0 and side is not None} for part in sides]
+        common = gcd(unit, *(v * (unit // scale) for v in ends), *made[0].values(), *made[1].values())
         self.unit = unit // common
         over: dict[bytes, Side] = {text: v * (unit // scale) // common for text, v in zip(texts, ends)}
         over[b""] = None
         self.lo, self.hi = list(map(over.__getitem__, low)), list(map(over.__getitem__, high))
-        self.side_lo: Sides = [None] * self.m
-        self.side_hi: Sides = [None] * self.m
-        for target, part in zip((self.side_lo, self.side_hi), sides):
-            for i, side, u in zip(places, part, by):
-                if i >= 0 and side is not None:
-                    target[i] = side * u // common
+        whole: list[Sides] = [[part[i] // common if i in part else None for i in range(self.m)] for part in made]
+        self.side_lo, self.side_hi = whole
 
     @cached_property
     def cost(self) -> list[Fraction]:
@@ -152,8 +145,6 @@ class Model:
     @property
     def by_column(self) -> Pairs:
         return self.terms.columns
-
-    # other programs ----------------------------------------------------------------
 
     def with_rows(self, added: Iterable[Added]) -> Model:
         new = copy.copy(self)
@@ -201,11 +192,9 @@ class Model:
         def zero(ends: Sides) -> Sides:
             return [None if end is None else 0 for end in ends]
         new = self.with_bounds([-1 if v is None else 0 for v in self.lo], [1 if v is None else 0 for v in self.hi])
-        new.side_lo, new.side_hi, new.unit = zero(self.side_lo), zero(self.side_hi), 1
+        new.side_lo, new.side_hi, new.unit, new.whole = zero(self.side_lo), zero(self.side_hi), 1, [False] * self.n
         most = max((abs(c) for c in self.cost), default=Fraction(0)) or Fraction(1)
         return new.with_costs([c / most for c in self.cost])
-
-    # in doubles --------------------------------------------------------------------
 
     def double(self, end: Side) -> float | None:
         return None if end is None else end / self.unit
@@ -233,31 +222,27 @@ class Model:
         most = max((abs(a) for _, a in self.rows[row]), default=0) / self.scale
         return 1 / Fraction(enlarging(most))
 
-    # points ------------------------------------------------------------------------
-
     def fits(self, x: Point) -> bool:
         """Whether a point satisfies wholeness, bounds and rows."""
         if any(value.denominator != 1 for value, whole in zip(x, self.whole) if whole):
             return False
         over, den = over_one(x)
-        for value, lo, hi in zip(over, self.lo, self.hi):
-            if is_outside(value * self.unit, scaled(lo, den), scaled(hi, den)):
-                return False
-        den *= self.scale
-        for at, lo, hi in zip(self.terms.sums(over), self.side_lo, self.side_hi):
-            if is_outside(at * self.unit, scaled(lo, den), scaled(hi, den)):
-                return False
-        return True
+        full = [v * self.unit for v in over]
+        return not any(self.broken_bounds(full, den)) and not any(self.broken_rows(full, den))
+
+    def broken_bounds(self, full: Sequence[int], den: int) -> Iterator[tuple[int, int]]:
+        """Of columns at values over `den` times `unit`, with the bound."""
+        return beyond(full, self.lo, self.hi, den)
+
+    def broken_rows(self, full: Sequence[int], den: int) -> Iterator[tuple[int, int]]:
+        """The same of rows, with the side."""
+        return beyond(self.terms.sums(full), self.side_lo, self.side_hi, den * self.scale)
 
     def value(self, x: Point) -> Fraction:
         """Minimised."""
-        costs, values = [], []
-        for c, v in zip(self.costs, x):
-            if c and v:
-                costs.append(c)
-                values.append(v)
-        over, den = over_one(values)
-        total = sum([c * v for c, v in zip(costs, over)])
+        used = [(c, v) for c, v in zip(self.costs, x) if c and v]
+        over, den = over_one([v for _, v in used])
+        total = sum([c * v for (c, _), v in zip(used, over)])
         return self.constant + Fraction(total, den * self.cost_scale)
 
     def ends(self, column: int) -> list[Fraction]:
@@ -267,16 +252,10 @@ class Model:
 
     def step(self) -> Step | None:
         """Where all columns with a cost are whole, the greatest step of the objective."""
-        size = Fraction(0)
-        for cost, whole in zip(self.cost, self.whole):
-            if cost and not whole:
-                return None
-            if cost:
-                k = lcm(size.denominator, cost.denominator)
-                size = Fraction(gcd(int(size * k), int(cost * k)), k)
-        if not size:
+        size = gcd(*self.costs)
+        if not size or any(c and not whole for c, whole in zip(self.costs, self.whole)):
             return None
-        return Step(size, {j: int(c / size) for j, c in enumerate(self.cost) if c})
+        return Step(Fraction(size, self.cost_scale), {j: c // size for j, c in enumerate(self.costs) if c})
 
 
 def over_one(x: Sequence[Fraction]) -> tuple[list[int], int]:
@@ -289,27 +268,22 @@ def scaled(end: Side, by: int) -> Side:
     return None if end is None else end * by
 
 
-def is_outside(value: int, lo: Side, hi: Side) -> bool:
-    return lo is not None and value < lo or hi is not None and value > hi
+def beyond(values: Sequence[int], los: Sides, his: Sides, den: int) -> Iterator[tuple[int, int]]:
+    """Places of values over `den` that are beyond an end, with that end."""
+    for place, (v, lo, hi) in enumerate(zip(values, los, his)):
+        if lo is not None and v < lo * den:
+            yield place, lo
+        elif hi is not None and v > hi * den:
+            yield place, hi
 
 
-def model_of(bridge: Bridge, nl: str, folder: str, program: Program) -> tuple[Model, dict[int, int]]:
-    """The model of a file, and what its rows were multiplied by where that is not 1."""
-    names = [name for name in program.constraints if name != "zdef"]
+def model_of(bridge: Bridge, nl: str, program: Program) -> tuple[Model, dict[int, int]]:
+    """The model of a file, and what `export` multiplied its rows by where that is not 1."""
+    names = [name for name in program.constraints if name != TIED_ROW]
     if not program.is_exported:
         return Model(program, {}, len(names)), {}
-    known = factors(bridge, nl, folder, names)
-    return Model(program, known, header(nl).constraints), known
-
-
-def factors(bridge: Bridge, nl: str, folder: str, constraints: Sequence[str]) -> dict[int, int]:
-    """What `export` multiplied these rows by, where that is not 1: what `return` makes of duals 1."""
-    if not constraints:
-        return {}
-    path = os.path.join(folder, "ones.txt")
-    with naming(path), open(path, "w", encoding="utf-8") as f:
-        f.write("answer 1\n" + "".join(f"row {row} 1\n" for row in constraints))
-    duals = [Fraction(dual) for dual in duals_of(bridge.text("return", nl, path))]
-    if any(dual.denominator != 1 or dual < 0 for dual in duals):
+    known = {int(row[1:]): Fraction(factor) for row, factor in factors_of(bridge, nl, names).items()}
+    if any(factor.denominator != 1 or factor < 0 for factor in known.values()):
         raise Unfit("a row's factor is not whole")
-    return {i: int(dual) for i, dual in enumerate(duals) if dual > 1}
+    factors = {i: int(factor) for i, factor in known.items() if factor > 1}
+    return Model(program, factors, header(nl).constraints), factors

@@ -1,29 +1,85 @@
-"""The part of a program that a search stands in: the splits above it, each with one of its parts
-taken, and the bounds that they give.
+"""The part of a program that a search stands in: the splits above it, each with one of its parts taken, and the bounds
+that they give.
 
-A form is a row of the model without sides, which is split as a whole column is: each part gives it
-a side. What is open can be taken out as values, and a search elsewhere begins with them.
-"""
+A form is one of the model's last rows, without sides, which is split as a whole column is: each part gives it a side.
+It counts as a column behind all others. What is open is values, and a search elsewhere begins with them."""
 
 from __future__ import annotations
 
 import contextlib
-from dataclasses import dataclass, field
 from fractions import Fraction
-from typing import Iterator, NamedTuple, Sequence
+from typing import FrozenSet, Iterable, Iterator, List, Mapping, NamedTuple, Optional, Sequence, Tuple, Union
 
 from .clp import Clp
+from .leaves import Multipliers
 from .model import Box, Model, Point, Side
-from .tree import Cut, Split, Tree, count
 
-Owner = int                     # the number of a split
+
+class Leaf(NamedTuple):
+    """`packed` are its numbers, `added` the added rows that it uses."""
+
+    packed: bytes
+    added: Tuple[int, ...]
+    nodes: int = 1
+
+    def multipliers(self) -> Multipliers:
+        weights, den, *pairs = map(int, self.packed.split())
+        return Multipliers(dict(zip(pairs[::2], pairs[1::2])), den, bool(weights))
+
+
+class Empty(NamedTuple):
+    """A box without a whole value of one column, which lies above `at` and below `at + 1`: a plane and two leaves."""
+
+    column: int
+    at: int
+    nodes: int = 3
+
+
+class Split(NamedTuple):
+    """The parts `at most at` and `at least at + 1` of a whole column, or of a row behind the columns that stands for a
+    whole form."""
+
+    column: int
+    at: int
+    nodes: int = 1
+
+
+class Held(NamedTuple):
+    """A tree that somebody else has: a search elsewhere gets it as this."""
+
+    key: int
+    nodes: int
+
+
+Tree = List[Union[Leaf, Empty, Split, Held]]    # in the order of the text: a split before what closes its two parts
+Needs = FrozenSet[int]          # depths of splits
+
+
+def leaf(given: Multipliers, added: Iterable[int]) -> Leaf:
+    pairs = "".join(f" {i} {v}" for i, v in given.numbers.items())
+    return Leaf(f"{int(given.weights)} {given.den}{pairs}".encode(), tuple(added))
+
+
+def count(tree: Tree) -> int:
+    """The nodes of its text."""
+    return sum(node.nodes for node in tree)
+
+
+def rows_used(tree: Tree) -> set[int]:
+    """The added rows that its leaves use."""
+    return {row for node in tree if isinstance(node, Leaf) for row in node.added}
+
+
+def rebuilt(tree: Tree, held: Mapping[int, Tree]) -> Tree:
+    """With what is held put in."""
+    return [node for one in tree for node in (held[one.key] if isinstance(one, Held) else (one,))]
 
 
 class Better(Exception):
     """An exact point that is better than the value, or that should not be."""
 
     def __init__(self, point: Point, value: Fraction) -> None:
-        super().__init__(str(value))
+        super().__init__(point, value)
         self.point, self.value = point, value
 
 
@@ -31,26 +87,7 @@ class Done(NamedTuple):
     """A part with a tree, and the splits that it needs."""
 
     tree: Tree
-    needs: set[Owner]
-
-
-@dataclass
-class Branch:
-    """A split whose parts are being worked, `part` the one that is. `lo`, `hi` and `owners` are
-    the column's before it."""
-
-    number: Owner
-    column: int
-    at: int
-    part: int
-    value: float
-    base: float
-    lo: Side
-    hi: Side
-    owners: tuple[Owner | None, Owner | None]
-    basis: bytes
-    parts: list[Tree | None] = field(default_factory=lambda: [None, None])
-    needs: set[Owner] = field(default_factory=set)
+    needs: Needs
 
 
 class Step(NamedTuple):
@@ -68,141 +105,83 @@ class Step(NamedTuple):
 
 
 class Opened(NamedTuple):
-    """A split, in one part of which a search was paused. `other` is the tree of the other part
-    where it has one, of so many nodes, which needs the splits at these depths."""
+    """A split, in one part of which a search stands; `other` is what is known of the other part."""
 
     step: Step
-    other: Tree | None
-    nodes: int
-    needs: frozenset[int]
+    other: Optional[Done] = None
+
+
+def least_base(opened: Sequence[Opened], base: float) -> float:
+    """The bound of what is open, where the innermost part has this, or that of its split."""
+    last = opened[-1].step.base if opened else base
+    return min([last, *(one.step.base for one in opened if one.other is None)])
 
 
 class Parts:
-    """Bounds and sides of one part, in `box`, the model's rows of forms, and `clp`. `forms` are
-    rows of the model, whose sides change."""
+    """Bounds and sides of one part, in `box`, the model's rows of forms, and `clp`. The last `forms` rows of the model
+    are forms, whose sides change. The `owners` of ends are depths of the splits that gave them."""
 
-    def __init__(self, model: Model, clp: Clp, forms: Sequence[int] = ()) -> None:
-        self.model, self.clp, self.forms = model, clp, list(forms)
-        self.form_terms = [[(j, a // model.scale) for j, a in model.rows[i]] for i in self.forms]
-        self.form_owners: dict[int, tuple[Owner | None, Owner | None]] = {}
-        self.box = Box(list(model.lo), list(model.hi))
-        self.owner_lo: list[Owner | None] = [None] * model.n
-        self.owner_hi: list[Owner | None] = [None] * model.n
-        self.above: list[Branch] = []           # of a part: what stands above it
-        self.open: list[Branch] = []
-        self.splits = self.nodes = 0
+    def __init__(self, model: Model, clp: Clp, forms: int = 0) -> None:
+        self.model, self.clp = model, clp
+        self.forms = range(model.n + model.m - forms, model.n + model.m)
+        self.box = Box([*model.lo, *model.side_lo], [*model.hi, *model.side_hi])
+        self.owners: tuple[list[int | None], ...] = tuple([None] * (model.n + model.m) for _ in self.box)
+        self.above: list[Step] = []             # of a part: what stands above it
+        self.open: list[Opened] = []
+        self.before: list[tuple[Side, int | None]] = []     # of each of them, the end that it moved, and its owner
+        self.nodes = 0
 
-    # bounds ------------------------------------------------------------------------
-
-    def size(self, column: int) -> int:
+    def terms(self, column: int) -> Sequence[tuple[int, int]]:
+        """Where a column stands, or what a form has."""
         p = self.model
-        return len(p.by_column[column] if column < p.n else self.form_terms[column - p.n])
+        return p.by_column[column] if column < p.n else p.rows[column - p.n]
 
-    def ends(self, column: int) -> tuple[Side, Side]:
-        """Bounds of a column, sides of a form."""
+    def put(self, column: int, side: int, end: Side, owner: int | None) -> None:
         p = self.model
+        self.box[side][column], self.owners[side][column] = end, owner
+        lo, hi = p.double(self.box.lo[column]), p.double(self.box.hi[column])
         if column < p.n:
-            return self.box.lo[column], self.box.hi[column]
-        row = self.forms[column - p.n]
-        return p.side_lo[row], p.side_hi[row]
-
-    def set_ends(self, column: int, lo: Side, hi: Side) -> None:
-        p = self.model
-        if column < p.n:
-            self.box.lo[column], self.box.hi[column] = lo, hi
-            self.clp.bound(column, p.double(lo), p.double(hi))
+            self.clp.bound(column, lo, hi)
         else:
-            row = self.forms[column - p.n]
-            p.side_lo[row], p.side_hi[row] = lo, hi
-            self.clp.side(row, p.double(lo), p.double(hi))
+            (p.side_hi if side else p.side_lo)[column - p.n] = end
+            self.clp.side(column - p.n, lo, hi)
 
-    def part_ends(self, column: int, at: int, part: int) -> tuple[Side, Side]:
-        (lo, hi), unit = self.ends(column), self.model.unit
-        if part == 0:
-            return lo, at * unit if hi is None else min(hi, at * unit)
-        return (at + 1) * unit if lo is None else max(lo, (at + 1) * unit), hi
+    def enter(self, step: Step) -> None:
+        side, end = 1 - step.part, (step.at + step.part) * self.model.unit
+        old = self.box[side][step.column]
+        self.before.append((old, self.owners[side][step.column]))
+        end = end if old is None else min(old, end) if side else max(old, end)
+        self.put(step.column, side, end, len(self.before) - 1)
+
+    def leave(self, step: Step) -> None:
+        self.put(step.column, 1 - step.part, *self.before.pop())
 
     @contextlib.contextmanager
-    def within(self, column: int, at: int, part: int) -> Iterator[None]:
-        """In one part of a split, for a trial."""
-        old = self.ends(column)
-        self.set_ends(column, *self.part_ends(column, at, part))
+    def within(self, step: Step) -> Iterator[None]:
+        """For a trial."""
+        self.enter(step)
         try:
             yield
         finally:
-            self.set_ends(column, *old)
+            self.leave(step)
 
-    def owners(self, column: int) -> tuple[Owner | None, Owner | None]:
-        if column < self.model.n:
-            return self.owner_lo[column], self.owner_hi[column]
-        return self.form_owners.get(self.forms[column - self.model.n], (None, None))
-
-    def set_owners(self, column: int, owners: tuple[Owner | None, Owner | None]) -> None:
-        if column < self.model.n:
-            self.owner_lo[column], self.owner_hi[column] = owners
-        else:
-            self.form_owners[self.forms[column - self.model.n]] = owners
-
-    def enter(self, b: Branch) -> None:
-        self.set_ends(b.column, *self.part_ends(b.column, b.at, b.part))
-        low, high = b.owners
-        self.set_owners(b.column, (low, b.number) if b.part == 0 else (b.number, high))
-
-    def leave(self, b: Branch) -> None:
-        self.set_ends(b.column, b.lo, b.hi)
-        self.set_owners(b.column, b.owners)
-
-    def last(self) -> Branch | None:
+    def last(self) -> Step | None:
         """The split whose part is worked next."""
-        return self.open[-1] if self.open else self.above[-1] if self.above else None
+        return self.open[-1].step if self.open else self.above[-1] if self.above else None
 
-    def node(self, b: Branch | Step, parts: tuple[Tree, Tree]) -> Tree:
-        low, high = parts
-        if b.column < self.model.n:
-            return Split(b.column, b.at, low, high)
-        return Cut(self.forms[b.column - self.model.n], b.at, low, high)
-
-    # a part, handed on -------------------------------------------------------------
-
-    def begin(self, above: Sequence[Step], opened: Sequence[Opened] = ()) -> None:
-        """The part below some splits, of which `opened` was worked already. The splits count from 1 downwards."""
-        for b in reversed(self.above + self.open):
-            self.leave(b)
-        self.above, self.open, self.splits, self.nodes = [], [], 0, 0
-        for step in above:
-            self.above.append(self.entered(step))
-        for one in opened:
-            b = self.entered(one.step)
-            b.parts[1 - b.part] = one.other
-            b.needs = {depth + 1 for depth in one.needs}
-            self.open.append(b)
+    def begin(self, above: Sequence[Step], opened: Iterable[Opened] = ()) -> None:
+        """The part below some splits, of which `opened` was worked already."""
+        for step in reversed([*self.above, *(one.step for one in self.open)]):
+            self.leave(step)
+        self.above, self.open = list(above), list(opened)
+        for step in [*self.above, *(one.step for one in self.open)]:
+            self.enter(step)
         last = self.last()
         if last is not None:
             self.clp.restore(last.basis)
 
-    def entered(self, step: Step) -> Branch:
-        self.splits += 1
-        b = Branch(self.splits, step.column, step.at, step.part, step.value, step.base,
-                   *self.ends(step.column), self.owners(step.column), step.basis)
-        self.enter(b)
-        return b
 
-    def depths(self) -> dict[Owner, int]:
-        return {b.number: depth for depth, b in enumerate(self.above + self.open)}
-
-    def opened(self) -> list[Opened]:
-        """Where it was paused."""
-        depths, found = self.depths(), []
-        for b in self.open:
-            other = b.parts[1 - b.part]
-            found.append(Opened(Step(b.column, b.at, b.part, b.value, b.base, b.basis), other,
-                                0 if other is None else count(other), frozenset(depths[o] for o in b.needs)))
-        return found
-
-    def closed(self) -> float:
-        """The share of the tree that is closed, where both parts of a split count alike."""
-        closed, size = 0.0, 1.0
-        for b in self.open:
-            size /= 2
-            closed += size if b.parts[1 - b.part] is not None else 0.0
-        return closed
+def joined(step: Step, depth: int, done: Done, other: Done) -> Done:
+    """A split at that depth, of whose parts this one is done, and the other one."""
+    low, high = (done, other) if step.part == 0 else (other, done)
+    return Done([Split(step.column, step.at), *low.tree, *high.tree], (done.needs | other.needs) - {depth})

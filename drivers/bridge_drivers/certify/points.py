@@ -2,14 +2,15 @@
 
 from __future__ import annotations
 
+import itertools
 import math
 from fractions import Fraction
 from typing import Iterator, Mapping, NamedTuple, Sequence
 
-from .clp import Clp, State, library
+from .clp import Basis, State, library
 from .exact import solved
+from .leaves import is_narrow
 from .model import Model, Point, Side
-from .numbers import is_narrow
 from ..terms import Pairs
 
 NEAR_WHOLE = 1e-3               # how far from whole numbers a point may be
@@ -17,13 +18,6 @@ NEAR = Fraction(1, 10 ** 9)     # of a bound: the bound itself
 APART = Fraction(1, 10 ** 5)    # how far from x they may be
 DENOMINATORS = (1, 2, 12, 100, 1000, 10 ** 6)
 ZERO, ONE = Fraction(0), Fraction(1)
-
-
-class Basis(NamedTuple):
-    """Basic columns, and rows that are not basic."""
-
-    columns: Sequence[int]
-    rows: Sequence[int]
 
 
 class Placed(NamedTuple):
@@ -46,12 +40,10 @@ def place(p: Model, basis: Basis, x: Sequence[float]) -> Placed:
     at = [0 if basic else end_near(lo, hi, v * p.unit) or 0 for basic, lo, hi, v in zip(is_basic, p.lo, p.hi, x)]
     ranged = [i for i in basis.rows if p.side_lo[i] is not None and p.side_hi[i] is not None
               and p.side_lo[i] != p.side_hi[i]]
-    bodies = {i: sum([a * x[j] for j, a in row]) / p.scale for i, row in p.terms.of_rows(ranged).items()}
-    side = {}
-    for i in basis.rows:
-        end = end_near(p.side_lo[i], p.side_hi[i], bodies.get(i, 0.0) * p.unit)
-        if end is not None:
-            side[i] = end
+    bodies = {i: sum([a * x[j] for j, a in row])
+              for i, row in zip(ranged, p.terms.inside(ranged, range(p.n)) if ranged else ())}
+    ends = ((i, end_near(p.side_lo[i], p.side_hi[i], bodies.get(i, 0.0) / p.scale * p.unit)) for i in basis.rows)
+    side = {i: end for i, end in ends if end is not None}
     taken, columns, rows = p.terms.sums(at), list(basis.columns), list(side)
     return Placed(columns, rows, at, side, p.terms.inside(rows, columns), [side[i] * p.scale - taken[i] for i in rows])
 
@@ -83,7 +75,7 @@ def near(model: Model, x: Sequence[float | Fraction]) -> Iterator[Point]:
             yield exact
             return
     given = [Fraction(v) for v in x]
-    for most, snap in [(most, snap) for snap in (NEAR, ZERO) for most in DENOMINATORS]:
+    for snap, most in itertools.product((NEAR, ZERO), DENOMINATORS):
         out = [near_one(p, j, v, most, snap) for j, v in enumerate(given)]
         is_near = all(abs(value - v) <= APART * max(ONE, abs(v)) for value, v in zip(out, given))
         if is_near and out not in seen and p.fits(out):
@@ -101,27 +93,24 @@ def near_one(p: Model, column: int, value: Fraction, most: int, snap: Fraction) 
     return value.limit_denominator(most)
 
 
-def whole_point(model: Model, x: Sequence[float | Fraction], seconds: float) -> Point | None:
+def whole_point(p: Model, x: Sequence[float | Fraction], seconds: float) -> Point | None:
     """The best exact point that has the whole columns of x, where CLP finds it in that time, else one that is near."""
-    p = model
     fixed = whole_columns(p, x)
     if any(abs(float(x[j]) - v) > NEAR_WHOLE for j, v in fixed.items()):
         return None
     if len(fixed) == p.n:
         out = [fixed[j] for j in range(p.n)]
         return out if p.fits(out) else None
-    if library() is None:
-        return nearest(p, x)
-    around = with_fixed(p, fixed)
-    clp = around.relaxation()
-    clp.limit(seconds)
-    if clp.solve() is State.OPTIMAL or clp.solve(again=True) is State.OPTIMAL:
-        found = vertex(around, Basis(*clp.basis()), clp.values())
-        if found is not None and all(map(is_narrow, found)):
-            return found
-        short = nearest(p, clp.values())
-        if short is not None or found is not None:
-            return short or found
+    if library() is not None:
+        around = with_fixed(p, fixed)
+        clp = around.relaxation()
+        clp.seconds = seconds
+        if clp.solve_somehow() is State.OPTIMAL:
+            found = vertex(around, clp.basis(), clp.values())
+            if found is None or not all(map(is_narrow, found)):
+                found = nearest(p, clp.values()) or found
+            if found is not None:
+                return found
     return nearest(p, x)
 
 
@@ -164,7 +153,7 @@ def is_contradicted(model: Model, x: Sequence[float | Fraction], seconds: float)
     if all(model.whole) or library() is None:
         return False
     clp = with_fixed(model, whole_columns(model, x)).relaxation()
-    clp.limit(seconds)
+    clp.seconds = seconds
     return clp.solve() is State.INFEASIBLE and clp.solve(again=True) is State.INFEASIBLE
 
 
@@ -184,42 +173,29 @@ def broken(model: Model, x: Sequence[float | Fraction]) -> Fraction:
 
 def miss(at: Fraction, lo: Side, hi: Side, size: Fraction) -> Fraction:
     """What a value misses its sides by, as a share of the side or of that size."""
-    by = [lo - at if lo is not None else ZERO, at - hi if hi is not None else ZERO]
-    if max(by) <= 0:
-        return ZERO
-    end = lo if by[0] > 0 else hi
-    assert end is not None
-    return max(by) / max(size, abs(at), Fraction(abs(end)))
+    end = at
+    if lo is not None and at < lo:
+        end = Fraction(lo)
+    elif hi is not None and at > hi:
+        end = Fraction(hi)
+    return abs(end - at) / max(size, abs(at), abs(end))
 
 
-def any_point(model: Model, clp: Clp) -> Point | None:
-    """A point of a linear program whose relaxation without costs was solved."""
-    return next(near(model, clp.values()), None) or vertex(model, Basis(*clp.basis()), clp.values())
-
-
-def is_ray(model: Model, d: Point) -> bool:
+def is_ray(cone: Model, d: Point) -> bool:
     """Whether the direction has no end, and improves the objective."""
-    p = model
-    for v, lo, hi in zip(d, p.lo, p.hi):
-        if lo is not None and v < 0 or hi is not None and v > 0:
-            return False
-    for row, lo, hi in zip(p.rows, p.side_lo, p.side_hi):
-        v = sum((a * d[j] for j, a in row), ZERO)
-        if lo is not None and v < 0 or hi is not None and v > 0:
-            return False
-    return sum(c * d[j] for j, c in enumerate(p.cost) if c) < 0
+    size = max((abs(v) for v in d), default=ZERO) or ONE
+    return cone.value(d) < 0 and cone.fits([v / size for v in d])
 
 
-def ray(model: Model) -> Point | None:
+def ray(cone: Model) -> Point | None:
     """An improving direction without end, in short fractions where they do."""
-    cone = model.cone()
     clp = cone.relaxation()
     if clp.solve() is not State.OPTIMAL or clp.objective() >= 0:
         return None
     x = clp.values()
     for most in DENOMINATORS:
         d = [Fraction(v).limit_denominator(most) for v in x]
-        if is_ray(model, d):
+        if is_ray(cone, d):
             return d
-    found = vertex(cone.with_whole([False] * model.n), Basis(*clp.basis()), x)
-    return found if found is not None and is_ray(model, found) else None
+    found = vertex(cone, clp.basis(), x)
+    return found if found is not None and is_ray(cone, found) else None

@@ -1,5 +1,9 @@
-"""Where portions of a search are worked: by processes of this machine, or by those of a cluster of
-Dask, whose scheduler is at an address."""
+"""Portions of a search, and where they are worked: by processes of this machine, or by those of a cluster of Dask,
+whose scheduler is at an address.
+
+A portion is what is left of the part below some splits, as values that a process anywhere works for some time. Nothing
+but the values counts: whoever gets the same portion may work it, and what was worked of a program before only saves the
+reading."""
 
 from __future__ import annotations
 
@@ -7,23 +11,80 @@ import contextlib
 import importlib
 import multiprocessing
 import os
+import pickle
 import signal
 import sys
 import threading
 from concurrent.futures import BrokenExecutor, Executor, Future, ProcessPoolExecutor
 from multiprocessing import connection
-from typing import Any, Iterator
+from typing import Any, Dict, Iterable, Iterator, List, NamedTuple, Optional, Sequence
 
-from . import portion
+from . import points
 from .clp import library
-from .portion import Outcome, Portion
-from .watch import Stopped
+from .model import Added, Model
+from .parts import Done, Opened, Step
+from .search import Choice, Exact, Goal, Learnt, Search
+from .watch import Paused, Stopped, Watch
 from .. import VERSION
 from ..interrupts import NUMBERS, SIGNALS
 
 START = "fork" if sys.platform == "linux" else None     # 3 ms each; `spawn` has 100 to 300
 GRACE = 1.0                     # seconds that a portion has to end
 CONNECT = 10.0                  # seconds for a scheduler to answer
+EXACT_SECONDS = 30.0            # for an exact point
+MOST_KEPT = 2                   # programs of a process
+
+
+class Problem(NamedTuple):
+    """What all portions of a search share: the file's program, the rows of the spine, the forms, and the goal."""
+
+    model: Model
+    rows: Sequence[Added] = ()
+    forms: Sequence[Dict[int, int]] = ()
+    goal: Goal = Goal(None)
+
+    def search(self, watch: Watch, exact: Exact | None = None) -> Search:
+        searched = self.model.with_rows([*self.rows, *map(Added, self.forms)])
+        return Search(searched, self.goal, watch,
+                      exact or (lambda x: points.whole_point(self.model, x, EXACT_SECONDS)), len(self.forms))
+
+
+class Portion(NamedTuple):
+    """`above` are the splits around it, from the root, `opened` those in it that were worked partly, whose trees are
+    held. `learnt` is what was learnt above, `problem` are the bytes of that."""
+
+    problem: bytes
+    above: Sequence[Step]
+    opened: Sequence[Opened]
+    learnt: Learnt
+    seconds: float
+
+
+class Outcome(NamedTuple):
+    """`done` where it is closed; else what is left is `opened`."""
+
+    done: Optional[Done]
+    opened: List[Opened]
+    learnt: Learnt
+    nodes: int
+
+
+KEPT: Dict[bytes, Search] = {}  # of the last problems of this process, not while they work
+
+
+def work(portion: Portion) -> Outcome:
+    """What some seconds make of a portion; Stopped or Better where it cannot go on, and its search is not kept."""
+    search = KEPT.pop(portion.problem, None) or pickle.loads(portion.problem).search(Watch(0.0))
+    search.watch, search.until, search.nodes = Watch(0.0), portion.seconds, 0
+    search.choice = Choice(search.choice.strong, portion.learnt)
+    search.begin(portion.above, portion.opened)
+    done: Done | None = None
+    with contextlib.suppress(Paused):
+        done = search.worked()
+    while len(KEPT) >= MOST_KEPT:
+        KEPT.pop(next(iter(KEPT)))
+    KEPT[portion.problem] = search
+    return Outcome(done, search.open, search.choice.gains, search.nodes)
 
 
 class Failed(Stopped):
@@ -31,27 +92,27 @@ class Failed(Stopped):
 
 
 class Pool:
-    """Works `workers` portions at once. `fault` says why it does not, where it failed, `note` why
-    not all of it does; `spent` are the seconds of processors that portions took."""
+    """Works `workers` portions at once, none where it failed: `fault` says why, `note` why not all of it works."""
 
-    def __init__(self, workers: int) -> None:
-        self.workers, self.fault, self.note, self.spent = workers, "", "", 0.0
+    def __init__(self, workers: int, fault: str = "") -> None:
+        self.workers, self.fault, self.note = workers, fault, ""
+        self.started: Executor | None = None
 
     def failed(self, fault: Failed) -> None:
-        self.fault = str(fault)
+        self.workers, self.fault = 0, str(fault)
         self.stop()
 
     def executor(self) -> Executor:
-        """Failed where there is none."""
-        raise NotImplementedError
+        assert self.started is not None
+        return self.started
 
     def submit(self, given: Portion) -> Future[Outcome]:
         """Where all processes have ended, others are started."""
         try:
-            return self.executor().submit(portion.work, given)
+            return self.executor().submit(work, given)
         except BrokenExecutor:
             self.stop()
-        return self.executor().submit(portion.work, given)
+        return self.executor().submit(work, given)
 
     def stop(self) -> None:
         """Ends what is worked, as far as that goes."""
@@ -60,27 +121,13 @@ class Pool:
         self.stop()
 
 
-class Alone(Pool):
-    """This process, where others failed."""
-
-    def __init__(self) -> None:
-        super().__init__(1)
-
-    def submit(self, given: Portion) -> Future[Outcome]:
-        future: Future[Outcome] = Future()
-        future.set_result(portion.work(given))
-        return future
-
-
 class Processes(Pool):
     """Of this machine: they are started as there is work, and end with this one."""
 
-    def __init__(self, workers: int) -> None:
-        super().__init__(workers)
-        self.started: ProcessPoolExecutor | None = None
-        self.line: Any = None           # what is sent there ends all of them
+    started: ProcessPoolExecutor | None
+    line: Any                       # what is sent there ends all of them
 
-    def executor(self) -> ProcessPoolExecutor:
+    def executor(self) -> Executor:
         if self.started is None:
             context = multiprocessing.get_context(START)
             end, self.line = context.Pipe(duplex=False)
@@ -119,18 +166,13 @@ class Cluster(Pool):
             raise Failed(f"no scheduler of Dask at {address} ({fault})") from None
         asked = self.client.run(ready, on_error="return")
         fit = [worker for worker, said in asked.items() if said == VERSION]
-        threads = self.client.nthreads(fit) if fit else {}
-        super().__init__(sum(threads.values()))
-        if len(fit) < len(asked):
-            self.note = f"{len(asked) - len(fit)} of {len(asked)} workers of the cluster lack " \
-                        f"bridge_drivers {VERSION} or CLP's library"
+        super().__init__(sum(self.client.nthreads(fit).values()) if fit else 0)
+        lacks = f"workers of the cluster lack bridge_drivers {VERSION} or CLP's library"
+        self.note = f"{len(asked) - len(fit)} of {len(asked)} {lacks}" if len(fit) < len(asked) else ""
         if not fit:
             self.client.close()
             raise Failed(self.note or f"the scheduler of Dask at {address} has no workers")
-        self.started: Executor = self.client.get_executor(pure=False, workers=fit)
-
-    def executor(self) -> Executor:
-        return self.started
+        self.started = self.client.get_executor(pure=False, workers=fit)
 
     def close(self) -> None:
         self.client.close()
@@ -147,39 +189,32 @@ def pool_of(jobs: int, address: str) -> Pool | None:
         try:
             return Cluster(address)
         except Failed as fault:
-            pool = Alone()
-            pool.fault = str(fault)
-            return pool
-    jobs = jobs or processors()
+            return Pool(0, str(fault))
+    has_set = hasattr(os, "sched_getaffinity")      # of processors that this process may use
+    jobs = jobs or (len(os.sched_getaffinity(0)) if has_set else os.cpu_count() or 1)
     return Processes(jobs) if jobs > 1 else None
-
-
-def processors() -> int:
-    """Those that this process may use."""
-    if hasattr(os, "sched_getaffinity"):
-        return len(os.sched_getaffinity(0))
-    return os.cpu_count() or 1
 
 
 @contextlib.contextmanager
 def unsignalled() -> Iterator[None]:
     """Signals wait in the block, also in processes that are started in it."""
-    if not hasattr(signal, "pthread_sigmask"):
-        yield
-        return
-    old = signal.pthread_sigmask(signal.SIG_BLOCK, NUMBERS)
+    old = masked("SIG_BLOCK", NUMBERS)
     try:
         yield
     finally:
-        signal.pthread_sigmask(signal.SIG_SETMASK, old)
+        masked("SIG_SETMASK", old)
+
+
+def masked(how: str, numbers: Iterable[int]) -> Iterable[int]:
+    """Those that waited before; none where a system has no masks."""
+    return signal.pthread_sigmask(getattr(signal, how), numbers) if hasattr(signal, "pthread_sigmask") else ()
 
 
 def begin(end: connection.Connection) -> None:
     """In a process: it ends by its parent's word, or with its parent. An interrupt of a terminal is the parent's."""
     signal.signal(signal.SIGINT, signal.SIG_IGN)
     signal.signal(signal.SIGTERM, signal.SIG_DFL)
-    if hasattr(signal, "pthread_sigmask"):
-        signal.pthread_sigmask(signal.SIG_UNBLOCK, NUMBERS)
+    masked("SIG_UNBLOCK", NUMBERS)
     threading.Thread(target=wait_for_end, args=(end,), daemon=True).start()
 
 
@@ -188,6 +223,6 @@ def wait_for_end(end: connection.Connection) -> None:
     parent = multiprocessing.parent_process()
     assert parent is not None
     if connection.wait([end, parent.sentinel]) == [end]:
-        portion.Until.is_over.set()
+        Watch.is_ending = True
         threading.Event().wait(GRACE)
     os._exit(1)

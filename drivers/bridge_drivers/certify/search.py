@@ -1,22 +1,20 @@
-"""Branch and bound, depth first, whose tree is the certificate.
+"""Branch and bound, depth first, whose tree is the certificate. What is split next is chosen by what splits gained so
+far, and by trying columns that were split seldom.
 
-Splits that no leaf below needs are left out, with what stands in their other part.
-"""
+Splits that no leaf below needs are left out, with what stands in their other part."""
 
 from __future__ import annotations
 
 import math
+import time
 from fractions import Fraction
-from typing import Any, Callable, Iterable, NamedTuple, Sequence
+from typing import Any, Callable, Dict, Iterable, Mapping, NamedTuple, Sequence, Tuple
 
-from . import tree as trees
-from .choice import Choice
 from .clp import Clp, State
 from .leaves import Closed, Closer, Multipliers
 from .model import TIGHT, Box, Model, Point
-from .parts import Better, Branch, Done, Owner, Parts
-from .points import Basis, vertex
-from .tree import Empty, Leaf, Spool, Tree
+from .parts import Better, Done, Empty, Opened, Parts, Step, count, joined, leaf
+from .points import vertex
 from .watch import Paused, Stopped, Watch
 
 NEAR, TINY = 1e-6, Fraction(1, 10 ** 9)     # of a whole number: not split first; it is this
@@ -30,31 +28,122 @@ MOST_DEPTH = 3000
 STRONG = 16
 LEAST_SECONDS = 0.1             # of a relaxation
 MORE = 30                       # nodes that a search may have to end for a bound
+RELIABLE = 8                # splits of a column after which it is not tried
+TRIED_ITERATIONS = 60
+LEAST_SHARE = 1e-6
+SLOW = 2                    # columns that are tried where trying took half of the time
+
+Gains = Dict[int, Tuple[float, int]]    # what the relaxation gained per unit, by column: the sum, and of how many
+Learnt = Tuple[Gains, Gains]    # downwards and upwards
+Exact = Callable[[Sequence[float]], "Point | None"]
+
+
+class Candidate(NamedTuple):
+    """A column with what its two parts gain."""
+
+    worth: float
+    size: float
+    column: int
+    down: float
+    up: float
+
+
+class Choice:
+    """The gains of one search, which begin with those of another. `strong` columns are tried at a node."""
+
+    def __init__(self, strong: int, learnt: Learnt = ({}, {})) -> None:
+        self.gains = dict(learnt[0]), dict(learnt[1])
+        self.strong, self.spent, self.began = strong, 0.0, time.monotonic()
+
+    def learn(self, column: int, part: int, gain: float, share: float) -> None:
+        if share > LEAST_SHARE:
+            total, count = self.gains[part].get(column, (0.0, 0))
+            self.gains[part][column] = total + max(0.0, gain) / share, count + 1
+
+    def mean(self, part: int) -> float:
+        means = [total / count for total, count in self.gains[part].values()]
+        return sum(means) / len(means) if means else 1.0
+
+    def column(self, search: Search, x: Mapping[int, float], fractional: Sequence[int],
+               base: float) -> tuple[int, int]:
+        """The column and the part that comes first."""
+        now = time.monotonic()
+        room = max(search.goal - base, 1e-9)
+        is_slow = self.spent > 1.0 + 0.5 * (now - self.began)
+        best = self.best(search, x, self.ranked(search, x, fractional, room), base, room,
+                         SLOW if is_slow else self.strong)
+        self.spent += time.monotonic() - now
+        return best.column, 0 if best.down >= best.up else 1
+
+    def ranked(self, search: Search, x: Mapping[int, float], fractional: Sequence[int], room: float) -> list[Candidate]:
+        means, found = ((self.mean(0), 1), (self.mean(1), 1)), []
+        for j in fractional:
+            f = x[j] - math.floor(x[j])
+            (down, of_down), (up, of_up) = (gains.get(j, mean) for gains, mean in zip(self.gains, means))
+            down, up = down / of_down * f, up / of_up * (1 - f)
+            found.append(Candidate(worth(down, up, room), min(f, 1 - f) * (1 + len(search.terms(j))), j, down, up))
+        return sorted(found, reverse=True)
+
+    def best(self, search: Search, x: Mapping[int, float], ranked: list[Candidate], base: float,
+             room: float, left: int) -> Candidate:
+        """The first of the ranked ones, some of which are tried."""
+        best: Candidate | None = None
+        for candidate in ranked:
+            j = candidate.column
+            if room == math.inf or min(gains.get(j, (0.0, 0))[1] for gains in self.gains) < RELIABLE:
+                if not left:
+                    continue
+                left -= 1
+                down, up = self.tried(search, j, x[j], base)
+                candidate = Candidate(worth(down, up, room), 0.0, j, down, up)
+                if down >= room and up >= room:
+                    return candidate
+            if best is None or candidate.worth > best.worth:
+                best = candidate
+        return best or ranked[0]
+
+    def tried(self, search: Search, column: int, value: float, base: float) -> tuple[float, float]:
+        """What few iterations in each part gain; infinite where it is empty."""
+        kept, at = search.clp.keep(), math.floor(value)
+        found = [math.inf, math.inf]
+        for part, share in ((0, value - at), (1, at + 1 - value)):
+            with search.within(Step(column, at, part, value, base, kept)):
+                if search.clp.solve(TRIED_ITERATIONS) is not State.INFEASIBLE:
+                    found[part] = max(0.0, search.clp.objective() + search.constant - base)
+                    self.learn(column, part, found[part], share)
+            search.clp.restore(kept)
+        return found[0], found[1]
+
+
+def worth(down: float, up: float, room: float) -> float:
+    """Both parts must gain; more than the room is not needed."""
+    cap = room if room < math.inf else 1e6
+    least = cap * 1e-6 if room < math.inf else 1e-6
+    return max(min(down, cap), least) * max(min(up, cap), least)
 
 
 class Goal(NamedTuple):
     """`target` is what leaves of duals must reach, minimised, or exceed where it is `strict`; None: that there is no
-    point. `exact` makes an exact point of a relaxation's values, where one is to be seen."""
+    point."""
 
     target: Fraction | None
     strict: bool = False
-    exact: Callable[[Sequence[float]], Point | None] = lambda x: None
 
 
 class Search(Parts):
-    """`until` is in seconds of the watch, `most` how many nodes there may be."""
+    """`exact` makes an exact point of a relaxation's values, where one is to be seen. It goes on `until` so many
+    seconds of the watch, and has at `most` so many nodes; at each one that is due `tell` tells the progress."""
 
-    def __init__(self, model: Model, goal: Goal, spool: Spool, watch: Watch,
-                 until: float = math.inf, most: int = MOST_NODES, strong: int = STRONG,
-                 forms: Sequence[int] = ()) -> None:
+    def __init__(self, model: Model, goal: Goal, watch: Watch, exact: Exact = lambda x: None, forms: int = 0,
+                 strong: int = STRONG) -> None:
         has_cost = goal.target is not None
         super().__init__(model, model.relaxation(has_cost), forms)
-        self.spool, self.watch, self.until, self.most = spool, watch, until, most
+        self.watch, self.exact = watch, exact
+        self.until, self.most, self.deepest = math.inf, MOST_NODES, float(MOST_DEPTH)
+        self.tell: Callable[[], None] | None = None
         self.missing: Clp | None = None
         self.constant = float(model.constant) if has_cost else 0.0
         self.choice = Choice(strong)
-        self.base, self.deepest = -math.inf, float(MOST_DEPTH)
-        self.tells = most == MOST_NODES         # small searches tell no progress
         self.aim_at(goal)
 
     def aim_at(self, goal: Goal) -> None:
@@ -62,75 +151,55 @@ class Search(Parts):
         self.aim, self.closer = goal, Closer(self.model, goal.target, goal.strict)
         self.goal = math.inf if goal.target is None else float(goal.target)
 
-    # the tree ----------------------------------------------------------------------
-
-    def run(self) -> Tree:
-        """The tree. Stopped or Better where there is none."""
-        return self.worked().tree
-
-    def resume(self, until: float, most: int = MOST_NODES) -> Tree:
-        """Goes on after Paused."""
-        self.until, self.most = until, most
-        return self.run()
-
     def worked(self) -> Done:
-        """Of the part that `begin` said, else of all."""
-        found = self.visit(self.last())
+        """Of the part that `begin` said, else of all. Stopped or Better where it has none, Paused to go on later."""
         while True:
-            if isinstance(found, Branch):
-                self.open.append(found)
+            found = self.visit(self.last())
+            if isinstance(found, Step):
+                self.open.append(Opened(found))
                 self.enter(found)
-            else:
-                done = self.folded(found)
-                if done is not None:
-                    return done
-            found = self.visit(self.open[-1])
+                continue
+            done = self.folded(found)
+            if done is not None:
+                return done
 
     def folded(self, done: Done) -> Done | None:
-        """All of it; None where a part of a branch is to be worked next."""
-        tree, needs = done
+        """All of it; None where a part of a split is to be worked next."""
         while self.open:
-            b = self.open[-1]
-            self.leave(b)
-            other = b.parts[1 - b.part]
-            if b.number not in needs:
-                self.nodes -= 1 + (trees.count(other) if other is not None else 0)
-                self.open.pop()
-                continue
-            b.parts[b.part] = tree
-            b.needs |= needs
-            if other is None:
-                b.part = 1 - b.part
-                self.clp.restore(b.basis)
-                self.enter(b)
+            step, other = self.open.pop()
+            self.leave(step)
+            depth = len(self.before)
+            if depth not in done.needs:
+                self.nodes -= 1 + (count(other.tree) if other is not None else 0)
+            elif other is not None:
+                done = joined(step, depth, done, other)
+            else:
+                step = step.turned()
+                self.open.append(Opened(step, done))
+                self.clp.restore(step.basis)
+                self.enter(step)
                 return None
-            self.open.pop()
-            low, high = b.parts
-            assert low is not None and high is not None
-            tree, needs = self.node(b, (low, high)), b.needs - {b.number}
-        return Done(tree, needs)
+        return done
 
-    def visit(self, born: Branch | None) -> Branch | Done:
-        """One node: a leaf, or a split."""
+    def visit(self, born: Step | None) -> Step | Done:
         self.look()
         hollow = self.hollow(range(self.model.n) if born is None else [born.column])
         if hollow is not None:
             return self.empty(hollow)
-        self.clp.limit(max(self.until - self.watch.spent(), LEAST_SECONDS))
-        state = self.clp.solve()
-        done = self.by_contradiction() if state is State.INFEASIBLE else None
-        if done is None and state is not State.OPTIMAL:
-            state = self.clp.solve(again=True)
+        self.clp.seconds = max(self.until - self.watch.spent(), LEAST_SECONDS)
+        for again in (False, True):
+            state = self.clp.solve(again=again)
             done = self.by_contradiction() if state is State.INFEASIBLE else None
-        if done is not None:
-            return done
+            if done is not None:
+                return done
+            if state is State.OPTIMAL:
+                break
         if state is State.INFEASIBLE:
-            x = [self.nearest_zero(j) for j in range(self.model.n)]
-            return self.branched(x, self.goal, state)
+            return self.branched([self.nearest_zero(j) for j in range(self.model.n)], self.goal, state)
         if state is not State.OPTIMAL:
             self.watch.look(self.nodes, self.until)     # CLP stops where the time is over
             raise Stopped(f"a relaxation is {state.name.lower()}")
-        self.base = base = self.clp.objective() + self.constant
+        base = self.clp.objective() + self.constant
         if born is not None:
             share = born.value - born.at if born.part == 0 else born.at + 1 - born.value
             self.choice.learn(born.column, born.part, base - born.base, share)
@@ -140,58 +209,41 @@ class Search(Parts):
 
     def hollow(self, columns: Iterable[int]) -> int | None:
         """The first whole column of these with no whole number between its bounds."""
-        p = self.model
+        p, (lows, highs) = self.model, self.box
         for j in columns:
-            if j < p.n and p.whole[j]:
-                lo, hi = self.ends(j)
-                if lo is not None and hi is not None and -(-lo // p.unit) > hi // p.unit:
-                    return j
+            lo, hi = lows[j], highs[j]
+            if j < p.n and p.whole[j] and lo is not None and hi is not None and -(-lo // p.unit) > hi // p.unit:
+                return j
         return None
 
     def look(self) -> None:
         self.watch.look(self.nodes, self.until)
         if self.nodes >= self.most:
             raise (Paused if self.most < MOST_NODES else Stopped)(f"more than {self.most} nodes")
-        if len(self.above) + len(self.open) > self.deepest:
+        if len(self.before) > self.deepest:
             raise Stopped("the tree is too deep")
-        if self.tells and self.watch.is_due():
-            known = {"nodes": float(self.nodes), "open": float(len(self.open) + 1)}
-            if self.aim.target is not None:
-                known["bound"] = self.model.sign * self.bound()
-            self.watch.tell(**known)
-
-    def bound(self) -> float:
-        """That of what is not closed, as it was last seen."""
-        return min([b.base for b in self.open if None in b.parts] + [self.base])
+        if self.tell is not None and self.watch.is_due():
+            self.tell()
 
     def nearest_zero(self, column: int) -> float:
-        lo, hi = self.ends(column)
-        v = max(lo, 0) if lo is not None else 0
-        return (min(v, hi) if hi is not None else v) / self.model.unit
-
-    # where it is stopped -----------------------------------------------------------
+        lo, hi = self.box.lo[column], self.box.hi[column]
+        least = max(lo or 0, 0)
+        return (least if hi is None else min(least, hi)) / self.model.unit
 
     def best_bound(self) -> float:
-        """The least of what is not worked yet, by its relaxations, or the one above where it has
-        none; the root may have none. The search can go on."""
-        kept, nodes, left = self.clp.keep(), self.nodes, list[Branch]()
-        try:
-            least = self.own_bound(self.last())
-            for b in reversed(self.open):
-                self.leave(b)
-                left.append(b)
-                if b.parts[1 - b.part] is None:
-                    self.clp.restore(b.basis)
-                    with self.within(b.column, b.at, 1 - b.part):
-                        least = min(least, self.own_bound(b))
-        finally:
-            self.nodes = nodes
-            for b in reversed(left):
-                self.enter(b)
-            self.clp.restore(kept)
+        """The least of what is not worked yet, by its relaxations, or the one above where it has none; the root may
+        have none. Where it stands is lost."""
+        least = self.own_bound(self.last())
+        while self.open:
+            step, other = self.open.pop()
+            self.leave(step)
+            if other is None:
+                self.clp.restore(step.basis)
+                with self.within(step.turned()):
+                    least = min(least, self.own_bound(step))
         return least
 
-    def own_bound(self, above: Branch | None) -> float:
+    def own_bound(self, above: Step | None) -> float:
         if self.hollow(range(self.model.n)) is not None:
             return math.inf
         state = self.clp.solve()
@@ -204,184 +256,136 @@ class Search(Parts):
     def ended_at(self, goal: Goal) -> Done:
         """What is left, each part by a leaf or few, whatever time it is. Stopped where that is not enough."""
         self.aim_at(goal)
-        self.watch, self.until, self.deepest, self.tells = Watch(0.0), math.inf, math.inf, False
+        self.watch, self.until, self.deepest, self.tell = Watch(0.0), math.inf, math.inf, None
         self.most = self.nodes + 2 * len(self.open) + MORE
         return self.worked()
 
-    # splits ------------------------------------------------------------------------
-
-    def branched(self, x: Sequence[float], base: float, state: State) -> Branch | Done:
-        """A split of what is not whole. Where all is: a better point where it is an exact one,
-        else a split of what is whole only within a tolerance, or of what is not fixed. Whole values
-        that doubles do not tell apart are the exact ones of the basis."""
+    def branched(self, x: Sequence[float], base: float, state: State) -> Step | Done:
+        """A split of what is not whole. Where all is: a better point where it is an exact one, else a split of what is
+        whole only within a tolerance, or of what is not fixed. Whole values that doubles do not tell apart are the
+        exact ones of the basis."""
         p = self.model
         if state is State.OPTIMAL and any(w and abs(v) >= LARGE for v, w in zip(x, p.whole)):
-            part = p.with_bounds(self.box.lo, self.box.hi).with_whole([False] * p.n)
+            part = p.with_bounds(self.box.lo[:p.n], self.box.hi[:p.n]).with_whole([False] * p.n)
             near: list[Any] = [next((end for end in part.ends(j) if float(end) == v), v) for j, v in enumerate(x)]
-            x = vertex(part, Basis(*self.clp.basis()), x) or near       # type: ignore[assignment]
-        values = [*x, *(sum(a * x[j] for j, a in terms) for terms in self.form_terms)]
-        apart = [abs(v - round(v)) for v in values]
-        fractional = [j for j, w in enumerate(p.whole) if w and apart[j] > NEAR]
-        if fractional:
-            fractional += [j for j in range(p.n, len(values)) if apart[j] > NEAR]
+            x = vertex(part, self.clp.basis(), x) or near       # type: ignore[assignment]
+        values = dict(enumerate(x))
+        values.update((j, sum(a // p.scale * x[k] for k, a in self.terms(j))) for j in self.forms)
+        apart = {j: abs(v - round(v)) for j, v in values.items() if j >= p.n or p.whole[j]}
+        fractional = [j for j, by in apart.items() if by > NEAR]
+        if fractional and fractional[0] < p.n:
             column, first = self.choice.column(self, values, fractional, base)
             return self.branch(column, values[column], first, base)
         if state is State.OPTIMAL:
             self.compare(x)
         done = self.by_missing()        # CLP's tolerances may hide a contradiction
-        if done is not None:
-            return done
-        unfixed = self.unfixed(apart)
+        unfixed = self.unfixed(apart) if done is None else None
         if unfixed is not None:
             return self.branch(unfixed, x[unfixed], 0, base)
-        if state is not State.OPTIMAL:      # nor is what CLP calls infeasible
+        if done is None and state is not State.OPTIMAL:     # nor is what CLP calls infeasible
             self.compare(x)
-        done = self.by_row() or self.by_missing(LEAST)
+        done = done or self.by_row() or self.by_missing(LEAST)
         if done is None:
             raise Stopped("a leaf does not close")
         return done
 
     def compare(self, x: Sequence[float]) -> None:
         """Better where the exact point there should not be."""
-        p, aim = self.model, self.aim
-        point = [Fraction(round(v)) for v in x] if all(p.whole) else aim.exact(x)
-        if point is None or not p.fits(point):
-            return
-        value = p.value(point)
-        if aim.target is None or value < aim.target or aim.strict and value == aim.target:
-            raise Better(point, value)
+        p, (target, strict) = self.model, self.aim
+        point = [Fraction(round(v)) for v in x] if all(p.whole) else self.exact(x)
+        if point is not None and p.fits(point):
+            value = p.value(point)
+            if target is None or value < target or strict and value == target:
+                raise Better(point, value)
 
-    def unfixed(self, apart: Sequence[float]) -> int | None:
-        """A whole column that is not fixed: the least whole, else one with a cost and the widest."""
-        p = self.model
-        best: tuple[float, bool, float] | None = None
-        column = None
-        for j, is_whole in enumerate(p.whole):
-            lo, hi = self.ends(j)
-            if not is_whole:
-                continue
-            is_wide = lo is None or hi is None
-            if lo == hi and lo is not None:     # others are rounded by it
-                continue
-            width = math.inf if is_wide else float(hi - lo)             # type: ignore
-            rank = (apart[j], bool(p.cost[j]), -width)
-            if best is None or rank > best:
-                best, column = rank, j
-        return column
+    def unfixed(self, apart: dict[int, float]) -> int | None:
+        """A whole column that is not fixed: the least whole, else one with a cost and the widest. The others are
+        rounded by it."""
+        def rank(j: int) -> tuple[float, bool, float]:
+            lo, hi = self.box.lo[j], self.box.hi[j]
+            return apart[j], bool(self.model.cost[j]), -math.inf if lo is None or hi is None else -float(hi - lo)
+        found = [j for j in apart if j < self.model.n and (self.box.lo[j] is None or self.box.lo[j] != self.box.hi[j])]
+        return max(found, key=rank) if found else None
 
-    def branch(self, column: int, value: float, first: int, base: float) -> Branch:
+    def branch(self, column: int, value: float, first: int, base: float) -> Step:
         """Bounds of whole columns need not be whole: a part may be empty, but never both."""
-        (lo, hi), unit = self.ends(column), self.model.unit
+        lo, hi, unit = self.box.lo[column], self.box.hi[column], self.model.unit
         at = math.floor(value + TINY)
         if column < self.model.n:
-            if hi is not None:
-                at = min(at, -(-hi // unit) - 1)
-            if lo is not None:
-                at = max(at, lo // unit)
-        self.splits += 1
+            at = at if hi is None else min(at, -(-hi // unit) - 1)
+            at = at if lo is None else max(at, lo // unit)
         self.nodes += 1
-        return Branch(self.splits, column, at, first, float(value), base, lo, hi, self.owners(column), self.clp.keep())
-
-    # leaves ------------------------------------------------------------------------
+        return Step(column, at, first, float(value), base, self.clp.keep())
 
     def empty(self, column: int) -> Done:
         """Weights do not see an empty box, a plane on the column does."""
-        self.nodes += 3
         hi = self.box.hi[column]
         assert hi is not None
-        needs = {o for o in self.owners(column) if o is not None}
-        return Done(Empty(column, hi // self.model.unit), needs)
+        found = Empty(column, hi // self.model.unit)
+        self.nodes += found.nodes
+        owners = [part[column] for part in self.owners]
+        return Done([found], frozenset(owner for owner in owners if owner is not None))
 
     def by_duals(self) -> Done | None:
         closed = self.closer.close(dict(enumerate(self.clp.duals())), False, self.box)
-        if closed is None:
-            exact = self.closer.basis_duals(*self.clp.basis())
-            closed = self.closer.exactly(exact, False, self.box)
-        return self.leaf(closed)
+        return self.leaf(closed or self.closer.exactly(self.closer.basis_duals(*self.clp.basis()), False, self.box))
 
     def by_contradiction(self) -> Done | None:
         """With weights, from a ray of CLP or from phase one."""
         ray = self.clp.ray()
         for sign in (1, -1):
-            weights = {i: sign * v for i, v in enumerate(ray)}
-            closed = self.closer.close(weights, True, self.box)
+            closed = self.closer.close({i: sign * v for i, v in enumerate(ray)}, True, self.box)
             if closed is not None:
                 return self.leaf(closed)
         return self.by_missing()
 
     def by_row(self) -> Done | None:
-        """With one row that the bounds of its columns contradict."""
         p = self.model
-        if p.m * p.n > MOST_LOOKED_AT:
-            return None
-        for i, lo, hi in zip(range(p.m), p.side_lo, p.side_hi):
-            for side, one in ((lo, 1), (hi, -1)):
-                if side is not None:
-                    closed = self.closer.attempt(Multipliers({i: one}, 1, True), self.box)
-                    if closed is not None:
-                        return self.leaf(closed)
+        for i in range(p.m) if p.m * p.n <= MOST_LOOKED_AT else ():
+            for side, one in ((p.side_lo[i], 1), (p.side_hi[i], -1)):
+                closed = None if side is None else self.closer.attempt(Multipliers({i: one}, 1, True), self.box)
+                if closed is not None:
+                    return self.leaf(closed)
         return None
 
     def by_missing(self, least: float = FEASIBLE) -> Done | None:
         """With the duals of the program that minimises by how much rows are missed, where that is not less."""
-        p = self.model
+        p, (lo, hi) = self.model, ([self.model.double(end) for end in part] for part in self.box)
         clp = self.missing = self.missing or p.phase_one()
         for j in range(p.n):
-            clp.bound(j, p.double(self.box.lo[j]), p.double(self.box.hi[j]))
-        for i in self.forms:
-            clp.side(i, p.double(p.side_lo[i]), p.double(p.side_hi[i]))
+            clp.bound(j, lo[j], hi[j])
+        for j in self.forms:
+            clp.side(j - p.n, lo[j], hi[j])
         clp.tighten(min(TIGHT, least))
         if clp.solve() is not State.OPTIMAL or clp.objective() < least:
             return None
         closed = self.closer.close(dict(enumerate(clp.duals())), True, self.box)
-        if closed is None:
-            exact = self.closer.missing_duals(*clp.basis())
-            closed = self.closer.exactly(exact, True, self.box)
-        return self.leaf(closed)
+        return self.leaf(closed or self.closer.exactly(self.closer.missing_duals(*clp.basis()), True, self.box))
 
     def leaf(self, closed: Closed | None) -> Done | None:
+        """What it has over the target is spent on the file's own bounds in place of those of splits, the deepest first;
+        then it loses duals that it closes without."""
         if closed is None:
             return None
-        needed, slack = self.needed(closed)
-        lo, hi = ([end if owner in needed else own for end, owner, own in zip(*part)]
-                  for part in ((self.box.lo, self.owner_lo, self.model.lo),
-                               (self.box.hi, self.owner_hi, self.model.hi)))
-        closed = self.closer.thinned(closed._replace(slack=slack), Box(lo, hi))
-        self.nodes += 1
-        return Done(self.spooled(closed), needed & self.needs(closed))
-
-    def spooled(self, closed: Closed) -> Leaf:
-        added = tuple(i for i in closed.leaf.numbers if i >= self.model.n_con)
-        return Leaf(self.spool.put(closed.leaf), added)
-
-    def bounds_used(self, closed: Closed) -> list[tuple[Owner, int, int]]:
-        """The splits that gave them, with the columns and their reduced costs."""
-        used = []
-        for j, r in enumerate(closed.reduced):
-            if r:
-                owner = self.owner_lo[j] if r > 0 else self.owner_hi[j]
-                if owner is not None:
-                    used.append((owner, j, r))
-        return used
-
-    def needs(self, closed: Closed) -> set[Owner]:
-        """The splits whose bounds and sides a leaf uses."""
-        needed = {owner for owner, _, _ in self.bounds_used(closed)}
-        for row, owners in self.form_owners.items():
-            y = closed.leaf.numbers.get(row)
-            form_owner = owners[0 if y > 0 else 1] if y else None
-            if form_owner is not None:
-                needed.add(form_owner)
-        return needed
-
-    def needed(self, closed: Closed) -> tuple[set[Owner], int]:
-        """The same, and what is left of what the leaf has over the target: that is spent on the
-        file's own bounds in place of those of splits, the deepest first."""
-        p, needed, slack = self.model, self.needs(closed), closed.slack
-        for owner, j, r in sorted(self.bounds_used(closed), reverse=True):
-            own = p.lo[j] if r > 0 else p.hi[j]
+        p, used, slack = self.model, self.ends_used(closed), closed.slack
+        needed = {owner for owner, _, _ in used}
+        for owner, j, r in sorted(used, reverse=True):
+            own = None if j >= p.n else p.lo[j] if r > 0 else p.hi[j]
             bound = self.box.lo[j] if r > 0 else self.box.hi[j]
             if own is not None and bound is not None and r * (bound - own) <= slack:
                 slack -= r * (bound - own)
-                needed.remove(owner)
-        return needed, slack
+                needed.discard(owner)
+        ends = ([end if owner in needed else own for end, owner, own in zip(*part)]
+                for part in zip(self.box, self.owners, (p.lo, p.hi)))
+        closed = self.closer.thinned(closed._replace(slack=slack), Box(*ends))
+        self.nodes += 1
+        return Done([leaf(closed.leaf, (i for i in closed.leaf.numbers if i >= p.n_con))],
+                    frozenset(needed.intersection(owner for owner, _, _ in self.ends_used(closed))))
+
+    def ends_used(self, closed: Closed) -> list[tuple[int, int, int]]:
+        """The splits that gave the ends which a leaf uses, with the columns, and their reduced costs or multipliers."""
+        (lows, highs), numbers, n = self.owners, closed.leaf.numbers, self.model.n
+        used = [(j, r) for j, r in enumerate(closed.reduced) if r]
+        used += [(j, numbers[j - n]) for j in self.forms if j - n in numbers]
+        found = [(lows[j] if r > 0 else highs[j], j, r) for j, r in used]
+        return [(owner, j, r) for owner, j, r in found if owner is not None]

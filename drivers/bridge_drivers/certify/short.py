@@ -1,7 +1,7 @@
 """Short points and short duals of linear programs whose exact optimum is too wide.
 
-Rows are tightened a little and solved once more; the point is rounded, and what is then left of an
-equation is taken up by a column that stands in it alone, or by a basis of the equations. Duals are
+Rows are tightened a little and solved once more; the point is rounded, and what is then left of an equation is taken up
+by a column that stands in it alone, by a basis of the equations, or in decimals by a pair of columns of each. Duals are
 rounded, under costs that leave room for that.
 """
 
@@ -10,14 +10,13 @@ from __future__ import annotations
 import math
 from fractions import Fraction
 from math import lcm
-from typing import Iterator, Mapping, NamedTuple, Sequence
+from typing import Iterator, Mapping, NamedTuple, Sequence, Tuple
 
 from .clp import Clp, Linear, State
-from .decimals import alone, decimals_by_rows, inner, nearest, pair
 from .exact import solved
-from .leaves import MOST_MENDED, Closer, Judged, Multipliers
+from .leaves import Closer, Judged, Multipliers, is_narrow
 from .model import Box, Model, Point, over_one
-from .numbers import is_narrow
+from ..printable import counted
 
 PLACES = (9, 8, 7, 6, 5)         # decimals of a point
 MOST_PLACES = 14                # digits of its largest value
@@ -28,7 +27,13 @@ DUAL_PLACES = (8, 10, 12)       # beyond the first of the greatest dual
 DIGITS = 9                      # of a bound
 FREE = 1e3                      # rooms that a column of a basis of equations has
 ROUNDS = 12                     # of giving room to rows
+TOLERANCE = 1e-7                # CLP's own
+MOST_EXTRA = 6                  # decimals that a row's rest needs beyond those of its columns
+MOST_MORE = 12                  # decimals that a column has beyond others
+APART = 20                      # rooms between the ends of what is tightened
 ZERO = Fraction(0)
+NOTHING = Multipliers({}, 1, False)     # the leaf of bounds alone
+Pairs = Sequence[Tuple[int, int]]       # columns of a row, with their coefficients
 
 
 class ShortPoint(NamedTuple):
@@ -46,9 +51,6 @@ class ShortDuals(NamedTuple):
 
     def bound(self) -> Fraction:
         return Fraction(self.judged.bound, self.judged.scale)
-
-
-# points ------------------------------------------------------------------------------
 
 
 class Rounding:
@@ -93,11 +95,8 @@ class Rounding:
         return None if x is None else self.point(x, places)
 
     def relaxed(self, room: float) -> list[float] | None:
-        clp = Clp(self.tightened(room))
-        clp.limit(self.seconds)
-        clp.tighten(room / 10)
-        clp.restore(self.kept)
-        if clp.solve() is not State.OPTIMAL and clp.solve(again=True) is not State.OPTIMAL:
+        clp = solved_again(self.tightened(room), self.kept, self.seconds, room / 10)
+        if clp is None:
             return None
         self.kept = clp.keep()
         return clp.values()
@@ -121,24 +120,13 @@ class Rounding:
             found = self.point(x, places)
             if found is None:
                 return None
-            last = self.broken(found.point)
+            over, den = over_one(found.point)
+            last = dict(self.p.broken_rows([v * self.p.unit for v in over], den))
             if not last:
                 return found if self.fits(found) else None
             self.exact.update({i: side for i, side in last.items() if i in self.tight})
             self.tight |= set(last)
         return None
-
-    def broken(self, x: Point) -> dict[int, int]:
-        """Rows that a point breaks, with the side."""
-        p, (over, den) = self.p, over_one(x)
-        found = {}
-        for i, (at, lo, hi) in enumerate(zip(p.terms.sums(over), p.side_lo, p.side_hi)):
-            at *= p.unit
-            if lo is not None and at < lo * den * p.scale:
-                found[i] = lo
-            elif hi is not None and at > hi * den * p.scale:
-                found[i] = hi
-        return found
 
     def tightened(self, unit: float) -> Linear:
         """With room for rounding to `unit` in rows, and in the bounds of what takes up the rest."""
@@ -157,62 +145,45 @@ class Rounding:
         """Rounded, over a power of ten times `unit`; None where rows are not met exactly."""
         p, ten = self.p, 10 ** max(places + self.most, 0)
         over = [nearest(v, places + by, ten) * p.unit for v, by in zip(x, self.more)]
-        for j, (lo, hi) in enumerate(zip(p.lo, p.hi)):
-            if lo is not None and over[j] < lo * ten:
-                over[j] = lo * ten
-            if hi is not None and over[j] > hi * ten:
-                over[j] = hi * ten
+        for j, end in p.broken_bounds(over, ten):
+            over[j] = end * ten
+        moved = self.by_pairs(over, ten) if self.in_pairs else self.by_basis(over, ten)
+        if moved is None:
+            return None
         den = ten * p.unit
-        moved: dict[int, Fraction] = {}
-        if self.exact or self.in_pairs:
-            found = self.by_pairs(over, ten) if self.in_pairs else self.by_basis(over, ten)
-            if found is None:
-                return None
-            moved = found
-        for i, (j, a) in self.alone.items() if not self.in_pairs else ():
-            side = p.side_lo[i]
-            assert side is not None
-            moved[j] = self.rest(i, side, over, ten, moved) / a
-        shared: dict[int, Fraction] = {}
-        point = []
-        for j, v in enumerate(over):
-            if j in moved:
-                point.append((v + moved[j]) / den)
-                continue
-            if v not in shared:
-                shared[v] = Fraction(v, den)
-            point.append(shared[v])
-        return ShortPoint(point, self.way())
+        shared = {v: Fraction(v, den) for v in set(over)}
+        return ShortPoint([(v + moved[j]) / den if j in moved else shared[v] for j, v in enumerate(over)], self.way())
 
     def way(self) -> str:
-        rows = len(self.exact) - len(self.equations)
+        rows, ways = len(self.exact) - len(self.equations), []
         if self.in_pairs:
-            both = len(self.exact) + len(self.alone)
-            return f"rounding is taken up by pairs of columns of {counted(both, 'row')}"
-        ways = [f"columns of {counted(len(self.alone), 'equation')} alone"] if self.alone else []
-        ways += [f"a basis of {counted(len(self.equations), 'equation')}" +
-                 (f" and {counted(rows, 'row')}" if rows else "")] if self.exact else []
+            ways.append(f"pairs of columns of {counted(len(self.exact) + len(self.alone), 'row')}")
+        elif self.alone:
+            ways.append(f"columns of {counted(len(self.alone), 'equation')} alone")
+        if self.exact and not self.in_pairs:
+            ways.append(f"a basis of {counted(len(self.equations), 'equation')}")
+        if rows and not self.in_pairs:
+            ways.append(counted(rows, "row"))
         return "rounding is taken up by " + " and ".join(ways) if ways else ""
 
-    def rest(self, i: int, side: int, over: Sequence[int], ten: int, moved: Mapping[int, Fraction] = {}) -> Fraction:
+    def rest(self, i: int, over: Sequence[int], ten: int, moved: Mapping[int, Fraction] = {}) -> Fraction:
         """What a row lacks of its side, over 10^places times `unit` and `scale`."""
-        p = self.p
+        p, side = self.p, self.exact.get(i, self.p.side_lo[i])
+        assert side is not None
         left = Fraction(side * p.scale * ten - sum([a * over[j] for j, a in p.rows[i]]))
-        if moved:
-            left -= sum((a * moved[j] for j, a in p.rows[i] if j in moved), ZERO)
-        return left
+        return left - sum((a * moved[j] for j, a in p.rows[i] if j in moved), ZERO) if moved else left
 
     def by_basis(self, over: Sequence[int], ten: int) -> dict[int, Fraction] | None:
-        """By how much columns move that stand far enough from their bounds: those that the
-        elimination leaves free stay. None where others would have to."""
-        p, free, system = self.p, self.free(over, ten), []
-        for i, side in self.exact.items():
-            terms = {j: a for j, a in p.rows[i] if free[j]}
-            left = self.rest(i, side, over, ten)
-            if terms or left:
-                system.append((terms, left))
-        found = solved(system)
-        return None if found is None else {j: v for j, v in found.items() if v}
+        """By how much columns move that stand far enough from their bounds: those that the elimination leaves free
+        stay, and columns that are alone move last. None where others would have to."""
+        p, free = self.p, self.free(over, ten) if self.exact else []
+        found = solved(({j: a for j, a in p.rows[i] if free[j]}, self.rest(i, over, ten)) for i in self.exact)
+        if found is None:
+            return None
+        moved = {j: v for j, v in found.items() if v}
+        for i, (j, a) in self.alone.items():
+            moved[j] = self.rest(i, over, ten, moved) / a
+        return moved
 
     def free(self, over: Sequence[int], ten: int) -> list[bool]:
         """Columns that stand far enough from their bounds."""
@@ -227,12 +198,10 @@ class Rounding:
         free = self.free(over, ten)
         is_high = [hi is not None and v >= hi * ten for v, hi in zip(over, p.hi)]
         for i in (*self.exact, *self.alone):
-            side = self.exact.get(i, p.side_lo[i])
-            assert side is not None
             fresh = [(j, a) for j, a in p.rows[i] if j not in seen and p.lo[j] != p.hi[j]]
             firsts = [(j, a) for j, a in fresh if free[j] or j == self.alone.get(i, (-1, 0))[0]]
             seen.update(j for j, _ in p.rows[i])
-            rest = self.rest(i, side, over, ten, moved)
+            rest = self.rest(i, over, ten, moved)
             found = pair(firsts, fresh, rest, is_high) if rest else {}
             if found is None:
                 return None
@@ -240,11 +209,71 @@ class Rounding:
         return moved
 
 
-def counted(number: int, word: str) -> str:
-    return f"{number} {word}{'' if number == 1 else 's'}"
+def pair(firsts: Pairs, seconds: Pairs, rest: Fraction, is_high: Sequence[bool]) -> dict[int, Fraction] | None:
+    """Decimals by which two columns of a row, or one, take up its rest; the second moves least,
+    by less than 1, downwards where it is high."""
+    pairs = sorted((abs(a) // math.gcd(a, b), j, a, k, b) for j, a in firsts
+                   for k, b in ((j, 0), *seconds) if k != j or not b)
+    for by, j, a, k, b in pairs:
+        g = math.gcd(a, b)
+        for places in range(len(str(by)), len(str(by)) + MOST_EXTRA):
+            wanted = rest * 10 ** places / g
+            if wanted.denominator == 1:
+                y = int(wanted) * pow(b // g, -1, by) % by if by > 1 else 0
+                y -= by if y and is_high[k] else 0
+                x = Fraction(int(wanted) * g - b * y, a * 10 ** places)
+                return {j: x, k: Fraction(y, 10 ** places)} if b else {j: x}
+    return None
 
 
-# duals -------------------------------------------------------------------------------
+def nearest(value: float, places: int, ten: int) -> int:
+    """A double with so many decimals, which may stand left of the point, over `ten`."""
+    power: int = 10 ** abs(places)
+    if places < 0:
+        return round(value / power) * power * ten
+    return round(value * power) * (ten // power)
+
+
+def decimals_by_rows(p: Model, x: Sequence[float]) -> list[int]:
+    """By column the decimals by which a rounding of its value is as small beside each of its rows
+    as that of 1 beside 1."""
+    share = [0.0] * p.n
+    for row, lo, hi in zip(p.rows, p.side_lo, p.side_hi):
+        sizes = [abs(a * x[j]) / p.scale for j, a in row]
+        sizes += [abs(side) / p.unit for side in (lo, hi) if side is not None]
+        size = max(sizes, default=0.0) * p.scale
+        for j, a in row if size else ():
+            share[j] = max(share[j], abs(a) / size)
+    return [max(-MOST_MORE, min(math.ceil(math.log10(v)), MOST_MORE)) if v else 0 for v in share]
+
+
+def alone(p: Model) -> dict[int, tuple[int, int]]:
+    """By equation a column that stands in it and nowhere else, with its coefficient: 1 where there is such a one."""
+    starts = p.columns.starts
+    single = [j for j in range(p.n) if starts[j + 1] - starts[j] == 1 and (p.lo[j] is None or p.lo[j] != p.hi[j])]
+    found: dict[int, tuple[int, int]] = {}
+    for j in single:
+        (i, a), = p.terms.column(j)
+        if p.side_lo[i] is not None and p.side_lo[i] == p.side_hi[i]:
+            if i not in found or abs(a) == p.scale != abs(found[i][1]):
+                found[i] = j, a
+    return found
+
+
+def inner(lo: float | None, hi: float | None, room: float) -> tuple[float | None, float | None]:
+    """The ends without the room on each side, where they are far enough apart."""
+    if lo is not None and hi is not None and hi - lo < APART * room:
+        return lo, hi
+    return None if lo is None else lo + room, None if hi is None else hi - room
+
+
+def solved_again(linear: Linear, kept: bytes, seconds: float, tolerance: float) -> Clp | None:
+    """From a basis; None where it has no optimum then."""
+    clp = Clp(linear)
+    clp.seconds = seconds
+    clp.tighten(tolerance)
+    clp.restore(kept)
+    return clp if clp.solve_somehow() is State.OPTIMAL else None
 
 
 def short_duals(p: Model, clp: Clp, seconds: float) -> list[ShortDuals]:
@@ -255,7 +284,7 @@ def short_duals(p: Model, clp: Clp, seconds: float) -> list[ShortDuals]:
     top = clp.objective() + float(p.constant)
     for share in SHARES:
         y = with_room(p, share * size, kept, seconds) if share else clp.duals()
-        found += roundings(closer, y)
+        found += roundings(closer, dict(enumerate(y)))
         found.sort(key=lambda one: -one.bound())
         if found and top - float(found[0].bound()) <= NEAR * max(1.0, abs(top)):
             break
@@ -265,32 +294,24 @@ def short_duals(p: Model, clp: Clp, seconds: float) -> list[ShortDuals]:
 def with_room(p: Model, room: float, kept: bytes, seconds: float) -> list[float]:
     """The duals under costs that leave room in each column that has one bound."""
     linear = p.linear()
-    other = Clp(linear._replace(cost=[c - room * ((hi is None) - (lo is None))
-                                      for c, lo, hi in zip(linear.cost, p.lo, p.hi)]))
-    other.limit(seconds)
-    other.restore(kept)
-    return other.duals() if other.solve() is State.OPTIMAL else []
+    costs = [c - room * ((hi is None) - (lo is None)) for c, lo, hi in zip(linear.cost, p.lo, p.hi)]
+    clp = solved_again(linear._replace(cost=costs), kept, seconds, TOLERANCE)
+    return clp.duals() if clp is not None else []
 
 
-def roundings(closer: Closer, y: Sequence[float]) -> list[ShortDuals]:
+def roundings(closer: Closer, y: Mapping[int, float]) -> list[ShortDuals]:
     """Those that close."""
     p, found = closer.model, []
-    box, given = Box(p.lo, p.hi), {i: v for i, v in enumerate(y) if v}
+    box, given = Box(p.lo, p.hi), {i: v for i, v in y.items() if v}
     first = -math.floor(math.log10(max((abs(v) for v in given.values()), default=1.0)))
     for places in DUAL_PLACES:
         leaf = closer.rounded(given, first + places, False)
-        judged = closer.judge(leaf, box)
-        if 0 < len(judged.sideless) <= MOST_MENDED:
-            mended = closer.mended(leaf, box, judged.sideless)
-            second = closer.judge(mended, box)
-            if not second.sideless:
-                leaf, judged = mended, second
+        made, judged = closer.judged(leaf, box)
+        short: ShortDuals | None = ShortDuals(made, judged)
         if judged.sideless:
-            met = met_exactly(closer, leaf, judged)
-            if met is None:
-                continue
-            leaf, judged = met
-        found.append(ShortDuals(leaf, judged))
+            short = met_exactly(closer, leaf, judged if made is leaf else closer.judge(leaf, box))
+        if short is not None:
+            found.append(short)
     return found
 
 
@@ -323,23 +344,13 @@ def met_exactly(closer: Closer, leaf: Multipliers, judged: Judged) -> ShortDuals
 
 def trivial(p: Model) -> Fraction | None:
     """What the objective is at least within bounds alone, where they say it."""
-    total = p.start * p.unit
-    for cost, lo, hi in zip(p.costs, p.lo, p.hi):
-        if cost:
-            end = lo if cost > 0 else hi
-            if end is None:
-                return None
-            total += cost * end
-    return Fraction(total, p.cost_scale * p.unit)
+    judged = Closer(p, None).judge(NOTHING, Box(p.lo, p.hi))
+    return None if judged.sideless else Fraction(judged.bound, judged.scale)
 
 
 def shortened(p: Model, bound: Fraction) -> Fraction:
     """Few digits, a little worse, and never worse than what bounds alone say."""
-    step = power(math.floor(math.log10(max(1.0, abs(float(bound))))) - DIGITS)
+    step = Fraction(10) ** (math.floor(math.log10(max(1.0, abs(float(bound))))) - DIGITS)
     least = trivial(p)
     short = math.floor(bound / step) * step
     return short if least is None or least > bound else max(short, least)
-
-
-def power(places: int) -> Fraction:
-    return Fraction(10 ** places) if places >= 0 else Fraction(1, 10 ** -places)

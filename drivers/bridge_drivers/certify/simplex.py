@@ -8,16 +8,16 @@ sides times `scale`. A line of the tableau is an equation of whole numbers, with
 from __future__ import annotations
 
 from fractions import Fraction
-from math import gcd
 from typing import Callable, Dict, Iterable, List, NamedTuple, Optional
 
-from .model import Model, Point, Side
+from .exact import Lines
+from .model import Model, Point, Side, scaled
+from .points import end_near
 
 MOST_ROWS = 250
 MOST_NUMBERS = 6000             # coefficients of a program that is small
 STALLED = 30                    # steps without a gain, from which on the first column enters
 ZERO = Fraction(0)
-Line = Dict[int, int]
 
 
 class Ended(NamedTuple):
@@ -43,79 +43,40 @@ def is_small(p: Model) -> bool:
     return p.m <= MOST_ROWS and p.terms.count() + p.n <= MOST_NUMBERS
 
 
-class Simplex:
-    """`lines` has an equation by basic variable, `at` by variable those that it stands in, `x` the
-    values of all. The objective is the variable n + m. `look` is called at each step."""
+class Simplex(Lines):
+    """`lines` has an equation by basic variable, `x` the values of all. The objective is the variable n + m. `look` is
+    called at each step."""
 
     def __init__(self, p: Model, look: Callable[[], None]) -> None:
+        super().__init__()
         self.p, self.look = p, look
-        self.lo: List[Side] = [*p.lo, *(times(s, p.scale) for s in p.side_lo)]
-        self.hi: List[Side] = [*p.hi, *(times(s, p.scale) for s in p.side_hi)]
+        self.lo: List[Side] = [*p.lo, *(scaled(s, p.scale) for s in p.side_lo), None]
+        self.hi: List[Side] = [*p.hi, *(scaled(s, p.scale) for s in p.side_hi), None]
         self.cost = p.n + p.m
-        self.lines: Dict[int, Line] = {}
-        self.at: List[set[int]] = [set() for _ in range(self.cost + 1)]
         for i, row in enumerate(p.rows):
-            self.put(p.n + i, {p.n + i: -1, **dict(row)})
-        self.put(self.cost, {self.cost: -1, **{j: c for j, c in enumerate(p.costs) if c}})
+            self.add(p.n + i, {p.n + i: -1, **dict(row)})
+        self.add(self.cost, {self.cost: -1, **{j: c for j, c in enumerate(p.costs) if c}})
         self.x: List[Fraction] = [ZERO] * (self.cost + 1)
         self.stalled = 0
 
-    # the tableau -------------------------------------------------------------------
-
-    def put(self, basic: int, line: Line) -> None:
-        g = gcd(*line.values())
-        self.lines[basic] = {k: a // g for k, a in line.items()} if g > 1 else line
-        for k in line:
-            self.at[k].add(basic)
-
-    def take(self, basic: int) -> Line:
-        line = self.lines.pop(basic)
-        for k in line:
-            self.at[k].discard(basic)
-        return line
-
     def pivot(self, basic: int, enters: int) -> None:
         """The line of the one becomes that of the other, which leaves all other lines."""
-        line = self.take(basic)
-        p = line[enters]
-        for other in list(self.at[enters]):
-            rest = self.take(other)
-            q = rest[enters]
-            g = gcd(p, q)
-            keep, share = p // g, q // g
-            new = {k: a * keep for k, a in rest.items()} if keep != 1 else rest
-            for k, a in line.items():
-                left = new.get(k, 0) - share * a
-                if left:
-                    new[k] = left
-                else:
-                    new.pop(k, None)
-            self.put(other, new)
-        self.put(enters, line)
+        self.add(enters, self.eliminated(basic, enters))
 
     def start(self, columns: Iterable[int], x: List[float]) -> None:
         """From a basis of columns, as far as it is one; what is not basic stands at the end that is near to x."""
+        p = self.p
         for j in columns:
-            rows = [b for b in self.at[j] if b >= self.p.n and b != self.cost]
+            rows = [b for b in self.at[j] if b >= p.n and b != self.cost]
             if j not in self.lines and rows:
                 self.look()
                 self.pivot(min(rows, key=lambda b: len(self.lines[b])), j)
-        for k in range(self.cost):
+        for k, near in enumerate([*x, *p.terms.activities(x)]):
             if k not in self.lines:
-                self.x[k] = self.nearest(k, x[k] if k < self.p.n else self.body(k, x))
+                self.x[k] = Fraction(end_near(self.lo[k], self.hi[k], near * p.unit) or 0)
         for basic, line in self.lines.items():
             total = sum((a * self.x[k] for k, a in line.items() if k != basic), ZERO)
             self.x[basic] = -total / line[basic]
-
-    def body(self, k: int, x: List[float]) -> float:
-        return sum(float(a) * x[j] for j, a in self.p.rows[k - self.p.n])
-
-    def nearest(self, k: int, near: float) -> Fraction:
-        lo, hi = self.lo[k], self.hi[k]
-        ends = [Fraction(end) for end in (lo, hi) if end is not None]
-        return min(ends, key=lambda end: abs(float(end) - near * self.p.unit), default=ZERO)
-
-    # steps -------------------------------------------------------------------------
 
     def rate(self, basic: int, enters: int) -> Fraction:
         """Of a basic variable, by that of the entering one."""
@@ -126,7 +87,7 @@ class Simplex:
         """Basic variables beyond an end: 1 above, -1 below."""
         found = {}
         for b in self.lines:
-            lo, hi = (self.lo[b], self.hi[b]) if b != self.cost else (None, None)
+            lo, hi = self.lo[b], self.hi[b]
             if lo is not None and self.x[b] < lo:
                 found[b] = -1
             elif hi is not None and self.x[b] > hi:
@@ -145,23 +106,16 @@ class Simplex:
 
     def entering(self, slopes: Dict[int, Fraction]) -> Optional[int]:
         """One that improves: the steepest, and after steps without a gain the first."""
-        fit = [k for k, s in slopes.items() if s and self.may_go(k, s)]
+        fit = [k for k, s in slopes.items() if s and self.x[k] != (self.hi[k] if s < 0 else self.lo[k])]
         if self.stalled > STALLED:
             return min(fit, default=None)
         return max(fit, key=lambda k: (abs(slopes[k]), -k)) if fit else None
-
-    def may_go(self, k: int, slope: Fraction) -> bool:
-        """Against the slope."""
-        end = self.hi[k] if slope < 0 else self.lo[k]
-        return end is None or end != self.x[k]
 
     def step(self, enters: int, way: int, missed: Dict[int, int]) -> Optional[Step]:
         """To the first end that is met; None where none is."""
         end = self.hi[enters] if way > 0 else self.lo[enters]
         best = None if end is None else Step(abs(end - self.x[enters]), None, end)
         for b in self.at[enters]:
-            if b == self.cost:
-                continue
             rate = way * self.rate(b, enters)
             end = self.met(b, rate > 0, missed.get(b, 0))
             if end is None:
@@ -173,11 +127,9 @@ class Simplex:
 
     def met(self, b: int, is_up: bool, missed: int) -> Side:
         """The end that a basic variable meets next."""
-        if missed < 0:
-            return self.lo[b] if is_up else None
-        if missed > 0:
-            return None if is_up else self.hi[b]
-        return self.hi[b] if is_up else self.lo[b]
+        if missed:
+            return (self.lo if is_up else self.hi)[b] if is_up == (missed < 0) else None
+        return (self.hi if is_up else self.lo)[b]
 
     def go(self, enters: int, way: int, step: Step) -> None:
         self.stalled = 0 if step.size else self.stalled + 1
@@ -190,8 +142,6 @@ class Simplex:
             self.x[step.leaves] = Fraction(step.end)
             self.pivot(step.leaves, enters)
 
-    # the end -----------------------------------------------------------------------
-
     def run(self) -> Ended:
         while True:
             self.look()
@@ -199,9 +149,10 @@ class Simplex:
             slopes = self.slopes(missed)
             enters = self.entering(slopes)
             if enters is None:
+                slopes.update((b, Fraction(-sign)) for b, sign in missed.items())
+                rows = {k - self.p.n: y for k, y in slopes.items() if k >= self.p.n and y}
                 if missed:
-                    return Ended("infeasible", None, self.weights(missed, slopes))
-                rows = {k - self.p.n: s for k, s in slopes.items() if k >= self.p.n and s}
+                    return Ended("infeasible", None, rows)
                 scale = Fraction(self.p.scale, self.p.cost_scale)
                 return Ended("optimal", self.point(), {i: y * scale for i, y in rows.items()})
             way = 1 if slopes[enters] < 0 else -1
@@ -210,22 +161,9 @@ class Simplex:
                 return Ended("unbounded", self.point(), {}, self.ray(enters, way))
             self.go(enters, way, step)
 
-    def weights(self, missed: Dict[int, int], slopes: Dict[int, Fraction]) -> Dict[int, Fraction]:
-        """Of rows whose sum no point has."""
-        found = {b: Fraction(-sign) for b, sign in missed.items()}
-        found.update(slopes)
-        return {k - self.p.n: y for k, y in found.items() if k >= self.p.n and y}
-
     def point(self) -> Point:
         return [self.x[j] / self.p.unit for j in range(self.p.n)]
 
     def ray(self, enters: int, way: int) -> Point:
-        found = [ZERO] * self.p.n
-        for b in (*self.at[enters], enters):
-            if b < self.p.n:
-                found[b] = Fraction(way) if b == enters else way * self.rate(b, enters)
-        return found
-
-
-def times(side: Side, scale: int) -> Side:
-    return None if side is None else side * scale
+        found = {b: way * self.rate(b, enters) for b in self.at[enters]}
+        return [Fraction(way) if j == enters else found.get(j, ZERO) for j in range(self.p.n)]

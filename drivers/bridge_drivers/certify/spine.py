@@ -1,26 +1,23 @@
 """Rows that shorten the tree: from the root, one below the other, each with a proof of its own.
 
-Where the objective is whole up to a factor, a plane on it comes first: in the part that is better
-than the value all leaves are contradictions, and the other part closes at once. Below it come cuts,
-planes whose part beyond closes by a small tree, and lemmas.
-"""
+Where the objective is whole up to a factor, a plane on it comes first: in the part that is better than the value all
+leaves are contradictions, and the other part closes at once. Below it come cuts, planes whose part beyond closes by a
+small tree, and lemmas. Cuts are cliques: of binary columns, or complements of such, of which each two exclude each
+other at most one is 1; each is kept where a tree closes the part beyond it."""
 
 from __future__ import annotations
 
 import math
 from fractions import Fraction
-from typing import Callable, Dict, Iterator, Mapping, NamedTuple, Sequence
+from typing import Dict, Iterator, Mapping, NamedTuple, Sequence, Tuple
 
 from . import text
-from .cliques import Proposal, cliques
 from .clp import Clp, State
-from .lemmas import Proof, Source, proved
-from .mixed import Rounded
+from .lemmas import Proof, Rounded, Source, proved
 from .model import Added, Model, Step
-from .parts import Better
+from .parts import Better, Tree, count, rows_used
 from .search import Goal, Search
-from .text import Naming, Plane
-from .tree import Spool, Tree, count, rows_used
+from .text import Naming
 from .watch import Stopped, Watch
 
 ROUNDS = 30
@@ -32,6 +29,69 @@ LEAST_DEPTH = 1e-3
 PARALLEL = 0.81                 # the squared cosine of cuts that are too much alike
 BEYOND_NODES = 12
 BEYOND_SECONDS = 2.0
+MOST_IN_ROW = 100               # terms of a row whose conflicts are looked for
+MOST_CLIQUES = 200
+LONGEST = 40                    # literals of a clique, each of which takes a row from 3 on
+Literal = Tuple[int, int]       # a binary column, and 1, or -1 for its complement
+Items = Sequence[Tuple[int, Literal]]   # what literals weigh
+
+
+class Proposal(NamedTuple):
+    """The form of `terms` at most `at`, violated by `depth`. `before` are those below which its part beyond closes by a
+    small tree, each below the ones before it."""
+
+    depth: float
+    terms: Dict[int, int]
+    at: int
+    before: Sequence[Proposal] = ()
+
+
+def knapsacks(m: Model) -> Iterator[tuple[Items, Fraction]]:
+    """Each side of a row over binary literals with positive weights; others stand at a bound."""
+    for row, lo, hi in zip(m.rows, m.side_lo, m.side_hi):
+        for sign, side in ((1, hi), (-1, lo)) if len(row) <= MOST_IN_ROW else ():
+            ends = [(m.lo if sign * a > 0 else m.hi)[j] for j, a in row]
+            finite = [sign * a * end for (_, a), end in zip(row, ends) if end is not None]
+            rest = -1 if side is None or len(finite) < len(row) else sign * side * m.scale - sum(finite)
+            if rest >= 0:
+                yield [(abs(a), (j, 1 if sign * a > 0 else -1)) for j, a in row
+                       if m.whole[j] and m.lo[j] == 0 and m.hi[j] == m.unit], Fraction(rest, m.unit)
+
+
+def conflicts(m: Model) -> Dict[Literal, set[Literal]]:
+    """Literals of which two cannot be 1 together, by one row."""
+    found: Dict[Literal, set[Literal]] = {}
+    for items, side in knapsacks(m):
+        for k, (weight, one) in enumerate(items):
+            for more, other in items[:k]:
+                if weight + more > side:
+                    found.setdefault(one, set()).add(other)
+                    found.setdefault(other, set()).add(one)
+    return found
+
+
+def cliques(m: Model, x: Sequence[float]) -> Iterator[Proposal]:
+    """From each literal the clique that grows by the greatest values, literal by literal, since below the one before
+    each closes by one leaf."""
+    near, seen = conflicts(m), set[frozenset[Literal]]()
+    value = {(j, sign): x[j] if sign > 0 else 1 - x[j] for j, sign in near}
+
+    def rank(literal: Literal) -> tuple[float, Literal]:
+        return -value[literal], literal
+    for first in sorted(near, key=rank)[:MOST_CLIQUES]:
+        taken, left = [first], near[first]
+        while left and len(taken) < LONGEST:
+            taken.append(min(left, key=rank))
+            left = left & near[taken[-1]]
+        if len(taken) > 2 and frozenset(taken) not in seen:
+            seen.add(frozenset(taken))
+            chain = [clique(taken[:k], value) for k in range(3, len(taken))]
+            yield clique(taken, value)._replace(before=chain)
+
+
+def clique(literals: Sequence[Literal], value: Mapping[Literal, float]) -> Proposal:
+    return Proposal(sum(value[t] for t in literals) - 1, {j: sign for j, sign in literals},
+                    1 - sum(sign < 0 for _, sign in literals))
 
 
 class Row(NamedTuple):
@@ -44,57 +104,43 @@ class Row(NamedTuple):
     def added(self) -> Added:
         return Added(self.terms, None, self.at)
 
+    def parts(self) -> Sequence[Tree]:
+        return ([self.proof.low], [self.proof.high]) if isinstance(self.proof, Proof) else (self.proof,)
+
 
 class Value:
     """A value of the objective, minimised, that no point is to be better than; None: there is to be no point. Where
-    there is a step, `at` is the greatest value of its form that would be better."""
+    there is a step, `at` is the greatest value of its form that would be better; `added` is the plane of that."""
 
     def __init__(self, model: Model, value: Fraction | None, step: Step | None) -> None:
-        self.value, self.step = value, step
-        self.at = 0
+        self.value, self.step, self.at = value, step, 0
+        self.goal = Goal(value)
         if step is not None and value is not None:
-            units = (value - model.constant) / step.size
-            self.at = math.ceil(units) - 1
-
-    def added(self) -> list[Added]:
-        return [] if self.step is None else [Added(self.step.form, None, self.at)]
-
-    def goal(self, exact: Callable[[Sequence[float]], list[Fraction] | None]) -> Goal:
-        if self.step is None or self.value is None:
-            return Goal(self.value, False, exact)
-        return Goal(self.value - self.step.size, True, exact)
-
-
-class Tableau(NamedTuple):
-    """The relaxation of a round: its model without sides of the objective's row, and values."""
-
-    model: Model
-    clp: Clp
-    x: list[float]
-    base: float
+            self.at = math.ceil((value - model.constant) / step.size) - 1
+            self.goal = Goal(value - step.size, True)
+        self.added = [] if step is None else [Added(step.form, None, self.at)]
 
 
 class Maker:
     """Makes rows of the spine for a value, within seconds of the watch."""
 
-    def __init__(self, model: Model, value: Value, spool: Spool, watch: Watch) -> None:
-        self.model, self.value, self.spool, self.watch = model, value, spool, watch
-        self.goal = math.inf if value.value is None else float(value.value - (value.step.size if value.step else 0))
+    def __init__(self, model: Model, value: Value, watch: Watch) -> None:
+        self.model, self.value, self.watch = model, value, watch
+        self.goal = math.inf if value.goal.target is None else float(value.goal.target)
         self.base = -math.inf           # of the last relaxation
         self.stalled = STALLED if any(model.costs) else ROUNDS
 
-    def relaxed(self, rows: Sequence[Row]) -> Tableau | None:
-        """The relaxation under the rows; the plane on the objective is there without its side,
-        so that the bound is seen."""
-        seen = [Added(added.terms) for added in self.value.added()]
-        m = self.model.with_rows(seen + [row.added() for row in rows])
+    def relaxed(self, rows: Sequence[Row]) -> tuple[Model, Clp] | None:
+        """The relaxation under the rows; the plane on the objective is there without its side, so that the bound is
+        seen."""
+        m = self.model.with_rows([*(Added(added.terms) for added in self.value.added), *(row.added() for row in rows)])
         clp = m.relaxation()
         if clp.solve() is not State.OPTIMAL:
             return None
         self.base = clp.objective() + float(self.model.constant)
         if self.watch.is_due() and any(self.model.costs):
             self.watch.tell(cuts=len(rows), bound=self.model.sign * self.base)
-        return Tableau(m, clp, clp.values(), self.base)
+        return m, clp
 
     def is_over(self, until: float) -> bool:
         return self.watch.spent() > until or self.watch.is_stopped
@@ -106,33 +152,30 @@ class Maker:
         stalled, last = 0, -math.inf
         for _ in range(ROUNDS):
             relaxed = self.relaxed(rows)
-            if relaxed is None or relaxed.base >= self.goal + 1e-9:
+            stalled = stalled + 1 if self.base - last < GAIN * (self.goal - self.base) else 0
+            if relaxed is None or self.base >= self.goal + 1e-9 or stalled > self.stalled:
                 break
-            gain = relaxed.base - last
-            stalled = stalled + 1 if gain < GAIN * (self.goal - relaxed.base) else 0
-            if stalled > self.stalled:
-                break
-            last, count = relaxed.base, len(rows)
+            last, size = self.base, len(rows)
             used: list[dict[int, int]] = []
-            for cut in self.proposed(relaxed, kinds, used, until):
+            for cut in self.proposed(*relaxed, kinds, used, until):
                 if self.is_over(until):
                     break
                 if key(cut.terms, cut.at) in seen:
                     continue
                 seen.add(key(cut.terms, cut.at))
                 if not any(is_parallel(cut.terms, other) for other in used) \
-                        and self.is_proved(cut, rows, relaxed.model):
+                        and self.is_proved(cut, rows, relaxed[0]):
                     used.append(cut.terms)
-            if len(rows) == count or self.is_over(until):
+            if len(rows) == size or self.is_over(until):
                 break
         return rows
 
-    def proposed(self, relaxed: Tableau, kinds: Sequence[str], used: Sequence[object],
+    def proposed(self, m: Model, clp: Clp, kinds: Sequence[str], used: Sequence[object],
                  until: float) -> Iterator[Proposal | Rounded]:
         """Cliques and lemmas, of each the deepest first, as long as fewer than there may be in one round are used."""
-        m, clp, x, _ = relaxed
+        x = clp.values()
         found = [cut for cut in cliques(m, x) if cut.depth > LEAST_DEPTH] if "clique" in kinds else []
-        for cut in sorted(found, key=lambda cut: -cut.depth / norm(cut.terms)):
+        for cut in sorted(found, key=lambda cut: -cut.depth / math.hypot(*cut.terms.values())):
             if len(used) >= EACH:
                 break
             yield cut
@@ -146,7 +189,7 @@ class Maker:
     def is_proved(self, cut: Proposal | Rounded, rows: list[Row], model: Model) -> bool:
         """With what comes before it; as far as that goes, it is among the rows."""
         if isinstance(cut, Rounded):
-            proof = proved(model, cut, self.spool)
+            proof = proved(model, cut)
             rows += [] if proof is None else [Row(cut.terms, cut.at, proof)]
             return proof is not None
         for one in (*cut.before, cut):
@@ -159,81 +202,61 @@ class Maker:
 
     def beyond(self, cut: Proposal, rows: Sequence[Row]) -> Tree | None:
         """The tree of the part beyond a cut, under the plane on the objective."""
-        added = [*self.value.added(), *(row.added() for row in rows), Added(cut.terms, cut.at + 1)]
+        added = [*self.value.added, *(row.added() for row in rows), Added(cut.terms, cut.at + 1)]
+        search = Search(self.model.with_rows(added), Goal(None), self.watch, strong=4)
+        search.until, search.most = self.watch.spent() + BEYOND_SECONDS, BEYOND_NODES
         try:
-            return Search(self.model.with_rows(added), Goal(None), self.spool, self.watch,
-                          self.watch.spent() + BEYOND_SECONDS, BEYOND_NODES, strong=4).run()
+            return search.worked().tree
         except (Stopped, Better):
             return None
 
 
-def key(terms: Dict[int, int], at: int) -> object:
+def key(terms: Mapping[int, int], at: int) -> object:
     return (tuple(sorted(terms.items())), at)
 
 
-def norm(terms: Mapping[int, int]) -> float:
-    return math.sqrt(sum([a * a for a in terms.values()]))
-
-
-def is_parallel(a: Dict[int, int], b: Dict[int, int]) -> bool:
+def is_parallel(a: Mapping[int, int], b: Mapping[int, int]) -> bool:
     product = sum(v * b.get(j, 0) for j, v in a.items())
     return product ** 2 > PARALLEL * sum(v * v for v in a.values()) * sum(v * v for v in b.values())
 
 
-class Figures(NamedTuple):
-    """Nodes of a text, rows of the spine in it, and how many were made."""
-
-    nodes: int
-    rows: int
-    made: int
-
-
 class Spined:
-    """The text of a tree below a spine: `model` is the file's program, `searched` the one of the
-    tree, with all rows. Rows of the spine that nothing uses are left out."""
+    """The text of a tree below a spine: `model` is the file's program, `searched` the one of the tree, with all rows.
+    Rows of the spine that nothing uses are left out: `place` has the numbers of the others, `kept` them."""
 
-    def __init__(self, model: Model, searched: Model, value: Value, rows: Sequence[Row],
-                 tree: Tree, spool: Spool) -> None:
-        self.model, self.searched, self.value = model, searched, value
-        self.rows, self.tree, self.spool = rows, tree, spool
-        self.start = model.m + len(value.added())
-        used = rows_used(tree)
+    def __init__(self, model: Model, searched: Model, value: Value, rows: Sequence[Row], tree: Tree) -> None:
+        self.model, self.searched, self.value, self.tree = model, searched, value, tree
+        start, used = model.m + len(value.added), rows_used(tree)
         for k in range(len(rows) - 1, -1, -1):
-            if self.start + k in used:
-                proof = rows[k].proof
-                parts = (proof.low, proof.high) if isinstance(proof, Proof) else (proof,)
-                used.update(*map(rows_used, parts))
-        self.kept = [k for k in range(len(rows)) if self.start + k in used]
-        self.place = {self.start + k: self.start + at for at, k in enumerate(self.kept)}
+            if start + k in used:
+                used.update(*map(rows_used, rows[k].parts()))
+        kept = [k for k in range(len(rows)) if start + k in used]
+        self.place = {start + k: start + at for at, k in enumerate(kept)}
+        self.kept = {start + at: rows[k] for at, k in enumerate(kept)}
+        self.end = start + len(kept)
 
-    def figures(self) -> Figures:
-        nodes = count(self.tree) + 2 * len(self.value.added()) + len(self.kept)
-        for k in self.kept:
-            proof = self.rows[k].proof
-            nodes += 3 if isinstance(proof, Proof) else count(proof)
-        return Figures(nodes, len(self.kept), len(self.rows))
+    def nodes(self) -> int:
+        proofs = sum(1 + (3 if isinstance(row.proof, Proof) else count(row.proof)) for row in self.kept.values())
+        return count(self.tree) + 2 * len(self.value.added) + proofs
 
     def lines(self) -> Iterator[str]:
-        step, m = self.value.step, self.model
-        plane = None if step is None else Plane(m.m, step.size)
+        """Behind the tree stand the parts beyond the cuts, from the deepest."""
+        step, row, sign = self.value.step, self.model.m, self.model.sign
         if step is not None:
             yield from text.plane_lines(step.form, self.value.at)
-        for at, k in enumerate(self.kept):
-            terms, side, proof = self.rows[k]
+        beyond: list[tuple[int, Tree]] = []
+        for at, (terms, side, proof) in self.kept.items():
             if isinstance(proof, Proof):
-                yield from text.lemma_lines(terms, side, proof, self.spool, {**self.place, proof.row: self.start + at})
+                yield from text.lemma_lines(terms, side, proof, {**self.place, proof.row: at})
             else:
                 yield from text.plane_lines(terms, side)
-        yield from text.tree_lines(self.searched, self.tree, self.spool,
-                                   Naming(self.place, self.start + len(self.kept), m.sign, plane))
-        yield from self.tail()
+                beyond.append((at + 1, proof))
+        plane = None if step is None else (row, step.size)
+        yield from self.tree_lines(self.tree, self.end, plane)
+        for first, tree in reversed(beyond):
+            yield from self.tree_lines(tree, first)
         if step is not None:
-            yield from text.duals_lines({m.m: m.sign * step.size}, False)
+            yield from text.duals_lines({row: sign * step.size}, False)
 
-    def tail(self) -> Iterator[str]:
-        """The parts beyond the cuts, from the deepest."""
-        for at in range(len(self.kept) - 1, -1, -1):
-            proof: Tree | Proof = self.rows[self.kept[at]].proof
-            if not isinstance(proof, Proof):
-                naming = Naming(self.place, self.start + at + 1, self.model.sign)
-                yield from text.tree_lines(self.searched, proof, self.spool, naming)
+    def tree_lines(self, tree: Tree, first: int, plane: tuple[int, Fraction] | None = None) -> Iterator[str]:
+        return text.tree_lines(self.searched, tree, Naming(self.place, first, self.model.sign, plane))

@@ -6,7 +6,7 @@ import contextlib
 import signal
 import threading
 import time
-from typing import Iterator
+from typing import Callable, ContextManager, Iterator
 
 from ..interrupts import SIGNALS
 from ..progress import Progress, detailed
@@ -31,9 +31,10 @@ class Over(Exception):
 
 
 class Watch:
-    """Of one certificate: `seconds` is the limit of all its searches, 0 for none, `of_processor`:
-    in processor time, so that a busy machine does not end a short one. All has ended a tenth and
-    5 s after the limit, counted from the start."""
+    """Of one certificate: `seconds` is the limit of all its searches, 0 for none, `of_processor`: in processor time, so
+    that a busy machine does not end a short one. All has ended a tenth and 5 s after the limit, from the start."""
+
+    is_ending = False           # of a process: what it works is paused
 
     def __init__(self, seconds: float, progress: Progress | None = None, of_processor: bool = False) -> None:
         self.seconds, self.progress = seconds, progress or Progress("bridge-certify")
@@ -54,14 +55,11 @@ class Watch:
         return self.now() - self.began
 
     def left(self) -> float:
-        """Seconds for searches."""
         return self.seconds - self.spent() if self.seconds else float("inf")
 
     def to_end(self) -> float:
         """Seconds until all must have ended."""
-        if not self.seconds:
-            return float("inf")
-        return self.started + self.seconds * 1.1 + GRACE - time.monotonic()
+        return self.started + self.seconds * 1.1 + GRACE - time.monotonic() if self.seconds else float("inf")
 
     def for_verdict(self, share: float = 1.0) -> float | None:
         """Seconds for `bridge verify`, a share of what is left."""
@@ -76,6 +74,8 @@ class Watch:
         """At each node: Paused after the limit or `until` (in seconds of this watch), Stopped after an interrupt."""
         if self.is_stopped:
             raise Stopped("interrupted")
+        if self.is_ending:
+            raise Paused("the process ends")
         if self.spent() > until or self.left() < 0:
             raise Paused(f"time ({nodes} nodes)")
 
@@ -84,39 +84,32 @@ class Watch:
         return "interrupted" if self.is_stopped else told
 
     def is_due(self) -> bool:
-        """Whether the progress is to be told."""
         now = time.monotonic()
-        if now - self.told < EVERY:
-            return False
-        self.told = now
-        return True
+        is_due = now - self.told >= EVERY
+        self.told = now if is_due else self.told
+        return is_due
 
     def tell(self, **known: float) -> None:
         """Of a search: nodes, open ones, cuts, the best bound."""
-        if self.incumbent is not None:
-            known = {"incumbent": self.incumbent, **known}
-        self.progress.tell(detailed(known))
-
-    # the alarm ---------------------------------------------------------------------
+        self.progress.tell(detailed(known if self.incumbent is None else {"incumbent": self.incumbent, **known}))
 
     @contextlib.contextmanager
     def alarmed(self, seconds: float) -> Iterator[None]:
-        """Over where the block takes longer; not in other threads than the main one. The caller
-        disarms where it comes."""
-        if threading.current_thread() is not threading.main_thread() or seconds == float("inf"):
+        """Over where the block takes longer; not in other threads than the main one. The caller disarms where it
+        comes."""
+        if not is_main() or seconds == float("inf"):
             yield
             return
-        old = signal.signal(signal.SIGALRM, self.over)
-        self.arm(seconds)
-        try:
-            yield
-        finally:
-            self.disarm()
-            signal.signal(signal.SIGALRM, old)
+        with handled(signal.SIGALRM, self.over):
+            self.arm(seconds)
+            try:
+                yield
+            finally:
+                self.disarm()
 
     def over(self, number: int, frame: object) -> None:
-        """Not while a process is started or ended, nor while `bridge verify` runs, which has a
-        limit of its own: it comes again."""
+        """Not while a process is started or ended, nor while `bridge verify` runs, which has a limit of its own: it
+        comes again."""
         if self.is_armed and not SIGNALS.is_held and not self.is_judging:
             raise Over("time")
 
@@ -136,21 +129,28 @@ class Watch:
         finally:
             self.is_judging = False
 
-    @contextlib.contextmanager
-    def interruptible(self) -> Iterator[None]:
-        """An interrupt ends the search at its next node, and nothing else. (From a terminal it
-        reaches a process of `bridge` too, and ends that.) An ignored one stays ignored."""
-        is_main = threading.current_thread() is threading.main_thread()
-        if not is_main or signal.getsignal(signal.SIGINT) is signal.SIG_IGN:
-            yield
-            return
+    def interruptible(self) -> ContextManager[None]:
+        """An interrupt ends the search at its next node, and nothing else. (From a terminal it reaches a process of
+        `bridge` too, and ends that.) An ignored one stays ignored."""
+        if not is_main() or signal.getsignal(signal.SIGINT) is signal.SIG_IGN:
+            return contextlib.nullcontext()
 
         def stop(number: int, frame: object) -> None:
             self.is_stopped = True
             if self.is_armed:           # a step without nodes ends too
                 self.arm(AGAIN)
-        old = signal.signal(signal.SIGINT, stop)
-        try:
-            yield
-        finally:
-            signal.signal(signal.SIGINT, old)
+        return handled(signal.SIGINT, stop)
+
+
+def is_main() -> bool:
+    return threading.current_thread() is threading.main_thread()
+
+
+@contextlib.contextmanager
+def handled(number: int, handler: Callable[[int, object], None]) -> Iterator[None]:
+    """A block whose signals of this kind go there."""
+    old = signal.signal(number, handler)
+    try:
+        yield
+    finally:
+        signal.signal(number, old)

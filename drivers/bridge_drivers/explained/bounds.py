@@ -3,7 +3,7 @@
 from __future__ import annotations
 
 from fractions import Fraction
-from typing import Mapping, NamedTuple, Optional, Sequence
+from typing import Iterable, Iterator, Mapping, NamedTuple, Optional, Sequence
 
 from ..certify.model import Model
 from .reading import LEMMA, PLANE, SPLIT, WEIGHTS, Certificate
@@ -31,29 +31,41 @@ class Goal(NamedTuple):
 
 
 class Part(NamedTuple):
-    """What is true at a node: bounds of the variables that were split, and rows that were added."""
+    """What is true at a node: bounds of the variables that were split, rows that were added; what is to be shown."""
 
     ends: dict[int, tuple[End, End]]
     added: list[Row]
     goal: Goal
 
 
-class Bounds:
-    """Over the folded program of the file."""
+class Term(NamedTuple):
+    """A number of a leaf, or a cost that its rows leave: for a `row` or `bound`, and which side of it."""
 
-    def __init__(self, model: Model, certificate: Certificate, target: Fraction | None) -> None:
+    number: Fraction
+    kind: str
+    place: int
+    is_lower: bool
+    side: End
+
+
+class Bounds:
+    """Over the folded program of the file. `value` is that of the certificate's point, where it has one."""
+
+    def __init__(self, model: Model, certificate: Certificate) -> None:
         self.model, self.certificate = model, certificate
-        sign = model.sign
-        costs = {j: sign * c for j, c in enumerate(model.cost) if c}
-        self.goal = Goal(costs, sign * model.constant, model.maximise, target)
+        costs = {j: model.sign * c for j, c in enumerate(model.cost) if c}
+        constant, point, numbers = model.sign * model.constant, certificate.point, certificate.numbers
+        self.value = None if point is None else constant + total(costs.items(), point)
+        self.goal = Goal(costs, constant, model.maximise, numbers[0] if numbers else self.value)
 
     def over_unit(self, number: int | None) -> End:
         return None if number is None else Fraction(number, self.model.unit)
 
     def row(self, number: int) -> Row:
-        model = self.model
-        return Row([(j, Fraction(a, model.scale)) for j, a in model.rows[number]],
-                   self.over_unit(model.side_lo[number]), self.over_unit(model.side_hi[number]))
+        """A constraint of the program."""
+        m = self.model
+        low, high = map(self.over_unit, (m.side_lo[number], m.side_hi[number]))
+        return Row([(j, Fraction(a, m.scale)) for j, a in m.rows[number]], low, high)
 
     def ends(self, column: int) -> tuple[End, End]:
         return self.over_unit(self.model.lo[column]), self.over_unit(self.model.hi[column])
@@ -81,48 +93,40 @@ class Bounds:
                 added.append(Row(terms, None, at))
         return Part(ends, added, goal)
 
-    def left(self, place: int, part: Part) -> tuple[End, dict[int, Fraction]]:
-        """What the numbers of a leaf make of the sides of rows, None where one is missing, and the
-        costs that they leave to variables: for weights of the objective 0, minimised."""
+    def terms(self, place: int, part: Part) -> Iterator[Term]:
+        """The numbers of a leaf for rows, then the costs that these leave to variables: for weights
+        of the objective 0, minimised."""
         node, goal = self.certificate.nodes[place], part.goal
-        is_dual = node.kind != WEIGHTS
-        left = dict(goal.costs) if is_dual else {}
-        total: End = goal.constant if is_dual else Fraction(0)
+        left = dict(goal.costs) if node.kind != WEIGHTS else {}
+
+        def term(value: Fraction, kind: str, index: int, low: End, high: End) -> Term:
+            is_lower = (value > 0) != (goal.maximise and node.kind != WEIGHTS)
+            return Term(value, kind, index, is_lower, low if is_lower else high)
+
         for number, text in node.pairs:
-            value, row = Fraction(text), self.row_at(number, part)
-            side = self.side(place, part, value, (row.low, row.high))
-            total = None if total is None or value and side is None else total + value * (side or 0)
+            value = Fraction(text)
+            row = self.row(number) if number < self.model.m else part.added[number - self.model.m]
             for j, a in row.terms:
                 left[j] = left.get(j, Fraction(0)) - value * a
-        return total, {j: cost for j, cost in left.items() if cost}
-
-    def row_at(self, number: int, part: Part) -> Row:
-        """A constraint, or a row that was added above."""
-        return self.row(number) if number < self.model.m else part.added[number - self.model.m]
-
-    def is_lower(self, place: int, part: Part, value: Fraction) -> bool:
-        """Whether a number or a cost of this sign rests on the lower side."""
-        is_dual = self.certificate.nodes[place].kind != WEIGHTS
-        return (value > 0) != (part.goal.maximise and is_dual)
-
-    def side(self, place: int, part: Part, value: Fraction, ends: tuple[End, End]) -> End:
-        return ends[0] if self.is_lower(place, part, value) else ends[1]
+            yield term(value, "row", number, row.low, row.high)
+        for j, cost in left.items():
+            if cost:
+                yield term(cost, "bound", j, *(part.ends.get(j) or self.ends(j)))
 
     def shown(self, place: int, part: Part) -> End:
         """The bound that a leaf's numbers show; None where a side or bound is missing that they ask for."""
-        total, left = self.left(place, part)
-        for j, cost in left.items():
-            end = self.side(place, part, cost, part.ends.get(j) or self.ends(j))
-            total = None if total is None or end is None else total + cost * end
-        return total
-
-    def activity(self, number: int, point: Mapping[int, Fraction]) -> Fraction:
-        """Of a constraint at a point."""
-        return sum((a * point.get(j, Fraction(0)) for j, a in self.row(number).terms), Fraction(0))
+        found = part.goal.constant if self.certificate.nodes[place].kind != WEIGHTS else Fraction(0)
+        for term in self.terms(place, part):
+            if term.number and term.side is None:
+                return None
+            found += term.number * (term.side or 0)
+        return found
 
     def change(self, ray: Mapping[int, Fraction]) -> Fraction:
         """Of the objective along a ray."""
-        return sum((c * ray.get(j, Fraction(0)) for j, c in self.goal.costs.items()), Fraction(0))
+        return total(self.goal.costs.items(), ray)
 
-    def value(self, point: Mapping[int, Fraction]) -> Fraction:
-        return self.goal.constant + self.change(point)
+
+def total(terms: Iterable[tuple[int, Fraction]], point: Mapping[int, Fraction]) -> Fraction:
+    """The sum of terms at a point."""
+    return sum((a * point.get(j, Fraction(0)) for j, a in terms), Fraction(0))

@@ -2,26 +2,21 @@
 
 from __future__ import annotations
 
-import tempfile
-from fractions import Fraction
-from typing import NamedTuple, Sequence
+from typing import NamedTuple
 
 from .. import verdicts
 from ..bridge import Refused
-from ..certify.model import Model, Unfit, model_of
+from ..certify.model import Unfit, model_of
 from ..codes import Status
 from ..files import Places
+from ..inputs import Subject
+from ..interface import Report
 from ..printable import in_a_line
-from ..report import Report
-from ..subjects import Subject
 from .bounds import Bounds
 from .page import text_of
 from .picture import Picture
 from .reading import Certificate, read
-from .sums import both, sums
-from .words import Wording, claim_words, tally
-
-TALLIED = ("nodes", "splits", "planes", "lemmas", "leaves", "weights", "depth", "added")
+from .words import Wording, claim_words
 
 
 class Files(NamedTuple):
@@ -41,12 +36,10 @@ class Explaining:
         self.files, self.verdict, self.holds = files, verdict, holds
         self.shown, self.path = model.given.shown, model.path
         self.certificate: Certificate = read(files.certificate)
-        self.names, constraints = model.names(), model.constraints()
         self.note = ""
         self.drawn: Picture | None = None
         self.bounds = self.exact(model)
-        self.wording = Wording(self.certificate, self.names, self.bounds, constraints)
-        self.tally = tally(self.certificate, constraints)
+        self.wording = Wording(self.certificate, model.names(), self.bounds, model.constraints())
         self.fails = None if holds else self.wording.failing_leaf(verdict)
         self.claim = claim_words(self.certificate, verdicts.read(verdict) if holds else None, self.bounds)
 
@@ -54,23 +47,12 @@ class Explaining:
         """The program in exact numbers; None, with a note, where it is not to be had."""
         try:
             program = given.program(str(self.certificate.objective or 0))
-            with tempfile.TemporaryDirectory(prefix="nl-bridge-") as folder:
-                model, _ = model_of(given.bridge, given.path, folder, program)
+            model, _ = model_of(given.bridge, given.path, program)
         except (Refused, Unfit) as fault:
             told = fault.line() if isinstance(fault, Refused) else str(fault)
             self.note = f"without bounds: {told}"
             return None
-        return Bounds(model, self.certificate, self.target(model))
-
-    def target(self, model: Model) -> Fraction | None:
-        """The value that leaves have to meet."""
-        c = self.certificate
-        if c.numbers:
-            return c.numbers[0]
-        if c.point is None:
-            return None
-        point = [c.point.get(j, Fraction(0)) for j in range(model.n)]
-        return model.sign * model.value(point)
+        return Bounds(model, self.certificate)
 
     def said(self) -> str:
         return self.claim if self.holds else f"it claims: {self.claim}"
@@ -83,19 +65,21 @@ class Explaining:
         told += self.wording.lines()
         return told + ([self.note] if self.note else [])
 
+    def failure(self) -> str:
+        """Why it does not hold."""
+        return self.wording.failure(self.verdict)[0][10:]
+
     def object(self) -> dict[str, object]:
         """The same for programs."""
-        t, c = self.tally, self.certificate
+        c, wording = self.certificate, self.wording
         node = None if self.fails is None else c.nodes[self.fails]
-        points = {name: None if of is None else {self.wording.column(j): str(value)
-                                                 for j, value in of.items()}
+        points = {name: None if of is None else {wording.column(j): str(value) for j, value in of.items()}
                   for name, of in (("point", c.point), ("ray", c.ray))}
-        return {"holds": self.holds, "claim": self.claim, **points,
-                "tree": {key: getattr(t, key) for key in TALLIED} if c.nodes else None,
-                "uses": {self.wording.row(i): times for i, times in sorted(t.rows.items())},
-                "failure": None if self.holds else self.wording.failure(self.verdict)[0][10:],
+        return {"holds": self.holds, "claim": self.claim, **points, "tree": wording.tally if c.nodes else None,
+                "uses": {wording.row(i): times for i, times in sorted(wording.used)},
+                "failure": None if self.holds else self.failure(),
                 "leaf": None if node is None else node.leaf, "line": None if node is None else node.line,
-                "path": [] if self.fails is None else self.wording.path(self.fails)}
+                "path": [] if self.fails is None else wording.path(self.fails)}
 
     def tree(self) -> Picture | None:
         """None where the certificate has none."""
@@ -108,19 +92,6 @@ class Explaining:
 
     def page(self) -> str:
         return text_of(self)
-
-    def points(self) -> list[tuple[str, str]]:
-        """The values of the point that are not 0, by name."""
-        point = self.certificate.point or {}
-        return [(self.wording.column(j), both(value)) for j, value in point.items()]
-
-    def sums(self, drawn: Picture | None) -> list[tuple[str, Sequence[str], str]]:
-        """Those of the leaves that are drawn: heads, lines, and what they show."""
-        nodes = self.certificate.nodes
-        places = [d.place for d in drawn.drawn if nodes[d.place].is_leaf()] if drawn else []
-        return [(f"line {nodes[found.place].line}, leaf {nodes[found.place].leaf}: "
-                 + (", ".join(self.wording.path(found.place, False)) or "all points"), found.lines,
-                 found.shows) for found in sums(self.wording, places)]
 
 
 def explained(model: Subject, files: Files, report: Report) -> None:

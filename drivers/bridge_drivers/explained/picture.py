@@ -11,7 +11,7 @@ from typing import Iterator, NamedTuple
 
 from ..texts import text as text_of
 from .bounds import Bounds
-from .reading import DUALS, LEMMA, PLANE, ROOT, SPLIT, WEIGHTS
+from .reading import DUALS, LEMMA, ROOT, WEIGHTS
 from .words import Wording, short
 
 MOST_SHOWN = 64                 # nodes before a tree is folded
@@ -23,21 +23,19 @@ MOST_TEXT, MOST_PART = 27, 21   # characters of a line in a node, of its first, 
 
 
 class Drawn(NamedTuple):
-    """A node at its place in the picture."""
+    """A node in the picture: its place in the certificate and there, its line, what is true there, in full and cut, the
+    bound, how it goes on or closes, and the class of its colours."""
 
     place: int
     x: int
     y: int
-
-
-class Part(NamedTuple):
-    """A node that is drawn: its line, what is true there, the bound, how it goes on or closes."""
-
     line: int
     depth: int
     part: str
+    head: str
     bound: str
     way: str
+    kind: str
 
 
 def cut(text: str, most: int = MOST_TEXT) -> str:
@@ -53,9 +51,8 @@ class Picture:
         self.on_path = set(self.certificate.path(fails)[:MOST_PATH] if fails is not None else [])
         self.depth = self.folded_depth()
         self.values = bounds_of(self.bounds) if self.bounds is not None else {}
-        self.drawn: list[Drawn] = []
         self.lowest = MARGIN
-        self.lay_out()
+        self.drawn = [self.drawn_at(place, y) for place, y in self.heights().items()]
 
     # which nodes, and where ----------------------------------------------------------
 
@@ -76,94 +73,70 @@ class Picture:
     def shown_below(self, place: int) -> list[int]:
         return [] if self.is_folded(place) else self.certificate.children(place)
 
-    def lay_out(self) -> None:
+    def heights(self) -> dict[int, int]:
         """Leaves one below the other, each node beside its first part."""
         heights: dict[int, int] = {}
-        order, stack = [], [0] if self.certificate.nodes else []
+        stack = [0] if self.certificate.nodes else []
         while stack:
             place = stack.pop()
-            order.append(place)
-            stack += reversed(self.shown_below(place))
-        for place in order:
-            if not self.shown_below(place):
-                heights[place] = self.lowest
-                self.lowest += DOWN
-        for place in reversed(order):
             below = self.shown_below(place)
-            if below:
-                heights[place] = heights[below[0]]
-        self.drawn = [Drawn(place, MARGIN + ACROSS * self.certificate.nodes[place].depth,
-                            heights[place]) for place in order]
+            heights[place] = self.lowest
+            self.lowest += 0 if below else DOWN
+            stack += reversed(below)
+        return heights
 
-    # what a node says ----------------------------------------------------------------
-
-    def part_text(self, place: int, most: int = 0) -> str:
-        """`z \u2264 0`; of a long form the start alone stands before the sign."""
+    def part_texts(self, place: int) -> tuple[str, str]:
+        """`z \u2264 0`; of a long form the start alone stands before the sign in a box."""
         node = self.certificate.nodes[place]
         if node.parent == ROOT:
-            return "all points"
+            return "all points", "all points"
         above = self.certificate.nodes[node.parent]
         is_below, number = self.wording.side(above, node.part)
         side = f" {chr(0x2264) if is_below else chr(0x2265)} {number}"
         left = self.wording.left_side(above)
         if above.kind == LEMMA:
             left = ("with " if node.part else "proof: ") + left
-        return (cut(left, max(most - len(side), 6)) if most else left) + side
-
-    def bound_text(self, place: int) -> str:
-        node = self.certificate.nodes[place]
-        if node.kind == WEIGHTS:
-            return "no point" if self.closes(place) else ""
-        if place not in self.values:
-            return ""
-        value = self.values[place]
-        return "no point" if value is None else f"bound {short(value)}"
+        return left + side, cut(left, max(MOST_PART - len(side), 6)) + side
 
     def closes(self, place: int) -> bool | None:
         """Whether a leaf does; None where that is not known. The verdict is of the first one that
         does not, so that those before it do."""
-        leaf = self.certificate.nodes[place].leaf
-        if self.holds or self.fails is not None and leaf < self.certificate.nodes[self.fails].leaf:
+        node = self.certificate.nodes[place]
+        if self.holds or self.fails is not None and node.leaf < self.certificate.nodes[self.fails].leaf:
             return True
         if place == self.fails:
             return False
-        if self.bounds is None or not self.values:
+        if self.bounds is None or not self.values or not node.is_leaf():
             return None
         part = self.bounds.part(place)
         shown, target = self.bounds.shown(place, part), part.goal.target
-        if self.certificate.nodes[place].kind == WEIGHTS:
+        if node.kind == WEIGHTS:
             return shown is not None and shown > 0
         if shown is None or target is None:
             return False
         return shown <= target if part.goal.maximise else shown >= target
 
-    def way_text(self, place: int) -> str:
+    def way_text(self, place: int, closes: bool | None) -> str:
         node = self.certificate.nodes[place]
         if node.is_leaf():
-            closes = self.closes(place)
             if not closes:
                 return f"leaf {node.leaf} " + ("is not judged" if closes is None else "does not close")
             count, how = len(node.pairs), "rows contradict" if node.kind == WEIGHTS else "closes by duals"
             return f"{how} ({count})" if count else "closes by bounds alone"
         if self.is_folded(place):
             return f"+ {node.size - 1} nodes, {node.leaves} leaves"
-        return {SPLIT: "split ", PLANE: "plane ", LEMMA: "lemma "}[node.kind] + self.wording.left_side(node)
+        return f"{node.kind} {self.wording.left_side(node)}"
 
-    def css_class(self, place: int) -> str:
-        node = self.certificate.nodes[place]
-        if self.is_folded(place):
-            return "folded"
-        if node.is_leaf() and not self.closes(place):
-            return "fails" if self.closes(place) is False else "cut"
-        return node.kind if node.kind in (DUALS, WEIGHTS) else "cut"
-
-    def parts(self) -> list[Part]:
-        """Each node that is drawn, in words."""
-        nodes = self.certificate.nodes
-        return [Part(nodes[d.place].line, nodes[d.place].depth, self.part_text(d.place),
-                     self.bound_text(d.place), self.way_text(d.place)) for d in self.drawn]
-
-    # svg -----------------------------------------------------------------------------
+    def drawn_at(self, place: int, y: int) -> Drawn:
+        node, closes = self.certificate.nodes[place], self.closes(place)
+        kind, value = "folded" if self.is_folded(place) else "cut", self.values.get(place, Fraction(0))
+        if node.is_leaf() and closes is not None:
+            kind = node.kind if closes else "fails"
+        bound = "" if place not in self.values else "no point" if value is None else f"bound {short(value)}"
+        if node.kind == WEIGHTS:
+            bound = "no point" if closes else ""
+        return Drawn(place, MARGIN + ACROSS * node.depth, y, node.line, node.depth, *self.part_texts(place), bound,
+                     self.way_text(place, closes), kind)
 
     def size(self) -> tuple[int, int]:
         across = max((d.x for d in self.drawn), default=MARGIN) + WIDTH + MARGIN
@@ -180,9 +153,8 @@ class Picture:
             f'<svg xmlns="http://www.w3.org/2000/svg" class="tree" width="{width}" '
             f'height="{height}" viewBox="0 0 {width} {height}" role="img" aria-label="{said}">',
             f"<title>{said}</title>", f"<style>\n{style}</style>",
-            *([f'<path d="M0 0H{width}V{height}H0Z" style="fill: #fff; stroke: none"/>'] if alone
-              else []), *self.lines(), *self.boxes(),
-            *([f'<text x="{MARGIN}" y="{HEIGHT // 2}">{said}</text>'] if not nodes else []),
+            *[f'<path d="M0 0H{width}V{height}H0Z" style="fill: #fff; stroke: none"/>'] * alone,
+            *self.lines(), *self.boxes(), *[f'<text x="{MARGIN}" y="{HEIGHT // 2}">{said}</text>'] * (not nodes),
             "</svg>", ""])
 
     def lines(self) -> Iterator[str]:
@@ -198,13 +170,12 @@ class Picture:
 
     def boxes(self) -> Iterator[str]:
         for d in self.drawn:
-            line = self.certificate.nodes[d.place].line
-            texts = list(filter(None, (self.bound_text(d.place), self.way_text(d.place))))
-            whole = escape("\n".join([self.part_text(d.place), *texts, f"line {line}"]))
-            yield (f'<g class="{self.css_class(d.place)}"><title>{whole}</title>'
+            texts = list(filter(None, (d.bound, d.way)))
+            whole = escape("\n".join([d.part, *texts, f"line {d.line}"]))
+            yield (f'<g class="{d.kind}"><title>{whole}</title>'
                    f'<rect x="{d.x}" y="{d.y}" width="{WIDTH}" height="{HEIGHT}" rx="6"/>')
-            yield f'<text class="line" x="{d.x + WIDTH - 8}" y="{d.y + 18}">{line}</text>'
-            for k, text in enumerate([self.part_text(d.place, MOST_PART), *texts]):
+            yield f'<text class="line" x="{d.x + WIDTH - 8}" y="{d.y + 18}">{d.line}</text>'
+            for k, text in enumerate([d.head, *texts]):
                 mark = ' class="part"' if k == 0 else ""
                 yield (f'<text{mark} x="{d.x + 8}" y="{d.y + 18 + 16 * k}">{escape(cut(text))}</text>')
             yield "</g>"

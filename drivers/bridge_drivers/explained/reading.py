@@ -66,14 +66,6 @@ class Certificate(NamedTuple):
 Lines = Iterator[Tuple[int, List[str]]]         # those with words, each with its number from 1
 
 
-def lines_of(path: str) -> Lines:
-    with open(path, encoding="ascii") as f:
-        for number, line in enumerate(f, 1):
-            words = line.split()
-            if words:
-                yield number, words
-
-
 def pairs_from(lines: Lines, count: int) -> list[tuple[int, str]]:
     return [(int(words[0]), words[1]) for _, words in (next(lines) for _ in range(count))]
 
@@ -85,7 +77,11 @@ def listed(lines: Lines) -> dict[int, Fraction]:
 
 
 def read(path: str) -> Certificate:
-    lines = lines_of(path)
+    with open(path, encoding="ascii") as f:
+        return read_from((number, words) for number, line in enumerate(f, 1) if (words := line.split()))
+
+
+def read_from(lines: Lines) -> Certificate:
     try:
         next(lines)
         _, words = next(lines)

@@ -5,23 +5,21 @@ from __future__ import annotations
 import re
 from collections import Counter
 from fractions import Fraction
-from typing import Mapping, NamedTuple, Sequence
+from typing import Mapping, Sequence
 
 from .. import verdicts
 from ..names import Names
-from ..printable import some
+from ..printable import counted, some
 from ..values import double_of, exact_decimal
 from ..verdicts import Said, decimal, share
-from .bounds import Bounds
+from .bounds import Bounds, Term, total
 from .reading import LEMMA, PLANE, SPLIT, WEIGHTS, Certificate, Node
 
 MOST_TERMS = 6                  # of a form that is told
 MOST_LISTED = 12                # values of a point, rows
-FAULT = re.compile(r"leaf (\d+) (?:(gap) (\S+)|(too wide)|(row|bound) (\d+) has no side)")
+FAULT = re.compile(r"leaf (\d+) (?:gap (\S+)|(too wide)|(row|bound) (\d+) has no side)")
 POINT_FAULT = re.compile(r"(ray )?(row|bound|variable) (\d+) (broken|not whole)")
 WIDE = re.compile(r"too wide at (ray )?(?:(row|bound) (\d+)|objective)")
-
-
 ABOUT, BEYOND = "\u2248 ", "beyond doubles"
 
 
@@ -33,44 +31,29 @@ def short(value: Fraction) -> str:
     return BEYOND if double is None else f"{ABOUT}{double:.6g}"
 
 
-class Tally(NamedTuple):
-    """What a tree is made of; `rows` says in how many leaves each constraint is used, `added` how
-    often rows that were added are."""
-
-    nodes: int
-    splits: int
-    planes: int
-    lemmas: int
-    leaves: int
-    weights: int
-    depth: int
-    rows: Mapping[int, int]
-    added: int
-
-
-def tally(certificate: Certificate, constraints: int) -> Tally:
-    kinds = Counter(node.kind for node in certificate.nodes)
-    used = [number for node in certificate.nodes if node.is_leaf() for number, _ in node.pairs]
-    rows = Counter(number for number in used if number < constraints)
-    leaves = sum(node.is_leaf() for node in certificate.nodes)
-    depth = max((node.depth for node in certificate.nodes), default=0)
-    return Tally(len(certificate.nodes), kinds[SPLIT], kinds[PLANE], kinds[LEMMA], leaves,
-                 kinds[WEIGHTS], depth, rows, len(used) - sum(rows.values()))
-
-
-def counted(count: int, thing: str) -> str:
-    return f"{count} {thing}{'' if count == 1 else 'es' if thing.endswith('s') else 's'}"
+def both(value: Fraction) -> str:
+    """A number, and beside a fraction its decimal."""
+    text = short(value)
+    if value.denominator == 1 or text == BEYOND:
+        return str(value)
+    return f"{value} {text}" if text.startswith(ABOUT) else f"{value} = {text}"
 
 
 class Wording:
     """Names of a model in the sentences of one certificate. `bounds` are None where the program
-    could not be read in exact numbers."""
+    could not be read in exact numbers. `tally` says what its tree is made of (`added`: how often
+    rows that were added are used), `used` in how many leaves each constraint is, the most first."""
 
     def __init__(self, certificate: Certificate, names: Names, bounds: Bounds | None, constraints: int) -> None:
         self.certificate, self.names, self.bounds = certificate, names, bounds
-        self.constraints = constraints
-
-    # parts of the model ------------------------------------------------------------
+        self.constraints, nodes = constraints, certificate.nodes
+        kinds = Counter(node.kind for node in nodes)
+        rows = Counter(number for node in nodes if node.is_leaf() for number, _ in node.pairs)
+        self.used = sorted(((i, times) for i, times in rows.items() if i < constraints), key=lambda it: (-it[1], it[0]))
+        self.tally = {"nodes": len(nodes), "splits": kinds[SPLIT], "planes": kinds[PLANE], "lemmas": kinds[LEMMA],
+                      "leaves": nodes[0].leaves if nodes else 0, "weights": kinds[WEIGHTS],
+                      "depth": max((node.depth for node in nodes), default=0),
+                      "added": sum(rows.values()) - sum(times for _, times in self.used)}
 
     def column(self, number: int) -> str:
         return self.names.column(number) or f"x{number}"
@@ -85,6 +68,9 @@ class Wording:
             node = added[number - self.constraints]
             return f"the {node.kind} of line {node.line}"
         return f"row {number}"
+
+    def thing(self, kind: str, number: int, place: int = -1) -> str:
+        return self.row(number, place) if kind == "row" else self.names.variable(number)
 
     def form(self, pairs: Sequence[tuple[int, str]]) -> str:
         """`10 a + 7 b - z`, of many terms the first."""
@@ -123,68 +109,53 @@ class Wording:
     def cut(self, node: Node, part: int) -> str:
         """One part of a node, as `z at most 0`."""
         is_below, number = self.side(node, part)
-        at = f"at {'most' if is_below else 'least'} {number}"
+        text = f"{self.left_side(node)} at {'most' if is_below else 'least'} {number}"
         if node.kind == LEMMA:
-            how = "by the lemma" if part else "in the proof of the lemma"
-            return f"{how}: {self.left_side(node)} {at}"
-        return f"{self.left_side(node)} {at}" + (" (plane)" if node.kind == PLANE else "")
+            return f"{'by the lemma' if part else 'in the proof of the lemma'}: {text}"
+        return text + (" (plane)" if node.kind == PLANE else "")
 
     def path(self, place: int, with_lines: bool = True) -> list[str]:
         """The cuts from the root to a node, each with its line."""
         return [self.cut(node, part) + (f" (line {node.line})" if with_lines else "")
                 for node, part in self.certificate.steps(place)]
 
-    # what holds ----------------------------------------------------------------------
-
     def values(self, point: Mapping[int, Fraction]) -> str:
         texts = [f"{self.column(j)} {value}" for j, value in point.items()]
         return (some(texts, MOST_LISTED) or "all 0") + ("; the others 0" if texts else "")
 
     def lines(self) -> list[str]:
-        """What the certificate is made of."""
-        c, told = self.certificate, []
-        if c.point is not None:
-            told.append("point     " + self.values(c.point))
-        if c.ray is not None:
-            told.append("ray       " + self.values(c.ray))
+        """What the certificate is made of, and which rows its leaves use, and how often."""
+        c, t = self.certificate, self.tally
+        told = [f"{name:10}{self.values(of)}" for name, of in (("point", c.point), ("ray", c.ray)) if of is not None]
         if not c.nodes:
             return told
-        t = tally(c, self.constraints)
-        told.append(f"tree      {counted(t.nodes, 'node')}: {counted(t.splits, 'split')}, "
-                    f"{counted(t.planes, 'plane')}, {counted(t.lemmas, 'lemma')}, "
-                    f"{t.leaves} {'leaf' if t.leaves == 1 else 'leaves'} ({t.weights} by weights); depth {t.depth}")
-        return told + self.rows_lines(t)
+        parts = ", ".join(counted(t[name], name[:-1]) for name in ("splits", "planes", "lemmas"))
+        leaves = f"{t['leaves']} {'leaf' if t['leaves'] == 1 else 'leaves'}"
+        told.append(f"tree      {counted(t['nodes'], 'node')}: {parts}, {leaves} ({t['weights']} by weights); "
+                    f"depth {t['depth']}")
+        uses = [f"{self.row(i)} in {times} of {t['leaves']} leaves" for i, times in self.used[:MOST_LISTED]]
+        if len(self.used) > MOST_LISTED:
+            uses.append(f"{len(self.used) - MOST_LISTED} more constraints")
+        if t["added"]:
+            uses.append(f"planes and lemmas {counted(t['added'], 'time')}")
+        return told + [f"uses      {use}" for use in uses or ["no row: the bounds of variables alone"]]
 
-    def rows_lines(self, t: Tally) -> list[str]:
-        """Which rows the leaves use, and how often."""
-        used = sorted(t.rows.items(), key=lambda item: (-item[1], item[0]))
-        told = [f"uses      {self.row(i)} in {times} of {t.leaves} leaves" for i, times in used[:MOST_LISTED]]
-        if len(used) > MOST_LISTED:
-            told.append(f"uses      {len(used) - MOST_LISTED} more constraints")
-        if t.added:
-            told.append(f"uses      planes and lemmas {counted(t.added, 'time')}")
-        if not used and not t.added:
-            told.append("uses      no row: the bounds of variables alone")
-        return told
-
-    # what does not -------------------------------------------------------------------
+    # what does not hold --------------------------------------------------------------
 
     def failing_leaf(self, verdict: str) -> int | None:
         found = FAULT.fullmatch(verdict)
         return None if found is None else self.certificate.place_of_leaf(int(found.group(1)))
 
     def failure(self, verdict: str) -> list[str]:
-        """Why the verdict is none of the claim, and by how much."""
+        """Why the verdict is none of the claim, and by how much, and the cuts that lead there."""
         place, found = self.failing_leaf(verdict), FAULT.fullmatch(verdict)
         if place is None or found is None:
             return ["fails     " + self.at_point(verdict)]
-        node = self.certificate.nodes[place]
+        node, (_, value, wide, kind, number) = self.certificate.nodes[place], found.groups()
+        why = "a sum passes 128 bits: numbers with fewer digits are wanted" if wide else \
+            self.gap(place, Fraction(value)) if value else self.no_side(place, kind, int(number))
         cuts = [f"path      {k}. {text}" for k, text in enumerate(self.path(place), 1)]
-        return [f"fails     leaf {node.leaf} (line {node.line}): {self.fault(place, found)}",
-                *(cuts or ["path      it is the whole tree"])]
-
-    def thing(self, kind: str, number: int, place: int = -1) -> str:
-        return self.row(number, place) if kind == "row" else self.names.variable(number)
+        return [f"fails     leaf {node.leaf} (line {node.line}): {why}", *(cuts or ["path      it is the whole tree"])]
 
     def at_point(self, verdict: str) -> str:
         """What is wrong at the point, or along the ray."""
@@ -201,12 +172,6 @@ class Wording:
             return f"along the ray the objective changes by {change}, which is no better"
         return verdict
 
-    def fault(self, place: int, found: re.Match[str]) -> str:
-        _, gap, value, wide, kind, number = found.groups()
-        if wide:
-            return "a sum passes 128 bits: numbers with fewer digits are wanted"
-        return self.gap(place, Fraction(value)) if gap else self.no_side(place, kind, int(number))
-
     def gap(self, place: int, value: Fraction) -> str:
         if self.certificate.nodes[place].kind == WEIGHTS:
             return (f"its weights show {value}, and contradict each other only above 0: {decimal(-value)} too little")
@@ -222,30 +187,26 @@ class Wording:
         what, bounds = self.thing(kind, number, place), self.bounds
         if bounds is None:
             return f"a number asks for a side that {what} has not"
-        part = bounds.part(place)
-        if kind == "row":
-            value = Fraction(dict(self.certificate.nodes[place].pairs)[number])
-            said, thing = f"the number {value} of {what} asks for its", "side"
-        else:
-            value = bounds.left(place, part)[1].get(number, Fraction(0))
-            said, thing = f"the numbers leave {what} the cost {value}, which asks for its", "bound"
-        side = "lower" if bounds.is_lower(place, part, value) else "upper"
-        return f"{said} {side} {thing}, and there is none"
+        terms = {(it.kind, it.place): it for it in bounds.terms(place, bounds.part(place))}
+        term = terms.get((kind, number)) or Term(Fraction(0), kind, number, False, None)
+        said, thing = (f"the number {term.number} of {what} asks for its", "side") if kind == "row" else \
+            (f"the numbers leave {what} the cost {term.number}, which asks for its", "bound")
+        return f"{said} {'lower' if term.is_lower else 'upper'} {thing}, and there is none"
 
     def point_fault(self, bounds: Bounds, ray: str | None, kind: str, text: str, how: str) -> str:
         number = int(text)
         what, point = self.thing(kind, number), (self.certificate.ray if ray else self.certificate.point) or {}
         if kind == "row":
-            value, row = bounds.activity(number, point), bounds.row(number)
-            ends = row.low, row.high
+            terms, low, high = bounds.row(number)
+            value = total(terms, point)
         else:
-            value, ends = point.get(number, Fraction(0)), bounds.ends(number)
+            value, (low, high) = point.get(number, Fraction(0)), bounds.ends(number)
         if how == "not whole":
             return f"{what} is {value} at the point, {decimal(abs(round(value) - value))} from a whole number"
         if ray:
             return f"{what} changes by {value} along the ray, past a side that it has"
-        is_below = ends[0] is not None and value < ends[0]
-        end = ends[0] if is_below else ends[1]
+        is_below = low is not None and value < low
+        end = low if is_below else high
         assert end is not None
         return f"{what} is {value} at the point, and at {'least' if is_below else 'most'} {end}: " \
                f"{decimal(abs(value - end))} too {'little' if is_below else 'much'}"
@@ -264,8 +225,6 @@ def claimed(certificate: Certificate, bounds: Bounds | None) -> Said | None:
         return Said(claim)
     if claim == "bound":
         return Said(claim, None, numbers[0])
-    if bounds is None or certificate.point is None:
+    if bounds is None or bounds.value is None:
         return None
-    value = bounds.value(certificate.point)
-    bound = {"optimal": value, "within": numbers[0] if numbers else None}.get(claim)
-    return Said(claim, value, bound)
+    return Said(claim, bounds.value, {"optimal": bounds.value, "within": numbers[0] if numbers else None}.get(claim))

@@ -2,6 +2,7 @@
 
 from __future__ import annotations
 
+import contextlib
 import math
 import re
 import shutil
@@ -17,10 +18,7 @@ if TYPE_CHECKING:
     from ..job import Job, Ran
     from ..program import Program
 
-# AMPL's statuses of the basis
-BASIC, SUPERBASIC, LOWER, UPPER, EQUAL = 1, 2, 3, 4, 5
-
-
+BASIC, SUPERBASIC, LOWER, UPPER, EQUAL = 1, 2, 3, 4, 5      # AMPL's statuses of the basis
 GAP = Option("mipgap", 0.0, SHARE, "relative gap at which the search stops")
 LONGEST = 200                           # of a line of a log that is told
 NONE_YET = 1e40                         # what stands for an incumbent where there is none
@@ -32,12 +30,9 @@ class Unclear(Exception):
 
 @dataclass
 class Outcome:
-    """What a solver answered, its values by name of column or row. The code is what its status says by itself.
-
-    `text` says the code in words, `is_gap` that the search stopped at a gap that was asked for. `duals` and `costs` are
-    rates of change of the objective, for
-    both senses, as AMPL wants them. The basis is in AMPL's statuses, for all columns and rows.
-    """
+    """What a solver answered, its values by name of column or row. The code is what its status says by itself, `text`
+    says it in words, `is_gap` that the search stopped at a gap that was asked for. `duals` and `costs` are rates of
+    change of the objective, for both senses, as AMPL wants them. The basis is in AMPL's statuses, for all of both."""
 
     code: Code
     text: str
@@ -49,6 +44,9 @@ class Outcome:
     objective: Number | None = None
     notes: list[str] = field(default_factory=list)
     is_gap: bool = False
+
+    def has_point(self) -> bool:
+        return self.code in (Code.SOLVED, Code.UNSURE, Code.LIMIT_WITH_POINT)
 
 
 class Solver:
@@ -69,7 +67,7 @@ class Solver:
     def named(self, log: str) -> str:
         """The title, with the version where the log has it."""
         found = re.search(self.version, log) if self.version else None
-        return self.title + (" " + found.group(1) if found else "")
+        return f"{self.title} {found[1]}" if found else self.title
 
     def far_notes(self, program: Program) -> list[str]:
         """A line where the program has sides or bounds that are none to this solver."""
@@ -82,8 +80,7 @@ class Solver:
         raise NotImplementedError
 
     def asked(self, job: Job) -> list[str]:
-        """Its words for all that is asked for, and those that the user adds. `seconds` are those of
-        `timelim` as a whole number."""
+        """Its words for all that is asked for, and the user's. `seconds` are those of `timelim` as a whole number."""
         o = job.options
         said: dict[str, object] = {**o.own, "timelim": o.timelim, "seconds": math.ceil(o.timelim),
                                    "relax": o.relax, "again": job.again}
@@ -92,19 +89,18 @@ class Solver:
 
     def said(self, line: str, program: Program) -> dict[str, float]:
         """What a line of its log says, by the names of the patterns' groups."""
-        for pattern in self.lines:
-            found = re.search(pattern, line)
-            if found:
-                known = {name: number(text) for name, text in found.groupdict().items()}
-                return {name: value for name, value in known.items() if abs(value) < NONE_YET}
-        return {}
+        known: dict[str, float] = {}
+        found = next(filter(None, (re.search(pattern, line) for pattern in self.lines)), None)
+        for name, text in found.groupdict().items() if found else ():
+            with contextlib.suppress(ValueError):               # it is no number
+                known[name] = float(text)
+        return {name: value for name, value in known.items() if abs(value) < NONE_YET}
 
     def place(self, named: str = "") -> str | None:
         """The executable: the named one, or one on the PATH."""
         return shutil.which(named or self.program)
 
     def text(self, program: Program) -> bytes:
-        """The program as the solver reads it."""
         return program.text
 
     def reading(self, program: Program, path: str) -> list[str]:
@@ -116,30 +112,13 @@ class Solver:
         return [named or self.program, *self.reading(program, path)]
 
 
-def number(text: str) -> float:
-    """Not a number where it is none."""
-    try:
-        return float(text)
-    except ValueError:
-        return float("nan")
-
-
-def row_side(kind: str, letter: str) -> int:
-    """The status of a row off the basis: by its kind where that tells it alone, else by the
-    letter U or L of a basis file."""
-    return {"E": EQUAL, "L": UPPER}.get(kind, UPPER if letter == "U" else LOWER)
-
-
 def stopped(why: str, has_point: bool = False) -> Outcome:
-    """Of a run that a limit ended."""
-    if has_point:
-        return Outcome(Code.LIMIT_WITH_POINT, f"stopped at {why} with a feasible solution")
-    return Outcome(Code.LIMIT, f"stopped at {why} without a feasible solution")
+    return Outcome(Code.LIMIT_WITH_POINT if has_point else Code.LIMIT,
+                   f"stopped at {why} {'with' if has_point else 'without'} a feasible solution")
 
 
 def without_answer(ran: Ran, pattern: str) -> Outcome:
-    """Of a run that wrote none: Unclear where it was not killed for its time, with the first line
-    of its log that has the pattern, the solver's own complaint, or else its last words."""
+    """Of a run that wrote none: at its limit, else Unclear, with the first line of its log that has the pattern."""
     if ran.killed:
         return stopped(TIME)
     lines = [line.strip() for line in ran.log.splitlines() if line.strip()]
@@ -148,8 +127,7 @@ def without_answer(ran: Ran, pattern: str) -> Outcome:
 
 
 def outcome(says: Says | None, status: str, has_point: bool) -> Outcome:
-    """Code and words of a status. A status that is not known, or that says little, is a point
-    where there is one; else Unclear."""
+    """Of a status. One that is not known, or that says little, is a point where there is one; else Unclear."""
     if says is None or says.code in (Code.UNSURE, Code.NO_ANSWER):
         if not has_point:
             raise Unclear(f"it ended with `{status}`")
@@ -159,10 +137,6 @@ def outcome(says: Says | None, status: str, has_point: bool) -> Outcome:
     if says.code == Code.LIMIT:
         return stopped(says.text, has_point)
     return Outcome(says.code, says.text)
-
-
-def has_values(code: Code) -> bool:
-    return code in (Code.SOLVED, Code.UNSURE, Code.LIMIT_WITH_POINT)
 
 
 def read_lines(path: str) -> list[str] | None:

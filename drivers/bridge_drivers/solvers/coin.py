@@ -1,4 +1,5 @@
-"""What CBC and CLP share: both read with CoinUtils and save answers as CLP does."""
+"""CBC, COIN-OR's branch and cut, for mixed integer programs, and CLP, its simplex, which relaxes integer columns
+without a word. Both read with CoinUtils and save answers as CLP does."""
 
 from __future__ import annotations
 
@@ -6,12 +7,12 @@ import os
 import re
 import struct
 from array import array
-from typing import TYPE_CHECKING, NamedTuple
+from typing import TYPE_CHECKING
 
 from ..codes import Code
+from ..options import Option
 from ..values import Named
-from .base import (BASIC, LOWER, UPPER, Outcome, Solver, Unclear, has_values, outcome, read_lines,
-                   row_side, without_answer)
+from .base import BASIC, EQUAL, GAP, LOWER, UPPER, Outcome, Solver, Unclear, outcome, read_lines, without_answer
 from .statuses import COIN, NO_POINT, row_of
 
 if TYPE_CHECKING:
@@ -22,14 +23,6 @@ LEAST_LONG = 23
 LONG = re.compile(rb"(?<= )[-+]?[\d.]{%d,}(?:[eE]\S+)?$" % LEAST_LONG, re.M)
 ZEROS = bytes.maketrans(b".123456789", b"0" * 10)       # all that stand in such numbers
 COMPLAINT = r"Bad image|No match|Unknown|Unable to open|errors? on input|infeasible bound"
-
-
-class Saved(NamedTuple):
-    """By name: values of columns, duals of rows, reduced costs of columns."""
-
-    values: Named[float]
-    duals: Named[float]
-    costs: Named[float]
 
 
 class Coin(Solver):
@@ -46,18 +39,18 @@ class Coin(Solver):
         return {name: sign * value if name in ("incumbent", "bound") else value for name, value in known.items()}
 
     def solve(self, job: Job) -> Outcome:
-        """To CoinUtils a `NAME nl` line means fixed columns, and OBJSENSE it ignores."""
+        """CoinUtils ignores OBJSENSE."""
         path, relaxed = job.write("coin.mps", self.text(job.given)), job.options.relax
-        words = [job.solver, path, *(["-max"] if job.program.maximise else []), *self.asked(job),
-                 "-initialSolve" if relaxed and self.integers else "-solve",
-                 "-solution", job.path("answer.txt"), "-saveSolution", job.path("answer.bin")]
-        if relaxed or not job.program.whole:
-            words += ["-basisOut", job.path("answer.bas")]
-        return self.answer(job, job.run([*words, "-quit"]))
+        solves = "-initialSolve" if relaxed and self.integers else "-solve"
+        basis = [] if job.program.whole and not relaxed else ["-basisOut", job.path("answer.bas")]
+        return self.answer(job, job.run([
+            job.solver, path, *(["-max"] if job.program.maximise else []), *self.asked(job), solves, "-solution",
+            job.path("answer.txt"), "-saveSolution", job.path("answer.bin"), *basis, "-quit"]))
 
     def text(self, program: Program) -> bytes:
-        """CoinUtils does not take all numbers of more than 22 digits: they are doubles here."""
-        text = program.free_name()
+        """To CoinUtils a `NAME nl` line means fixed columns, and it does not take all numbers of more than 22 digits:
+        they are doubles here."""
+        text = b"NAME nl FREE\n" + program.text[len(b"NAME nl\n"):]
         if b"0" * LEAST_LONG not in text.translate(ZEROS):
             return text
         return LONG.sub(lambda found: repr(float(found.group())).encode(), text)
@@ -65,23 +58,21 @@ class Coin(Solver):
     def reading(self, program: Program, path: str) -> list[str]:
         return [path, *(["-max"] if program.maximise else []), "-solve", "-solution", "stdout"]
 
-    def saved(self, job: Job) -> Saved:
-        """The doubles of -saveSolution (-solution prints 8 digits): two ints, rows and columns,
-        the objective, row activities, row duals, columns, reduced costs."""
-        p = job.program
+    @staticmethod
+    def saved(program: Program, path: str) -> tuple[Named[float], Named[float], Named[float]]:
+        """Values, duals and reduced costs in the doubles of -saveSolution (-solution prints 8 digits): two ints, rows
+        and columns, the objective, row activities, row duals, columns, reduced costs."""
         try:
-            with open(job.path("answer.bin"), "rb") as f:
+            with open(path, "rb") as f:
                 data = f.read()
         except FileNotFoundError:
             raise Unclear("no saved answer") from None
-        rows, columns = len(p.constraints), len(p.columns)
-        length = 16 + 16 * (rows + columns)
-        if len(data) != length or struct.unpack("=ii", data[:8]) != (rows, columns):
+        rows, columns = len(program.constraints), len(program.columns)
+        if len(data) != 16 + 16 * (rows + columns) or struct.unpack("=ii", data[:8]) != (rows, columns):
             raise Unclear("the saved answer is of another model")
-        doubles = array("d", data[8:])
-        duals, values = 1 + rows, 1 + 2 * rows
-        return Saved(Named(p.columns, doubles[values:values + columns]), Named(p.constraints, doubles[duals:values]),
-                     Named(p.columns, doubles[values + columns:]))
+        doubles, at = array("d", data[8:]), 1 + 2 * rows
+        return (Named(program.columns, doubles[at:at + columns]), Named(program.constraints, doubles[1 + rows:at]),
+                Named(program.columns, doubles[at + columns:]))
 
     def answer(self, job: Job, ran: Ran) -> Outcome:
         """The outcome, whose status is the first line of -solution."""
@@ -95,28 +86,47 @@ class Coin(Solver):
         if status.lower() == "integer infeasible" and "infeasible or unbounded" in ran.log \
                 and "Continuous objective value is" not in ran.log:
             return Outcome(Code.INFEASIBLE_OR_UNBOUNDED, "infeasible or unbounded")
-        if not has_values(found.code):
-            return found
-        saved = self.saved(job)
-        found.values, found.objective = saved.values, float(figure) if figure else None
-        if found.code == Code.SOLVED and (not job.program.whole or job.options.relax):
-            found.duals, found.costs = saved.duals, saved.costs
-            found.column_basis, found.row_basis = basis(job.program, job.path("answer.bas"))
+        if found.has_point():
+            found.values, duals, costs = self.saved(job.program, job.path("answer.bin"))
+            found.objective = float(figure) if figure else None
+            if found.code == Code.SOLVED and (not job.program.whole or job.options.relax):
+                found.duals, found.costs = duals, costs
+                found.column_basis, found.row_basis = basis(job.program, job.path("answer.bas"))
         return found
 
 
+class Cbc(Coin):
+    name, program, title, package = "cbc", "cbc", "CBC", "coinor-cbc"
+    again = "without preprocessing"
+    version = r"Version: (\S+)"
+    options = (GAP, Option("threads", 0, int, "threads of the search"))
+    flags = {"timelim": "-timeMode elapsed -sec {:g}", "mipgap": "-ratio {:g}",
+             "threads": "-threads {}", "again": "-preprocess off -presolve off"}
+
+
+class Clp(Coin):
+    name, program, title, package = "clp", "clp", "CLP", "coinor-clp"
+    again = "without its presolve"
+    version = r"Coin LP version ([0-9.]+)"
+    integers = False
+    flags = {"timelim": "-sec {:g}", "again": "-presolve off"}
+
+
 def basis(program: Program, path: str) -> tuple[Named[int] | None, Named[int] | None]:
-    """AMPL's statuses of an MPS basis: columns at their lower side and rows basic, but for the lines of the file."""
+    """AMPL's statuses of an MPS basis: columns at their lower side and rows basic, but for the lines of the file, whose
+    letters U and L say where a row off the basis is, if its kind does not."""
     lines = read_lines(path)
     if lines is None:
         return None, None
     moved: dict[str, int] = {}
     for words in (line.split() for line in lines if line.startswith(" ") and line.strip()):
         if words[0] in ("XU", "XL"):
-            moved[words[1]] = BASIC
-            moved[words[2]] = row_side(program.kinds.get(words[2], ""), words[0][1])
+            moved[words[1]], side = BASIC, UPPER if words[0] == "XU" else LOWER
+            moved[words[2]] = {"E": EQUAL, "L": UPPER}.get(program.kinds.get(words[2], ""), side)
         elif words[0] in ("BS", "UL"):
             moved[words[1]] = BASIC if words[0] == "BS" else UPPER
-    columns, rows = program.columns, program.constraints
-    return (Named(columns, [moved.get(name, LOWER) for name in columns]),
-            Named(rows, [moved.get(name, BASIC) for name in rows]))
+    return (Named(program.columns, [moved.get(name, LOWER) for name in program.columns]),
+            Named(program.constraints, [moved.get(name, BASIC) for name in program.constraints]))
+
+
+SOLVERS = (Cbc(), Clp())

@@ -8,16 +8,17 @@ from fractions import Fraction
 from ..codes import Code
 from ..job import Job
 from ..program import Program
+from ..values import Named
 from .base import Outcome, Solver, outcome, read_lines, stopped, without_answer
 from .coin import basis
-from .statuses import ESOLVER, TIME, row_in, row_of
+from .statuses import ESOLVER, OPTIMAL, TIME, row_in, row_of
 
 SECTIONS = ("VARS", "REDUCED COST", "PI", "SLACK")
+Numbers = Named[Fraction]
 
 
 class Esolver(Solver):
-    name, program, title = "esolver", "esolver", "QSopt_ex"
-    package = "qsopt-ex"
+    name, program, title, package = "esolver", "esolver", "QSopt_ex", "qsopt-ex"
     version = r"Using QSopt_ex (\S+)"
     integers = False
     flags = {"timelim": "-R {:g}"}
@@ -29,17 +30,14 @@ class Esolver(Solver):
         lines = read_lines(out)
         if lines is None:
             return stopped(TIME) if row_in(ESOLVER, ran.log) else without_answer(ran, "error")
-        says = row_of(ESOLVER, status_of(lines))
+        says = row_of(ESOLVER, "".join("".join(lines[:1]).split()[-1:]))        # of `status OPTIMAL`
         if says is None or says.code != Code.SOLVED:
-            is_late = ran.killed or job.options.timelim
-            if is_late and (says is None or says.code == Code.NO_ANSWER):
+            if (ran.killed or job.options.timelim) and (says is None or says.code == Code.NO_ANSWER):
                 return stopped("a limit")
-            return outcome(says, lines[0] if lines else "", False)
-        value, parts = parsed(lines)
+            return outcome(says, "".join(lines[:1]), False)
+        value, values, costs, duals = parsed(p, lines)
         columns, rows = basis(p, basis_file)
-        return Outcome(Code.SOLVED, "optimal solution", complete(p.columns, parts["VARS"]),
-                       complete(p.constraints, parts["PI"]), complete(p.columns, parts["REDUCED COST"]), columns, rows,
-                       value - Fraction(p.objective_rhs))
+        return Outcome(Code.SOLVED, OPTIMAL, values, duals, costs, columns, rows, value - Fraction(p.objective_rhs))
 
     def text(self, program: Program) -> bytes:
         """With a row and a column where there are none: without them it is a `Data Error`."""
@@ -51,16 +49,10 @@ class Esolver(Solver):
         return text
 
 
-def status_of(lines: list[str]) -> str:
-    """The last word of the first line, `status OPTIMAL`."""
-    words = lines[0].split() if lines else []
-    return words[-1] if words else ""
-
-
-def parsed(lines: list[str]) -> tuple[Fraction, dict[str, dict[str, Fraction]]]:
-    """The line `Value = p/q`, and the lines `NAME = p/q` of each section."""
+def parsed(program: Program, lines: list[str]) -> tuple[Fraction, Numbers, Numbers, Numbers]:
+    """The line `Value = p/q`, and values, reduced costs and duals of the lines `NAME = p/q`, 0 where none is."""
     parts: dict[str, dict[str, Fraction]] = {name: {} for name in SECTIONS}
-    value, part = Fraction(0), None
+    zero, value, part = Fraction(0), Fraction(0), None
     for line in lines:
         word, equal, figure = line.strip().partition(" = ")
         if not equal:
@@ -69,13 +61,9 @@ def parsed(lines: list[str]) -> tuple[Fraction, dict[str, dict[str, Fraction]]]:
             value = Fraction(figure)
         elif part is not None:
             part[word] = Fraction(figure)
-    return value, parts
+    values, costs, duals = (Named(names, [part.get(name, zero) for name in names]) for names, part in
+                            zip((program.columns, program.columns, program.constraints), parts.values()))
+    return value, values, costs, duals
 
 
-def complete(names: list[str], given: dict[str, Fraction]) -> dict[str, Fraction]:
-    """A value of each name, 0 where none was printed."""
-    zero = Fraction(0)
-    return {name: given.get(name, zero) for name in names}
-
-
-SOLVER = Esolver()
+SOLVERS = (Esolver(),)

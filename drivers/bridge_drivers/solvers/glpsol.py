@@ -6,16 +6,15 @@ from ..codes import Code
 from ..job import Job, Ran
 from ..options import SWITCH, Option
 from ..program import Program
-from .base import (BASIC, EQUAL, LOWER, GAP, SUPERBASIC, UPPER, Outcome, Solver, Unclear,
-                   has_values, outcome, read_lines, without_answer)
-from .statuses import GLPK, GLPK_FILE, row_in, row_of
+from .base import (BASIC, EQUAL, GAP, LOWER, SUPERBASIC, UPPER, Outcome, Solver, Unclear, outcome, read_lines,
+                   without_answer)
+from .statuses import GLPK, GLPK_FILE, OPTIMAL, row_in, row_of
 
 LETTERS = {"b": BASIC, "l": LOWER, "u": UPPER, "f": SUPERBASIC, "s": EQUAL}
 
 
 class Glpsol(Solver):
-    name, program, title = "glpsol", "glpsol", "GLPK"
-    package = "glpk-utils"
+    name, program, title, package = "glpsol", "glpsol", "GLPK", "glpk-utils"
     again = "without its presolve, its basis checked exactly"
     lines = (r"^\+ *(?P<iterations>\d+): (?:mip =|>>>>>) +(?P<incumbent>\S+) +[<>]= +(?P<bound>\S+) .*\((?P<open>\d+);",
              r"^\+ *(?P<iterations>\d+): mip = +not found yet +[<>]= +(?P<bound>\S+) .*\((?P<open>\d+);",
@@ -27,17 +26,13 @@ class Glpsol(Solver):
 
     def solve(self, job: Job) -> Outcome:
         words = self.reading(job.program, job.write("glpsol.mps", self.text(job.given)))
-        is_checked = job.again and not job.options.own["xcheck"]
-        return answer(job, job.run([job.solver, *words, "-w", job.path("answer.txt"),
-                                    *(["--xcheck"] if is_checked else []), *self.asked(job)]))
+        checks = ["--xcheck"] if job.again and not job.options.own["xcheck"] else []
+        return answer(job, job.run([job.solver, *words, "-w", job.path("answer.txt"), *checks, *self.asked(job)]))
 
     def text(self, program: Program) -> bytes:
-        """Without OBJSENSE, which is an error to glpsol, and with the other sign at the RHS of
-        the objective row, which glpsol adds."""
-        text, old = program.without_sense(), program.objective_rhs
-        if old == "0":
-            return text
-        new = old[1:] if old.startswith("-") else "-" + old
+        """Without OBJSENSE, an error to glpsol, and with minus the RHS of the objective row, which it adds."""
+        text, old = program.text.replace(b"OBJSENSE\n MAX\n", b"", 1), program.objective_rhs
+        new = "0" if old == "0" else old[1:] if old.startswith("-") else "-" + old
         return text.replace(f"\n RHS obj {old}\n".encode(), f"\n RHS obj {new}\n".encode(), 1)
 
     def reading(self, program: Program, path: str) -> list[str]:
@@ -62,28 +57,22 @@ def answer(job: Job, ran: Ran) -> Outcome:
     if of_file is None or of_file.code != Code.SOLVED:
         of_file = says or of_file
     found = outcome(of_file, of_file.words if of_file else status, has_point)
-    if not has_values(found.code):
-        return found
     if found.code == Code.SOLVED and not is_whole:
         return basic_answer(job.program, words, float(head[-1]))
-    found.values = {job.program.columns[int(w[1]) - 1]: float(w[-1 if is_whole else 3])
-                    for w in words if w[:1] == ["j"]}
-    found.objective = float(head[-1])
+    if found.has_point():
+        found.objective = float(head[-1])
+        found.values = {job.program.columns[int(w[1]) - 1]: float(w[-1 if is_whole else 3])
+                        for w in words if w[:1] == ["j"]}
     return found
 
 
 def basic_answer(program: Program, words: list[list[str]], objective: float) -> Outcome:
     """Lines `i ROW letter activity dual` and `j COLUMN letter value cost`."""
-    values, duals, costs = {}, {}, {}
-    columns, rows = {}, {}
-    for w in words:
-        if w[:1] == ["j"]:
-            name = program.columns[int(w[1]) - 1]
-            columns[name], values[name], costs[name] = LETTERS[w[2]], float(w[3]), float(w[4])
-        elif w[:1] == ["i"]:
-            name = program.constraints[int(w[1]) - 1]
-            rows[name], duals[name] = LETTERS[w[2]], float(w[4])
-    return Outcome(Code.SOLVED, "optimal solution", values, duals, costs, columns, rows, objective)
+    rows, columns = ([(names[int(w[1]) - 1], LETTERS[w[2]], float(w[3]), float(w[4])) for w in words if w[:1] == [kind]]
+                     for kind, names in (("i", program.constraints), ("j", program.columns)))
+    return Outcome(Code.SOLVED, OPTIMAL, {name: at for name, _, at, _ in columns}, {name: y for name, _, _, y in rows},
+                   {name: cost for name, _, _, cost in columns}, {name: side for name, side, *_ in columns},
+                   {name: side for name, side, *_ in rows}, objective)
 
 
-SOLVER = Glpsol()
+SOLVERS = (Glpsol(),)

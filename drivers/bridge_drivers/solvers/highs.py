@@ -1,5 +1,4 @@
-"""HiGHS, as SciPy has it: mixed integer programs. It runs in a python3 of its own, Debian's first,
-since the driver's need not have SciPy (Debian: python3-scipy)."""
+"""HiGHS, as SciPy has it: mixed integer programs. It runs in a python3 of its own, Debian's first."""
 
 from __future__ import annotations
 
@@ -13,7 +12,7 @@ from typing import Any
 from ..codes import Code
 from ..job import Job
 from ..program import Program
-from .base import (GAP, Outcome, Solver, Unclear, has_values, outcome, read_lines, without_answer)
+from .base import GAP, Outcome, Solver, Unclear, outcome, read_lines, without_answer
 from .statuses import HIGHS, row_of
 
 PLACES = ("/usr/bin/python3", "python3")
@@ -47,13 +46,10 @@ class Highs(Solver):
             raise Unclear("it takes no program without columns")
         words = json.dumps({"mipgap": options.own["mipgap"], "seconds": options.timelim,
                             "relax": bool(options.relax), "presolve": not job.again, "disp": bool(options.outlev)})
-        target = job.path("answer.json")
-        path = job.write("highs.mps", self.text(job.given))
+        path, target = job.write("highs.mps", self.text(job.given)), job.path("answer.json")
         ran = job.run([job.solver, SCRIPT, path, target, words])
         lines = read_lines(target)
-        if lines is None:
-            return without_answer(ran, "Error")
-        return answered(job, json.loads(lines[0]))
+        return without_answer(ran, "Error") if lines is None else answered(job, json.loads(lines[0]))
 
 
 def has_scipy(path: str) -> bool:
@@ -70,10 +66,9 @@ def answered(job: Job, answer: dict[str, Any]) -> Outcome:
     number = own.group(1) if own else SCIPY.get(answer["status"], "")
     values = answer["values"] and dict(zip(p.columns, answer["values"]))
     found = outcome(row_of(HIGHS, number), message, bool(values))
-    if not has_values(found.code):
+    if not found.has_point():
         return found
-    found.values = values
-    duals, costs = answer.get("duals"), answer.get("costs")
+    found.values, duals, costs = values, answer.get("duals"), answer.get("costs")
     found.duals = duals and dict(zip(p.constraints, duals))
     found.costs = costs and dict(zip(p.columns, costs))
     if found.code == Code.SOLVED and job.options.own["mipgap"] and (answer.get("gap") or 0.0) > CLOSED:
@@ -81,4 +76,4 @@ def answered(job: Job, answer: dict[str, Any]) -> Outcome:
     return found
 
 
-SOLVER = Highs()
+SOLVERS = (Highs(),)

@@ -1,9 +1,6 @@
-"""HiGHS on an exported program, by a python3 that has SciPy: `highs_script.py MPS [ANSWER WORDS]`,
-WORDS a JSON text. That python3 need not be the driver's. Without ANSWER it goes to standard output.
-
-ANSWER gets one JSON text: `status` as SciPy tells it, `message`, and where there are, `values` and
-`duals` by row and `costs` by column, as rates of change of the objective in its own sense.
-"""
+"""HiGHS on an exported program, by a python3 that has SciPy and need not be the driver's: `highs_script.py MPS [ANSWER
+WORDS]`, WORDS a JSON text. ANSWER, else standard output, gets one: `status` as SciPy tells it, `message`, and where
+there are, `values`, `duals` by row and `costs` by column, as rates of change of the objective in its own sense."""
 
 from __future__ import annotations
 
@@ -12,6 +9,7 @@ import json
 import os
 import signal
 import sys
+from pathlib import Path
 from typing import Any
 
 import numpy
@@ -43,12 +41,15 @@ class Arrays:
         self.matrix = csr_matrix((values, columns, starts), shape=(len(starts) - 1, terms.n))
 
 
+def options_of(words: dict[str, Any]) -> dict[str, Any]:
+    limit = {"time_limit": words["seconds"]} if words["seconds"] else {}
+    return {"disp": words["disp"], "presolve": words["presolve"], **limit}
+
+
 def mixed(p: Arrays, cost: Any, words: dict[str, Any]) -> dict[str, Any]:
-    options = {"mip_rel_gap": words["mipgap"], "disp": words["disp"], "presolve": words["presolve"]}
-    if words["seconds"]:
-        options["time_limit"] = words["seconds"]
     found = milp(cost, integrality=p.whole, bounds=Bounds(p.bounds[:, 0], p.bounds[:, 1]),
-                 constraints=LinearConstraint(p.matrix, p.lo, p.hi) if len(p.lo) else None, options=options)
+                 constraints=LinearConstraint(p.matrix, p.lo, p.hi) if len(p.lo) else None,
+                 options={"mip_rel_gap": words["mipgap"], **options_of(words)})
     gap = found.get("mip_gap")
     return {"status": int(found.status), "message": found.message, "gap": None if gap is None else min(float(gap), 1.0),
             "values": None if found.x is None else [float(v) for v in found.x]}
@@ -61,12 +62,9 @@ def linear(p: Arrays, cost: Any, words: dict[str, Any], sign: float) -> dict[str
     up = numpy.flatnonzero((lo != hi) & (hi < INFINITE))
     down = numpy.flatnonzero((lo != hi) & (lo > -INFINITE))
     upper = vstack([a[up], -a[down]]) if len(up) + len(down) else None
-    options = {"disp": words["disp"], "presolve": words["presolve"]}
-    if words["seconds"]:
-        options["time_limit"] = words["seconds"]
     found = linprog(cost, upper, None if upper is None else numpy.concatenate([hi[up], -lo[down]]),
                     a[equal] if len(equal) else None, lo[equal] if len(equal) else None,
-                    p.bounds, method="highs", options=options)
+                    p.bounds, method="highs", options=options_of(words))
     answer = {"status": int(found.status), "message": found.message, "values": None}
     if found.status == 0:
         y = numpy.zeros(len(lo))
@@ -88,16 +86,12 @@ def main() -> None:
     words = json.loads(sys.argv[3]) if len(sys.argv) > 3 else USUAL
     print("HiGHS of SciPy", scipy.__version__, flush=True)
     sign = -1.0 if p.maximise else 1.0
-    cost = sign * p.cost
-    if p.whole.any() and not words["relax"]:
-        answer = mixed(p, cost, words)
+    is_mixed = p.whole.any() and not words["relax"]
+    answer = mixed(p, sign * p.cost, words) if is_mixed else linear(p, sign * p.cost, words, sign)
+    if len(sys.argv) > 2:
+        Path(sys.argv[2]).write_text(json.dumps(answer))
     else:
-        answer = linear(p, cost, words, sign)
-    if len(sys.argv) < 3:
         print(json.dumps(answer))
-        return
-    with open(sys.argv[2], "w") as f:
-        json.dump(answer, f)
 
 
 if __name__ == "__main__":

@@ -6,18 +6,17 @@ from __future__ import annotations
 from ..codes import Code
 from ..job import Job
 from ..program import Program
-from .base import GAP, Outcome, Solver, Unclear, has_values, outcome, stopped, without_answer
+from .base import GAP, Outcome, Solver, Unclear, outcome, stopped, without_answer
 from .statuses import LP_SOLVE, OPTIMAL, TIME, Says, row_in
 
 INFINITE = 1e30
-NOTE = "lp_solve prints six digits"
+OBJECTIVE = "Value of objective function:"
 TO_GAPS = {"-g", "-ga", "-gr", "-f"}    # words with which it stops at a gap, and does not say so
 SOLVED, SUBOPTIMAL = Says("", Code.SOLVED, OPTIMAL), "Suboptimal solution"
 
 
 class LpSolve(Solver):
-    name, program, title = "lp_solve", "lp_solve", "lp_solve"
-    package = "lp-solve"
+    name, program, title, package = "lp_solve", "lp_solve", "lp_solve", "lp-solve"
     again = "without scaling"
     infinite = "1e30"
     options = (GAP,)
@@ -28,26 +27,27 @@ class LpSolve(Solver):
         words = [*self.reading(p, job.write("lp_solve.mps", job.given.text)), *self.asked(job)]
         ran = job.run([job.solver, *words])
         head, heading, _ = ran.log.partition("\nActual values of the variables:\n")
+        told = [line.strip() for line in head.splitlines() if line.strip()]
+        objective = [line for line in told if line.startswith(OBJECTIVE)]
         says = row_in(LP_SOLVE, head) or (SOLVED if heading else None)
         if says is None:
-            if ran.killed or options.timelim:
-                return stopped("a limit")
-            return without_answer(ran, r"\S")
+            return stopped("a limit") if ran.killed or options.timelim else without_answer(ran, r"\S")
         if says.words == SUBOPTIMAL and options.timelim:
             says = says._replace(code=Code.LIMIT, text=TIME)
-        odd = unknown(head) if says is SOLVED and not job.extra else ""
-        found = outcome(None if odd else says, odd or says.words, bool(heading))
-        if not has_values(found.code):
+        odd = [line for line in told if line not in objective and says is SOLVED and not job.extra]
+        found = outcome(None if odd else says, odd[0] if odd else says.words, bool(heading))
+        if not found.has_point():
             return found
-        parts, found.objective = parsed(ran.log), objective_of(ran.log)
-        found.values = parts["values"]
-        if set(found.values) != set(p.columns):
+        found.objective = float([*objective, "0"][0].split()[-1])
+        values, rates = parsed(ran.log)
+        if set(values) != set(p.columns):
             raise Unclear("not all columns have a value")
-        if abs(found.objective) >= INFINITE and has_no_end(p, parts["values"]):
+        if abs(found.objective) >= INFINITE and has_no_end(p, values):
             return Outcome(Code.UNBOUNDED, "unbounded")
-        found.notes.append(NOTE)
-        duals = {name: y for name, y in parts["duals"].items() if name in p.kinds}
-        costs = {name: d for name, d in parts["duals"].items() if name not in p.kinds}
+        found.values = values
+        found.notes.append("lp_solve prints six digits")
+        duals = {name: y for name, y in rates.items() if name in p.kinds}
+        costs = {name: d for name, d in rates.items() if name not in p.kinds}
         is_whole = bool(p.whole) and not options.relax
         if found.code == Code.SOLVED and not is_whole and set(duals) == set(p.constraints):
             found.duals, found.costs = duals, costs
@@ -60,12 +60,6 @@ class LpSolve(Solver):
         return ["-fmps", path, "-S4", "-mps_negobjconst"]
 
 
-def unknown(head: str) -> str:
-    """A line before the values that is no status of the table; nothing where there is none."""
-    return next((line.strip() for line in head.splitlines() if line.strip()
-                 and not line.startswith("Value of objective function:")), "")
-
-
 def has_no_end(program: Program, values: dict[str, float]) -> bool:
     """Whether a column at 1e30 is at no bound of its own."""
     far = [name for name, value in values.items() if abs(value) >= INFINITE]
@@ -73,31 +67,20 @@ def has_no_end(program: Program, values: dict[str, float]) -> bool:
     return any(values[name] not in [float(end) for end in ends[name] if end] for name in far)
 
 
-def objective_of(log: str) -> float:
-    for line in log.splitlines():
-        if line.startswith("Value of objective function:"):
-            return float(line.split()[-1])
-    return 0.0
-
-
-def parsed(log: str) -> dict[str, dict[str, float]]:
-    """The lines `NAME NUMBER ..` under the headings of values and of duals, which end with an
-    empty line; duals of rows and costs of columns stand in one list."""
-    parts: dict[str, dict[str, float]] = {"values": {}, "duals": {}}
-    part = None
+def parsed(log: str) -> tuple[dict[str, float], dict[str, float]]:
+    """The lines `NAME NUMBER ..` below the headings of values and of duals, with costs, to an empty line."""
+    values, duals, part = dict[str, float](), dict[str, float](), None
     for line in log.splitlines():
         words = line.split()
         if line.startswith("Actual values of the variables"):
-            part = parts["values"]
-        elif line.startswith("Actual values of the constraints"):
+            part = values
+        elif not words or line.startswith("Actual values of the constraints"):
             part = None
-        elif words[:1] == ["Dual"]:
-            part = parts["duals"]
-        elif not words:
-            part = None
+        elif words[0] == "Dual":
+            part = duals
         elif part is not None and len(words) >= 2:
             part[words[0]] = float(words[1])
-    return parts
+    return values, duals
 
 
-SOLVER = LpSolve()
+SOLVERS = (LpSolve(),)

@@ -1,25 +1,54 @@
-"""The word that is at fault in a line of an MPS text, and what helps with it."""
+"""Reasons of refusals, with what helps, and the word that is at fault in a line of an MPS text."""
 
 from __future__ import annotations
 
 import re
-from typing import Iterable, NamedTuple, Sequence
+import textwrap
+from typing import Iterable, Mapping, NamedTuple, Sequence
 
-from .near import near
-from .printable import either
+from .printable import either, near
+from .texts import tables
 
+OPCODE = re.compile(r"refused opcode (\d+)$")
+WIDTH = 96
 COMMANDS = ("mps", "fixed", "import", "verify_mps", "verify_fixed")     # whose first file is one
 SECTIONS = ("NAME", "OBJSENSE", "ROWS", "COLUMNS", "RHS", "RANGES", "BOUNDS", "ENDATA")
-BEYOND = {**dict.fromkeys(("SOS", "SOS1", "SOS2", "SETS"), "special ordered sets"),
-          **dict.fromkeys(("QUADOBJ", "QMATRIX", "QSECTION"), "quadratic objectives"),
-          "QCMATRIX": "quadratic rows", "CSECTION": "cones", "INDICATORS": "indicator rows",
-          "GENCONS": "general constraints", "PWLOBJ": "piecewise-linear objectives",
-          "LAZYCONS": "lazy rows", "USERCUTS": "cuts", "OBJNAME": "objectives that are not the first N row"}
+BEYOND = {word: text for words, text in tables("sections.txt")["not read"] for word in words.split()}
 KINDS = ("LO", "UP", "FX", "FR", "MI", "PL", "BV", "LI", "UI")
 BARE = ("FR", "MI", "PL", "BV")         # kinds of bounds that have no number
 PLAIN = {"column again": (0, "the lines of a column must stand together"), "repeated row": (-1, "a line before has it"),
          "bad marker": (-1, "'INTORG' or 'INTEND' is wanted")}     # which word, and what of it
 NUMBER = re.compile(r"[-+]?(\d+\.?\d*|\.\d+)([eEdD][-+]?\d+)?")
+
+
+class Meaning(NamedTuple):
+    """What is told with reasons, what more there is to say, what helps; each may be empty."""
+
+    reasons: str
+    text: str
+    more: str = ""
+    help: str = ""
+
+
+TABLES = {title: [Meaning(*row) for row in rows] for title, rows in tables("reasons.txt").items()}
+MEANING: Mapping[str, Meaning] = {       # of the first table that has the reason
+    reason: row for rows in reversed(list(TABLES.values())) for row in rows for reason in row.reasons.split(", ")}
+
+
+def meaning_of(reason: str) -> Meaning:
+    return MEANING.get(OPCODE.sub("refused opcode", reason), Meaning(reason, ""))
+
+
+def listed() -> str:
+    """All of them, by kind of text."""
+    told = ""
+    for title, rows in TABLES.items():
+        told += f"{title}:\n"
+        for row in rows:
+            said = "; ".join(filter(None, (row.text, row.more)))
+            said += f" => {row.help}" if row.help else ""
+            told += textwrap.fill(said, WIDTH, initial_indent=f"  {row.reasons}:  ", subsequent_indent=" " * 6) + "\n"
+    return told
 
 
 class Line(NamedTuple):
@@ -60,28 +89,26 @@ def fault(path: str, number: int, reason: str) -> str:
     if reason in PLAIN:
         at, text = PLAIN[reason]
         return of(line.words[at], text)
-    ways = {"bad section": section, "bad bound kind": kind, "bad number": decimal,
-            "unknown row": row, "unknown column": column, "bad line": plain}
-    return ways[reason](line) if reason in ways else ""
+    word, known = line.words[0], line.words[0].upper()
+    if reason == "bad section" and known in BEYOND:
+        return of(word, f"{BEYOND[known]} are not read")
+    if reason == "bad section" and known in SECTIONS:
+        return of(word, "out of its order, or twice")
+    if reason == "bad section":
+        return of(word, "no section that is known", (*SECTIONS, *BEYOND))
+    if reason == "bad bound kind":
+        return of(word, "semi-continuous columns are not read" if known in ("SC", "SI") else "not " + either(KINDS))
+    if reason == "unknown row":
+        return unknown(line.words[-2:0:-2][::-1], line.rows)
+    if reason == "unknown column":
+        has_number = len(line.words) > 1 and known not in BARE
+        return unknown([line.words[-2 if has_number else -1]], line.columns)
+    return decimal(line) if reason == "bad number" else plain(line) if reason == "bad line" else ""
 
 
 def of(word: str, text: str, known: Iterable[str] = ()) -> str:
     meant = near(word, known)
     return f"`{word}`: {text}" + (f";{meant}" if meant else "")
-
-
-def section(line: Line) -> str:
-    word = line.words[0]
-    if word.upper() in BEYOND:
-        return of(word, f"{BEYOND[word.upper()]} are not read")
-    if word.upper() in SECTIONS:
-        return of(word, "out of its order, or twice")
-    return of(word, "no section that is known", (*SECTIONS, *BEYOND))
-
-
-def kind(line: Line) -> str:
-    is_semi = line.words[0].upper() in ("SC", "SI")
-    return of(line.words[0], "semi-continuous columns are not read" if is_semi else "not " + either(KINDS))
 
 
 def decimal(line: Line) -> str:
@@ -94,17 +121,8 @@ def decimal(line: Line) -> str:
     return of(word, "no decimal number" + ("; a point stands before decimals" if "," in word else ""))
 
 
-def row(line: Line) -> str:
-    """The first word at a name's place that is no row."""
-    return unknown(list(line.words[-2:0:-2])[::-1], line.rows)
-
-
-def column(line: Line) -> str:
-    has_number = len(line.words) > 1 and line.words[0].upper() not in BARE
-    return unknown([line.words[-2 if has_number else -1]], line.columns)
-
-
 def unknown(words: Sequence[str], known: Iterable[str]) -> str:
+    """The first word at a name's place that is none of these."""
     names = set(known)
     word = next((word for word in words if word not in names), "")
     return of(word, "no line before has it", sorted(names)) if word else ""
