@@ -30,9 +30,12 @@ from __future__ import annotations
 
 import random
 import sys
-from collections.abc import Iterator
-from itertools import accumulate
+from collections.abc import Callable, Iterable, Iterator
+from itertools import accumulate, chain
 from pathlib import Path
+
+sys.path.append(str(Path(__file__).resolve().parents[1] / "dev"))
+from shared import asked  # noqa: E402
 
 SIDE = 200
 VARIABLES = ROWS = 1000
@@ -50,7 +53,13 @@ def columns_before(counts: list[int]) -> str:
     return f"k{len(counts) - 1}\n" + "".join(f"{total}\n" for total in accumulate(counts[:-1]))
 
 
-# ---- rows
+def single_row(count: int, body: Iterable[str], terms: Iterable[str]) -> Iterator[str]:
+    """One row, at most 10, of variables that are at least 0."""
+    yield header(count, 1, 0, 0, count, 0) + "C0\n"
+    yield from body
+    yield "O0 0\nn0\nr\n1 10\nb\n" + "2 0\n" * count + columns_before([1] * count) + f"J0 {count}\n"
+    yield from terms
+
 
 def decimal(rnd: random.Random) -> str:
     """A decimal text that is not 0."""
@@ -66,7 +75,7 @@ def factor(rnd: random.Random, form: str) -> str:
     return decimal(rnd) if form == "linear" else "0"
 
 
-def rows(variables: int, count: int, per_row: int, form: str) -> Iterator[str]:
+def rows(variables: int, count: int, per_row: int, form: str = "linear") -> Iterator[str]:
     rnd = random.Random(1)
     per_row = min(per_row, variables)
     binary = variables // 4
@@ -99,8 +108,6 @@ def rows(variables: int, count: int, per_row: int, form: str) -> Iterator[str]:
         yield f"J{i} {len(row)}\n" + "".join(f"{j} {factor(rnd, form)}\n" for j in row)
     yield f"G0 {variables}\n" + "".join(f"{j} {decimal(rnd)}\n" for j in range(variables))
 
-
-# ---- nested trees
 
 def right(variables: list[str], front: str = "o0\n") -> Iterator[str]:
     """Each variable beside the tree of those after it."""
@@ -151,26 +158,21 @@ def nested(count: int, shape: str) -> Iterator[str]:
     if shape == "products":
         variables = [f"o2\nn{rnd.randint(1, 99999) / 100}\n{it}" for it in variables]
     fronts = {"right": "o0\n", "products": "o0\n", "differences": "o1\n", "negations": "o16\no0\n", "negatives": "o2\nn-1\no0\n"}
-    yield header(count, 1, 0, 0, count, 0) + "C0\n"
     if shape in fronts:
-        yield from right(variables, fronts[shape])
+        tree = right(variables, fronts[shape])
     elif shape == "factors":
-        yield from right([f"o2\nn{2 - place % 2 * 1.5:g}\no0\n{it}" for place, it in enumerate(variables[:-1])] + variables[-1:], "")
+        tree = right([f"o2\nn{2 - place % 2 * 1.5:g}\no0\n{it}" for place, it in enumerate(variables[:-1])] + variables[-1:], "")
     else:
-        yield from {"left": left, "lists": lists, "balanced": balanced, "spine": spine}[shape](variables)
-    yield "O0 0\nn0\nr\n1 10\nb\n" + "2 0\n" * count + columns_before([1] * count)
-    yield f"J0 {count}\n" + "".join(f"{place} 0\n" for place in range(count))
+        tree = {"left": left, "lists": lists, "balanced": balanced, "spine": spine}[shape](variables)
+    return single_row(count, tree, (f"{place} 0\n" for place in range(count)))
 
-
-# ---- one row, and names
 
 def one_row(count: int, order: str) -> Iterator[str]:
     rnd = random.Random(1)
     places = list(range(count))
     if order == "mixed":
         rnd.shuffle(places)
-    yield header(count, 1, 0, 0, count, 0) + "C0\nn0\nO0 0\nn0\nr\n1 10\nb\n" + "2 0\n" * count + columns_before([1] * count)
-    yield f"J0 {count}\n" + "".join(f"{place} {decimal(rnd)}\n" for place in places[::-1 if order == "descending" else 1])
+    return single_row(count, ["n0\n"], (f"{place} {decimal(rnd)}\n" for place in places[::-1 if order == "descending" else 1]))
 
 
 def distinct(rnd: random.Random, first: str, count: int, size: int) -> list[str]:
@@ -194,8 +196,6 @@ def mps(entries: int, names: str) -> Iterator[str]:
     yield "RHS\n" + "".join(f" RHS {row} 50\n" for row in rows) + "BOUNDS\n"
     yield "".join(f" UP BND {column} 100\n" for column in columns) + "ENDATA\n"
 
-
-# ---- certificates
 
 def program() -> Iterator[str]:
     """Each row's sum is at least 1, the least objective is 3; the variables of rows repeat after a hundred."""
@@ -229,23 +229,16 @@ def planes(count: int) -> Iterator[str]:
 
 
 def main(kind: str, out: str, size: str, *more: str) -> None:
-    if kind == "rows":
-        texts = {Path(out): rows(int(size), int(more[0]), int(more[1]), *(more[2:] or ("linear",)))}
-    elif kind in ("nested", "row", "mps"):
-        texts = {Path(out): {"nested": nested, "row": one_row, "mps": mps}[kind](int(size), *more)}
-    else:
-        made = {"leaves": leaves, "planes": planes}[kind](int(size))
-        texts = {Path(out, f"{kind}.nl"): program(), Path(out, f"{kind}.certificate"): made}
+    makers: dict[str, Callable[..., Iterator[str]]] = {
+        "rows": rows, "nested": nested, "row": one_row, "mps": mps, "leaves": leaves, "planes": planes}
+    made = makers[kind](int(size), *(int(word) if word.isdecimal() else word for word in more))
+    texts = {Path(out): made}
+    if kind in ("leaves", "planes"):
+        texts = {Path(out, f"{kind}.nl"): program(), Path(out, f"{kind}.certificate"): chain(["certificate 1\nbound 0 3\n"], made)}
     for path, parts in texts.items():
         with path.open("w") as stream:
-            stream.write("certificate 1\nbound 0 3\n" if path.suffix == ".certificate" else "")
             stream.writelines(parts)
 
 
 if __name__ == "__main__":
-    if {"-h", "--help"} & set(sys.argv[1:]):
-        print(__doc__)
-        sys.exit()
-    if len(sys.argv) < 4:
-        sys.exit(__doc__)
-    main(*sys.argv[1:])
+    main(*asked(__doc__, 3))

@@ -16,36 +16,21 @@ import shutil
 import subprocess
 import sys
 
-from map import rooms
+from shared import TOP, own_uses, reached, rooms
 
 if {"-h", "--help"} & set(sys.argv[1:]):        # of the script that is called, also where there is no toolchain
     print(sys.modules["__main__"].__doc__)
     sys.exit()
 KIT = os.path.dirname(os.path.dirname(os.path.realpath(shutil.which("rt") or sys.exit("rt is not on the PATH"))))
-TOP = os.path.dirname(os.path.dirname(os.path.abspath(__file__)))
 GATE = os.path.abspath(os.environ.get("GATE", f"{TOP}/../gate"))
 PARTS = ("src", "specs", "proofs")
 
 
-def below(used: dict[str, list[str]], crate: str, seen: list[str]) -> list[str]:
-    """Our own crates below one, each after those that it uses."""
-    for name in used[crate]:
-        if name in used and name not in seen:
-            below(used, name, seen)
-            seen.append(name)
-    return seen
-
-
 def is_same(crate: str) -> bool:
     """Whether a crate's text is the same here and at GATE, and it is not to be taken from here all the same."""
-    if crate in os.environ.get("OWN", "").split():
-        return False
-    for part in PARTS:
-        folders = [f"{top}/crates/{crate}/{part}" for top in (TOP, GATE)]
-        if any(map(os.path.exists, folders)):
-            if subprocess.run(["diff", "-rq", *folders], capture_output=True).returncode:
-                return False
-    return True
+    parts = [[f"{top}/crates/{crate}/{part}" for top in (TOP, GATE)] for part in PARTS]
+    return crate not in os.environ.get("OWN", "").split() and not any(
+        subprocess.run(["diff", "-rq", *folders], capture_output=True).returncode for folders in parts if any(map(os.path.exists, folders)))
 
 
 def library(crate: str) -> str:
@@ -59,20 +44,14 @@ def library(crate: str) -> str:
 
 def words(crate: str) -> list[str]:
     """The words that name the crate and all libraries for rattle."""
-    used = rooms()[1]
-    found = ["--crate-name", crate]
-    found += ["src/main.rt" if os.path.exists(f"{TOP}/crates/{crate}/src/main.rt") else "src/lib.rt"]
-    of_kit = ["std", *[it for it in used[crate] if it not in used]]
-    for name in of_kit:
-        found += ["--extern", f"{name}={KIT}/rlibs/{name}.rlib"]
-    found += ["-L", f"dependency={KIT}/rlibs"]
-    for name in used[crate]:
-        if name in used:
-            found += ["--extern", f"{name}={library(name)}"]
-    for name in below(used, crate, []):
-        found += ["-L", f"dependency={os.path.dirname(library(name))}"]
-    found += ["--antt-project", f"{KIT}/rattle/logic/antt-project.json"]
-    return [*found, "--logic-built", f"{KIT}/logic_built", "--links", f"{crate}="]
+    uses, own = rooms()[1], own_uses()
+    root = "src/main.rt" if os.path.exists(f"{TOP}/crates/{crate}/src/main.rt") else "src/lib.rt"
+    of_kit = [f"{name}={KIT}/rlibs/{name}.rlib" for name in ["std", *uses[crate]] if name not in own]
+    libraries = [*of_kit, *(f"{name}={library(name)}" for name in own[crate])]
+    folders = [f"{KIT}/rlibs", *(os.path.dirname(library(name)) for name in reached([crate], lambda it: set(own[it])))]
+    return ["--crate-name", crate, root, *(word for it in libraries for word in ("--extern", it)),
+            *(word for it in folders for word in ("-L", f"dependency={it}")),
+            "--antt-project", f"{KIT}/rattle/logic/antt-project.json", "--logic-built", f"{KIT}/logic_built", "--links", f"{crate}="]
 
 
 def main(crate: str, flags: list[str]) -> int:

@@ -7,112 +7,69 @@ It reads the files alone and takes a second, so it is for the time before a chec
 names were moved. An import of another repository's library (std, itoa, ..) is not looked up.
 Status 1 where an import names nothing.
 """
-
 from __future__ import annotations
 
 import re
 import sys
-from collections.abc import Iterator
-from dataclasses import dataclass
 from functools import lru_cache
 from pathlib import Path
 
-from made import TOP, asked
+from shared import APART, CRATES, DEFINED, TOP, Import, asked, imports_of, without_imports
 
-CRATES = TOP / "crates"
-IMPORT = re.compile(
-    r"^\s*(?P<head>(?:pub |ghost |unfoldable )*)use (?:Rattle\.)?(?P<module>[\w.]+)"
-    r"(?:\.\{(?P<names>[^}]*)\})?;?\s*$"
-)
-DEFINED = re.compile(r"^\s*(?:(?:unfoldable|abbrev|pub|record|data) )*(?P<names>[^:({]+?) (?:[({].*)?: ")
-TYPES = re.compile(r"\b(?:struct|enum|trait|type|const|static) (?P<name>\w+)")
+TYPES = r"\b(?:struct|enum|trait|type|const|static) %s\b"
 UNREAD = ("Goals", "Given", "TheInside", "TheConstants")
-WORD = re.compile(r"[^\s(){}\[\],;.]+")
-
-
-@dataclass(frozen=True)
-class Import:
-    """One name that a file imports, under the name by which the file knows it."""
-
-    line: int
-    module: str
-    name: str
-    known_as: str
-    passed_on: bool
-
-
-def imports_of(text: str) -> Iterator[Import]:
-    for number, line in enumerate(text.splitlines(), 1):
-        found = IMPORT.match(line)
-        if not found or found["names"] is None:
-            continue
-        for part in found["names"].split(","):
-            words = part.split(" as ")
-            name = words[0].strip()
-            if name:
-                yield Import(number, found["module"], name, words[-1].strip(), "pub" in found["head"])
 
 
 @lru_cache(maxsize=None)
 def names_in(path: Path) -> frozenset[str]:
     """The names that a file of specs/ or proofs/ shows to others."""
-    text = path.read_text(encoding="utf-8")
-    names = {entry.known_as for entry in imports_of(text) if entry.passed_on}
-    for line in text.splitlines():
-        found = DEFINED.match(line)
-        if found:
-            names.update(found["names"].split())
-    return frozenset(names)
+    text = path.read_text(encoding="utf-8") if path.is_file() else ""
+    defined = (name for line in text.splitlines() if (found := DEFINED.match(line)) for name in found["names"].split())
+    return frozenset(defined) | {entry.known_as for entry in imports_of(text) if entry.passed_on}
 
 
-def is_there(module: str, name: str) -> bool:
+def is_declared(source: Path, words: list[str], name: str) -> bool:
+    """Whether code declares the type that these words lead to, and says the name where it is one of its variants."""
+    *modules, kind = [word for word in words if word != "TheVariants"]
+    inside = source / "/".join(modules)
+    files = (inside.with_suffix(".rt"), inside / "mod.rt", source / "lib.rt")
+    text = "".join(path.read_text(encoding="utf-8") for path in files if path.is_file())
+    if not re.search(TYPES % re.escape(kind), text):
+        return "macro_rules!" in text or "!(" in text
+    return words[-1] != "TheVariants" or re.search(rf"\b{re.escape(name)}\b", text) is not None
+
+
+def is_there(entry: Import) -> bool:
     """Whether a module of this repository has the name; true for what is not looked up."""
-    crate, *rest = module.split(".")
-    folder = CRATES / crate
-    if not folder.is_dir() or not rest:
-        return True
-    if rest[:2] == ["specs", "contracts"] or rest[-1] in UNREAD:
+    crate, *rest = entry.module.split(".")
+    if not (CRATES / crate).is_dir() or not rest or rest[:2] == ["specs", "contracts"] or rest[-1] in UNREAD:
         return True
     if rest[:2] == ["specs", "declared"]:
-        source = folder / "src"
-        *modules, kind = [word for word in rest[2:] if word != "TheVariants"]
-        files = [source / "/".join(modules), source]
-        text = "".join(
-            path.read_text(encoding="utf-8")
-            for path in (files[0].with_suffix(".rt"), files[0] / "mod.rt", source / "lib.rt")
-            if path.is_file()
-        )
-        if not any(found["name"] == kind for found in TYPES.finditer(text)):
-            return "macro_rules!" in text or "!(" in text
-        return rest[-1] != "TheVariants" or re.search(rf"\b{re.escape(name)}\b", text) is not None
-    path = folder.joinpath(*rest).with_suffix(".antt")
-    return path.is_file() and name in names_in(path)
+        return is_declared(CRATES / crate / "src", rest[2:], entry.name)
+    return entry.name in names_in((CRATES / crate).joinpath(*rest).with_suffix(".antt"))
 
 
 def is_used(entry: Import, words: set[str], body: str) -> bool:
-    if entry.passed_on:
-        return True
     if "◌" in entry.known_as:
         return all(any(part in word for word in words) for part in entry.known_as.split("◌"))
     return entry.known_as in words or re.search(rf"(?<![\w-]){re.escape(entry.known_as)}(?![\w-])", body) is not None
 
 
 def main(arguments: list[str]) -> int:
-    crates = arguments or sorted(path.name for path in CRATES.iterdir() if path.is_dir())
     missing = 0
-    for crate in crates:
+    for crate in arguments or sorted(path.name for path in CRATES.iterdir() if path.is_dir()):
         for path in sorted((CRATES / crate).rglob("*")):
             if path.suffix not in (".rt", ".antt") or "out" in path.parts:
                 continue
             text = path.read_text(encoding="utf-8")
-            body = "\n".join(line for line in text.splitlines() if not IMPORT.match(line))
-            words = set(WORD.findall(body))
+            body = without_imports(text)
+            words = set(APART.split(body))
             for entry in imports_of(text):
                 place = f"{path.relative_to(TOP)}:{entry.line}"
-                if not is_there(entry.module, entry.name):
+                if not is_there(entry):
                     missing += 1
                     print(f"{place}: {entry.module} has no {entry.name}")
-                elif path.suffix == ".antt" and not is_used(entry, words, body):
+                elif path.suffix == ".antt" and not entry.passed_on and not is_used(entry, words, body):
                     print(f"{place}: {entry.known_as} is not used")
     return 1 if missing else 0
 

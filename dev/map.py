@@ -1,128 +1,96 @@
 #!/usr/bin/env python3
-"""The map of the crates, made of crates.txt and of the first words of each crate.
+"""What is made of texts: the map of the crates, of crates.txt and the first words of each crate; the README's bars.
 
     dev/map.py --table      what each crate is, by room (the packages hold it as docs/dev/crates.txt)
-    dev/map.py --write      writes the pictures docs/pictures/crates-*.svg
+    dev/map.py --write      writes the pictures docs/pictures/crates-*.svg and speed-*.svg
     dev/map.py --check      says whether they are as --write makes them; status 1 where one is not
     dev/map.py --chains     for each crate how long the longest chain below it is, itself counted, and how many crates
                             and lines of proved text a change of it proves again, itself and the tests counted
 
 A heading of crates.txt (`# room: what is in it`) is a room; the comment that begins a crate's root file says what it is.
+A row of the README's table "Speed" whose third column begins with a number is a bar: the part of the converter's (or of
+clp's) time that it takes, whose own bar is 1, and the floor's part where the fourth column has one.
 """
 from __future__ import annotations
 
+import re
 import sys
-from dataclasses import dataclass, field
+from collections.abc import Sequence
+from dataclasses import dataclass
 from functools import lru_cache
-from pathlib import Path
+from itertools import takewhile
 from xml.sax.saxutils import escape
 
-from made import TOP, main
+from shared import TOP, Room, asked, own_uses, reached, rooms
 
 PICTURES = TOP / "docs" / "pictures"
 
-# The colours of a picture: ground, ink, faint ink, a box and its edge, which arrows have, too.
-SCHEMES = {
+# The colours of the map: ground, ink, faint ink, a box and its edge, which arrows have, too.
+MAP = {
     "light": ("#ffffff", "#1f2328", "#59636e", "#eef3fb", "#7d95b8"),
     "dark": ("#0d1117", "#e6edf3", "#9198a1", "#16202e", "#6f8fbf"),
 }
+# Of the bars: ground, ink, our bar, the bar of what stands beside it, and the mark of the floor.
+BARS = {
+    "light": ("#ffffff", "#1f2328", "#1a7f37", "#e2e5e9", "#bf8700"),
+    "dark": ("#0d1117", "#e6edf3", "#3fb950", "#2a313a", "#d29922"),
+}
 WIDTH, GAP, BAND, EDGE = 1120, 24, 46, 10   # of the picture, between boxes of a row, between rows, within a box
+BARS_WIDTH, LEFT, HIGH, STEP = 900, 330, 16, 30     # of the bars
+ROW = re.compile(r"^\| ([^|\n]*) \|[^|\n]*\| (\d+\.\d+)[^|\n]*\| (\d+\.\d+)?", re.M)
 LINE, LETTER = 16, 6.4      # the height of a line of names, the width of a letter, as boxes reckon it
-
-
-@dataclass
-class Room:
-    """A heading of crates.txt with its crates."""
-
-    name: str
-    what: str
-    crates: list[str] = field(default_factory=list)
-
-
-def rooms() -> tuple[list[Room], dict[str, list[str]]]:
-    """The rooms in order, and the libraries that each crate uses, crates of ours and others."""
-    found: list[Room] = []
-    uses: dict[str, list[str]] = {}
-    for line in (TOP / "crates.txt").read_text().splitlines():
-        name, colon, rest = line.partition(":")
-        if line.startswith("# ") and colon and rest and " " not in name[2:]:
-            found.append(Room(name[2:].replace("_", " "), rest.strip()))
-        elif colon and not line.startswith("#"):
-            found[-1].crates.append(name)
-            uses[name] = rest.split()
-    return found, uses
-
-
-def own_uses() -> dict[str, list[str]]:
-    """The crates of ours that each crate stands on."""
-    uses = rooms()[1]
-    return {name: [it for it in used if it in uses] for name, used in uses.items()}
 
 
 def first_words(crate: str) -> str:
     """What the comment at the head of a crate's root file says."""
     source = TOP / "crates" / crate / "src"
     root = source / "lib.rt" if (source / "lib.rt").exists() else source / "main.rt"
-    said = []
-    for line in root.read_text().splitlines():
-        if not line.startswith("//"):
-            break
-        said.append(line.lstrip("/!").strip())
-    return " ".join(said)
+    return " ".join(line.lstrip("/!").strip() for line in takewhile(lambda it: it.startswith("//"), root.read_text().splitlines()))
 
 
 def table() -> str:
     """What each crate is, below its room."""
-    lines = []
-    for room in rooms()[0]:
-        lines += [f"{room.name}: {room.what}", *(f"    {crate}: {first_words(crate)}" for crate in room.crates)]
-    return "\n".join(lines) + "\n"
+    return "\n".join(line for room in rooms()[0] for line in (
+        f"{room.name}: {room.what}", *(f"    {crate}: {first_words(crate)}" for crate in room.crates)))
+
+
+def below(uses: dict[str, list[str]]) -> dict[str, set[str]]:
+    """Of each crate those that it stands on, and those below, itself among them."""
+    return {name: {name, *reached([name], lambda it: set(uses[it]))} for name in uses}
 
 
 def reduced(uses: dict[str, list[str]]) -> dict[str, list[str]]:
     """Of the crates that one stands on, those that none of the others stands on."""
+    under = below(uses)
+    return {name: [it for it in used if not any(it in under[other] for other in used if other != it)] for name, used in uses.items()}
 
+
+def ranks(uses: dict[str, list[str]]) -> dict[str, int]:
+    """The length of the longest chain below each, itself counted."""
     @lru_cache(maxsize=None)
-    def below(name: str) -> frozenset[str]:
-        return frozenset(uses[name]).union(*(below(it) for it in uses[name]))
+    def rank(name: str) -> int:
+        return 1 + max(map(rank, uses[name]), default=0)
 
-    return {name: [it for it in used if not any(it in below(other) for other in used if other != it)]
-            for name, used in uses.items()}
-
-
-def chain(uses: dict[str, list[str]], top: str = "bridge") -> list[str]:
-    """The longest chain of crates below one, itself first."""
-
-    @lru_cache(maxsize=None)
-    def longest(name: str) -> tuple[str, ...]:
-        return (name, *max((longest(it) for it in uses[name]), key=len, default=()))
-
-    return list(longest(top))
+    return {name: rank(name) for name in uses}
 
 
 def line_count(crate: str) -> int:
     """The lines of a crate's code, definitions and proofs."""
-    folder = TOP / "crates" / crate
-    files = [path for part in ("src", "specs", "proofs") for path in sorted((folder / part).rglob("*"))]
+    files = [path for part in ("src", "specs", "proofs") for path in (TOP / "crates" / crate / part).rglob("*")]
     return sum(len(path.read_text().splitlines()) for path in files if path.suffix in (".rt", ".antt"))
 
 
-def chains(uses: dict[str, list[str]]) -> list[str]:
+def chains() -> str:
     """A line a crate, those with the longest chain last."""
-    counts = {name: line_count(name) for name in uses}
-    every = sum(counts.values())
-
-    @lru_cache(maxsize=None)
-    def below(name: str) -> frozenset[str]:
-        return frozenset([name]).union(*(below(it) for it in uses[name]))
-
+    uses = own_uses()
+    counts, rank, under = {name: line_count(name) for name in uses}, ranks(uses), below(uses)
     told = []
-    for name in sorted(uses, key=lambda it: len(chain(uses, it))):
-        above = [it for it in uses if name in below(it)]
+    for name in sorted(uses, key=lambda it: rank[it]):
+        above = [it for it in uses if name in under[it]]
         again = sum(counts[it] for it in above)
-        told.append(f"{name:20} chain {len(chain(uses, name)):2}  lines {counts[name]:6}  "
-                    f"proves again {len(above):2} crates, {again:6} lines, {100 * again // every:2}%")
-    return told
+        told.append(f"{name:20} chain {rank[name]:2}  lines {counts[name]:6}  "
+                    f"proves again {len(above):2} crates, {again:6} lines, {100 * again // sum(counts.values()):2}%")
+    return "\n".join(told)
 
 
 def arrows(found: list[Room], uses: dict[str, list[str]]) -> tuple[dict[str, list[str]], list[tuple[str, str]]]:
@@ -163,15 +131,10 @@ class Box:
 
 def placed(found: list[Room], down: dict[str, list[str]]) -> tuple[dict[str, Box], float]:
     """The boxes by room, a row for each step of the longest chain below, the longest on top; and the height of all."""
-
-    @lru_cache(maxsize=None)
-    def rank(name: str) -> int:
-        return 1 + max(map(rank, down[name]), default=0)
-
     boxes: dict[str, Box] = {}
-    y = 14.0
-    for level in sorted({rank(room.name) for room in found if down[room.name] or room is found[0]}, reverse=True):
-        row = [room for room in found if rank(room.name) == level and room.name != "tests"]
+    rank, y = ranks(down), 14.0
+    for level in sorted({rank[room.name] for room in found if down[room.name] or room is found[0]}, reverse=True):
+        row = [room for room in found if rank[room.name] == level and room.name != "tests"]
         width = min((WIDTH - 2 * GAP - GAP * (len(row) - 1)) / len(row), 620.0)
         x = (WIDTH - width * len(row) - GAP * (len(row) - 1)) / 2
         texts = [wrapped(room.crates, width - 2 * EDGE) for room in row]
@@ -183,24 +146,23 @@ def placed(found: list[Room], down: dict[str, list[str]]) -> tuple[dict[str, Box
     return boxes, y - BAND + 14
 
 
-def path(start: Box, end: Box, stroke: str) -> str:
-    """An arrow from the lower side of one box to the upper side of another."""
+def downward(start: Box, end: Box) -> str:
+    """The way from the lower side of one box to the upper side of another."""
     lean = (end.x + end.width / 2 - start.x - start.width / 2) / 6
     a, b = start.x + start.width / 2 + lean, end.x + end.width / 2 - lean
     top, bottom = start.y + start.height, end.y
     middle = (top + bottom) / 2
-    return arrow(start, end, stroke, f"M{a:.0f} {top:.0f} C{a:.0f} {middle:.0f} {b:.0f} {middle:.0f} {b:.0f} {bottom:.0f}")
+    return f"M{a:.0f} {top:.0f} C{a:.0f} {middle:.0f} {b:.0f} {middle:.0f} {b:.0f} {bottom:.0f}"
 
 
-def upward(start: Box, end: Box, stroke: str, place: int) -> str:
-    """A dashed one from the left side of a box to that of one above it, beside both."""
+def upward(start: Box, end: Box, place: int) -> str:
+    """That from the left side of a box to that of one above it, beside both."""
     lane, a, b = max(8.0, min(start.x, end.x) - 14 - 10 * place), start.y + 20 + 12 * place, end.y + end.height / 2
-    way = f"M{start.x:.0f} {a:.0f} H{lane:.0f} V{b:.0f} H{end.x:.0f}"
-    return arrow(start, end, stroke, way).replace("<path ", '<path stroke-dasharray="5 4" ')
+    return f"M{start.x:.0f} {a:.0f} H{lane:.0f} V{b:.0f} H{end.x:.0f}"
 
 
-def arrow(start: Box, end: Box, stroke: str, way: str) -> str:
-    return (f'<path d="{way}" fill="none" stroke="{stroke}" stroke-width="1.5" marker-end="url(#tip)">'
+def arrow(start: Box, end: Box, stroke: str, way: str, dashes: str = "") -> str:
+    return (f'<path {dashes}d="{way}" fill="none" stroke="{stroke}" stroke-width="1.5" marker-end="url(#tip)">'
             f"<title>{start.room.name} stands on {end.room.name}</title></path>")
 
 
@@ -214,26 +176,74 @@ def drawn(box: Box, ink: str, faint: str, fill: str, edge: str) -> str:
             f"{escape(box.room.what)}</text>{lines}")
 
 
-def picture(found: list[Room], uses: dict[str, list[str]], scheme: str) -> str:
+def map_picture(scheme: str) -> str:
     """A box a room, arrows between rooms."""
-    ground, ink, faint, fill, edge = SCHEMES[scheme]
-    down, up = arrows(found, uses)
+    ground, ink, faint, fill, edge = MAP[scheme]
+    found = rooms()[0]
+    down, up = arrows(found, own_uses())
     boxes, height = placed(found, down)
+    tip = ('<defs><marker id="tip" viewBox="0 0 8 8" refX="7" refY="4" markerWidth="7" markerHeight="7" orient="auto">'
+           f'<path d="M0 0L8 4L0 8Z" fill="{edge}"/></marker></defs>')
+    parts = [arrow(boxes[one], boxes[other], edge, downward(boxes[one], boxes[other]))
+             for one, used in down.items() if one in boxes for other in used]
+    parts += [arrow(boxes[one], boxes[other], edge, upward(boxes[one], boxes[other], place), 'stroke-dasharray="5 4" ')
+              for place, (one, other) in enumerate(up)]
+    parts += [drawn(box, ink, faint, fill, edge) for box in boxes.values()]
     said = "The rooms, with their crates: each stands on those that arrows lead to; dashed: some of its crates do"
-    out = [f'<svg xmlns="http://www.w3.org/2000/svg" viewBox="0 0 {WIDTH} {height:.0f}" font-family="sans-serif">',
-           f"<title>{said}</title>",
-           f'<defs><marker id="tip" viewBox="0 0 8 8" refX="7" refY="4" markerWidth="7" markerHeight="7" orient="auto">'
-           f'<path d="M0 0L8 4L0 8Z" fill="{edge}"/></marker></defs>',
-           f'<rect width="{WIDTH}" height="{height:.0f}" fill="{ground}"/>']
-    out += [path(boxes[one], boxes[other], edge) for one, used in down.items() if one in boxes for other in used]
-    out += [upward(boxes[one], boxes[other], edge, place) for place, (one, other) in enumerate(up)]
-    out += [drawn(box, ink, faint, fill, edge) for box in boxes.values()]
-    return "\n".join([*out, "</svg>", ""])
+    return drawing(WIDTH, f"{height:.0f}", said, ground, parts, defined=[tip])
 
 
-def made() -> dict[Path, str]:
-    return {PICTURES / f"crates-{scheme}.svg": picture(rooms()[0], own_uses(), scheme) for scheme in SCHEMES}
+def bars() -> list[tuple[str, float, float | None]]:
+    """The rows of the table that have a ratio: what was timed, its part of the time of what stands beside it, the floor's."""
+    text = (TOP / "README.md").read_text().partition("\n## Speed\n")[2].partition("\n## ")[0]
+    return [(name.replace("`", ""), float(part), float(floor) if floor else None) for name, part, floor in ROW.findall(text)]
+
+
+def bars_picture(scheme: str) -> str:
+    ground, ink, ours, other, mark = BARS[scheme]
+    found, out = bars(), []
+    height = STEP * len(found) + 40
+    unit = (BARS_WIDTH - LEFT - 60) / max([1.0, *(part for _, part, _ in found)])
+    for place, (name, part, floor) in enumerate(found):
+        y = 8 + place * STEP
+        out.append(f'<text x="{LEFT - 10}" y="{y + 13}" text-anchor="end" fill="{ink}">{escape(name)}</text>'
+                   f'<rect x="{LEFT}" y="{y}" width="{unit:.1f}" height="{HIGH}" fill="{other}"/>'
+                   f'<rect x="{LEFT}" y="{y + 3}" width="{unit * part:.1f}" height="{HIGH - 6}" fill="{ours}"/>'
+                   f'<text x="{LEFT + unit * max(part, 1.0) + 8:.1f}" y="{y + 13}" fill="{ink}">{part:.2f}</text>')
+        if floor is not None:
+            out.append(f'<path d="M{LEFT + unit * floor:.1f} {y - 2} v{HIGH + 4}" stroke="{mark}" stroke-width="2.5"/>')
+    y = height - 12
+    out.append(f'<rect x="{LEFT}" y="{y - 10}" width="14" height="10" fill="{ours}"/><text x="{LEFT + 20}" y="{y}" fill="{ink}">'
+               f'bridge</text><rect x="{LEFT + 90}" y="{y - 10}" width="14" height="10" fill="{other}"/>'
+               f'<text x="{LEFT + 110}" y="{y}" fill="{ink}">converter in doubles, or clp: 1</text>'
+               f'<path d="M{LEFT + 330} {y - 12} v14" stroke="{mark}" stroke-width="2.5"/>'
+               f'<text x="{LEFT + 340}" y="{y}" fill="{ink}">the floor</text>')
+    title = "Time of bridge beside that of a converter in doubles, or of clp reading alone, which is 1"
+    return drawing(BARS_WIDTH, height, title, ground, out, ' font-size="13"')
+
+
+def drawing(width: int, height: object, title: str, ground: str, parts: Sequence[str], font: str = "", defined: Sequence[str] = ()) -> str:
+    """A picture in SVG."""
+    return "\n".join([
+        f'<svg xmlns="http://www.w3.org/2000/svg" viewBox="0 0 {width} {height}" font-family="sans-serif"{font}>', f"<title>{title}</title>",
+        *defined, f'<rect width="{width}" height="{height}" fill="{ground}"/>', *parts, "</svg>", ""])
+
+
+def main(word: str) -> int:
+    if word in ("--table", "--chains"):
+        print(table() if word == "--table" else chains())
+        return 0
+    if word not in ("--write", "--check"):
+        sys.exit(__doc__)
+    made = {f"{name}-{scheme}.svg": draw(scheme) for name, draw in (("crates", map_picture), ("speed", bars_picture)) for scheme in MAP}
+    stale = [name for name, text in made.items() if not (PICTURES / name).exists() or (PICTURES / name).read_text() != text]
+    for name in stale:
+        if word == "--write":
+            (PICTURES / name).write_text(made[name])
+        else:
+            print(f"docs/pictures/{name} is not as map.py --write makes it")
+    return 1 if stale and word == "--check" else 0
 
 
 if __name__ == "__main__":
-    sys.exit(main(__doc__, made, {"--table": table, "--chains": lambda: "\n".join(chains(own_uses()))}))
+    sys.exit(main("".join(asked(__doc__, 1, 1))))

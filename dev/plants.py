@@ -22,6 +22,7 @@ import types
 from typing import Any
 
 import check
+from shared import TOP
 
 PLANT = f"{check.KIT}/bin/rt-plant"
 # Whether the unchanged call is planted beside the wrong ones.
@@ -141,7 +142,7 @@ def main(words: list[str]) -> int:
     take_libraries(module, said.crate)
     choose(module, said.only)
     judge_in_batches(module, said.batch, 3600)
-    os.chdir(f"{check.TOP}/crates/{said.crate}")
+    os.chdir(f"{TOP}/crates/{said.crate}")
     status: int = module.main(said.crate, "--all", "--minutes", said.minutes, "--max", "100000", "--jobs", "1")
     return status
 
