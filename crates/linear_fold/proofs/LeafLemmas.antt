@@ -1,5 +1,5 @@
 -- Leaves, and what sums of them come to.
-use Rattle.std.proofs.Common.{◌≡◌, ◌≢◌, ℕ, zero, suc, ◌+◌, ◌*◌, ◌<◌, ◌≤◌, ◌∙◌, sym, ap, ap₂, refl, subst, subst₂, ◌==◌, arith, ⊎_elim, Bool, true, false, ◌&&◌, Some, None, Option, List, [], ◌∷◌, ◌++◌, drop, length, get_or, unwrap_or, option_and_then, IfSome, if◌then◌else◌}
+use Rattle.std.proofs.Common.{◌≡◌, ◌≢◌, ℕ, suc, ◌+◌, ◌*◌, ◌<◌, ◌≤◌, ◌∙◌, sym, ap, ap₂, refl, subst, subst₂, ◌==◌, arith, ⊎_elim, Bool, true, false, ◌&&◌, Some, None, Option, List, [], ◌∷◌, ◌++◌, drop, length, get_or, unwrap_or, option_and_then, IfSome, if◌then◌else◌}
 use Rattle.std.specs.Option.{option_or}
 use Rattle.std.proofs.lemmas.Bool.{and_from, and_parts, cases_eq}
 use Rattle.std.proofs.lemmas.List.{drop_more, map-append}
@@ -9,7 +9,7 @@ use Rattle.exact_numbers.specs.declared.dec.Dec.{Dec}
 use Rattle.exact_numbers.specs.declared.frac.Frac.{Frac}
 use Rattle.exact_numbers.specs.Values.{dec_value, frac_value}
 use Rattle.exact_numbers.proofs.Bridge.{frac_fits_lem}
-use Rattle.exact_numbers.proofs.Zeros.{sum_fits_zero, zero_sum_fits}
+use Rattle.exact_numbers.proofs.Zeros.{fits_zero, sum_fits_zero, zero_sum_fits}
 use Rattle.fractions.specs.Fits.{fits, sum_fits}
 use Rattle.fractions.specs.Functions.{is_zero}
 use Rattle.fractions.specs.Rational.{ℚ, whole, zero_ℚ, one_ℚ, ◌+ℚ◌, ◌*ℚ◌, inverse_of}
@@ -23,15 +23,13 @@ use Rattle.nl_model.specs.declared.node.Node.{Node}
 use Rattle.nl_model.specs.declared.node.Node.TheVariants.{Num, Var, Defined, Op}
 use Rattle.nl_model.specs.Nodes.{IsTreeFormed, first_of_trees, trees_of, with_node}
 use Rattle.linear_program.specs.declared.form.Form.{Form}
-use Rattle.linear_program.specs.declared.sum.Sum.{Sum}
-use Rattle.linear_program.specs.Coefs.{AreBelow, Term, coef_in, value_or_zero}
+use Rattle.linear_program.specs.Coefs.{AreAscending, AreBelow, Term, coef_in, value_or_zero}
 use Rattle.linear_program.specs.Decimals.{AreDecimals, DecimalTerm, frac_of, frac_where, fraction_term, fraction_terms}
-use Rattle.linear_program.specs.Forms.{IsWithin, IsZeroFrom, form_line, place_count, sum_line}
-use Rattle.linear_program.specs.Places.{place_in}
+use Rattle.linear_program.specs.Forms.{IsWithin, IsZeroFrom, form_line, parts_line}
 use Rattle.linear_program.proofs.Closing.{found_last, found_other}
-use Rattle.linear_program.proofs.CoefLemmas.{adds_at, below_append, below_from, found_beyond}
+use Rattle.linear_program.proofs.CoefLemmas.{adds_at, ascending_append, below_append, below_from, found_beyond}
 use Rattle.linear_program.proofs.DecimalLemmas.{frac_of-value}
-use Rattle.linear_program.proofs.FracLemmas.{coef_fits, fits_or_zero, nonzero_test, place_fits}
+use Rattle.linear_program.proofs.FracLemmas.{coef_fits, fits_or_zero, nonzero_test}
 use Rattle.linear_program.proofs.Scaled.{all_below-intro, same_line}
 use Rattle.linear_fold.specs.declared.entries.Entry.TheVariants.{Linear as Whole}
 use Rattle.linear_fold.specs.declared.leaf_sums.Leaf.{Leaf}
@@ -41,7 +39,7 @@ use Rattle.linear_fold.specs.declared.operate.Outcome.TheVariants.{Linear as Mad
 use Rattle.linear_fold.specs.declared.parts.PartialForm.{PartialForm}
 use Rattle.linear_fold.specs.declared.parts.PartialForm.TheVariants.{Number, Variable}
 use Rattle.linear_fold.specs.InsideFolds.{AreOperandsOf, IsFolded, IsLined}
-use Rattle.linear_fold.specs.InsideLeafSums.{AddsFraction, AddsLeaf, AreLeaves, IsDivided, IsLeafAt, IsListOf, IsMultipleAt, IsMultipleOf, IsNumberAt, IsVariableOf, SumsUpTo, factors_in, factors_leaf, leaf_line, leaves_line, number_count}
+use Rattle.linear_fold.specs.InsideLeafSums.{AddsLeaf, Appends, AreLeaves, AreTerms, IsDivided, IsLeafAt, IsListOf, IsMultipleAt, IsMultipleOf, IsNumberAt, IsVariableOf, SumsUpTo, factors_in, factors_leaf, leaf_line, leaves_line, number_count}
 use Rattle.linear_fold.specs.InsideOperates.{AreOperands, Operates, lines_of_parts, multiple_line, zero_line}
 use Rattle.linear_fold.proofs.Folding.{constant_lined, is_line_by, multiple_within, number_within, operands_are, operator_folded, same_values, values_are, variable_lined}
 use Rattle.linear_fold.proofs.Operators.{fault_first, fault_second, few_steps, multiple_apart, multiple_at, multiple_constant, multiple_fits, multiple_scaled, multiple_zero_from, number_constant, quotient_comes, zero_line_sum}
@@ -272,47 +270,54 @@ decimals_more n v (x ∷ ds) d low a b up live fit = (a.0, a.1, a.2, decimals_mo
 one_fraction : (ds : List DecimalTerm) (d : DecimalTerm) → fraction_terms (ds ++ d ∷ []) ≡ fraction_terms ds ++ (d.0, frac_of d.1) ∷ []
 one_fraction ds d = map-append fraction_term ds (d ∷ [])
 
-module _ (n : ℕ) (old : LeafSum) (held : AreLeaves n old) (j : ℕ) (d : Dec) (up : old.least ≤ j) (low : j < n) (live : dec_value d ≢ zero_ℚ) (fit : fits (dec_value d) ≡ true) where
-  abbrev terms : List Term
-  terms = fraction_terms old.terms
+-- a term behind those before it
+module _ (ts : List Term) (least j : ℕ) (f : Frac) (below : AreBelow least ts) (up : least ≤ j) where
+  free : coef_in ts j ≡ zero_ℚ
+  free = ap value_or_zero (found_beyond least ts j below up)
 
-  abbrev c : ℚ
-  c = value_or_zero old.number
-
-  free : coef_in (fraction_terms old.terms) j ≡ zero_ℚ
-  free = ap value_or_zero (found_beyond old.least (fraction_terms old.terms) j held.below up)
-
-  coef_fine : (i : ℕ) → sum_fits (coef_in (fraction_terms old.terms) i) ((multiple_line j (dec_value d)).coef i) ≡ true
+  coef_fine : (i : ℕ) → sum_fits (coef_in ts i) ((multiple_line j (frac_value f)).coef i) ≡ true
   coef_fine i =
       ⊎_elim
-      (λ (e : i ≡ j). ap₂ sum_fits (ap (coef_in (fraction_terms old.terms)) e ∙ free) (multiple_at i j (dec_value d) e) ∙ zero_sum_fits (dec_value d) fit)
-      (λ (apart : i ≢ j). ap (sum_fits (coef_in (fraction_terms old.terms) i)) (multiple_apart i j (dec_value d) apart) ∙ sum_fits_zero (coef_in (fraction_terms old.terms) i) (coef_fits (fraction_terms old.terms) i))
+      (λ (e : i ≡ j). ap₂ sum_fits (ap (coef_in ts) e ∙ free) (multiple_at i j (frac_value f) e) ∙ zero_sum_fits (frac_value f) (frac_fits_lem f))
+      (λ (apart : i ≢ j). ap (sum_fits (coef_in ts i)) (multiple_apart i j (frac_value f) apart) ∙ sum_fits_zero (coef_in ts i) (coef_fits ts i))
       (cases_eq i j)
 
-  more_terms : (t : DecimalTerm) (coefs : ℕ → ℚ) → t ≡ (j, d) → coefs ≡ coef_in (fraction_terms (old.terms ++ t ∷ [])) → (i : ℕ) → coefs i ≡ coef_in (fraction_terms old.terms) i +ℚ (multiple_line j (dec_value d)).coef i
-  more_terms t coefs is same i =
-      ap (λ f. f i) same ∙ ap (λ (s : DecimalTerm). coef_in (fraction_terms (old.terms ++ s ∷ [])) i) is ∙ ap (λ ts. coef_in ts i) (one_fraction old.terms (j, d))
-      ∙ adds_at (coef_in (fraction_terms old.terms)) (coef_in (fraction_terms old.terms ++ (j, frac_of d) ∷ [])) j (dec_value d)
-      (ap value_or_zero (found_last (fraction_terms old.terms) (j, frac_of d) (found_beyond old.least (fraction_terms old.terms) j held.below up)) ∙ frac_of-value d fit ∙ sym (zero-+ℚ (dec_value d)) ∙ ap (λ x. x +ℚ dec_value d) (sym free))
-      (λ q apart. ap value_or_zero (found_other (fraction_terms old.terms) (j, frac_of d) q apart)) i
-      ∙ ap (λ x. coef_in (fraction_terms old.terms) i +ℚ x) (sym (zero-+ℚ (dec_value d *ℚ one_if (i == j))))
+  term_fits : (n : ℕ) (c : ℚ) → fits c ≡ true → sums_fit n (parts_line c ts) (multiple_line j (frac_value f)) ≡ true
+  term_fits n c fine = and_from _ _ (sum_fits_zero c fine) (all_below-intro (λ i. sum_fits (coef_in ts i) ((multiple_line j (frac_value f)).coef i)) n (λ i p. coef_fine i))
 
+  term_line : (c : ℚ) → parts_line c (ts ++ (j, f) ∷ []) ≡ line_sum (parts_line c ts) (multiple_line j (frac_value f))
+  term_line c =
+      same_line (parts_line c (ts ++ (j, f) ∷ [])) (line_sum (parts_line c ts) (multiple_line j (frac_value f))) (sym (+ℚ_zero c))
+      (λ i.
+      adds_at (coef_in ts) (coef_in (ts ++ (j, f) ∷ [])) j (frac_value f)
+      (ap value_or_zero (found_last ts (j, f) (found_beyond least ts j below up)) ∙ sym (zero-+ℚ (frac_value f)) ∙ ap (λ x. x +ℚ frac_value f) (sym free))
+      (λ q apart. ap value_or_zero (found_other ts (j, f) q apart)) i
+      ∙ ap (λ x. coef_in ts i +ℚ x) (sym (zero-+ℚ (frac_value f *ℚ one_if (i == j)))))
+
+  term_below : AreBelow (j + 1) (ts ++ (j, f) ∷ [])
+  term_below = below_append (j + 1) ts ((j, f) ∷ []) (below_from least (j + 1) ts (omega arith) below) (omega arith, tt)
+
+module _ (n : ℕ) (old : LeafSum) (held : AreLeaves n old) (j : ℕ) (d : Dec) (up : old.least ≤ j) (low : j < n) (live : dec_value d ≢ zero_ℚ) (fit : fits (dec_value d) ≡ true) where
   pub multiple_added : (new : LeafSum) → new.terms ≡ old.terms ++ (j, d) ∷ [] → new.number ≡ old.number → new.least ≡ j + 1 → AddsLeaf n old (Some j) d new
   multiple_added new terms_are number_is least_is =
-      let coefs = more_terms (j, d) (coef_in (fraction_terms new.terms)) refl (ap (λ ts. coef_in (fraction_terms ts)) terms_are) in
+      let ts : List Term = fraction_terms old.terms in
+      let f : Frac = frac_of d in
+      let value : frac_value f ≡ dec_value d = frac_of-value d fit in
+      let here : fraction_terms new.terms ≡ ts ++ (j, f) ∷ [] = ap fraction_terms terms_are ∙ one_fraction old.terms (j, d) in
       record {
         leaves =
             record {
               decimals = subst (AreDecimals 0) (sym terms_are) (decimals_more 0 old.least old.terms (j, d) (omega arith) held.decimals held.below up live fit);
-              below =
-                  subst₂ (λ m ts. AreBelow m ts) (sym least_is) (sym (ap fraction_terms terms_are ∙ one_fraction old.terms (j, d)))
-                  (below_append (j + 1) (fraction_terms old.terms) ((j, frac_of d) ∷ []) (below_from old.least (j + 1) (fraction_terms old.terms) (omega arith) held.below) (omega arith, tt));
+              below = subst₂ (λ m xs. AreBelow m xs) (sym least_is) (sym here) (term_below ts old.least j f held.below up);
               few = (let e = least_is in omega arith);
             };
         fine = fit;
         inside = low;
-        fit = and_from _ _ (sum_fits_zero (value_or_zero old.number) (fits_or_zero old.number)) (all_below-intro (λ i. sum_fits (coef_in (fraction_terms old.terms) i) ((multiple_line j (dec_value d)).coef i)) n (λ i p. coef_fine i));
-        line = same_line (leaves_line new) (line_sum (leaves_line old) (multiple_line j (dec_value d))) (ap value_or_zero number_is ∙ sym (+ℚ_zero (value_or_zero old.number))) coefs;
+        fit = subst (λ x. sums_fit n (leaves_line old) (multiple_line j x) ≡ true) value (term_fits ts old.least j f held.below up n (value_or_zero old.number) (fits_or_zero old.number));
+        line =
+            ap₂ (λ o xs. parts_line (value_or_zero o) xs) number_is here
+            ∙ term_line ts old.least j f held.below up (value_or_zero old.number)
+            ∙ ap (λ x. line_sum (leaves_line old) (multiple_line j x)) value;
         more = (let e = least_is in let f : number_count new.number ≡ number_count old.number = ap number_count number_is in omega arith);
       }
 
@@ -389,28 +394,24 @@ pub leaves_end : (known : Point → Known) (n place left : ℕ) (ts : List Tree)
 leaves_end known n place left ts l e = subst (λ k. SumsUpTo known n place (first_trees k ts) l l) (sym e) (nothing_more known n place l)
 
 -- the multiple at a place before trees of the nodes after it
-module _ (known : Point → Known) (n : ℕ) (ns : List Node) (place : ℕ) (m : Multiple) (old new : Sum) (at : IsMultipleAt ns place m) (low : m.variable < n) (adds : AddsFraction old m.variable (frac_value m.factor) new) where
-  place_fine : (i : ℕ) → sum_fits ((sum_line old).coef i) ((multiple_line m.variable (frac_value m.factor)).coef i) ≡ true
-  place_fine i =
-      ⊎_elim
-      (λ (e : i ≡ m.variable). ap₂ sum_fits (ap (sum_line old).coef e) (multiple_at i m.variable (frac_value m.factor) e) ∙ adds.adds.0)
-      (λ (apart : i ≢ m.variable). ap (sum_fits ((sum_line old).coef i)) (multiple_apart i m.variable (frac_value m.factor) apart) ∙ sum_fits_zero ((sum_line old).coef i) (place_fits old.accumulator.value i))
-      (cases_eq i m.variable)
+pub multiple_more : (known : Point → Known) (n : ℕ) (ns : List Node) (place least k count : ℕ) (m : Multiple) (old new : List Term) (l : Line) → IsMultipleAt ns place m → AreBelow least old → Appends n least old m new → count ≡ suc k → SumsUpTo known n (place + m.size) (first_trees k (trees_of (drop (place + m.size) ns))) (parts_line zero_ℚ new) l → SumsUpTo known n place (first_trees count (trees_of (drop place ns))) (parts_line zero_ℚ old) l
+multiple_more known n ns place least k count m old new l at below adds e rest =
+    let left = trees_of (drop (place + m.size) ns) in
+    subst₂ (λ c ts. SumsUpTo known n place (first_trees c ts) (parts_line zero_ℚ old) l) (sym e) (sym at.trees)
+    (one_more known n place at.tree (first_trees k left) (parts_line zero_ℚ old) (parts_line zero_ℚ new) l (multiple_line m.variable (frac_value m.factor)) (at.lined known n place adds.inside) (multiple_zero_from n m.variable (frac_value m.factor) adds.inside)
+    (term_fits old least m.variable m.factor below adds.up n zero_ℚ fits_zero)
+    (ap (parts_line zero_ℚ) adds.terms ∙ term_line old least m.variable m.factor below adds.up zero_ℚ)
+    (subst (λ s. SumsUpTo known n (place + s) (first_trees k left) (parts_line zero_ℚ new) l) (sym at.size) rest))
 
-  sum_fine : sums_fit n (sum_line old) (multiple_line m.variable (frac_value m.factor)) ≡ true
-  sum_fine = and_from _ _ (sum_fits_zero (sum_line old).constant (frac_fits_lem old.constant)) (all_below-intro (λ i. sum_fits ((sum_line old).coef i) ((multiple_line m.variable (frac_value m.factor)).coef i)) n (λ i p. place_fine i))
+pub terms_from : (least n : ℕ) (ts : List Term) → least ≤ n → AreTerms least ts → AreTerms n ts
+terms_from least n ts few held = record { ascending = held.ascending; below = below_from least n ts few held.below }
 
-  sum_is : sum_line new ≡ line_sum (sum_line old) (multiple_line m.variable (frac_value m.factor))
-  sum_is =
-      same_line (sum_line new) (line_sum (sum_line old) (multiple_line m.variable (frac_value m.factor))) (adds.constant ∙ sym (+ℚ_zero (sum_line old).constant))
-      (λ i. adds.adds.1 i ∙ ap (λ x. (sum_line old).coef i +ℚ x) (sym (zero-+ℚ (frac_value m.factor *ℚ one_if (i == m.variable)))))
-
-  pub multiple_more : (k count : ℕ) (l : Line) → count ≡ suc k → SumsUpTo known n (place + m.size) (first_trees k (trees_of (drop (place + m.size) ns))) (sum_line new) l → SumsUpTo known n place (first_trees count (trees_of (drop place ns))) (sum_line old) l
-  multiple_more k count l e rest =
-      let left = trees_of (drop (place + m.size) ns) in
-      subst₂ (λ c ts. SumsUpTo known n place (first_trees c ts) (sum_line old) l) (sym e) (sym at.trees)
-      (one_more known n place at.tree (first_trees k left) (sum_line old) (sum_line new) l (multiple_line m.variable (frac_value m.factor)) (at.lined known n place low) (multiple_zero_from n m.variable (frac_value m.factor) low) sum_fine sum_is
-      (subst (λ s. SumsUpTo known n (place + s) (first_trees k left) (sum_line new) l) (sym at.size) rest))
+pub terms_more : (n least : ℕ) (m : Multiple) (old new : List Term) → AreTerms least old → Appends n least old m new → AreTerms (m.variable + 1) new
+terms_more n least m old new held adds =
+    record {
+      ascending = subst (AreAscending 0) (sym adds.terms) (ascending_append 0 least old ((m.variable, m.factor) ∷ []) (omega arith) held.ascending held.below (adds.up, adds.some, tt));
+      below = subst (AreBelow (m.variable + 1)) (sym adds.terms) (term_below old least m.variable m.factor held.below adds.up);
+    }
 
 -- ---- the form
 pub list_folded : (known : Point → Known) (n : ℕ) (ns : List Node) (k : ℕ) (l : Line) (form : Form) (t : Tree) → IsTreeFormed t → IsListOf ns k → trees_of ns ≡ t ∷ [] → SumsUpTo known n 1 (first_trees k (trees_of (drop 1 ns))) zero_line l → form_line form ≡ l → IsFolded known n 0 t (Whole form)
@@ -420,16 +421,8 @@ list_folded known n ns k l form t formed list one s is =
     let some : 1 ≤ count_of ts = subst (λ c. Takes (rule_of c) (count_of ts)) list_class (subst IsTreeFormed (sym same) formed).0 in
     subst (λ u. IsFolded known n 0 u (Whole form)) (ap (λ c. operator c ts) (sym list_class) ∙ same) (sum_folded known n ts l form some s is)
 
-pub leaves_within : (n : ℕ) (s : LeafSum) (form : Form) → AreLeaves n s → form_line form ≡ leaves_line s → IsWithin n form
-leaves_within n s form held line j g = ap (λ l. l.coef j) line ∙ ap value_or_zero (found_beyond s.least (fraction_terms s.terms) j held.below (let h = held.few in omega arith))
-
-no_place : (ps : List Frac) (j : ℕ) → length ps ≤ j → place_in ps j ≡ zero_ℚ
-no_place [] j h = refl
-no_place (p ∷ ps) zero h = absurd (omega arith)
-no_place (p ∷ ps) (suc j) h = no_place ps j (omega arith)
-
-pub sum_within : (n : ℕ) (s : Sum) (form : Form) → place_count s ≡ n → form_line form ≡ sum_line s → IsWithin n form
-sum_within n s form places line j g = ap (λ l. l.coef j) line ∙ no_place s.accumulator.value j (omega (arith, places))
+pub terms_within : (n least : ℕ) (c : ℚ) (ts : List Term) (form : Form) → least ≤ n → AreBelow least ts → form_line form ≡ parts_line c ts → IsWithin n form
+terms_within n least c ts form few below line j g = ap (λ l. l.coef j) line ∙ ap value_or_zero (found_beyond least ts j below (omega arith))
 
 pub if_some : {A : Type 0} (o : Option A) (P Q : A → Type 0) → ((x : A) → P x → Q x) → IfSome o P → IfSome o Q
 if_some None P Q f h = h

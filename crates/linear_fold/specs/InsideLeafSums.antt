@@ -1,5 +1,5 @@
 -- Sums of leaves: numbers, and factors times variables.
-use Rattle.std.specs.Prelude.{◌≡◌, ◌≢◌, ℕ, suc, ◌+◌, ◌<◌, ◌≤◌, true, List, [], ◌∷◌, drop, length, Option, Some, None, Ok}
+use Rattle.std.specs.Prelude.{◌≡◌, ◌≢◌, ℕ, suc, ◌+◌, ◌<◌, ◌≤◌, true, List, [], ◌∷◌, ◌++◌, drop, length, Option, Some, None}
 use Rattle.std.specs.Option.{option_map_or}
 use Rattle.exact_numbers.specs.declared.dec.Dec.{Dec}
 use Rattle.exact_numbers.specs.declared.frac.Frac.{Frac}
@@ -12,10 +12,9 @@ use Rattle.nl_meaning.specs.Trees.{Known, Tree, Trees, tree_size}
 use Rattle.nl_model.specs.declared.node.Node.{Node}
 use Rattle.nl_model.specs.declared.node.Node.TheVariants.{Num, Var, Op}
 use Rattle.nl_model.specs.Nodes.{trees_of}
-use Rattle.linear_program.specs.declared.sum.Sum.{Sum}
-use Rattle.linear_program.specs.Coefs.{AddsAt, AreBelow, value_or_zero}
+use Rattle.linear_program.specs.Coefs.{AreAscending, AreBelow, Term, value_or_zero}
 use Rattle.linear_program.specs.Decimals.{AreDecimals, fraction_terms}
-use Rattle.linear_program.specs.Forms.{parts_line, place_count, sum_line}
+use Rattle.linear_program.specs.Forms.{parts_line}
 use Rattle.linear_fold.specs.declared.leaf_sums.Leaf.{Leaf}
 use Rattle.linear_fold.specs.declared.leaf_sums.LeafSum.{LeafSum}
 use Rattle.linear_fold.specs.declared.leaf_sums.Multiple.{Multiple}
@@ -116,11 +115,17 @@ pub record AddsLeaf (n : ℕ) (old : LeafSum) (j : Option ℕ) (d : Dec) (new : 
   pub line : leaves_line new ≡ line_sum (leaves_line old) (leaf_line j (dec_value d))
   pub more : suc (seen old) ≤ seen new
 
--- k times variable j fits, and is added to a sum
-pub record AddsFraction (old : Sum) (j : ℕ) (k : ℚ) (new : Sum) : Type 0 where
-  pub adds : AddsAt (sum_line old).coef j k (sum_line new).coef (Ok tt)
-  pub constant : (sum_line new).constant ≡ (sum_line old).constant
-  pub places : place_count new ≡ place_count old
+-- terms of the first n variables
+pub record AreTerms (n : ℕ) (ts : List Term) : Type 0 where
+  pub ascending : AreAscending 0 ts
+  pub below : AreBelow n ts
+
+-- a multiple of one of n variables, not below the least one to come, stands behind terms
+pub record Appends (n least : ℕ) (old : List Term) (m : Multiple) (new : List Term) : Type 0 where
+  pub up : least ≤ m.variable
+  pub inside : m.variable < n
+  pub some : frac_value m.factor ≢ zero_ℚ
+  pub terms : new ≡ old ++ (m.variable, m.factor) ∷ []
 
 -- trees have no fault, and are lines whose running sum from a on fits and is l; the first node has the
 -- number i

@@ -1,23 +1,24 @@
 // Sums of leaves: numbers, and factors times variables. Where the variables ascend, the factors are the
-// coefficients of a form as they stand; where the first is divided by a number, all are added up.
+// coefficients of a form: as they stand, or as fractions where the first is divided by a number.
 ghost use Rattle.std.specs.Prelude.{◌≡◌, ◌∷◌, [], ℕ, ◌+◌, ◌<◌, ◌≤◌, None, Some, drop, IfOk, IfSome, length, true};
-ghost use Rattle.exact_numbers.specs.Values.{dec_value, frac_value};
+ghost use Rattle.exact_numbers.specs.Values.{frac_value};
 ghost use Rattle.program_meaning.specs.Lines.{Point};
 ghost use Rattle.nl_meaning.specs.Trees.{Known, Tree, first_trees};
 ghost use Rattle.nl_model.specs.Nodes.{IsTreeFormed, trees_of};
+ghost use Rattle.fractions.specs.Rational.{zero_ℚ};
 ghost use Rattle.linear_program.specs.Coefs.{value_or_zero};
-ghost use Rattle.linear_program.specs.Forms.{IsWithin, place_count, sum_line};
+ghost use Rattle.linear_program.specs.Forms.{IsWithin, parts_line};
 ghost use Rattle.nl_model.specs.declared.node.Node.TheVariants.{Op};
 ghost use Rattle.linear_fold.specs.declared.entries.Entry.TheVariants.{Linear};
 ghost use Rattle.linear_fold.specs.InsideFolds.{IsFolded};
-ghost use Rattle.linear_fold.specs.InsideLeafSums.{AddsFraction, AddsLeaf, AreLeaves, IsDivided, IsLeafAt, IsListOf, IsMultipleAt, IsMultipleOf, IsNoLeaf, IsNumberAt, SumsUpTo, factors_in, leaves_line, seen};
-ghost use Rattle.linear_fold.specs.InsideOperates.{IsBlank, zero_line};
+ghost use Rattle.linear_fold.specs.InsideLeafSums.{AddsLeaf, Appends, AreLeaves, AreTerms, IsDivided, IsLeafAt, IsListOf, IsMultipleAt, IsMultipleOf, IsNoLeaf, IsNumberAt, SumsUpTo, factors_in, leaves_line};
+ghost use Rattle.linear_fold.specs.InsideOperates.{zero_line};
 
 use exact_numbers::{Dec, Frac};
-use linear_program::{Form, Pad, Sum, Terms};
+use linear_program::{Coefficients, Form, Terms};
 use nl_model::Node;
 use std::alloc::{AllocError, Global};
-use texts::{Ledger, Steps, Stop};
+use texts::{Ledger, Steps};
 
 const PRODUCT: u32 = 2;
 
@@ -358,44 +359,47 @@ fn multiple_at(nodes: &[Node], place: usize) -> Option<Multiple>
     plain_multiple(nodes, place)
 }
 
-// Whether a variable is one of so many, and not below the least.
+// Adds a multiple behind those so far, where its factor is not 0.
 #[inline]
-fn is_next(variable: u32, least: u32, variables: u32) -> bool
-    ensures { result ≡ true → (least ≤ variable) × (variable < variables) }
-{
-    least <= variable && variable < variables
-}
-
-// Adds a fraction times a variable to a sum, where that fits.
-#[inline]
-fn add_fraction(total: &mut Sum, variable: u32, factor: Frac) -> Result<bool, AllocError>
-    requires { variable < place_count total.old }
+fn append(
+    terms: &mut Vec<(u32, Frac)>,
+    multiple: &Multiple,
+    least: u32,
+    variables: u32,
+) -> Result<bool, AllocError>
     ensures { IfOk result
-        (λ added. added ≡ true → AddsFraction total.old variable (frac_value factor) total.new) }
+        (λ added. added ≡ true
+        → Appends variables least terms.old.items multiple.now terms.new.items) }
 {
-    match total.add_term(variable, factor) {
-        Ok(()) => Ok(true),
-        Err(Stop::Fault(_)) => Ok(false),
-        Err(Stop::Memory) => Err(AllocError),
+    let variable = multiple.variable;
+    if variable < least {
+        return Ok(false);
     }
+    if variable >= variables {
+        return Ok(false);
+    }
+    if multiple.factor.is_zero() {
+        return Ok(false);
+    }
+    terms.push((variable, multiple.factor))?;
+    Ok(true)
 }
 
 // Adds so many multiples, of which the first is the second node; a step for each.
 fn add_multiples<L: Ledger>(
     nodes: &[Node],
     count: u32,
-    total: &mut Sum,
+    terms: &mut Vec<(u32, Frac)>,
     variables: u32,
     steps: &mut Steps<L>,
 ) -> Result<bool, AllocError>
     requires some { 1 ≤ length nodes.now }
-    requires places { place_count total.old ≡ variables }
-    requires blank { IsBlank total.old }
-    ensures places { IfOk result (λ all. all ≡ true → place_count total.new ≡ variables) }
+    requires none { terms.old.items ≡ [] }
+    ensures terms { IfOk result (λ all. all ≡ true → AreTerms variables terms.new.items) }
     ensures sum { IfOk result
         (λ all. (known : Point → Known) → all ≡ true
         → SumsUpTo known variables 1 (first_trees count (trees_of (drop 1 nodes.now))) zero_line
-        (sum_line total.new)) }
+        (parts_line zero_ℚ terms.new.items)) }
     ensures above { steps.old ≤ steps.new }
     ensures below { steps.new ≤ steps.old + (variables + 1) }
 {
@@ -405,10 +409,7 @@ fn add_multiples<L: Ledger>(
         let Some(multiple) = multiple_at(nodes, place) else {
             return Ok(false);
         };
-        if !is_next(multiple.variable, least, variables) {
-            return Ok(false);
-        }
-        let added = add_fraction(total, multiple.variable, multiple.factor)?;
+        let added = append(terms, &multiple, least, variables)?;
         if !added {
             return Ok(false);
         }
@@ -436,13 +437,12 @@ fn multiple_sum<L: Ledger>(
     ensures above { steps.old ≤ steps.new }
     ensures below { steps.new ≤ steps.old + (variables + 1) }
 {
-    let pad = Pad::new(alloc, variables)?;
-    let mut total = Sum::on_pad(pad);
-    let all = add_multiples(nodes, count, &mut total, variables, steps)?;
+    let mut terms = Vec::with_capacity(alloc, count as usize)?;
+    let all = add_multiples(nodes, count, &mut terms, variables, steps)?;
     if !all {
         return Ok(None);
     }
-    let (form, _pad) = total.close()?;
+    let form = Form::new(alloc).with_coefficients(Coefficients::of_items(terms));
     Ok(Some(form))
 }
 

@@ -20,7 +20,8 @@ use Rattle.linear_program.specs.Coefs.{Term, AreDecimalsOf}
 use Rattle.scaling.specs.Fitting.{coefficients_in, NumberFits, AreTermsTimes}
 use Rattle.scaling.proofs.FitLemmas.{Finite, all_left, fraction_small}
 use Rattle.fractions.proofs.Signed.{times_twice}
-use Rattle.fractions.proofs.Values.{same_value, own_value}
+use Rattle.fractions.proofs.Values.{over_value, own_value, product_value, same_value}
+use lib.IntN.{*ℤ_comm}
 use Rattle.exact_numbers.proofs.Coprime.{coprime-pow}
 use Rattle.exact_numbers.proofs.Bridge.{frac_fits_lem}
 use Rattle.exact_numbers.specs.declared.dec.Dec.{Dec}
@@ -31,6 +32,9 @@ use Rattle.exact_numbers.proofs.Fitting.{whole_fits as whole_fits_dec}
 pub whole_fits : (z : ℤ) → unsigned_abs z < 2 ^ 127 → fits (over z 1) ≡ true
 unfolding whole
 whole_fits z h = ap fits (over_whole z) ∙ and_from (is_small (unsigned_abs z)) (is_small 1) (grind (arith, ltb-true)) refl
+
+whole_fits_value : (z : ℤ) → unsigned_abs z < 2 ^ 127 → fits (decimal_value z (pos 0)) ≡ true
+whole_fits_value z h = ap fits (same_value (decimal_value_lem z (pos 0)) (over_value z 1 (omega arith)) (times_twice z 1 1)) ∙ whole_fits z h
 
 pub over_one_is : (x : ℚ) (z : ℤ) → x ≡ over z 1 → x ≡ whole z
 over_one_is x z e = e ∙ over_whole z
@@ -161,6 +165,25 @@ short_value x k e none is =
 pub short_is : (o : Option Dec) (x : ℚ) (m e f : ℤ) (k : ℕ) → m ≡ x.top *ℤ pos k → f ≡ e → above_zero e ≡ 0 → x.bottom * k ≡ 10 ^ below_zero e → IsDecOf o (decimal_value m f) → IfSome o (λ d. dec_value d ≡ x)
 short_is None x m e f k top same places whole h = tt
 short_is (Some d) x m e f k top same places whole h = h ∙ ap₂ decimal_value top same ∙ short_value x k e places whole
+
+-- a number times a whole number that its denominator divides
+pub whole_times : (q x : ℚ) (k : ℕ) → q.bottom ≡ 1 → q.top ≡ pos (x.bottom * k) → decimal_value (x.top *ℤ pos k) (pos 0) ≡ q *ℚ x
+whole_times q x k one top =
+    same_value (decimal_value_lem (x.top *ℤ pos k) (pos 0)) (product_value (own_value q) (own_value x))
+    (times_twice (x.top *ℤ pos k) 1 (q.bottom * x.bottom) ∙ times_twice x.top k (1 * (q.bottom * x.bottom))
+    ∙ ap (λ n. x.top *ℤ pos n) (ap (λ b. k * (1 * (b * x.bottom))) one ∙ turned k x.bottom)
+    ∙ sym (times_twice x.top (x.bottom * k) 1) ∙ ap (λ z. z *ℤ pos 1) (*ℤ_comm x.top (pos (x.bottom * k)) ∙ ap (λ z. z *ℤ x.top) (sym top)))
+  where
+    turned : (k b : ℕ) → k * (1 * (1 * b)) ≡ b * k * 1
+    turned k b = omega arith
+
+pub whole_product_is : (o : Option Dec) (q x : ℚ) (k : ℕ) (m e : ℤ) → q.bottom ≡ 1 → q.top ≡ pos (x.bottom * k) → m ≡ x.top *ℤ pos k → unsigned_abs m < 2 ^ 127 → e ≡ pos 0 → IsDecOf o (decimal_value m e) →
+    IfSome o (λ d. NumberFits q x × (dec_value d ≡ q *ℚ x))
+whole_product_is None q x k m e one top same small none h = tt
+whole_product_is (Some d) q x k m e one top same small none h =
+    let is : dec_value d ≡ q *ℚ x = h ∙ ap₂ decimal_value same none ∙ whole_times q x k one top in
+    let fine : fits (q *ℚ x) ≡ true = ap fits (sym (whole_times q x k one top) ∙ ap (λ z. decimal_value z (pos 0)) (sym same)) ∙ whole_fits_value m small in
+    (record { frac = fine; dec = record { m = d.m; e = d.e; dec = d.spelled; same = is } }, is)
 
 -- a number times 1
 pub plain_number : (o : Option Dec) (q : ℚ) (x : Frac) → q ≡ one_ℚ → IsDecOf o (frac_value x) →

@@ -1,8 +1,9 @@
 // The decimals of fractions.
-ghost use Rattle.std.specs.Prelude.{◌≡◌, ◌*◌, ◌^◌, ◌*ℤ◌, ◌≤◌, IfSome, Some, true};
-ghost use Rattle.fractions.specs.Rational.{above_zero, below_zero, one_ℚ};
+ghost use Rattle.std.specs.Prelude.{◌≡◌, ◌*◌, ◌^◌, ◌*ℤ◌, ◌<◌, ◌≤◌, IfSome, Some, pos, true, unsigned_abs};
+ghost use Rattle.fractions.specs.Rational.{◌*ℚ◌, above_zero, below_zero, one_ℚ};
 ghost use Rattle.exact_numbers.specs.Values.{dec_value, frac_value, IsDecOf};
 ghost use Rattle.scaled_program.specs.Factor.{cofactor_of};
+ghost use Rattle.scaling.specs.Fitting.{NumberFits};
 
 use exact_numbers::{Dec, Frac};
 
@@ -121,7 +122,8 @@ pub(crate) fn is_one(number: Frac) -> bool
 
 // a * b, by one multiplication of 64 bits.
 fn small_product(a: i64, b: i64) -> i128
-    ensures { result ≡ a *ℤ b }
+    ensures value { result ≡ a *ℤ b }
+    ensures small { unsigned_abs result < 2 ^ 127 }
 {
     a as i128 * b as i128
 }
@@ -139,6 +141,46 @@ fn short_decimal(number: Frac) -> Option<Dec>
     }
     let mantissa = small_product(num as i64, unit.scale as i64);
     Dec::new(mantissa, unit.exponent)
+}
+
+// How many times a number's denominator goes into a whole factor; none where it does not, and for
+// large ones.
+#[inline]
+fn times_in(number: Frac, factor: Frac) -> Option<u64>
+    ensures whole { IfSome result (λ _. (frac_value factor).bottom ≡ 1) }
+    ensures times { IfSome result
+        (λ k. (frac_value factor).top ≡ pos ((frac_value number).bottom * k)) }
+    ensures few { IfSome result (λ k. k < 2 ^ 63) }
+{
+    let times = factor.num();
+    let den = number.den();
+    if factor.den() != 1 || times < 0 || times > LARGEST || den > LARGEST {
+        return None;
+    }
+    let size = times as u64;
+    let part = den as u64;
+    if size % part != 0 {
+        return None;
+    }
+    Some(size / part)
+}
+
+/// A number times a whole factor that its denominator divides; none of some others.
+#[inline]
+pub(crate) fn whole_product(number: Frac, factor: Frac) -> Option<Dec>
+    ensures { IfSome result
+        (λ d. NumberFits (frac_value factor) (frac_value number)
+        × (dec_value d ≡ frac_value factor *ℚ frac_value number)) }
+{
+    let Some(times) = times_in(number, factor) else {
+        return None;
+    };
+    let num = number.num();
+    if num > LARGEST || num < -LARGEST {
+        return None;
+    }
+    let mantissa = small_product(num as i64, times as i64);
+    Dec::new(mantissa, 0)
 }
 
 /// The decimal of the same value; none exactly where no Dec has it.

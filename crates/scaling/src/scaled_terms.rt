@@ -7,7 +7,7 @@ ghost use Rattle.linear_program.specs.Coefs.{AreAscending};
 ghost use Rattle.linear_program.specs.Forms.{form_terms};
 ghost use Rattle.scaling.specs.Fitting.{coefficients_in, NumberFits, AreTermsTimes};
 
-use crate::decimals::{decimal_of, is_one};
+use crate::decimals::{decimal_of, is_one, whole_product};
 use exact_numbers::{Dec, Frac};
 use linear_program::{Form, Terms, Wide};
 use std::alloc::{AllocError, Global};
@@ -24,21 +24,13 @@ pub(crate) fn scaled_number(number: Frac, factor: Frac) -> Option<Dec>
     if is_one(factor) {
         return decimal_of(number);
     }
+    if let Some(product) = whole_product(number, factor) {
+        return Some(product);
+    }
     let Some(product) = factor.mul(number) else {
         return None;
     };
     decimal_of(product)
-}
-
-// How many terms a form has: room alone, of which no clause speaks.
-fn term_count(form: &Form) -> usize
-    ensures { AreAscending 0 (form_terms form.now) }
-{
-    let mut count = 0usize;
-    for _ in form.terms() {
-        count = count.saturating_add(1);
-    }
-    count
 }
 
 // The terms of a form times the factor, one by one. Wide exactly where a number does not fit.
@@ -52,7 +44,7 @@ fn terms_times(alloc: Global, form: &Form, factor: Frac) -> Result<Terms, Stop<W
         (λ _. ¬ All (NumberFits (frac_value factor)) (coefficients_in (form_terms form.now)))) }
 {
     let mut terms = Terms::new(alloc);
-    terms.make_room(term_count(form))?;
+    terms.make_room(form.len())?;
     for term in form.terms() {
         let Some(value) = scaled_number(term.1, factor) else {
             return Err(Stop::Fault(Wide));

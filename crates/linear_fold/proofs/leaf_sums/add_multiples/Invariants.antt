@@ -1,9 +1,10 @@
-use Rattle.std.proofs.Common.{◌≡◌, ◌≤◌, ◌+◌, ◌-◌, drop, length}
+use Rattle.std.proofs.Common.{◌≤◌, ◌+◌, ◌-◌, drop, length}
+use Rattle.fractions.specs.Rational.{zero_ℚ}
 use Rattle.program_meaning.specs.Lines.{Line, Point}
 use Rattle.nl_meaning.specs.Trees.{Known, first_trees}
 use Rattle.nl_model.specs.Nodes.{trees_of}
-use Rattle.linear_program.specs.Forms.{place_count, sum_line}
-use Rattle.linear_fold.specs.InsideLeafSums.{SumsUpTo}
+use Rattle.linear_program.specs.Forms.{parts_line}
+use Rattle.linear_fold.specs.InsideLeafSums.{AreTerms, SumsUpTo}
 use Rattle.linear_fold.specs.InsideOperates.{zero_line}
 use Rattle.linear_fold.proofs.leaf_sums.add_multiples.Given as goal
 
@@ -11,9 +12,9 @@ abbrev pub invariant-loop : goal.invariant-loop
 invariant-loop g l =
     record {
       within : l.place ≤ length l.nodes;
-      places : place_count l.total ≡ l.variables;
+      terms : AreTerms l.least l.terms.items;
       few : l.least ≤ l.variables;
-      leads : (known : Point → Known) (line : Line) → SumsUpTo known l.variables l.place (first_trees (l.count - l.counter) (trees_of (drop l.place l.nodes))) (sum_line l.total) line → SumsUpTo known l.variables 1 (first_trees l.count (trees_of (drop 1 l.nodes))) zero_line line;
+      leads : (known : Point → Known) (line : Line) → SumsUpTo known l.variables l.place (first_trees (l.count - l.counter) (trees_of (drop l.place l.nodes))) (parts_line zero_ℚ l.terms.items) line → SumsUpTo known l.variables 1 (first_trees l.count (trees_of (drop 1 l.nodes))) zero_line line;
       above : l.fn.steps ≤ l.steps;
       below : l.steps ≤ l.fn.steps + l.least;
     }

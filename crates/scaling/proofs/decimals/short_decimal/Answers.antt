@@ -13,4 +13,4 @@ returns c =
     let few : to_z w64 (of_z w64 (to_z w128 (of_z w128 c.num-num.result))) ≡ to_z w128 (of_z w128 c.num-num.result) = search rules in
     let exponent : to_z w32 (of_z w32 c.in-Some.unit.exponent) ≡ c.in-Some.unit.exponent = search rules in
     short_is c.new.result (frac_value c.args.number) _ c.in-Some.unit.exponent _ c.in-Some.unit.scale
-    (product ∙ c.small_product-mantissa.ensures ∙ ap₂ (λ a b. a *ℤ b) (few ∙ num ∙ c.num-num.ensures) scale) exponent c.in-Some.ensures.whole c.in-Some.ensures.unit c.new.ensures
+    (product ∙ c.small_product-mantissa.ensures.value ∙ ap₂ (λ a b. a *ℤ b) (few ∙ num ∙ c.num-num.ensures) scale) exponent c.in-Some.ensures.whole c.in-Some.ensures.unit c.new.ensures
