@@ -1,6 +1,7 @@
 -- Words at the front of a text.
-use Rattle.std.proofs.Common.{◌≡◌, ◌∙◌, ℕ, ◌+◌, ◌<◌, ◌≤◌, true, List, [], ◌∷◌, ◌++◌, length, take, drop, get_or, Some, refl, sym, ap, arith, length-take, take-append-drop}
-use Rattle.std.proofs.lemmas.List.{drop_more}
+use Rattle.std.proofs.Common.{◌≡◌, ◌∙◌, ℕ, ◌+◌, ◌<◌, ◌≤◌, true, List, [], ◌∷◌, ◌++◌, length, take, drop, get_or, Some, refl, sym, ap, arith, length-take, take-append-drop, take-take, nat_le}
+use Rattle.std.proofs.lemmas.List.{drop_more, drop-take}
+use Rattle.std.proofs.lemmas.List.Folds.{list_all-append}
 use Rattle.std.proofs.lemmas.Bool.{le-leb}
 use Rattle.texts.specs.Names.{has_name_bytes}
 use Rattle.texts.specs.Words.{IsUnmarked}
@@ -10,6 +11,11 @@ use Rattle.mps_words.specs.InsideFronts.{IsNumberText}
 
 pub first_parts : (text : List ℕ) (n byte : ℕ) → n < length text → get_or text n 0 ≡ byte → text ≡ take n text ++ byte ∷ drop (n + 1) text
 first_parts text n byte within is = sym (take-append-drop n text) ∙ ap (λ bs. take n text ++ bs) (drop_more text n 0 within ∙ ap (λ b. b ∷ drop (n + 1) text) is)
+
+pub more_bytes : (bytes : List ℕ) (m n : ℕ) → has_name_bytes (take m bytes) ≡ true → has_name_bytes (take n (drop m bytes)) ≡ true → has_name_bytes (take (m + n) bytes) ≡ true
+more_bytes bytes m n front behind =
+    let parts : take (m + n) bytes ≡ take m bytes ++ take n (drop m bytes) = grind (arith, take-append-drop m (take (m + n) bytes), drop-take m n bytes, take-take m (m + n) bytes) in
+    rw (parts, list_all-append (λ b. nat_le 33 b) (take m bytes) (take n (drop m bytes)), front) behind
 
 unmarked_bytes : (word : List ℕ) → IsUnmarked word → has_name_bytes word ≡ true
 unmarked_bytes [] all = refl

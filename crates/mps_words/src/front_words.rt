@@ -10,13 +10,49 @@ use exact_numbers::{Dec, front_dec};
 /// A name has at most so many bytes.
 const LONGEST: usize = 255;
 
+// Whether the first eight bytes are there, and a name may have them.
+#[inline(always)]
+fn has_eight(bytes: &[u8]) -> bool
+    ensures long { result ≡ true → 8 ≤ length bytes.now }
+    ensures each { result ≡ true → has_name_bytes (take 8 bytes.now) ≡ true }
+{
+    match bytes {
+        [a, b, c, d, e, f, g, h, ..] => {
+            (*a > 32)
+                & (*b > 32)
+                & (*c > 32)
+                & (*d > 32)
+                & (*e > 32)
+                & (*f > 32)
+                & (*g > 32)
+                & (*h > 32)
+        }
+        _ => false,
+    }
+}
+
+// Of how many bytes the first groups of eight are that a name may have.
+#[inline(always)]
+fn groups_len(bytes: &[u8]) -> usize
+    ensures within { result ≤ length bytes.now }
+    ensures each { has_name_bytes (take result bytes.now) ≡ true }
+{
+    let mut rest = bytes;
+    let mut passed = 0;
+    'groups: while has_eight(rest) {
+        rest = rest.split_at(8).1;
+        passed += 8;
+    }
+    passed
+}
+
 // How many bytes come first that a name may have.
-#[inline]
+#[inline(always)]
 fn name_len(bytes: &[u8]) -> usize
     ensures within { result ≤ length bytes.now }
     ensures each { has_name_bytes (take result bytes.now) ≡ true }
 {
-    let mut passed = 0;
+    let mut passed = groups_len(bytes);
     'bytes: while passed < bytes.len() {
         if bytes[passed] < 33 {
             return passed;
@@ -43,7 +79,7 @@ pub fn after_space(text: &[u8]) -> Option<&[u8]>
 }
 
 /// The name that a text begins with, before this byte, and what follows that.
-#[inline]
+#[inline(always)]
 pub fn first_name(text: &[u8], end: u8) -> Option<(&[u8], &[u8])>
     ensures name { IfSome result (λ p. IsName p.0.now) }
     ensures parts { IfSome result (λ p. text.now ≡ p.0.now ++ end ∷ p.1.now) }

@@ -11,9 +11,9 @@ use crate::front_words::after_space;
 use indexmap::IndexSet;
 use std::alloc::{AllocError, Global};
 
-/// What follows some bytes, where a text begins with them.
-#[inline]
-pub fn after_bytes<'a>(text: &'a [u8], bytes: &[u8]) -> Option<&'a [u8]>
+// What follows few bytes, where a text begins with them.
+#[inline(always)]
+fn after_few<'a>(text: &'a [u8], bytes: &[u8]) -> Option<&'a [u8]>
     ensures { IfSome result (λ rest. text.now ≡ bytes.now ++ rest.now) }
 {
     let mut rest = text;
@@ -27,6 +27,24 @@ pub fn after_bytes<'a>(text: &'a [u8], bytes: &[u8]) -> Option<&'a [u8]>
         }
         left = more;
         rest = after;
+    }
+    Some(rest)
+}
+
+/// What follows some bytes, where a text begins with them.
+#[inline]
+pub fn after_bytes<'a>(text: &'a [u8], bytes: &[u8]) -> Option<&'a [u8]>
+    ensures { IfSome result (λ rest. text.now ≡ bytes.now ++ rest.now) }
+{
+    if bytes.len() < 8 {
+        return after_few(text, bytes);
+    }
+    if bytes.len() > text.len() {
+        return None;
+    }
+    let (front, rest) = text.split_at(bytes.len());
+    if front != bytes {
+        return None;
     }
     Some(rest)
 }

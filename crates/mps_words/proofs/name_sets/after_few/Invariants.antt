@@ -1,5 +1,5 @@
 use Rattle.std.proofs.Common.{◌≡◌, ◌++◌, ℕ, List, length}
-use Rattle.mps_words.proofs.name_sets.after_bytes.Given as goal
+use Rattle.mps_words.proofs.name_sets.after_few.Given as goal
 
 -- what follows the rest of the bytes follows all of them
 abbrev pub invariant-bytes : goal.invariant-bytes
