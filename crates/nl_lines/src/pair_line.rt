@@ -14,6 +14,7 @@ pub struct FirstPair {
 
 /// The pair of the line that a text begins with, where that is digits, a space and a number of the
 /// common form, and ends.
+#[inline(always)]
 pub fn first_pair(text: &[u8]) -> Option<FirstPair>
     ensures { IfSome result (λ p. IsFirstPair text.now p) }
 {

@@ -1,23 +1,26 @@
--- A head, and the line behind it where that is its whole expression, that are taken at once.
-use Rattle.std.proofs.Common.{◌≡◌, ◌∙◌, ℕ, ◌+◌, ◌<◌, ◌^◌, true, List, [], ◌∷◌, get_or, slice_set, refl, sym, ap, subst, Option, Some, None}
+-- A head, and the line behind it where that is all of its piece, that are taken at once.
+use Rattle.std.proofs.Common.{◌≡◌, ◌∙◌, ℕ, ◌+◌, ◌<◌, ◌^◌, true, List, [], ◌∷◌, get_or, slice_set, refl, sym, ap, arith, subst, Option, Some, None}
 use Rattle.nl_meaning.specs.Trees.{Tree}
 use Rattle.nl_model.specs.Draft.{Draft}
 use Rattle.nl_lines.specs.declared.awaited.Awaited.TheVariants.{Node as NodeLine}
 use Rattle.nl_lines.specs.declared.head.Head.{Head}
-use Rattle.nl_lines.specs.declared.head.Head.TheVariants.{Body as BodyHead}
+use Rattle.nl_lines.specs.declared.head.Head.TheVariants.{Body as BodyHead, Terms}
 use Rattle.nl_lines.specs.declared.node_row.NodeRow.TheVariants.{Whole}
+use Rattle.nl_lines.specs.declared.pair_line.FirstPair.{FirstPair}
 use Rattle.nl_lines.specs.Saying.{PlaceLines, no_lines}
 use Rattle.nl_lines.proofs.DraftLemmas.{get_set}
 use Rattle.nl_segments.specs.Current.{Current, new_current}
 use Rattle.nl_segments.specs.Held.{Body, IsAwaiting}
 use Rattle.nl_segments.specs.InsideHeadSteps.{begun_current}
-use Rattle.nl_segments.specs.InsidePieces.{IsLeafTree, MayBegin, with_given_head, with_head_passed}
-use Rattle.nl_segments.specs.InsidePlaceSteps.{HasOwner, nodes_follow, with_begun, with_node_run}
-use Rattle.nl_segments.specs.InsideTermRuns.{TakesLines}
+use Rattle.nl_segments.specs.InsidePieces.{IsLeafTree, IsNextTerm, MayBegin, with_given_head, with_head_passed}
+use Rattle.nl_segments.specs.InsidePairSteps.{with_given, with_use}
+use Rattle.nl_segments.specs.InsidePlaceSteps.{HasOwner, nodes_follow, with_begun, with_node_run, with_term_run}
+use Rattle.nl_segments.specs.InsideTermRuns.{IsBodyOf, TakesLines, with_counted, with_parts}
 use Rattle.nl_segments.specs.InsideTreeSteps.{CanTakeRow, MayTake}
 use Rattle.nl_segments.proofs.NodeFronts.{leaf_can, leaf_few, leaf_first}
 use Rattle.nl_segments.proofs.PairLines.{has_owner}
-use Rattle.nl_segments.proofs.StandingLemmas.{none_taken}
+use Rattle.nl_segments.proofs.PairPiece.{CanTake}
+use Rattle.nl_segments.proofs.StandingLemmas.{can_term, none_counted, none_taken, term_taken}
 use Rattle.nl_segments.proofs.TreeLaw.{tree_within}
 
 -- ---- the head alone
@@ -68,6 +71,43 @@ module _ (b : Body) (h : Head) (con line : ℕ) (text : List ℕ) (len : ℕ) (t
       (subst (TakesLines (with_given_head b (BodyHead con) line) text (line + 1) (record { len = len; lines = 1 })) same
       (leaf_first (with_given_head b (BodyHead con) line) text (line + 1) len e.1.leaf (Whole e.1.node) 1 draft None run awaits_node e.1.first e.1.read refl refl
       (rw e.1.whole refl, given ∙ ap (λ (x : Tree). record b.draft { bodies = slice_set b.draft.bodies con (Some x) }) e.1.is)))
+
+-- ---- one term of a constraint
+
+module _ (b : Body) (con line : ℕ) (text : List ℕ) (p : FirstPair) (may_begin : MayBegin b (Terms con 1) line) (next : IsNextTerm b text p) where
+  abbrev Begun : Body
+  Begun = with_given_head b (Terms con 1) line
+
+  abbrev piece : Current
+  piece = new_current (Terms con 1) line 1
+
+  begun : IsBodyOf b.draft b.uses (Terms con 1) 1 Begun piece
+  begun =
+      record {
+        draft = refl;
+        uses_are = refl;
+        awaits = record { current = refl; same_head = refl; linear = refl; given = refl; some = omega arith; left = omega arith; few = let few = next.few in omega arith };
+      }
+
+  no_term : (number : ℕ) → TakesLines Begun text number (record { len = 0; lines = 0 }) (with_counted (with_parts Begun b.draft b.uses) piece number 0)
+  no_term number = none_counted Begun piece (Terms con 1) 1 number b.draft b.uses text begun
+
+  pub can_take_term : CanTake (with_counted (with_parts Begun b.draft b.uses) piece 1 0) (Terms con 1) (p.index, p.value)
+  can_take_term =
+      can_term b.draft b.draft b.uses b.uses (Terms con 1) 1 text (record { len = 0; lines = 0 }) p
+      (record { body = Begun; current = piece; is = begun; held = may_begin.held }) (omega arith) (no_term 1) next.first next.below
+
+  pub term_taken_at_once : (passed : Body) (draft : Draft) (uses : List ℕ) (places : PlaceLines) → draft ≡ with_given b.draft (Terms con 1) (p.index, p.value) → uses ≡ with_use (Terms con 1) b.uses p.index
+      → passed ≡ with_head_passed (record b { draft = draft; uses = uses; linear = b.linear + 1 }) (Terms con 1) line → places ≡ with_term_run passed.places (line + 1) 1 (Terms con 1)
+      → TakesLines Begun text (line + 1) (record { len = p.len; lines = 1 }) (record passed { places = places })
+  term_taken_at_once passed draft uses places given used e lines =
+      let same : with_counted (with_parts Begun draft uses) piece (line + 1) 1 ≡ record passed { places = places } =
+      sym (ap (λ (x : Body). record x { places = places }) e
+      ∙ (λ i. record (with_counted (with_parts Begun draft uses) piece (line + 1) 1) { current = may_begin.closed i; places = (lines ∙ ap (λ (x : Body). with_term_run x.places (line + 1) 1 (Terms con 1)) e) i })) in
+      let none : 0 + p.len ≡ p.len = omega arith in
+      subst (TakesLines Begun text (line + 1) (record { len = p.len; lines = 1 })) same
+      (subst (λ (len : ℕ). TakesLines Begun text (line + 1) (record { len = len; lines = 1 }) (with_counted (with_parts Begun draft uses) piece (line + 1) 1)) none
+      (term_taken Begun piece (Terms con 1) 1 (line + 1) b.draft draft b.uses uses text (record { len = 0; lines = 0 }) p begun.awaits (omega arith) (no_term (line + 1)) next.first next.below given used))
 
 -- ---- the lines of what is begun
 

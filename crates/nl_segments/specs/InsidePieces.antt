@@ -1,14 +1,17 @@
--- A head, and the line behind it where that is its whole expression, which are taken at once.
-use Rattle.std.specs.Prelude.{◌≡◌, ◌+◌, ℕ, List, ◌∷◌, [], length, replicate, false, true, Option, Some, None, Ok}
+-- A head, and the line behind it where that is all of its piece, which are taken at once.
+use Rattle.std.specs.Prelude.{◌≡◌, ◌<◌, ◌+◌, ℕ, List, ◌∷◌, [], length, replicate, false, true, Option, Some, None, Ok}
 use Rattle.texts.specs.Judged.{Decides}
 use Rattle.texts.specs.declared.grammar.Front.{Front}
 use Rattle.nl_meaning.specs.Trees.{Tree}
 use Rattle.nl_model.specs.declared.node.Node.{Node}
 use Rattle.nl_model.specs.Draft.{Draft}
 use Rattle.nl_model.specs.Nodes.{AreNodesOf, awaited, tree_of}
+use Rattle.nl_model.specs.Rules.{most_terms}
 use Rattle.nl_lines.specs.declared.head.Head.{Head}
 use Rattle.nl_lines.specs.declared.leaf.Leaf.{Leaf}
 use Rattle.nl_lines.specs.declared.node_row.NodeRow.TheVariants.{Whole}
+use Rattle.nl_lines.specs.declared.pair_line.FirstPair.{FirstPair}
+use Rattle.nl_lines.specs.FirstPairs.{IsFirstPair}
 use Rattle.nl_lines.specs.FirstRows.{IsFirstRow}
 use Rattle.nl_lines.specs.Heads.{is_in_range}
 use Rattle.nl_lines.specs.Leaves.{IsLeafRow}
@@ -66,3 +69,9 @@ pub record IsLeafTree (d : Draft) (before : ℕ) (text : List ℕ) (len : ℕ)
   pub whole : awaited (node ∷ []) ≡ 0
   pub is : tree ≡ tree_of (node ∷ [])
   pub nodes : AreNodesOf tree (node ∷ [])
+
+-- the term of the line that a text begins with, and there is room for one more
+pub record IsNextTerm (b : Body) (text : List ℕ) (p : FirstPair) : Type 0 where
+  pub first : IsFirstPair text p
+  pub below : p.index < b.draft.counts.n_var
+  pub few : b.linear < most_terms
