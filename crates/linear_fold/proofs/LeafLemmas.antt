@@ -13,7 +13,7 @@ use Rattle.exact_numbers.proofs.Zeros.{fits_zero, sum_fits_zero, zero_sum_fits}
 use Rattle.fractions.specs.Fits.{fits, sum_fits}
 use Rattle.fractions.specs.Functions.{is_zero}
 use Rattle.fractions.specs.Rational.{ℚ, whole, zero_ℚ, one_ℚ, ◌+ℚ◌, ◌*ℚ◌, inverse_of}
-use Rattle.fractions.proofs.Arithmetic.{zero-+ℚ, +ℚ_zero, *ℚ_comm, *ℚ_one}
+use Rattle.fractions.proofs.Arithmetic.{one-*ℚ, zero-+ℚ, +ℚ_zero, *ℚ_comm, *ℚ_one}
 use Rattle.fractions.proofs.Values.{own_value, same_value}
 use Rattle.program_meaning.specs.Lines.{Line, Point, constant_line, is_constant, line_scaled, line_sum, line_value, one_if, products_fit, running_line, running_sums_fit, sums_fit}
 use Rattle.nl_meaning.specs.Faults.{fault_at, operator_fault, operator_line, too_wide_unless, trees_fault, trees_lines, tree_line}
@@ -25,7 +25,7 @@ use Rattle.nl_model.specs.Nodes.{IsTreeFormed, first_of_trees, trees_of, with_no
 use Rattle.linear_program.specs.declared.form.Form.{Form}
 use Rattle.linear_program.specs.Coefs.{AreAscending, AreBelow, Term, coef_in, value_or_zero}
 use Rattle.linear_program.specs.Decimals.{AreDecimals, DecimalTerm, frac_of, frac_where, fraction_term, fraction_terms}
-use Rattle.linear_program.specs.Forms.{IsWithin, IsZeroFrom, form_line, parts_line}
+use Rattle.linear_program.specs.Forms.{IsZeroFrom, form_line, parts_line}
 use Rattle.linear_program.proofs.Closing.{found_last, found_other}
 use Rattle.linear_program.proofs.CoefLemmas.{adds_at, ascending_append, below_append, below_from, found_beyond}
 use Rattle.linear_program.proofs.DecimalLemmas.{frac_of-value}
@@ -39,7 +39,7 @@ use Rattle.linear_fold.specs.declared.operate.Outcome.TheVariants.{Linear as Mad
 use Rattle.linear_fold.specs.declared.parts.PartialForm.{PartialForm}
 use Rattle.linear_fold.specs.declared.parts.PartialForm.TheVariants.{Number, Variable}
 use Rattle.linear_fold.specs.InsideFolds.{AreOperandsOf, IsFolded, IsLined}
-use Rattle.linear_fold.specs.InsideLeafSums.{AddsLeaf, Appends, AreLeaves, AreTerms, IsDivided, IsLeafAt, IsListOf, IsMultipleAt, IsMultipleOf, IsNumberAt, IsVariableOf, SumsUpTo, factors_in, factors_leaf, leaf_line, leaves_line, number_count}
+use Rattle.linear_fold.specs.InsideLeafSums.{AddsLeaf, Appends, AreLeaves, AreTerms, IsFormOf, IsInverse, IsLeafAt, IsListOf, IsMultipleAt, IsMultipleOf, IsNumberAt, IsVariableOf, IsVariableOver, SumsUpTo, factors_in, factors_leaf, leaf_line, leaves_line, number_count}
 use Rattle.linear_fold.specs.InsideOperates.{AreOperands, Operates, lines_of_parts, multiple_line, zero_line}
 use Rattle.linear_fold.proofs.Folding.{constant_lined, is_line_by, multiple_within, number_within, operands_are, operator_folded, same_values, values_are, variable_lined}
 use Rattle.linear_fold.proofs.Operators.{fault_first, fault_second, few_steps, multiple_apart, multiple_at, multiple_constant, multiple_fits, multiple_scaled, multiple_zero_from, number_constant, quotient_comes, zero_line_sum}
@@ -218,9 +218,9 @@ multiple_here ns p l m at is =
     }
 
 -- a fraction times a variable divided by a number
-module _ (known : Point → Known) (n i : ℕ) (t : Tree) (m : Multiple) (d : Dec) (f : Frac) (is : IsDivided (frac_value m.factor) d f) (low : m.variable < n) (lined : (p : ℕ) → IsLined known n p t (multiple_line m.variable (frac_value m.factor))) where
+module _ (known : Point → Known) (n i : ℕ) (t : Tree) (m : Multiple) (d : Dec) (g f : Frac) (is : IsInverse d g) (value : frac_value f ≡ frac_value m.factor *ℚ frac_value g) (low : m.variable < n) (lined : (p : ℕ) → IsLined known n p t (multiple_line m.variable (frac_value m.factor))) where
   quotient_value : frac_value f ≡ inverse_of (frac_value (frac_of d)) *ℚ frac_value m.factor
-  quotient_value = is.value ∙ *ℚ_comm (frac_value m.factor) (inverse_of (dec_value d)) ∙ ap (λ x. inverse_of x *ℚ frac_value m.factor) (sym (frac_of-value d is.divisor))
+  quotient_value = value ∙ *ℚ_comm (frac_value m.factor) (frac_value g) ∙ ap (λ x. x *ℚ frac_value m.factor) (is.value ∙ ap inverse_of (sym (frac_of-value d is.divisor)))
 
   quotient_lined : IsLined known n i (operator Quotient (more t (more (number d.m d.e) none))) (multiple_line m.variable (frac_value f))
   quotient_lined =
@@ -244,8 +244,8 @@ unfolding class_of
 quotient_class = refl
 
 -- the quotient of a multiple at the next place
-pub quotient_multiple : (ns : List Node) (p : ℕ) (m : Multiple) (d : Dec) (f : Frac) → drop p ns ≡ Op 3 2 ∷ drop (p + 1) ns → IsMultipleAt ns (p + 1) m → IsNumberAt ns (p + 1 + m.size) d → IsDivided (frac_value m.factor) d f → IsMultipleAt ns p (record { variable = m.variable; factor = f; size = m.size + 2 })
-quotient_multiple ns p m d f here at last divided =
+pub quotient_multiple : (ns : List Node) (p : ℕ) (m : Multiple) (d : Dec) (g f : Frac) → drop p ns ≡ Op 3 2 ∷ drop (p + 1) ns → IsMultipleAt ns (p + 1) m → IsNumberAt ns (p + 1 + m.size) d → IsInverse d g → frac_value f ≡ frac_value m.factor *ℚ frac_value g → IsMultipleAt ns p (record { variable = m.variable; factor = f; size = m.size + 2 })
+quotient_multiple ns p m d g f here at last is value =
     let t = at.tree in
     let end : p + 1 + m.size + 1 ≡ p + (m.size + 2) = omega arith in
     let rest : trees_of (drop (p + 1 + m.size) ns) ≡ number d.m d.e ∷ trees_of (drop (p + (m.size + 2)) ns) = ap trees_of last.first ∙ ap (λ q. number d.m d.e ∷ trees_of (drop q ns)) end in
@@ -256,8 +256,27 @@ quotient_multiple ns p m d f here at last divided =
       within = (let w = last.within in omega arith);
       lined = λ known n i low.
           subst (λ c. IsLined known n i (operator c (more t (more (number d.m d.e) none))) (multiple_line m.variable (frac_value f))) (sym quotient_class)
-          (quotient_lined known n i t m d f divided low (λ q. at.lined known n q low));
+          (quotient_lined known n i t m d g f is value low (λ q. at.lined known n q low));
     }
+
+-- the quotient of a variable by a number, which are the next two nodes
+pub variable_quotient_is : (ns : List Node) (p : ℕ) (a b : Node) (m : Multiple) → p + 3 ≤ length ns → drop p ns ≡ Op 3 2 ∷ drop (p + 1) ns → a ≡ get_or ns (p + 1) a → b ≡ get_or ns (p + 2) b → IsVariableOver a b m → IsMultipleAt ns p m
+variable_quotient_is ns p (Var j) (Num d) m within here first second is =
+    let dividend : Multiple = record { variable = j; factor = one_frac; size = 1 } in
+    let end : p + 2 ≡ p + 1 + 1 = omega arith in
+    let at : IsMultipleAt ns (p + 1) dividend =
+    record {
+      tree = variable j;
+      trees = ap trees_of (node_here ns (p + 1) (Var j) (omega arith) first);
+      size = refl;
+      within = omega arith;
+      lined = λ known n i low. multiple_lined known n i j (frac_value one_frac) one_value low;
+    } in
+    let last : IsNumberAt ns (p + 1 + 1) d = subst (λ q. IsNumberAt ns q d) end (number_stands ns (p + 2) (Num d) d (omega arith) second refl) in
+    subst (IsMultipleAt ns p) (sym is.1)
+    (quotient_multiple ns p dividend d m.factor m.factor here at last is.0 (sym (ap (λ x. x *ℚ frac_value m.factor) one_value ∙ one-*ℚ (frac_value m.factor))))
+variable_quotient_is ns p (Var j) b m within here first second is = absurd is
+variable_quotient_is ns p a b m within here first second is = absurd is
 
 pub list_at : (ns : List Node) (x : Node) (o k : ℕ) → 0 < length ns → x ≡ get_or ns 0 x → x ≡ Op o k → o ≡ 54 → IsListOf ns k
 list_at ns x o k some at is list = record { some = omega arith; first = node_here ns 0 x some at ∙ ap (λ y. y ∷ drop 1 ns) (is ∙ ap (λ m. Op m k) list) }
@@ -414,15 +433,19 @@ terms_more n least m old new held adds =
     }
 
 -- ---- the form
-pub list_folded : (known : Point → Known) (n : ℕ) (ns : List Node) (k : ℕ) (l : Line) (form : Form) (t : Tree) → IsTreeFormed t → IsListOf ns k → trees_of ns ≡ t ∷ [] → SumsUpTo known n 1 (first_trees k (trees_of (drop 1 ns))) zero_line l → form_line form ≡ l → IsFolded known n 0 t (Whole form)
+list_folded : (known : Point → Known) (n : ℕ) (ns : List Node) (k : ℕ) (l : Line) (form : Form) (t : Tree) → IsTreeFormed t → IsListOf ns k → trees_of ns ≡ t ∷ [] → SumsUpTo known n 1 (first_trees k (trees_of (drop 1 ns))) zero_line l → form_line form ≡ l → IsFolded known n 0 t (Whole form)
 list_folded known n ns k l form t formed list one s is =
     let ts = first_trees k (trees_of (drop 1 ns)) in
     let same : operator (class_of 54) ts ≡ t = sym (ap (λ xs. first_of_trees (trees_of xs)) list.first) ∙ ap first_of_trees one in
     let some : 1 ≤ count_of ts = subst (λ c. Takes (rule_of c) (count_of ts)) list_class (subst IsTreeFormed (sym same) formed).0 in
     subst (λ u. IsFolded known n 0 u (Whole form)) (ap (λ c. operator c ts) (sym list_class) ∙ same) (sum_folded known n ts l form some s is)
 
-pub terms_within : (n least : ℕ) (c : ℚ) (ts : List Term) (form : Form) → least ≤ n → AreBelow least ts → form_line form ≡ parts_line c ts → IsWithin n form
-terms_within n least c ts form few below line j g = ap (λ l. l.coef j) line ∙ ap value_or_zero (found_beyond least ts j below (omega arith))
+pub form_of_terms : (n least : ℕ) (ns : List Node) (k : ℕ) (c : ℚ) (ts : List Term) (form : Form) → IsListOf ns k → least ≤ n → AreBelow least ts → ((known : Point → Known) → SumsUpTo known n 1 (first_trees k (trees_of (drop 1 ns))) zero_line (parts_line c ts)) → form_line form ≡ parts_line c ts → IsFormOf n ns form
+form_of_terms n least ns k c ts form list few below sums line =
+    record {
+      folded = λ known t formed one. list_folded known n ns k (parts_line c ts) form t formed list one (sums known) line;
+      within = λ j g. ap (λ l. l.coef j) line ∙ ap value_or_zero (found_beyond least ts j below (omega arith));
+    }
 
 pub if_some : {A : Type 0} (o : Option A) (P Q : A → Type 0) → ((x : A) → P x → Q x) → IfSome o P → IfSome o Q
 if_some None P Q f h = h

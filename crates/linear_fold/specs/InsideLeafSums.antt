@@ -5,20 +5,22 @@ use Rattle.exact_numbers.specs.declared.dec.Dec.{Dec}
 use Rattle.exact_numbers.specs.declared.frac.Frac.{Frac}
 use Rattle.exact_numbers.specs.Values.{dec_value, frac_value}
 use Rattle.fractions.specs.Fits.{fits}
-use Rattle.fractions.specs.Rational.{ℚ, zero_ℚ, ◌*ℚ◌, inverse_of}
+use Rattle.fractions.specs.Rational.{ℚ, zero_ℚ, inverse_of}
 use Rattle.program_meaning.specs.Lines.{Line, Point, constant_line, running_line, running_sums_fit, sums_fit, line_sum}
 use Rattle.nl_meaning.specs.Faults.{trees_fault, trees_lines}
 use Rattle.nl_meaning.specs.Trees.{Known, Tree, Trees, tree_size}
 use Rattle.nl_model.specs.declared.node.Node.{Node}
 use Rattle.nl_model.specs.declared.node.Node.TheVariants.{Num, Var, Op}
-use Rattle.nl_model.specs.Nodes.{trees_of}
+use Rattle.nl_model.specs.Nodes.{IsTreeFormed, trees_of}
 use Rattle.linear_program.specs.Coefs.{AreAscending, AreBelow, Term, value_or_zero}
 use Rattle.linear_program.specs.Decimals.{AreDecimals, fraction_terms}
-use Rattle.linear_program.specs.Forms.{parts_line}
+use Rattle.linear_program.specs.Forms.{IsWithin, parts_line}
+use Rattle.linear_program.specs.declared.form.Form.{Form}
+use Rattle.linear_fold.specs.declared.entries.Entry.TheVariants.{Linear}
 use Rattle.linear_fold.specs.declared.leaf_sums.Leaf.{Leaf}
 use Rattle.linear_fold.specs.declared.leaf_sums.LeafSum.{LeafSum}
 use Rattle.linear_fold.specs.declared.leaf_sums.Multiple.{Multiple}
-use Rattle.linear_fold.specs.InsideFolds.{AreLinesOf, IsLined}
+use Rattle.linear_fold.specs.InsideFolds.{AreLinesOf, IsFolded, IsLined}
 use Rattle.linear_fold.specs.InsideOperates.{multiple_line}
 
 -- ---- leaves
@@ -71,11 +73,17 @@ pub record IsNumberAt (ns : List Node) (place : ℕ) (d : Dec) : Type 0 where
   pub within : place < length ns
   pub first : drop place ns ≡ Num d ∷ drop (place + 1) ns
 
--- x divided by d, which is not 0 and has a fraction
-pub record IsDivided (x : ℚ) (d : Dec) (f : Frac) : Type 0 where
+-- 1 divided by d, which is not 0 and has a fraction
+pub record IsInverse (d : Dec) (f : Frac) : Type 0 where
   pub divisor : fits (dec_value d) ≡ true
   pub some : dec_value d ≢ zero_ℚ
-  pub value : frac_value f ≡ x *ℚ inverse_of (dec_value d)
+  pub value : frac_value f ≡ inverse_of (dec_value d)
+
+-- the quotient of a variable by a number, which two nodes are
+abbrev pub IsVariableOver : Node → Node → Multiple → Type 0
+IsVariableOver (Var j) (Num d) m =
+    IsInverse d m.factor × (m ≡ record { variable = j; factor = m.factor; size = 3 })
+IsVariableOver a b m = ⊥
 
 -- nodes begin with the sum of k operands
 pub record IsListOf (ns : List Node) (k : ℕ) : Type 0 where
@@ -134,3 +142,9 @@ pub record SumsUpTo (known : Point → Known) (n i : ℕ) (ts : Trees) (a l : Li
   pub lines : AreLinesOf known n ts (trees_lines known ts)
   pub fit : running_sums_fit n a (trees_lines known ts) ≡ true
   pub sum : running_line a (trees_lines known ts) ≡ l
+
+-- the form of n variables that the tree of nodes comes to
+pub record IsFormOf (n : ℕ) (ns : List Node) (form : Form) : Type 0 where
+  pub folded : (known : Point → Known) (t : Tree) → IsTreeFormed t → trees_of ns ≡ t ∷ []
+      → IsFolded known n 0 t (Linear form)
+  pub within : IsWithin n form

@@ -3,15 +3,13 @@
 ghost use Rattle.std.specs.Prelude.{◌≡◌, ◌∷◌, [], ℕ, ◌+◌, ◌<◌, ◌≤◌, None, Some, drop, IfOk, IfSome, length, true};
 ghost use Rattle.exact_numbers.specs.Values.{frac_value};
 ghost use Rattle.program_meaning.specs.Lines.{Point};
-ghost use Rattle.nl_meaning.specs.Trees.{Known, Tree, first_trees};
-ghost use Rattle.nl_model.specs.Nodes.{IsTreeFormed, trees_of};
+ghost use Rattle.nl_meaning.specs.Trees.{Known, first_trees};
+ghost use Rattle.nl_model.specs.Nodes.{trees_of};
 ghost use Rattle.fractions.specs.Rational.{zero_ℚ};
 ghost use Rattle.linear_program.specs.Coefs.{value_or_zero};
-ghost use Rattle.linear_program.specs.Forms.{IsWithin, parts_line};
+ghost use Rattle.linear_program.specs.Forms.{parts_line};
 ghost use Rattle.nl_model.specs.declared.node.Node.TheVariants.{Op};
-ghost use Rattle.linear_fold.specs.declared.entries.Entry.TheVariants.{Linear};
-ghost use Rattle.linear_fold.specs.InsideFolds.{IsFolded};
-ghost use Rattle.linear_fold.specs.InsideLeafSums.{AddsLeaf, Appends, AreLeaves, AreTerms, IsDivided, IsLeafAt, IsListOf, IsMultipleAt, IsMultipleOf, IsNoLeaf, IsNumberAt, SumsUpTo, factors_in, leaves_line};
+ghost use Rattle.linear_fold.specs.InsideLeafSums.{AddsLeaf, Appends, AreLeaves, AreTerms, IsFormOf, IsInverse, IsLeafAt, IsListOf, IsMultipleAt, IsMultipleOf, IsNoLeaf, IsNumberAt, IsVariableOver, SumsUpTo, factors_in, leaves_line};
 ghost use Rattle.linear_fold.specs.InsideOperates.{zero_line};
 
 use exact_numbers::{Dec, Frac};
@@ -295,10 +293,10 @@ fn number_at(nodes: &[Node], place: usize) -> Option<Dec>
     Some(number)
 }
 
-// A fraction divided by a number that is not 0 and has a fraction, where the quotient fits.
+// One divided by a number that is not 0 and has a fraction.
 #[inline]
-fn divided(number: Frac, divisor: Dec) -> Option<Frac>
-    ensures { IfSome result (λ f. IsDivided (frac_value number) divisor f) }
+fn inverse(divisor: Dec) -> Option<Frac>
+    ensures { IfSome result (λ f. IsInverse divisor f) }
 {
     let Some(divisor) = Frac::of_dec(divisor) else {
         return None;
@@ -306,7 +304,7 @@ fn divided(number: Frac, divisor: Dec) -> Option<Frac>
     if divisor.is_zero() {
         return None;
     }
-    number.mul(divisor.reciprocal())
+    Some(divisor.reciprocal())
 }
 
 // Whether a node is a quotient.
@@ -320,6 +318,42 @@ fn is_quotient(node: Node) -> bool
     }
 }
 
+// The quotient of a variable by a number.
+#[inline]
+fn variable_over(first: Node, second: Node) -> Option<Multiple>
+    ensures { IfSome result (λ m. IsVariableOver first second m) }
+{
+    let Node::Var(variable) = first else {
+        return None;
+    };
+    let Node::Num(divisor) = second else {
+        return None;
+    };
+    let Some(factor) = inverse(divisor) else {
+        return None;
+    };
+    Some(Multiple {
+        variable,
+        factor,
+        size: 3,
+    })
+}
+
+// The same at a place.
+#[inline]
+fn variable_quotient(nodes: &[Node], place: usize) -> Option<Multiple>
+    requires within { place < length nodes.now }
+    requires quotient { drop place nodes.now ≡ Op 3 2 ∷ drop (place + 1) nodes.now }
+    ensures { IfSome result (λ m. IsMultipleAt nodes.now place m) }
+{
+    if nodes.len() - place < 3 {
+        return None;
+    }
+    let first = nodes[place + 1];
+    let second = nodes[place + 2];
+    variable_over(first, second)
+}
+
 // The quotient of a variable, or of a factor times one, by a number.
 #[inline]
 fn quotient_at(nodes: &[Node], place: usize) -> Option<Multiple>
@@ -327,13 +361,19 @@ fn quotient_at(nodes: &[Node], place: usize) -> Option<Multiple>
     requires quotient { drop place nodes.now ≡ Op 3 2 ∷ drop (place + 1) nodes.now }
     ensures { IfSome result (λ m. IsMultipleAt nodes.now place m) }
 {
+    if let Some(multiple) = variable_quotient(nodes, place) {
+        return Some(multiple);
+    }
     let Some(dividend) = plain_multiple(nodes, place + 1) else {
         return None;
     };
     let Some(divisor) = number_at(nodes, place + 1 + dividend.size) else {
         return None;
     };
-    let Some(factor) = divided(dividend.factor, divisor) else {
+    let Some(reciprocal) = inverse(divisor) else {
+        return None;
+    };
+    let Some(factor) = dividend.factor.mul(reciprocal) else {
         return None;
     };
     Some(Multiple {
@@ -429,11 +469,7 @@ fn multiple_sum<L: Ledger>(
     steps: &mut Steps<L>,
 ) -> Result<Option<Form>, AllocError>
     requires { IsListOf nodes.now count }
-    ensures form { IfOk result
-        (λ o. IfSome o
-        (λ form. (known : Point → Known) (tree : Tree) → IsTreeFormed tree
-        → trees_of nodes.now ≡ tree ∷ [] → IsFolded known variables 0 tree (Linear form))) }
-    ensures within { IfOk result (λ o. IfSome o (λ form. IsWithin variables form)) }
+    ensures form { IfOk result (λ o. IfSome o (IsFormOf variables nodes.now)) }
     ensures above { steps.old ≤ steps.new }
     ensures below { steps.new ≤ steps.old + (variables + 1) }
 {
@@ -460,11 +496,7 @@ pub(crate) fn leaf_sum<L: Ledger>(
     variables: u32,
     steps: &mut Steps<L>,
 ) -> Result<Option<Form>, AllocError>
-    ensures form { IfOk result
-        (λ o. IfSome o
-        (λ form. (known : Point → Known) (tree : Tree) → IsTreeFormed tree
-        → trees_of nodes.now ≡ tree ∷ [] → IsFolded known variables 0 tree (Linear form))) }
-    ensures within { IfOk result (λ o. IfSome o (λ form. IsWithin variables form)) }
+    ensures form { IfOk result (λ o. IfSome o (IsFormOf variables nodes.now)) }
     ensures above { steps.old ≤ steps.new }
     ensures below { steps.new ≤ steps.old + (variables + 1) }
 {

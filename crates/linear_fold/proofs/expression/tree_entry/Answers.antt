@@ -1,10 +1,8 @@
-use Rattle.std.proofs.Common.{◌≡◌, [], ◌∷◌, IfSome, ap, length, option_copied, subst}
+use Rattle.std.proofs.Common.{IfSome, ap, length, option_copied, subst}
 use Rattle.fractions.specs.Rational.{zero_ℚ}
-use Rattle.program_meaning.specs.Lines.{Point}
-use Rattle.nl_meaning.specs.Trees.{Known, Tree, tree_size}
-use Rattle.nl_model.specs.Nodes.{IsTreeFormed, trees_of}
-use Rattle.linear_fold.specs.declared.entries.Entry.TheVariants.{Linear}
-use Rattle.linear_fold.specs.InsideFolds.{IsFolded, IsTreeGiven}
+use Rattle.nl_meaning.specs.Trees.{tree_size}
+use Rattle.linear_fold.specs.InsideFolds.{IsTreeGiven}
+use Rattle.linear_fold.specs.InsideLeafSums.{IsFormOf}
 use Rattle.linear_fold.proofs.Expressions.{prefix_size, prefix_within, zero_folded}
 use Rattle.linear_fold.proofs.Folding.{constant_within, some_node}
 use Rattle.linear_fold.proofs.LeafLemmas.{leaf_bound, some_holds, tree_bound}
@@ -22,7 +20,10 @@ returns-in_err-form-in-Some-clause-below g c =
 pub returns-in-Some-2-clause-entry : goal.returns-in-Some-2-clause-entry
 returns-in-Some-2-clause-entry g c known are =
     rw c.in-Some.is
-    (some_holds _ c.in-Some-2.form (λ f. (at : Point → Known) (t : Tree) → IsTreeFormed t → trees_of c.nodes-nodes.result.now ≡ t ∷ [] → IsFolded at c.args.variables 0 t (Linear f)) c.in-Some-2.is c.in_ok-form-in-Some.ensures.form known c.in-Some.expr.now c.nodes-nodes.ensures.tree_formed c.nodes-nodes.ensures.trees)
+    ((some_holds _ c.in-Some-2.form (IsFormOf c.args.variables c.nodes-nodes.result.now) c.in-Some-2.is c.in_ok-form-in-Some.ensures.form).folded known c.in-Some.expr.now c.nodes-nodes.ensures.tree_formed c.nodes-nodes.ensures.trees)
+
+pub returns-in-Some-2-clause-within : goal.returns-in-Some-2-clause-within
+returns-in-Some-2-clause-within g c = (some_holds _ c.in-Some-2.form (IsFormOf c.args.variables c.nodes-nodes.result.now) c.in-Some-2.is c.in_ok-form-in-Some.ensures.form).within
 
 pub returns-in-Some-2-clause-below : goal.returns-in-Some-2-clause-below
 returns-in-Some-2-clause-below g c =

@@ -1,4 +1,4 @@
-use Rattle.std.proofs.Common.{◌≡◌, ◌∙◌, ◌+◌, ◌-◌, ◌*◌, None, ap, arith, length, reverse, subst, sym, take}
+use Rattle.std.proofs.Common.{◌≡◌, ◌∙◌, ◌+◌, ◌*◌, None, ap, arith, length, reverse, subst, sym, take}
 use Rattle.nl_meaning.specs.Trees.{Takes, rule_of}
 use Rattle.linear_fold.specs.declared.operate.Outcome.{Outcome}
 use Rattle.linear_fold.specs.InsideFolds.{first_broken}
