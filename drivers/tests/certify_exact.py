@@ -16,10 +16,10 @@ from bridge_drivers.certify.clp import State
 from bridge_drivers.certify.leaves import Closer
 from bridge_drivers.certify.model import Box, Model
 from bridge_drivers.certify.simplex import Ended, Simplex
-from claim_models import BINARY, built
+from certify_parts import built
 from misleading import Misleading
 from misleading_kinds import models
-from models import MODELS, nl, real, whole
+from models import BINARY, MODELS, nl, real, whole
 
 MOST_STEPS = 3000
 

@@ -13,13 +13,11 @@ from support import NEEDS_CLP, NEEDS_PROGRAM
 from bridge_drivers.certify import bases, short, sparse
 from bridge_drivers.certify.claims import Given, certified
 from bridge_drivers.certify.clp import State
-from bridge_drivers.certify.leaves import Closer, Multipliers
+from bridge_drivers.certify.leaves import Closer, Multipliers, width
 from bridge_drivers.certify.model import Box, Model, over_one
-from bridge_drivers.certify.leaves import width
 from bridge_drivers.certify.sparse import NoSolution, Wide
-import families
-from families import made
-from claim_models import built
+from families import made, uneven
+from certify_parts import built
 from models import nl, real
 
 NEEDS_SCIPY = unittest.skipUnless(sparse.tools(), "no SciPy")
@@ -226,7 +224,7 @@ class Linear(Certified):
         """Exactly, or within a millionth, or the last note has why not."""
         for size in (60, 300, 600):
             for seed in range(3):
-                text = families.uneven(size, random.Random(f"{size} {seed}"))
+                text = uneven(size, random.Random(f"{size} {seed}"))
                 verdict = self.verdict(text)[1]
                 self.assertIn(verdict.claim(), ("optimal", "within", "infeasible"), verdict)
                 if verdict.claim() == "within":

@@ -18,7 +18,6 @@ from bridge_drivers.certify.plans import LEAST_TURN, Plan, Plans
 from bridge_drivers.certify.text import Naming
 from bridge_drivers.certify.parts import Empty, Split, count, leaf, rows_used
 from bridge_drivers.program import Program
-from claim_models import built
 from models import whole
 
 SECTIONS = ("OBJSENSE", "ROWS", "COLUMNS", "RHS", "RANGES", "BOUNDS")
@@ -36,6 +35,24 @@ TEXT = exported("OBJSENSE; MAX; ROWS; N obj; L c0; G c2; COLUMNS; x0 obj 1; x0 c
 LARGE_BOUND = exported("OBJSENSE; MAX; ROWS; N obj; L c0; COLUMNS; x0 obj 1; x0 c0 2; RHS; RHS c0 1999999999999; "
                        "BOUNDS; UP BND x0 1e12")
 STEEP = exported("ROWS; N obj; G c0; COLUMNS; x0 obj 1; x0 c0 3; x1 obj 1e9; x1 c0 3e9; RHS; RHS c0 7")
+
+
+def built(columns, rows=(), sense: str = "min", costs=()) -> Model:
+    """Of the words of `models.nl`, in any order of kinds; costs by column."""
+    at, signs = dict(enumerate(costs)), ["L" if lo is None else "E" if lo == hi else "G" for lo, hi, _ in rows]
+    text = ["NAME nl", *["OBJSENSE", " MAX"] * (sense == "max"), "ROWS", " N obj"]
+    text += [f" {sign} c{i}" for i, sign in enumerate(signs)] + ["COLUMNS"]
+    for j, (kind, _, _) in enumerate(columns):
+        entries = [f" x{j} obj {at.get(j, 0)}"]
+        entries += [f" x{j} c{i} {terms[j]}" for i, (_, _, terms) in enumerate(rows) if j in terms]
+        text += entries if kind == "C" else [" M 'MARKER' 'INTORG'", *entries, " M 'MARKER' 'INTEND'"]
+    text += ["RHS", *(f" RHS c{i} {hi if lo is None else lo}" for i, (lo, hi, _) in enumerate(rows)), "RANGES"]
+    ranges = [(i, F(hi) - F(lo)) for i, (lo, hi, _) in enumerate(rows) if None not in (lo, hi) and lo != hi]
+    text += [*(f" RNG c{i} {float(by)}" for i, by in ranges), "BOUNDS"]
+    for j, (_, lo, hi) in enumerate(columns):
+        text += [f" FR BND x{j}"] if lo is None else [f" LO BND x{j} {lo}"]
+        text += [] if hi is None else [f" UP BND x{j} {hi}"]
+    return Model("\n".join([*text, "ENDATA", ""]).encode(), {}, len(rows))
 
 
 def model() -> Model:

@@ -2,14 +2,17 @@
 
 from __future__ import annotations
 
+import contextlib
 import itertools
 import math
 import os
 import random
 import signal
+import sys
 import time
 from fractions import Fraction as F
 from pathlib import Path
+from types import FrameType
 from typing import Sequence
 from unittest import mock
 
@@ -22,11 +25,10 @@ from bridge_drivers.certify.parts import Better
 from bridge_drivers.certify.plans import Plans
 from bridge_drivers.certify.search import Search
 from bridge_drivers.certify.short import trivial
-from bridge_drivers.certify.watch import Watch
+from bridge_drivers.certify.watch import Over, Watch
 from bridge_drivers.program import Program
 import families
-from claim_models import BINARY, CLAIMED
-from models import MODELS, nl, real, whole
+from models import BINARY, CLAIMED, MODELS, nl, real, whole
 
 SECONDS = 20.0
 KNAP = [F(1), F(1), F(0)]       # the point of `knap`
@@ -69,6 +71,32 @@ class Certified(Case):
         work, plans = self.plans(CLAIMED[name].text, CLAIMED[name].value)
         self.assertFalse(plans.goes(plans.begun("plain"), SECONDS, most), name)
         return work, plans
+
+
+class Torn(Certified):
+    def over_from(self, line: int, name: str) -> tuple[int, bool]:
+        """How many lines a plain search has gone, with Over from this one on; whether what is left has a bound."""
+        work, plans = self.plans(CLAIMED[name].text, CLAIMED[name].value)
+        plan, gone, work.watch.is_armed = plans.begun("plain"), 0, True
+
+        def traced(frame: FrameType, event: str, _: object) -> object:
+            nonlocal gone
+            gone += event == "line"
+            if gone > line:
+                work.watch.over(0, None)
+            return traced if "certify" in frame.f_code.co_filename else None
+        self.addCleanup(sys.settrace, None)
+        sys.settrace(traced)
+        with contextlib.suppress(Over):
+            self.assertTrue(plans.goes(plan, SECONDS))
+        sys.settrace(None)
+        return gone, gone > line and self.bound(work, plans) is not None
+
+    def test_over(self) -> None:
+        """Wherever it comes, what is left has a bound that holds."""
+        for name in ("knap", "tied", "lots", "eqknap"):
+            for line in random.Random(name).sample(range(self.over_from(10 ** 9, name)[0]), 25):
+                self.assertTrue(self.over_from(line, name)[1], f"{name} {line}")
 
 
 class Models(Certified):

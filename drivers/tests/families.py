@@ -17,9 +17,8 @@ import sys
 from pathlib import Path
 from typing import Callable, Dict, Iterable, List, Sequence, Tuple
 
-from models import nl, real, whole
+from models import BINARY, nl, real, whole
 
-BINARY = ("B", 0, 1)
 Row = Tuple[object, object, Dict[int, object]]
 
 

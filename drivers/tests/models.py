@@ -135,6 +135,18 @@ def model_of(code: str, *cells: str) -> Model:
 
 
 MODELS = {name: model_of(*cells) for name, *cells in rows_of("models")}
+BINARY = ("B", 0, 1)
+
+
+class Claimed(NamedTuple):
+    """A model and its optimum; None where it is infeasible."""
+
+    text: bytes
+    value: F | None
+
+
+CLAIMED = {name: Claimed(text_of(cells), None if value == "-" else F(value))
+           for name, value, *cells in rows_of("claims")}
 FAR = {name: text_of(cells) for name, *cells in rows_of("far")}
 
 

@@ -1,25 +1,32 @@
-"""Each small model over stored runs, and through `bridge` with each installed solver."""
+"""Each small model over stored runs, and through `bridge` with each installed solver; calls and claims of tables."""
 
 from __future__ import annotations
 
 import re
 from fractions import Fraction as F
+from typing import Callable
 from unittest import mock
 
-from support import CHECKED, HAS_CLP, LAST_LINE, NEEDS_PROGRAM, Case, Ended, Sol, driven, ended, needs
+from support import CHECKED, FIRST, HAS_CLP, LAST_LINE, NEEDS_PROGRAM, Case, Ended, Sol, driven, ended, needs
 from bridge_drivers import certificates, solvers
 from bridge_drivers.answer import Answer
+from bridge_drivers.certify.claims import Verdict
 from bridge_drivers.codes import Code
 from bridge_drivers.options import Options
 from bridge_drivers.program import Program
+from bridge_drivers.settled import Facts, Settled, settled
 from bridge_drivers.solvers.base import Outcome
-from models import FAR, MODELS, is_solved
+from models import FAR, FOLDER, MODELS, is_solved, rows_of
 import misled
 import stored
 
 LOOSE = ("lp_solve",)           # prints six digits
 CLOSE = F(1, 10 ** 6)
 EACH_MISLED = 1                 # models of a kind
+WHOLE = b"NAME nl\nOBJSENSE\n MAX\nROWS\n N obj\n L c0\nCOLUMNS\n M0 'MARKER' 'INTORG'\n" \
+        b" x0 obj 1\n x0 c0 1\n M1 'MARKER' 'INTEND'\nRHS\n RHS c0 9\nENDATA\n"
+PROGRAMS = {"whole": WHOLE, "small": WHOLE.replace(b"x0 obj 1", b"x0 obj 1e-9"),
+            "linear": WHOLE.replace(b" M0 'MARKER' 'INTORG'\n", b"").replace(b" M1 'MARKER' 'INTEND'\n", b"")}
 
 
 class Judging(Case):
@@ -161,3 +168,41 @@ for DRIVER in solvers.NAMES:
     add("misled", DRIVER, wanted=("clp",))
     for NAME in MODELS:
         add("solves", DRIVER, NAME)
+
+
+class Table(Case):
+    """What is passed on beside each claim that is proved: code, point and words, by `tables/settled.txt`."""
+
+    def settled(self, program: str, code: str, value: str, gap: str, line: str) -> Settled:
+        """The answer's value is `-` where it has none; the claim's is its last word, but of a bound."""
+        outcome = Outcome(Code[code], "told", None if value == "-" else {"x0": float(value)}, is_gap=bool(gap))
+        at = None if line.startswith(("bound", "not")) else F(line.split()[-1])
+        point = None if at is None else [at * 10 ** 9 if program == "small" else at]
+        verdict = Verdict(line, point, None if line.startswith("not") else "kept", "", at)
+        return settled(Answer(Program(PROGRAMS[program]), outcome, Options()), verdict, Facts(gap=float(gap or 0)))
+
+    def test_table(self) -> None:
+        for row in rows_of("settled"):
+            found, (code, value, kind, words, lacks) = self.settled(*row[:5]), row[5:]
+            values, passed = found.answer.values, found.answer.outcome.code
+            told = found.code.name, found.kind, found.text or "", found.lacks
+            self.assertEqual(told, (code, kind, words, lacks), row)
+            self.assertEqual((passed.name, values), (code, None if value == "-" else {"x0": value}), row)
+
+
+class Calls(Case):
+    """The rows of one kind of a table, the first of which is `needs`, are a test. It says what has to be there, and
+    behind that the drivers, where the rows are gone through for others than the first. A failing row is told."""
+
+
+def test_of(table: str, kind: str, wanted: str = "", drivers: str = FIRST) -> Callable[[Case], None]:
+    def test(self: Case) -> None:
+        for driver in drivers.split() or [""]:
+            self.calls(table, kind, driver)
+    return needs(*wanted.split())(test)
+
+
+for path in sorted(FOLDER.glob("*.txt")):
+    for kind, *row in rows_of(path.stem):
+        if row[:1] == ["needs"]:
+            setattr(Calls, f"test_{path.stem}_{kind}", test_of(path.stem, kind, *row[1:]))

@@ -91,8 +91,9 @@ class Crowd:
             self.search.begin(self.above(strand), strand.opened)
             strand.opened = self.search.open
             done = work()
-            self.waiting.pop()
-            self.close(strand.path, done)
+            with self.watch.held():
+                self.waiting.pop()
+                self.close(strand.path, done)
         return self.closed[""].tree
 
     def above(self, strand: Strand) -> list[Step]:
@@ -190,11 +191,13 @@ class Crowd:
 
     def take(self, seconds: float) -> None:
         """What ends within these; what it was made of waits until it is known to be closed."""
-        for future in wait(self.running, seconds, FIRST_COMPLETED).done:
-            strand = self.running.pop(future)
-            if not (future.cancelled() or strand.is_dropped):
-                self.waiting.append(strand)
-                self.added(strand, future)
+        ended = wait(self.running, seconds, FIRST_COMPLETED).done
+        with self.watch.held():
+            for future in ended:
+                strand = self.running.pop(future)
+                if not (future.cancelled() or strand.is_dropped):
+                    self.waiting.append(strand)
+                    self.added(strand, future)
 
     def added(self, strand: Strand, future: Future[Outcome]) -> None:
         """What a portion made of its strand. Where a process ended, its portion is worked again."""
@@ -223,9 +226,10 @@ class Crowd:
         """What is still worked goes back to where it was."""
         if self.running:
             self.pool.stop()
-        self.waiting += [strand for strand in self.running.values() if not strand.is_dropped]
-        while self.running:
-            self.running.popitem()[0].cancel()
+        with self.watch.held():
+            self.waiting += [strand for strand in self.running.values() if not strand.is_dropped]
+            while self.running:
+                self.running.popitem()[0].cancel()
 
     def best_bound(self) -> float:
         """As that of a search, which can go on."""

@@ -137,7 +137,7 @@ class Judging:
         self.bridge.limit = self.watch.for_verdict(1.0 if tree is None else TREE)
         try:
             self.watch.progress.tell("bridge verify")
-            with self.watch.judging():
+            with self.watch.held():
                 reply = self.bridge.call("verify", self.nl, self.path)
         except Late:
             return Verdict(WITHOUT + "time: bridge verify was ended before its verdict", point)

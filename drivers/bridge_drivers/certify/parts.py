@@ -128,7 +128,7 @@ class Parts:
         self.owners: tuple[list[int | None], ...] = tuple([None] * (model.n + model.m) for _ in self.box)
         self.above: list[Step] = []             # of a part: what stands above it
         self.open: list[Opened] = []
-        self.before: list[tuple[Side, int | None]] = []     # of each of them, the end that it moved, and its owner
+        self.before: list[tuple[int, int, Side, int | None]] = []   # of each of them, what it moved: an end, its owner
         self.nodes = 0
 
     def terms(self, column: int) -> Sequence[tuple[int, int]]:
@@ -149,12 +149,14 @@ class Parts:
     def enter(self, step: Step) -> None:
         side, end = 1 - step.part, (step.at + step.part) * self.model.unit
         old = self.box[side][step.column]
-        self.before.append((old, self.owners[side][step.column]))
+        self.before.append((step.column, side, old, self.owners[side][step.column]))
         end = end if old is None else min(old, end) if side else max(old, end)
         self.put(step.column, side, end, len(self.before) - 1)
 
-    def leave(self, step: Step) -> None:
-        self.put(step.column, 1 - step.part, *self.before.pop())
+    def leave(self) -> None:
+        """The last step. Where Over comes in the middle of this or of `enter`, it is left again."""
+        self.put(*self.before[-1])
+        self.before.pop()
 
     @contextlib.contextmanager
     def within(self, step: Step) -> Iterator[None]:
@@ -163,7 +165,7 @@ class Parts:
         try:
             yield
         finally:
-            self.leave(step)
+            self.leave()
 
     def last(self) -> Step | None:
         """The split whose part is worked next."""
@@ -171,8 +173,8 @@ class Parts:
 
     def begin(self, above: Sequence[Step], opened: Iterable[Opened] = ()) -> None:
         """The part below some splits, of which `opened` was worked already."""
-        for step in reversed([*self.above, *(one.step for one in self.open)]):
-            self.leave(step)
+        while self.before:
+            self.leave()
         self.above, self.open = list(above), list(opened)
         for step in [*self.above, *(one.step for one in self.open)]:
             self.enter(step)

@@ -167,7 +167,7 @@ class Search(Parts):
         """All of it; None where a part of a split is to be worked next."""
         while self.open:
             step, other = self.open.pop()
-            self.leave(step)
+            self.leave()
             depth = len(self.before)
             if depth not in done.needs:
                 self.nodes -= 1 + (count(other.tree) if other is not None else 0)
@@ -236,7 +236,7 @@ class Search(Parts):
         least = self.own_bound(self.last())
         while self.open:
             step, other = self.open.pop()
-            self.leave(step)
+            self.leave()
             if other is None:
                 self.clp.restore(step.basis)
                 with self.within(step.turned()):

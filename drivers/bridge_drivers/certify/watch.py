@@ -43,7 +43,7 @@ class Watch:
         self.now = time.process_time if of_processor else time.monotonic
         self.started = self.told = time.monotonic()
         self.began = self.now()
-        self.is_stopped = self.is_armed = self.is_judging = False
+        self.is_stopped = self.is_armed = self.is_held = False
 
     def restart(self) -> None:
         """The seconds count from here, what has ended not."""
@@ -108,9 +108,8 @@ class Watch:
                 self.disarm()
 
     def over(self, number: int, frame: object) -> None:
-        """Not while a process is started or ended, nor while `bridge verify` runs, which has a limit of its own: it
-        comes again."""
-        if self.is_armed and not SIGNALS.is_held and not self.is_judging:
+        """Not while a process is started or ended, nor where it is held off: it comes again."""
+        if self.is_armed and not SIGNALS.is_held and not self.is_held:
             raise Over("time")
 
     def arm(self, seconds: float) -> None:
@@ -122,12 +121,13 @@ class Watch:
         signal.setitimer(signal.ITIMER_REAL, 0)
 
     @contextlib.contextmanager
-    def judging(self) -> Iterator[None]:
-        self.is_judging = True
+    def held(self) -> Iterator[None]:
+        """No Over: `bridge verify`, which has a limit of its own, and what may not be done by half."""
+        self.is_held = True
         try:
             yield
         finally:
-            self.is_judging = False
+            self.is_held = False
 
     def interruptible(self) -> ContextManager[None]:
         """An interrupt ends the search at its next node, and nothing else. (From a terminal it reaches a process of
