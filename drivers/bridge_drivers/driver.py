@@ -9,11 +9,11 @@ import sys
 import tempfile
 from typing import Iterator, Sequence
 
-from . import VERSION, console, interface, kinds, minizinc, sol, solvers
+from . import VERSION, console, interface, minizinc, sol, solvers
 from .bridge import BESIDE, Bridge, find
 from .codes import Code, Failure, Status
 from .files import Places, fill, own_folder
-from .inputs import Input, Inputs
+from .formats.source import Source, Workspace, missing_source, read_model
 from .interrupts import SIGNALS, Interrupted
 from .job import Clock
 from .options import EXAMPLE, MODEL, USAGE, BadOption, Option, Options, Words, words_of
@@ -41,7 +41,7 @@ class Run:
         self.options = Options((*self.solver.options, *self.own_options))
         self.words = Words()
         self.clock = Clock(self.name)
-        self.inputs, self.model = Inputs(), Input("", "", "", False)
+        self.workspace, self.model = Workspace(), Source("", "", "")
         self.missing: Failure | None = None
         self.nl = self.sol = self.kept_in = ""
         self.is_put = self.is_mps = False
@@ -53,7 +53,7 @@ class Run:
     def run(self, asked: Words) -> int:
         self.words = asked
         try:
-            with self.inputs:
+            with self.workspace:
                 return self.done()
         except Interrupted as signal:
             return self.failed(Failure(Code.STOPPED, "interrupted", Status(signal.status())))
@@ -77,12 +77,11 @@ class Run:
         """Where there is none, `missing` says why, once options and an older .sol are seen to."""
         word = self.words.stub or ""
         try:
-            self.model = self.inputs.model(word)
+            self.model = read_model(word, self.workspace)
         except (Failure, OSError) as fault:
             self.missing = fault if isinstance(fault, Failure) else \
                 Failure(Code.FILE, f"{word}: {fault.strerror}", Status.UNREAD)
-            path, is_mps = word.removesuffix(".nl") + ".nl", kinds.end_of(word) == ".mps"
-            self.model = Input(word, path, kinds.stub_of(word), is_mps)
+            self.model = missing_source(word)
         self.nl, self.is_mps = self.model.path, self.model.is_mps
         self.sol = self.model.stub + ".sol"
 
@@ -97,10 +96,10 @@ class Run:
         if (o.prove or o.strict) and not o.check:
             raise BadOption("check=0 proves nothing: it does not go with prove=1 or strict=1")
         if o.format and not self.is_mps and self.missing is None:
-            raise BadOption(f"format={o.format} is for MPS files, and {self.model.shown} is none")
+            raise BadOption(f"format={o.format} is for MPS files, and {self.model.name} is none")
         if self.is_mps and self.writes():       # it is judged as it stands
             raise BadOption("a .sol is the answer to an .nl file: wantsol=2 prints the values of "
-                            f"{self.model.shown}, `nl-bridge import` makes an .nl of it")
+                            f"{self.model.name}, `nl-bridge import` makes an .nl of it")
         if self.is_mps and o.shortest:
             raise BadOption("shortest=1 is for .nl files: an MPS file is read as it stands")
         o.prove = int(bool(o.prove or o.strict))
@@ -137,7 +136,7 @@ class Run:
         if self.missing is not None:
             raise self.missing
         bridge = self.find_bridge()
-        bridge.shown[self.nl] = self.model.shown
+        bridge.shown[self.nl] = self.model.name
         solver_path = "" if self.options.only else self.find_solver()
         with SIGNALS.kept(True):
             with writing(self.options.keep):        # the folder for files in between, this run's alone
@@ -196,7 +195,7 @@ class Run:
             return f"{path} is not written: there are no values"
         data = sol.solution(path, values, self.pairs("duals"))
         with writing(path):
-            Places([self.nl, self.model.shown], bool(self.options.overwrite)).write(path, data)
+            Places([self.nl, self.model.name], bool(self.options.overwrite)).write(path, data)
         return f"{path} is written"
 
     def put(self, data: bytes) -> None:

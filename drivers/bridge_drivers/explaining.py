@@ -12,8 +12,9 @@ import os
 import re
 from typing import Mapping, NamedTuple, Sequence
 
-from . import faults, kinds
+from . import faults
 from .faults import OPCODE, meaning_of
+from .formats import file_kinds
 from .names import Names, comment_of, with_name
 from .nl import expression as expression_of
 from .printable import in_a_line, printable
@@ -73,7 +74,7 @@ def fault_at(path: str) -> str:
 def unreadable(files: Sequence[str], shown: Mapping[str, str]) -> str:
     """Which of the files cannot be read, and why, and what is there that may be meant."""
     for file in filter(fault_at, files):
-        beside = "" if os.path.lexists(file) else kinds.no_model(file).partition("; ")[2]
+        beside = "" if os.path.lexists(file) else file_kinds.explain_missing_model(file).partition("; ")[2]
         return f"{shown.get(file, file)}: input fault ({fault_at(file)})" + (beside and f"; {beside}")
     return "input fault: " + " or ".join(shown.get(f, f) for f in files) + " could not be read"
 
@@ -151,7 +152,7 @@ class Refusal:
         self.shown = [shown.get(file, file) for file in self.files]
         self.parts = parsed(told)
         self.is_model = self.command in NL_FIRST and bool(self.files)
-        self.names = Names(kinds.stub_of("".join(self.shown[:1])),
+        self.names = Names(file_kinds.stub_of("".join(self.shown[:1])),
                            *(counts_of(self.files[0]) if self.is_model else (None, None)))
         self.segment: Segment | None = None
         self.line = in_a_line(self.text())
@@ -172,9 +173,9 @@ class Refusal:
     def at_line(self, t: Told) -> str:
         is_mps = t.file == 1 and self.command in faults.COMMANDS
         if t.file == 1 and (is_mps and t.number == 1 or self.is_model and t.reason == "bad first line"):
-            kind = kinds.kind_of(self.files[0])
-            if kind is not None and not (is_mps and kind is kinds.MPS):
-                return f"{t.reason}: it {kinds.told(self.files[0], kind, self.shown[0])}"
+            kind = file_kinds.kind_of_file(self.files[0])
+            if kind is not None and not (is_mps and kind is file_kinds.MPS):
+                return f"{t.reason}: it {file_kinds.describe(self.files[0], kind, self.shown[0])}"
         if is_mps:
             word = faults.fault(self.files[0], t.number, t.reason)
             return f"{t.reason} {word}" if word else t.reason + meaning(t.reason)

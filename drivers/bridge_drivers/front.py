@@ -11,11 +11,12 @@ import subprocess
 import sys
 from typing import TYPE_CHECKING, Callable, Iterable, Mapping, NamedTuple, Sequence
 
-from . import VERSION, commands, console, explaining, faults, interface, kinds
+from . import VERSION, commands, console, explaining, faults, interface
 from .bridge import BESIDE, PACKAGE, built, find, is_plain, sum_of
 from .codes import Code, Failure, Status
 from .commands import COMMANDS, NAME, VERDICTS, WORDS
-from .inputs import Inputs, is_flow, named
+from .formats.file_kinds import is_mps_file, is_packed_file, start_of_file
+from .formats.source import Workspace, is_stream, name_of_model, read_source
 from .interface import BridgeError, Report
 from .interrupts import with_child
 from .mps_file import imported
@@ -69,7 +70,7 @@ def read(words: Sequence[str]) -> Call:
             if not equal and not left:
                 raise BadWords(f"{name} takes a FILE")
             pages[name[2:]] = value if equal else left.pop()
-        elif word.startswith("-") and not is_flow(word):
+        elif word.startswith("-") and not is_stream(word):
             raise BadWords(f"unknown option {word}", word, ("--html", "--svg", "--help"))
         else:
             plain.append(word)
@@ -119,9 +120,9 @@ def done(call: Call) -> int:
 
 def is_model(rest: Sequence[str]) -> bool:
     """Whether `verify` is about what the proved program does not read itself: an MPS file, or a binary .nl file."""
-    path = named(rest[0]) if len(rest) == 2 else ""
-    return is_flow(path) or os.path.isfile(path) and (
-        kinds.is_mps(path) or kinds.is_packed(path) or kinds.start_of(path)[:1] == b"b")
+    path = name_of_model(rest[0]) if len(rest) == 2 else ""
+    return is_stream(path) or os.path.isfile(path) and (
+        is_mps_file(path) or is_packed_file(path) or start_of_file(path)[:1] == b"b")
 
 
 def helped(call: Call) -> int:
@@ -185,8 +186,8 @@ def explained(call: Call) -> Report:
     `export` where there is a model alone."""
     rest = call.rest
     if len(rest) > 1 and rest[0] in PROVED:
-        with Inputs() as inputs:
-            return interface.called([rest[0], *plain_files(inputs, rest)], rest)
+        with Workspace() as workspace:
+            return interface.called([rest[0], *plain_files(workspace, rest)], rest)
     if len(rest) == 1 or NUMBER.fullmatch(rest[1]):
         return interface.explain(rest[0], objective=int((*rest, "0")[1]))
     return interface.explain(rest[0], rest[1], html=call.pages.get("html", ""),
@@ -214,8 +215,8 @@ def version(call: Call) -> Report:
 def import_into(call: Call) -> Report:
     """An MPS text into a file, with its names beside it."""
     told = Report(NAME, model=call.rest[0])
-    with interface.asked(told, "") as (bridge, inputs):
-        path = plain(inputs, "MPS", call.rest[0])
+    with interface.asked(told, "") as (bridge, workspace):
+        path = plain(workspace, "MPS", call.rest[0])
         bridge.shown[path] = call.rest[0]
         try:
             told.say(imported(bridge, path, call.rest[1], call.overwrite))
@@ -254,27 +255,26 @@ def misfit(names: Sequence[str], words: Sequence[str], takes: str) -> str:
     return ""
 
 
-def plain_files(inputs: Inputs, words: Sequence[str]) -> list[str]:
+def plain_files(workspace: Workspace, words: Sequence[str]) -> list[str]:
     """The words behind a command of the proved program, files as plain ones."""
     forms = [form for c in COMMANDS if c.word == words[0] for form in c.forms(len(words) - 1)]
-    return [plain(inputs, *pair) for pair in zip(forms[0] if forms else (), words[1:])]
+    return [plain(workspace, *pair) for pair in zip(forms[0] if forms else (), words[1:])]
 
 
-def plain(inputs: Inputs, name: str, word: str) -> str:
+def plain(workspace: Workspace, name: str, word: str) -> str:
     """The path of a plain file with the text of a word, which its table calls so."""
     if name in NUMBERS:
         return word
-    found = named(word) if name in MODELS and not os.path.isfile(word) else word
-    path = inputs.plain(found)
-    path = kinds.unpacked(path, inputs.place()) if kinds.is_packed(path) else path
-    return path if is_plain(path) else inputs.linked(path)
+    found = name_of_model(word) if name in MODELS and not os.path.isfile(word) else word
+    path = read_source(found, workspace).path if is_stream(found) or is_packed_file(found) else found
+    return path if is_plain(path) else workspace.link_to(path)
 
 
 def passed_on(place: Sequence[str], words: Sequence[str]) -> int:
     """The proved program over these files, its texts as they are; what else there is to say of a
     fault is added. A signal that ended the program ends this one."""
-    with Inputs() as inputs:
-        status = run(place, [words[0], *plain_files(inputs, words)], words)
+    with Workspace() as workspace:
+        status = run(place, [words[0], *plain_files(workspace, words)], words)
     if status < 0:
         with contextlib.suppress(OSError):              # of SIGKILL
             signal.signal(-status, signal.SIG_DFL)

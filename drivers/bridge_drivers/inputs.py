@@ -1,106 +1,23 @@
-"""What a model may be: a stub, an .nl or MPS file, packed or not, a pipe, or standard input."""
+"""A model with the proved program's calls that are about it: an .nl file, or an MPS file of either form."""
 
 from __future__ import annotations
 
-import os
-import re
-import shutil
-import sys
-import tempfile
 from typing import NamedTuple, Sequence
 
-from . import kinds
 from .bridge import Bridge, Reply
-from .codes import Code, Failure, Status
-from .files import fill
-from .mps_file import judged, mended, reading
+from .codes import Status
+from .formats.source import Source, Workspace, read_model
+from .mps_file import judged, reading
 from .names import Names
 from .nl import header, prepared
 from .program import Program
-
-STANDARD = re.compile(r"-|/dev/stdin|(?:/dev|/proc/self)/fd/\d+")
-NAMELESS = "stdin"              # what a model is called beside which no file can stand
-
-
-class Input(NamedTuple):
-    """A model: what it is called, a file with its text, the path of files beside it without end, and how it was had."""
-
-    shown: str
-    path: str
-    stub: str
-    is_mps: bool
-    notes: Sequence[str] = ()
-
-
-class Inputs:
-    """The files of one call. What is made for them, in the folder `made`, is removed at its end."""
-
-    made, count = "", 0
-
-    def __enter__(self) -> Inputs:
-        return self
-
-    def __exit__(self, *fault: object) -> None:
-        shutil.rmtree(self.made, ignore_errors=True)
-
-    def place(self) -> str:
-        self.made = self.made or tempfile.mkdtemp(prefix="nl-bridge-")
-        self.count += 1
-        return os.path.join(self.made, f"given{self.count}")
-
-    def plain(self, word: str) -> str:
-        """The path of a plain file with what a word names: the word itself where that is one."""
-        if not is_flow(word):
-            return word
-        with open(sys.stdin.fileno() if word == "-" else word, "rb", closefd=word != "-") as data:
-            return fill(self.place(), data)
-
-    def linked(self, path: str) -> str:
-        """A path of UTF-8, which the proved program needs, to one that is not."""
-        target = self.place()
-        os.symlink(os.path.abspath(path), target)
-        return target
-
-    def model(self, word: str) -> Input:
-        """Failure where there is none, or what is packed cannot be unpacked; OSError where it cannot be read."""
-        found = named(word)
-        path = self.plain(found)
-        if not os.path.isfile(path):
-            raise Failure(Code.FILE, kinds.no_model(word), Status.UNREAD)
-        is_mps = kinds.is_mps(path) or kinds.end_of(found) == ".mps"
-        notes = []
-        if kinds.is_packed(path):
-            path = kinds.unpacked(path, self.place())
-            notes.append(f"what is judged is the text that {os.path.basename(found)} unpacks to")
-        if is_mps:
-            with open(path, "rb") as f:
-                text, told = mended(f.read())
-            path = fill(self.place(), text) if told else path
-            notes += told
-        return Input(found, path, stub_of(found), is_mps, notes)
-
-
-def is_flow(word: str) -> bool:
-    """Whether it is read once, from its start to its end."""
-    return STANDARD.fullmatch(word) is not None or os.path.exists(word) and not (
-        os.path.isfile(word) or os.path.isdir(word))
-
-
-def named(word: str) -> str:
-    """The file that a word names: WORD.nl where that is there and it has no end of its own, else the word itself."""
-    is_stub = not kinds.end_of(word) and not is_flow(word) and os.path.isfile(word + ".nl")
-    return word + ".nl" if is_stub else word
-
-
-def stub_of(found: str) -> str:
-    return NAMELESS if STANDARD.fullmatch(found) else kinds.stub_of(found)
 
 
 class Subject(NamedTuple):
     """`path` is the file that the proved program reads, `own` the program of an MPS file, `notes` how it was read."""
 
     bridge: Bridge
-    given: Input
+    given: Source
     path: str
     own: Program | None = None
     notes: Sequence[str] = ()
@@ -123,14 +40,14 @@ class Subject(NamedTuple):
         return self.own
 
 
-def subject(bridge: Bridge, inputs: Inputs, word: str) -> Subject:
-    """With `verify` of this bridge being that of the model. Refused where an MPS file is none, or as `Inputs.model`."""
-    given = inputs.model(word)
-    bridge.shown[given.path] = given.shown
+def subject(bridge: Bridge, workspace: Workspace, word: str) -> Subject:
+    """With `verify` of this bridge being that of the model. Refused where an MPS file is none, or as `read_model`."""
+    given = read_model(word, workspace)
+    bridge.shown[given.path] = given.name
     if not given.is_mps:
-        path, notes = prepared(given.path, inputs.place(), False)
-        bridge.shown[path] = given.shown
+        path, notes = prepared(given.path, workspace.new_path(), False)
+        bridge.shown[path] = given.name
         return Subject(bridge, given, path, None, [*given.notes, *notes])
     read = reading(bridge, given.path)
-    program = judged(bridge, given.path, inputs.place(), read)
+    program = judged(bridge, given.path, workspace.new_path(), read)
     return Subject(bridge, given, given.path, program, [*given.notes, *read.notes, *program.notes])

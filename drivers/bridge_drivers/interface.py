@@ -17,7 +17,8 @@ from typing import TYPE_CHECKING, Any, Iterator, Mapping, Sequence, Union
 from . import VERSION, explaining, verdicts
 from .bridge import BESIDE, Bridge, Refused, find, sum_of
 from .codes import Code, Failure, Status
-from .inputs import Inputs, Subject, subject
+from .formats.source import Source, Workspace, read_source
+from .inputs import Subject, subject
 from .options import BadOption, Options, Words, words_of
 from .values import double_of
 from .verdicts import Said
@@ -29,7 +30,7 @@ Path = Union[str, "os.PathLike[str]"]
 FRONT = "nl-bridge"
 ALL_NUMBERS = 6                 # wantsol: values and duals
 Object = dict[str, Any]
-HIDDEN = ("more", "program", "began")
+HIDDEN = ("more", "program", "began", "sources")
 OPTIONAL = ("values", "duals", "costs", "stats", "explained", "refusal")
 SUMMED = ("program", "model", "certificate")
 
@@ -67,12 +68,17 @@ class Report:
     more: Object = field(default_factory=dict)
     program: Sequence[str] = ()
     began: float = field(default_factory=time.monotonic, repr=False)
+    sources: dict[str, Source] = field(default_factory=dict, repr=False)    # what was read, by its place in `sums`
 
     def end(self) -> Report:
         """Takes what is known at the end of the call: seconds and sums."""
         program = self.program[0] if len(self.program) == 1 else None
         self.seconds = round(time.monotonic() - self.began, 3)
-        self.sums = dict(zip(SUMMED, map(sum_of, (program, self.model, self.certificate))))
+        self.sums = {name: source.sha256() for name, source in self.sources.items()}
+        for name, path in (("program", program), ("model", None), ("certificate", self.certificate)):
+            if name not in self.sums:               # a source is not opened again: it may be a pipe
+                self.sums[name] = sum_of(path)
+        self.sums = {name: self.sums[name] for name in SUMMED}
         return self
 
     def object(self) -> Object:
@@ -118,7 +124,8 @@ def reported(driver: Driver, argv: Sequence[str]) -> int:
 
 
 def fill(told: Report, run: Run) -> None:
-    told.model, told.program = run.model.shown or None, run.bridge_words
+    told.model, told.program = run.model.name or None, run.bridge_words
+    told.sources["model"] = run.model
     if run.fault is not None:
         told.say(f"{run.name}: {run.fault.text}")
         told.code = None if run.fault.code == Code.STOPPED else int(run.fault.code)
@@ -205,12 +212,12 @@ def solved(command: str, kind: type[Run], solver: str, model: Path, options: Map
 
 
 @contextlib.contextmanager
-def asked(told: Report, bridge: str) -> Iterator[tuple[Bridge, Inputs]]:
+def asked(told: Report, bridge: str) -> Iterator[tuple[Bridge, Workspace]]:
     """The proved program, and room for files; a fault of the block becomes the error of this report."""
-    with Inputs() as inputs:
+    with Workspace() as workspace:
         try:
             told.program = place = find(bridge, BESIDE)
-            yield Bridge(place, lambda argv: None), inputs
+            yield Bridge(place, lambda argv: None), workspace
             return
         except Refused as fault:
             told.say(fault.line(), fault.status)
@@ -223,19 +230,28 @@ def asked(told: Report, bridge: str) -> Iterator[tuple[Bridge, Inputs]]:
 
 
 @contextlib.contextmanager
-def about(told: Report, model: Path, bridge: str) -> Iterator[Subject]:
+def about(told: Report, model: Path, bridge: str) -> Iterator[tuple[Subject, Workspace]]:
     told.model = os.fspath(model)
-    with asked(told, bridge) as (program, inputs):
-        found = subject(program, inputs, told.model)
-        told.model = found.given.shown
-        yield found
+    with asked(told, bridge) as (program, workspace):
+        found = subject(program, workspace, told.model)
+        told.model, told.sources["model"] = found.given.name, found.given
+        yield found, workspace
+
+
+def certificate_of(told: Report, found: Subject, workspace: Workspace, certificate: Path) -> Source:
+    """A certificate, packed or a stream as a model may be, which the report knows from now on."""
+    source = read_source(os.fspath(certificate), workspace)
+    told.certificate, told.sources["certificate"] = source.name, source
+    found.bridge.shown[source.path] = source.name
+    return source
 
 
 def verify(model: Path, certificate: Path, *, bridge: str = "") -> Report:
     """The verdict of the proved program: status 0 where the claim holds, else 1 with the reason in `text`."""
     told = Report(FRONT, certificate=os.fspath(certificate))
-    with about(told, model, bridge) as found:
-        line = found.bridge.verdict("verify", found.path, os.fspath(certificate))
+    with about(told, model, bridge) as (found, workspace):
+        source = certificate_of(told, found, workspace, certificate)
+        line = found.bridge.verdict("verify", found.path, source.path)
         told.lines = [*found.notes, line]
         told.take_line(line)
         told.status = Status.DONE if told.claim else Status.FAILED
@@ -249,15 +265,15 @@ def explain(model: Path, certificate: Path | None = None, *, objective: int = 0,
     then, in a ModelRefused, why and what helps (`refusal`)."""
     from .explained.command import Files, explained
     told = Report(FRONT)
-    with about(told, model, bridge) as found:
+    with about(told, model, bridge) as (found, workspace):
         if certificate is None:
             if found.own is None:
                 found.bridge.text("export", found.path, str(objective))
-            told.text = f"{found.given.shown}: is not refused"
+            told.text = f"{found.given.name}: is not refused"
             told.lines = [*found.notes, told.text]
         else:
-            told.certificate = os.fspath(certificate)
-            files = Files(found.given.shown, told.certificate, os.fspath(html), os.fspath(svg), overwrite)
+            source = certificate_of(told, found, workspace, certificate)
+            files = Files(found.given.name, source.name, os.fspath(html), os.fspath(svg), overwrite, source.path)
             explained(found, files, told)
     return told.end()
 
@@ -266,7 +282,7 @@ def figures(model: Path, *, objective: int = 0, bridge: str = "") -> Report:
     """Sizes and kinds of a model, in `lines` and in `stats`."""
     from .stats import Stats
     told = Report(FRONT, text="stats")
-    with about(told, model, bridge) as found:
+    with about(told, model, bridge) as (found, workspace):
         stats = Stats(found, str(objective))
         told.lines, told.stats = stats.lines(), stats.object()
     return told.end()

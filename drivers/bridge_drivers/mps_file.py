@@ -1,10 +1,9 @@
-"""An MPS file: what is mended in it, what the proved program says of it, in free form or in fixed columns, and the .nl
+"""An MPS file: what the proved program says of it, in free form or in fixed columns, and the .nl
 that `nl-bridge import` makes of it, with its names beside it."""
 
 from __future__ import annotations
 
 import itertools
-import re
 from typing import NamedTuple, Sequence
 
 from .bridge import Bridge, Refused, Reply
@@ -18,14 +17,6 @@ READS = {FREE: "mps", FIXED: "fixed"}               # commands by form
 VERIFIES = {FREE: "verify_mps", FIXED: "verify_fixed"}
 PROBE = b"certificate 1\nfeasible 0\npoint 0\n"     # one that any program can be asked about
 NAMES = ((4, 12), (14, 22), (39, 47))               # the fields of names in fixed columns
-BOM = b"\xef\xbb\xbf"
-BOUNDS = re.compile(rb"^BOUNDS\b.*?(?=^\S|\Z)", re.M | re.S)
-OBJECTIVE = re.compile(rb"^OBJNAME\s+(\S+)[ \t\r]*\n", re.M)
-FIRST_FREE = re.compile(rb"^ROWS.*?^\s+N\s+(\S+)", re.M | re.S)
-SENSE = re.compile(rb"^(OBJSENSE\s+)(MAX|MIN)IMISE\b", re.M | re.I)
-ENDLESS = [(re.compile(rb"^(\s+)%s(\s+\S+(?:\s+\S+)??)\s+%sinf(?:inity)?[ \t\r]*$" % pair,
-                       re.M | re.I), rb"\1%s\2" % kind)
-           for pair, kind in (((rb"LO", rb"-"), rb"MI"), ((rb"UP", rb"\+?"), rb"PL"))]
 
 
 class MpsRefused(Refused):
@@ -43,36 +34,6 @@ class Reading(NamedTuple):
     form: str
     text: bytes
     notes: Sequence[str] = ()
-
-
-def mended(text: bytes) -> tuple[bytes, list[str]]:
-    """What other programs write and the proved program does not read is mended in a copy, which is what is judged: a
-    byte order mark, infinite bounds by name, British spellings of a sense, an OBJNAME that says nothing more. The text
-    as it is read, and what there is to say of it."""
-    notes = []
-    if text.startswith(BOM):
-        text = text[len(BOM):]
-        notes.append("its byte order mark is left out")
-    part, count = BOUNDS.search(text), 0
-    if part is not None and b"inf" in part.group().lower():
-        bounds = part.group()
-        for pattern, bare in ENDLESS:           # an upper bound of inf and a lower one of -inf are none
-            bounds, more = pattern.subn(bare, bounds)
-            count += more
-        text = text[:part.start()] + bounds + text[part.end():]
-    if count:
-        what = "a bound of infinity is" if count == 1 else f"{count} bounds of infinity are"
-        notes.append(f"{what} read as none")
-    text, count = SENSE.subn(rb"\1\2", text, 1)
-    if count:
-        notes.append("MAXIMISE and MINIMISE are read as MAX and MIN")
-    named, first = OBJECTIVE.search(text), FIRST_FREE.search(text)
-    if named and first and named.group(1) == first.group(1):
-        text = text[:named.start()] + text[named.end():]
-        notes.append("OBJNAME names the first N row: it is left out")
-    if notes:
-        notes.append("what is judged is the text with these changes")
-    return text, notes
 
 
 def reading(bridge: Bridge, path: str, form: str = "") -> Reading:

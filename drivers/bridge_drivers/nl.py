@@ -13,7 +13,7 @@ import struct
 from typing import Any, Iterable, NamedTuple
 
 from .files import fill
-from .kinds import Damaged
+from .formats.source import Damaged
 from .names import Names, comment_of
 from .texts import tables
 

@@ -14,10 +14,9 @@ from .certificates import Certifier, Kept
 from .certify.claims import WITHOUT, Verdict
 from .codes import Code, Failure, Status
 from .files import Places
-from .inputs import Input
+from .formats.source import Damaged, Source
 from .interrupts import Interrupted
 from .job import ANSWERS, Clock, Job
-from .kinds import Damaged
 from .mps_file import judged, reading
 from .names import Names
 from .nl import header, prepared
@@ -56,7 +55,7 @@ class Solving:
     make_job = Job
 
     def __init__(self, solver: Solver, options: Options, bridge: Bridge, clock: Clock,
-                 model: Input, solver_path: str, folder: str) -> None:
+                 model: Source, solver_path: str, folder: str) -> None:
         self.solver, self.options, self.bridge, self.clock = solver, options, bridge, clock
         self.model, self.nl = model, model.path
         self.solver_path, self.folder = solver_path, folder
@@ -68,8 +67,8 @@ class Solving:
         try:
             path, notes = self.prepared(kept)
         except Damaged as fault:
-            raise Failure(fault.code, fault.text.replace(self.nl, self.model.shown)) from None
-        self.bridge.shown[path] = self.model.shown
+            raise Failure(fault.code, fault.text.replace(self.nl, self.model.name)) from None
+        self.bridge.shown[path] = self.model.name
         if self.options.keep and path != kept and not (os.path.exists(kept) and os.path.samefile(path, kept)):
             shutil.copyfile(path, kept)                # MiniZinc, for one, removes its file
         try:
@@ -98,7 +97,7 @@ class Solving:
             is_told = not any(word.startswith("shortest") for word in self.options.given)
             return prepared(self.nl, target, bool(self.options.shortest), is_told)
         if self.options.objno != 1:
-            raise Failure(Code.REFUSED, f"{self.model.shown}: objno={self.options.objno}: no such "
+            raise Failure(Code.REFUSED, f"{self.model.name}: objno={self.options.objno}: no such "
                           "objective: the first N row of an MPS file is its objective, and its only one")
         return self.nl, []
 
@@ -122,7 +121,7 @@ class Solving:
             return Result(Code.UNSURE if strict else Code.INFEASIBLE,
                           [f"infeasible: {line}", WITHOUT + "bridge refuses the model for this"], is_final=not strict)
         if fault.told.endswith(": no such objective"):
-            line = (f"{self.model.shown}: objno={self.options.objno}: no such objective: the file "
+            line = (f"{self.model.name}: objno={self.options.objno}: no such objective: the file "
                     f"has {header(nl).objectives}, and objno counts from 1")
         raise Failure(Code.REFUSED, line, Status.REFUSED if fault.status == 2 else Status.FAILED)
 

@@ -5,17 +5,17 @@ from __future__ import annotations
 
 import itertools
 import random
-from fractions import Fraction as F
 from unittest import TestCase
 
 from certify_search import Certified
 from support import NEEDS_CLP, NEEDS_PROGRAM, Case
-from bridge_drivers.certify import doubles, lemmas, points, spine
+from bridge_drivers.certify import points, spine
 from bridge_drivers.certify.claims import Given, certified
 from bridge_drivers.certify.clp import State
-from bridge_drivers.certify.leaves import Closer
 from bridge_drivers.certify.model import Box, Model
 from bridge_drivers.certify.simplex import Ended, Simplex
+from bridge_drivers.exact.dual_bound import MultiplierKind, is_optimal_in_doubles
+from bridge_drivers.exact.leaf_proofs import LeafProver, from_fractions
 from certify_parts import built
 from misleading import Misleading
 from misleading_kinds import models
@@ -60,18 +60,18 @@ class Fractions(TestCase):
             claims.add(found.claim)
             with self.subTest(seed=seed, claim=found.claim):
                 if found.claim == "infeasible":
-                    closer = Closer(p, None)
-                    leaf = closer.attempt(closer.of_fractions(found.rows, True), box)
-                    self.assertIsNotNone(leaf)
+                    prover = LeafProver(p, None)
+                    proof = prover.prove(from_fractions(p, found.rows, MultiplierKind.FARKAS), box)
+                    self.assertIsNotNone(proof)
                     continue
                 assert found.point is not None
                 self.assertTrue(p.fits(found.point))
                 if found.claim == "unbounded":
                     self.assertTrue(points.is_ray(p.cone(), found.ray))
                 else:
-                    closer = Closer(p, p.value(found.point))
-                    leaf = closer.attempt(closer.of_fractions(found.rows, False), box)
-                    self.assertIsNotNone(leaf)
+                    prover = LeafProver(p, p.value(found.point))
+                    proof = prover.prove(from_fractions(p, found.rows, MultiplierKind.DUAL), box)
+                    self.assertIsNotNone(proof)
         self.assertEqual(claims, {"optimal", "infeasible", "unbounded"})
 
     def test_any_start_ends_alike(self) -> None:
@@ -114,7 +114,7 @@ class Programs(Case):
             work = self.work(model.text())
             work.load()
             p, clp = work.model, work.model.relaxation()
-            if clp.solve() is not State.OPTIMAL or not doubles.closes(p, clp.values(), dict(enumerate(clp.duals()))):
+            if clp.solve() is not State.OPTIMAL or not is_optimal_in_doubles(p, clp.values(), dict(enumerate(clp.duals()))):
                 continue
             closed += 1
             self.assertFalse(model.best is None or model.is_endless, model.name)
@@ -157,67 +157,6 @@ class Programs(Case):
             self.assertRegex(verdict.line, f"^{line}$")
 
 
-class Doubles(TestCase):
-    def test_optimal_ones_and_others(self) -> None:
-        """The exact optimum in doubles closes, other points and other duals do not."""
-        closed = 0
-        for seed in range(400):
-            rng = random.Random(seed)
-            p = program(rng, rng.randint(2, 8), rng.randint(1, 7))
-            found = ended(p, rng)
-            if found.claim != "optimal" or not any(found.rows.values()):
-                continue
-            x = [float(v) for v in found.point]
-            y = {i: float(v) for i, v in found.rows.items()}
-            closed += doubles.closes(p, x, y)
-            box = Box(p.lo, p.hi)
-            if Closer(p, p.value(found.point) - 1).exactly({}, False, box) is None:
-                is_told = max(map(abs, x)) < 1e9 and not any(0 < abs(c) < 1e-6 for c in p.cost)
-                self.assertFalse(is_told and doubles.closes(p, x, {}), seed)
-            broken = [v + 1e-6 * max(1.0, abs(v)) for v in x]
-            self.assertFalse(doubles.closes(p, broken, y) and doubles.misses(p, broken) is None)
-        self.assertGreater(closed, 40)
-
-
-class Rows(Case):
-    """Proposed rows hold at all points."""
-
-    def test_lemma(self) -> None:
-        """y <= 10 x, y <= 7: y - 7 x <= 0."""
-        p = built([real(0, 7), BINARY], [(None, 0, {0: 1, 1: -10})], "min", (1, 0))
-        bound, = lemmas.variable_bounds(p)[0]
-        self.assertEqual(bound, (10.0, 1, 0, 1.0))
-        counts = lemmas.Counts(p, [7.0, 0.7])
-        divisor = lemmas.screened(counts, {0: 1.0}, lemmas.MULTIPLES)
-        found = lemmas.rounded(counts, {0: 1.0}, divisor)
-        self.assertEqual((found.terms, found.at), ({0: 1, 1: -7}, 0))
-        self.assertEqual((found.form, found.low), ({1: -1}, -1))
-        self.assertIsNotNone(lemmas.proved(p, found))
-
-    def test_lemmas(self) -> None:
-        """Any combination of rows, with decimals, at any x: the lemma holds at all points, and
-        both of its leaves close."""
-        rng, made = random.Random(3), 0
-        for _ in range(300):
-            tops = [rng.randint(1, 3) for _ in range(4)]
-            terms = [{j: f"{rng.randint(-9, 9)}.{rng.choice('05')}" for j in range(4)} for _ in range(3)]
-            sides = [f"{rng.randint(0, 15)}.5" for _ in range(3)]
-            p = built([real(0, tops[0]), *(whole(0, top) for top in tops[1:])], [
-                (None, sides[0], terms[0]), (f"-{sides[1]}", None, terms[1]), (None, sides[2], terms[2])])
-            counts = lemmas.Counts(p, [rng.uniform(0, top) for top in tops])
-            shares = {i: rng.choice((-0.5, 1 / 3, 1.0, 2.0, 0.7)) for i in range(3)}
-            divisor = lemmas.screened(counts, shares, lemmas.IN_TABLEAU)
-            found = divisor and lemmas.rounded(counts, shares, divisor)
-            if not found:
-                continue
-            made += 1
-            self.assertIsNotNone(lemmas.proved(p, found))
-            for point in itertools.product((F(0), F(1, 2), F(1)), *(range(t + 1) for t in tops[1:])):
-                if p.fits(list(map(F, point))):
-                    self.assertLessEqual(sum(a * point[j] for j, a in found.terms.items()), found.at)
-        self.assertGreater(made, 20)
-
-
 class Cliques(Case):
     def test_cliques(self) -> None:
         """Of conflicts in rows of two and in a knapsack, a complement among them."""
@@ -228,7 +167,7 @@ class Cliques(Case):
         self.assertEqual(near[(1, -1)], {(2, -1)})
         q = p.with_rows([({1: 1, 2: 1}, None, 1)])
         found = list(spine.cliques(q, [0.5, 0.5, 0.5]))
-        self.assertEqual([(c.depth, c.terms, c.at) for c in found], [(0.5, {0: 1, 1: 1, 2: 1}, 1)])
+        self.assertEqual([(c.violation, c.coefficients, c.rhs) for c in found], [(0.5, {0: 1, 1: 1, 2: 1}, 1)])
 
 
 del Certified           # its tests are run where it stands

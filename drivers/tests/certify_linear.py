@@ -13,9 +13,9 @@ from support import NEEDS_CLP, NEEDS_PROGRAM
 from bridge_drivers.certify import bases, short, sparse
 from bridge_drivers.certify.claims import Given, certified
 from bridge_drivers.certify.clp import State
-from bridge_drivers.certify.leaves import Closer, Multipliers, width
 from bridge_drivers.certify.model import Box, Model, over_one
 from bridge_drivers.certify.sparse import NoSolution, Wide
+from bridge_drivers.exact.dual_bound import MultiplierKind, Multipliers, bit_width, dual_bound
 from families import made, uneven
 from certify_parts import built
 from models import nl, real
@@ -89,8 +89,8 @@ class Bases(TestCase):
         p = two()
         point, leaf = bases.optimum(p, bases.Basis([0, 1], [0, 1]), [1.3, 0.04])
         self.assertEqual(point, OPTIMUM)
-        self.assertEqual({i: F(y, leaf.den) for i, y in leaf.numbers.items()}, {0: F(12, 13), 1: F(-10, 13)})
-        self.assertEqual(width(point), 5)
+        self.assertEqual({i: F(y, leaf.denominator) for i, y in leaf.numerators.items()}, {0: F(12, 13), 1: F(-10, 13)})
+        self.assertEqual(bit_width(point), 5)
         for columns, rows, x, why in (([0], [0], [1.3, 0.0], "row 1 is broken"),
                                       ([1], [0], [0.0, 2.0], "column 0 could be better"),
                                       ([0, 1], [1], [1.3, 0.0], "not square")):
@@ -121,24 +121,24 @@ class Shorts(TestCase):
         self.assertIsNone(short.trivial(p.with_costs([F(1), F(-1)]).with_bounds([0, 0], [None, None])))
         self.assertEqual(short.shortened(p, F(1, 10 ** 12)), 0)
         self.assertEqual(short.shortened(p, F(10, 3)), F("3.333333333"))
-        found = max(short.roundings(Closer(p, None), {0: 12 / 13, 1: -10 / 13}), key=lambda one: one.bound())
+        found = max(short.roundings(p, {0: 12 / 13, 1: -10 / 13}), key=lambda one: one.bound())
         self.assertLess(0, F(71, 26) - found.bound())
         self.assertLess(F(71, 26) - found.bound(), F(1, 10 ** 9))
 
     def test_met_exactly(self) -> None:
         """Columns without an upper bound, of which rounding leaves a reduced cost below 0."""
         p = two().with_bounds([0, 0], [None, None])
-        closer, leaf = Closer(p, None), Multipliers({0: 93, 1: -76}, 100, False)
-        judged = closer.judge(leaf, Box(p.lo, p.hi))
-        self.assertEqual(judged.sideless, [0])
-        found = short.met_exactly(closer, leaf, judged)
-        self.assertEqual((found.judged.sideless, found.judged.reduced[0]), ([], 0))
+        leaf = Multipliers({0: 93, 1: -76}, 100, MultiplierKind.DUAL)
+        judged = dual_bound(p, leaf, Box(p.lo, p.hi))
+        self.assertEqual(judged.unbounded_columns, [0])
+        found = short.met_exactly(p, leaf, judged)
+        self.assertEqual((found.judged.unbounded_columns, found.judged.reduced_costs[0]), ([], 0))
         self.assertLess(abs(found.bound() - F(71, 26)), F(1, 10))
-        leaf = Multipliers({0: 10}, 10, False)
+        leaf = Multipliers({0: 10}, 10, MultiplierKind.DUAL)
         fixed = p.with_bounds([0, 0], [None, None]).with_costs([F(2), F(1)])
-        judged = Closer(fixed, None).judge(leaf, Box(p.lo, p.hi))
-        self.assertEqual(judged.sideless, [0, 1])
-        self.assertIsNone(short.met_exactly(Closer(fixed, None), leaf, judged))
+        judged = dual_bound(fixed, leaf, Box(p.lo, p.hi))
+        self.assertEqual(judged.unbounded_columns, [0, 1])
+        self.assertIsNone(short.met_exactly(fixed, leaf, judged))
 
     @NEEDS_CLP
     def test_points(self) -> None:

@@ -7,15 +7,15 @@ import math
 import random
 from fractions import Fraction as F
 from types import SimpleNamespace
-from unittest import TestCase, mock
+from unittest import TestCase
 
 from support import Case
 from bridge_drivers import miss
-from bridge_drivers.certify import directions, equations, exact, leaves, points, text
-from bridge_drivers.certify.leaves import Closer, Multipliers, is_narrow
-from bridge_drivers.certify.model import Box, Model, Unfit
+from bridge_drivers.certify import directions, equations, exact, points, text
+from bridge_drivers.certify.model import Model, Unfit
 from bridge_drivers.certify.plans import LEAST_TURN, Plan, Plans
 from bridge_drivers.certify.text import Naming
+from bridge_drivers.exact.dual_bound import MultiplierKind, Multipliers
 from bridge_drivers.certify.parts import Empty, Split, count, leaf, rows_used
 from bridge_drivers.program import Program
 from models import whole
@@ -67,11 +67,6 @@ class Numbers(TestCase):
                               (F(-12, 10), "-1.2"), (3, "3")):
             self.assertEqual(text.written(value), wanted)
             self.assertEqual(F(wanted), value)
-
-    def test_narrow(self) -> None:
-        self.assertTrue(is_narrow(F(2 ** 127 - 1, 2 ** 127 - 2)))
-        self.assertFalse(is_narrow(F(2 ** 127)) or is_narrow(F(1, 2 ** 127)))
-
 
 class Systems(TestCase):
     def test_random(self) -> None:
@@ -151,54 +146,14 @@ class Models(TestCase):
             self.assertEqual(points.broken(p, [1.0, 2.0]) > F(1, 10 ** 12), is_much)
 
 
-class Leaves(TestCase):
-    def setUp(self) -> None:
-        self.model = model()
-        self.box = Box(self.model.lo, self.model.hi)
-
-    def test_closes(self) -> None:
-        """The dual 2/3 of row 0 makes the free column's reduced cost 0."""
-        p = self.model
-        closer = Closer(p, F(-13, 2))
-        found = closer.close({0: -0.66666667, 2: 0.0}, False, self.box)
-        self.assertEqual({i: F(v, found.leaf.den) for i, v in found.leaf.numbers.items()}, {0: F(-2, 3)})
-        bound = closer.judge(found.leaf, self.box)
-        self.assertEqual(F(bound.bound, bound.scale), F(-37, 6))
-        self.assertIsNone(Closer(p, F(-6)).close({0: -0.66666667}, False, self.box))
-        self.assertIsNone(Closer(p, F(-37, 6), True).close({0: -0.66666667}, False, self.box))
-        self.assertIsNotNone(Closer(p, F(-37, 6)).exactly({0: F(-2, 3)}, False, self.box))
-
-    def test_weights(self) -> None:
-        p, lo, hi = self.model, list(self.model.lo), list(self.model.hi)
-        hi[1] = hi[2] = 0
-        closer = Closer(p, None)
-        found = closer.close({2: 0.25}, True, Box(lo, hi))
-        self.assertEqual((found.leaf.numbers, found.leaf.den), ({2: 1}, 1))
-        self.assertIsNone(closer.close({2: 0.25}, True, self.box))
-        self.assertIsNone(closer.close({}, True, self.box))
-
-    def test_shorter(self) -> None:
-        """Duals that miss the cost of a column without an upper bound by less than is rounded."""
-        p = Model(STEEP, {}, 1)
-        y, box = {0: 1 / 3 + 1e-13}, Box(p.lo, p.hi)
-        with mock.patch.multiple(leaves, DIGITS=(), DENOMINATORS={}):
-            found = Closer(p, F(7, 3) - F(1, 10 ** 8)).close(y, False, box)
-            self.assertIsNone(Closer(p, F(7, 3)).close(y, False, box))
-        self.assertLess(F(found.leaf.numbers[0], found.leaf.den), F(1, 3))
-
-    def test_basis_duals(self) -> None:
-        closer = Closer(self.model, F(0))
-        self.assertEqual(closer.basis_duals([0], [0]), {0: F(-2, 3)})
-        self.assertIsNone(closer.basis_duals([0, 1], [0]))
-
-
 class Texts(Case):
     def test_tree(self) -> None:
         """Splits, an empty box, a form that is split twice, and a leaf under the objective."""
         p = model().with_rows([])
         a, b, c = (leaf(given, added) for given, added in (
-            (Multipliers({0: -2, 3: 4}, 3, False), (3,)), (Multipliers({3: -1}, 1, True), (3,)),
-            (Multipliers({}, 1, False), ())))
+            (Multipliers({0: -2, 3: 4}, 3, MultiplierKind.DUAL), (3,)),
+            (Multipliers({3: -1}, 1, MultiplierKind.FARKAS), (3,)),
+            (Multipliers({}, 1, MultiplierKind.DUAL), ())))
         q = p.with_rows([({1: 1, 2: 2}, None, None)])
         tree = [Split(1, 0), Split(6, 4), b, Split(6, 6), b, a, Split(2, -1), Empty(2, 0), c]
         self.assertEqual((count(tree), rows_used(tree)), (11, {3}))

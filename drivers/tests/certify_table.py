@@ -39,9 +39,10 @@ HERE = os.path.dirname(os.path.abspath(__file__))
 sys.path[:0] = [os.path.join(HERE, ".."), HERE]
 
 import families                                         # noqa: E402
-from bridge_drivers import kinds                        # noqa: E402
 from bridge_drivers.bridge import BESIDE, Bridge, Refused, find     # noqa: E402
-from bridge_drivers.inputs import Inputs, subject       # noqa: E402
+from bridge_drivers.formats.file_kinds import stub_of   # noqa: E402
+from bridge_drivers.formats.source import Damaged, Workspace    # noqa: E402
+from bridge_drivers.inputs import subject               # noqa: E402
 
 SOURCES = ("/usr/share/doc/glpk-utils/examples/*.mod", "/usr/share/doc/glpk-utils/examples/*.mps",
            "/usr/share/coin/Data/Sample/*.mps")
@@ -104,10 +105,10 @@ def written_families(target: str, most: int) -> None:
 
 def shape(bridge: list[str], path: str) -> list[str]:
     try:
-        with Inputs() as inputs:
-            p = subject(Bridge(bridge, lambda argv: None), inputs, path).program()
+        with Workspace() as workspace:
+            p = subject(Bridge(bridge, lambda argv: None), workspace, path).program()
             return [str(len(p.columns)), str(len(p.whole)), str(len(p.constraints))]
-    except (Refused, kinds.Damaged):
+    except (Refused, Damaged):
         return ["", "", ""]
 
 
@@ -126,7 +127,7 @@ def ended(words: list[str], limit: float) -> tuple[list[str], float]:
 
 
 def line(bridge: list[str], path: str, seconds: str, folder: str) -> list[str]:
-    name = os.path.basename(kinds.stub_of(path).removesuffix(".nl"))
+    name = os.path.basename(stub_of(path).removesuffix(".nl"))
     certificate = Path(folder, name + ".certificate")
     program = os.path.join(HERE, "..", "bin", "bridge-certify")
     words = [f"timelim={seconds}", "stats=1", f"certificate={certificate}"]

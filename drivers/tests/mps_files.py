@@ -6,16 +6,15 @@ from __future__ import annotations
 import random
 import unittest
 from fractions import Fraction as F
-from pathlib import Path
 from unittest import mock
 
-from support import NEEDS_CLP, NEEDS_MPS, NEEDS_PROGRAM, PROGRAM, Case, bridge, content, driven, needs
+from support import NEEDS_CLP, NEEDS_MPS, NEEDS_PROGRAM, PROGRAM, Case, bridge, driven, needs
 
-from bridge_drivers import kinds, mps_file, mps_reader, solvers, terms
+from bridge_drivers import mps_file, mps_reader, solvers, terms
 from bridge_drivers.bridge import Refused
 from bridge_drivers.certify.model import Model
 from bridge_drivers.miss import miss, misses
-from bridge_drivers.mps_file import BOM, lists_of, mended
+from bridge_drivers.mps_file import lists_of
 from bridge_drivers.mps_reader import Text
 from bridge_drivers.program import program_of
 from models import BOTH, FIXED, MODELS, MPS, rows_of
@@ -57,50 +56,7 @@ class Texts(unittest.TestCase):
         self.assertEqual((p.costs, p.names.row(0)), ({"x0": "2"}, "a\u00a0b"))
 
 
-class Mended(unittest.TestCase):
-    def text(self, *bounds: str, head: str = "NAME p\n") -> bytes:
-        return (head + "ROWS\n N cost\n L c1\nCOLUMNS\n x cost 1 c1 1\n inf cost 2 c1 1\nRHS\n"
-                " RHS c1 4\nBOUNDS\n" + "".join(f" {b}\n" for b in bounds) + "ENDATA\n").encode()
-
-    def test_what_stays(self) -> None:
-        """Also where columns and rows have such names; bounds that no number can have stay for the refusal."""
-        for bounds in (["UP BND x 3", "LO BND inf 1"], ["UP inf 3"], ["UP BND x -inf"], ["LO BND x inf"],
-                       ["FX BND x inf"], ["UP BND x infant"]):
-            self.assertEqual(mended(self.text(*bounds)), (self.text(*bounds), []))
-        for head in ("OBJSENSE\n MAXIMIZE\n", "OBJNAME\n other\n"):
-            self.assertEqual(mended(self.text(head=head)), (self.text(head=head), []))
-
-    def test_what_is_mended(self) -> None:
-        """Each spelling of a bound, with a set's name and without, and in any order with others."""
-        for word in ("inf", "Inf", "INF", "+inf", "infinity", "Infinity", "+Infinity"):
-            for label in (" BND", ""):
-                got, notes = mended(self.text(f"UP{label} x {word}", f"UP{label} inf 3",
-                                              f"LO{label} x -{word.lstrip('+')}"))
-                self.assertEqual(got, self.text(f"PL{label} x", f"UP{label} inf 3", f"MI{label} x"))
-                self.assertEqual(notes[0], "2 bounds of infinity are read as none")
-        self.assertEqual(mended(self.text("UP x inf"))[1][0], "a bound of infinity is read as none")
-        plain = self.text()
-        for given, wanted in ((BOM + plain, plain), (self.text(head="NAME p\nOBJNAME\n cost\n"), plain),
-                              *((self.text(head=f"OBJSENSE\n {word}\n"), self.text(head=f"OBJSENSE\n {short}\n"))
-                                for word, short in (("MAXIMISE", "MAX"), ("Minimise", "Min")))):
-            got, notes = mended(given)
-            self.assertEqual((got, notes[-1]), (wanted, "what is judged is the text with these changes"))
-
-
-class Kinds(Case):
-    def test_what_is_one(self) -> None:
-        for name, data, wanted in rows_of("files", "kind"):
-            path = Path(self.folder, name)
-            path.write_bytes(content(data))
-            self.assertEqual(kinds.is_mps(str(path)), wanted == "MPS", name)
-            path.unlink()
-        self.assertFalse(kinds.is_mps(self.folder))
-
-    def test_stubs(self) -> None:
-        for path, stub in (("a/m.mps", "a/m"), ("m.mps.gz", "m"), ("m.MPS.XZ", "m"),
-                           ("afiro", "afiro"), ("m.gz", "m.gz"), ("a.mps/m", "a.mps/m")):
-            self.assertEqual(kinds.stub_of(path), stub)
-
+class Names(Case):
     def test_names_with_blanks(self) -> None:
         self.put(BLANK.encode(), ".mps")
         line = BLANK[:BLANK.index("MY ONE")].count("\n") + 1

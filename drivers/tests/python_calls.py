@@ -24,7 +24,8 @@ from bridge_drivers.bridge import built
 from bridge_drivers.explained import page, reading
 from bridge_drivers.explained.command import Explaining, Files
 from bridge_drivers.explained.picture import MOST_DEPTH, MOST_SHOWN, Picture
-from bridge_drivers.inputs import Input, Subject
+from bridge_drivers.formats.source import Source
+from bridge_drivers.inputs import Subject
 from bridge_drivers.printable import printable
 
 PAGE = Path(DRIVERS, "PYTHON.md")
@@ -200,7 +201,7 @@ class Explained(Case):
     def object(self, name: str = "knap", words: str = "example knap.certificate") -> Explaining:
         files = self.given(name, words)
         reply = bridge().call("verify", *files[:2])
-        given = Input(files.model, files.model, self.stub, False)
+        given = Source(files.model, files.model, self.stub)
         return Explaining(Subject(bridge(), given, given.path), files, reply.out.decode().strip(), reply.status == 0)
 
     def test_lines(self) -> None:

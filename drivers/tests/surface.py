@@ -3,30 +3,24 @@ expressions, places, names, and what a file is that is no model."""
 
 from __future__ import annotations
 
-import bz2
-import gzip
-import lzma
 import os
 import pty
 import re
 import select
 import shutil
 import signal
-import subprocess
 import sys
 import time
 import unittest
 from pathlib import Path
 
 from support import BIN, TOP, Case, called, ended
-from models import MODELS, rows_of
+from models import rows_of
 
-from bridge_drivers import commands, explaining, faults, front, kinds, solvers
+from bridge_drivers import commands, explaining, faults, front, solvers
 from bridge_drivers.bridge import Refused, Reply
 from bridge_drivers.certify.command import Command
-from bridge_drivers.codes import Failure, Status
 from bridge_drivers.driver import Driver
-from bridge_drivers.inputs import Inputs
 from bridge_drivers.names import Names
 from bridge_drivers.printable import near
 from bridge_drivers.nl import expression
@@ -139,36 +133,6 @@ class Words(unittest.TestCase):
         for call, is_wrong in rows_of("front", "words"):
             self.assertEqual(bool(front.wrong_words(call.split())), is_wrong == "wrong", call)
         self.assertFalse(front.wrong_words(["nl", "\udcff"]))
-
-
-class Models(Case):
-    def test_files(self) -> None:
-        mps = b"NAME\nROWS\n N o\nCOLUMNS\nRHS\nENDATA\n"
-        packers = (("", bytes), (".gz", gzip.compress), (".bz2", bz2.compress), (".xz", lzma.compress))
-        for data, end in ((MODELS["knap"].text, ".nl"), (mps, ".mps")):
-            for packed, pack in packers:
-                self.put(pack(data), end + packed)
-                with Inputs() as inputs:
-                    given = inputs.model(self.stub + end + packed)
-                    self.assertEqual(Path(given.path).read_bytes(), data)
-                self.assertEqual((given.stub, given.is_mps, bool(given.notes)),
-                                 (self.stub, end == ".mps", bool(packed)))
-                self.assertFalse(inputs.made and os.path.exists(inputs.made))
-        with Inputs() as inputs:
-            self.assertEqual(inputs.model(self.stub).path, self.stub + ".nl")
-            self.assertEqual(inputs.made, "")
-            os.rename(self.stub + ".nl", self.stub + ".txt")
-            self.assertEqual(inputs.model(self.stub + ".txt").is_mps, False)
-            for word in (self.stub, self.folder, "/nonexistent"):
-                with self.assertRaises(Failure) as caught:
-                    inputs.model(word)
-                self.assertEqual(caught.exception.status, Status.UNREAD)
-
-    def test_a_pipe_by_its_name(self) -> None:
-        os.mkfifo(self.stub + ".mps")
-        with subprocess.Popen(["sh", "-c", f"printf 'NAME\\n' > {self.stub}.mps"]), Inputs() as inputs:
-            given = inputs.model(self.stub + ".mps")
-            self.assertEqual((Path(given.path).read_bytes(), given.is_mps, given.stub), (b"NAME\n", True, self.stub))
 
 
 class Completion(Case):
@@ -333,27 +297,3 @@ class Refusals(Case):
         for row in faults.MEANING.values():
             self.assertIn(f"  {row.reasons}:", text)
             self.assertTrue(row.text or row.more, row.reasons)
-
-
-class Kinds(Case):
-    """Files that are no .nl, by what is in them and by their names."""
-
-    def test_named_ones(self) -> None:
-        for name, data, told in rows_of("refusals", "file"):
-            path = Path(self.folder, name)
-            path.write_bytes(data.encode("latin-1"))
-            line = kinds.no_model(str(path)).replace(self.folder + os.sep, "")
-            self.assertTrue(line.startswith(f"{name} {told}"), line)
-            path.unlink()
-
-    def test_others(self) -> None:
-        self.assertEqual(kinds.no_model(self.stub), self.stub + ".nl: no such file")
-        self.assertEqual(kinds.no_model(self.folder), self.folder + " is a folder")
-        for end in (".mps", ".mps.gz"):
-            self.assertEqual(kinds.no_model("missing" + end), f"missing{end}: no such file")
-        self.put(b"\x7fELF\x02", ".mps")
-        self.assertFalse(kinds.is_mps(self.stub + ".mps"))
-        self.assertIn("is a program (ELF)", kinds.no_model(self.stub + ".mps"))
-        self.put(b"NAME\nROWS\n", ".mps")
-        self.assertTrue(kinds.no_model(self.stub).startswith(
-            f"{self.stub}.nl: no such file; {self.stub}.mps is an MPS file: "))

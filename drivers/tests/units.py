@@ -17,9 +17,10 @@ from pathlib import Path
 from unittest import mock
 
 from support import BIN, EXAMPLES, HERE, NEEDS_PROGRAM, Case, bridge as program
-from bridge_drivers import bridge, console, kinds, mps_file, nl, progress, sol, solvers, stats, values
+from bridge_drivers import bridge, console, mps_file, nl, progress, sol, solvers, stats, values
 from bridge_drivers.bridge import Bridge, Refused, Reply
 from bridge_drivers.codes import Failure
+from bridge_drivers.formats.source import Damaged
 from bridge_drivers.interrupts import SIGNALS, Interrupted, Signals, with_child
 from bridge_drivers.names import Names
 from bridge_drivers.program import Program
@@ -136,7 +137,7 @@ class Files(Case):
             data = path.read_bytes()
             for bad in (data[:-3], data[:100], data + b"?", b"b"):
                 cut.write_bytes(bad)
-                self.assertRaises(kinds.Damaged, nl.prepared, str(cut), target, False)
+                self.assertRaises(Damaged, nl.prepared, str(cut), target, False)
 
     def test_big_endian(self) -> None:
         """The other byte order, and an S segment."""

@@ -9,10 +9,10 @@ from typing import Iterator, List, Sequence, Tuple
 
 from .clp import Basis, Clp, Linear, State
 from .exact import solved
-from .leaves import Multipliers
 from .model import Model, Point, Side, over_one
 from .points import Placed, place
 from .sparse import NoSolution, Solution, Square, tools
+from ..exact.dual_bound import MultiplierKind, Multipliers
 
 BY_HAND = 300                   # unknowns of a system that is eliminated without SciPy
 WORK = 4_000_000                # digits of all unknowns that are made at most
@@ -51,7 +51,7 @@ def optimum(p: Model, basis: Basis, x: Sequence[float]) -> tuple[Point, Multipli
     check_duals(p, full, den, y, duals.den, placed)
     shared = {v: Fraction(v, den * p.unit) for v in set(full)}
     return [shared[v] for v in full], Multipliers({i: v * p.scale for i, v in y.items()},
-                                                  duals.den * p.cost_scale, False)
+                                                  duals.den * p.cost_scale, MultiplierKind.DUAL)
 
 
 def systems(p: Model, placed: Placed) -> tuple[Solution, Solution]:

@@ -9,18 +9,19 @@ import math
 from fractions import Fraction
 from typing import Callable, Iterable, Iterator, Sequence
 
-from . import doubles, points, short, simplex
+from . import points, short, simplex
 from .bases import Near, Refining, can_be_large, optimum
 from .clp import Clp, NoClp, State
 from .contradictions import Contradicting
 from .judging import NO_POINT, WITHOUT, Bound, Given, Verdict, wide_note
-from .leaves import Closed, Closer, is_narrow
 from .model import Box, Point, Unfit
 from .parts import Better
 from .plans import Plans
 from .sparse import NoSolution, Wide
 from .watch import KEPT, Over, Stopped
 from ..bridge import Refused
+from ..exact.dual_bound import DOUBLES_NOTE, MultiplierKind, fits_certificate, is_optimal_in_doubles
+from ..exact.leaf_proofs import LeafProof, LeafProver, basis_duals
 
 __all__ = ["WITHOUT", "Certifying", "Given", "Verdict", "certified"]
 LARGE = 3000                    # coefficients: bases come first, where SciPy is there
@@ -124,13 +125,13 @@ class Certifying(Contradicting):
         """Narrow points, each with a leaf that meets it."""
         seen: list[Point] = []
         for point in self.linear_points(given, clp):
-            if point is None or point in seen or not all(map(is_narrow, point)):
+            if point is None or point in seen or not all(map(fits_certificate, point)):
                 continue
             seen.append(point)
             self.know_point(point)
-            leaf = self.linear_leaf(clp, given, self.model.value(point))
-            if leaf is not None:
-                yield self.one_leaf(leaf.leaf, "optimal", point)
+            proof = self.linear_leaf(clp, given, self.model.value(point))
+            if proof is not None:
+                yield self.one_leaf(proof.multipliers, "optimal", point)
 
     def linear_points(self, given: Given, clp: Clp | None) -> Iterator[Point | None]:
         """Near the answer, else the vertex of its basis; then the vertex of CLP's, and near that."""
@@ -190,20 +191,22 @@ class Certifying(Contradicting):
         if refused:
             self.note = both(note, f"points of few digits: {refused.partition(': ')[2]}")
 
-    def linear_leaf(self, clp: Clp | None, given: Given, value: Fraction) -> Closed | None:
-        closer, box, closed = Closer(self.model, value), Box(self.model.lo, self.model.hi), None
-        if not any(self.model.costs):
-            return closer.close({}, False, box)
+    def linear_leaf(self, clp: Clp | None, given: Given, value: Fraction) -> LeafProof | None:
+        p, dual = self.model, MultiplierKind.DUAL
+        prover, box = LeafProver(p, value), Box(p.lo, p.hi)
+        proof: LeafProof | None = None
+        if not any(p.costs):
+            return prover.prove_from_doubles({}, dual, box)
         self.watch.progress.tell("exact duals")
         if clp is not None:
-            closed = closer.close(dict(enumerate(clp.duals())), False, box) or \
-                closer.exactly(closer.basis_duals(*clp.basis()), False, box)
-        if closed is None and given.duals is not None:
+            proof = prover.prove_from_doubles(dict(enumerate(clp.duals())), dual, box) or \
+                prover.prove_from_fractions(basis_duals(p, *clp.basis()), dual, box)
+        if proof is None and given.duals is not None:
             y = self.minimised(given.duals)
-            closed = closer.close({i: float(v) for i, v in y.items()}, False, box)
-            if closed is None and all(isinstance(v, Fraction) for v in y.values()):
-                closed = closer.exactly({i: Fraction(v) for i, v in y.items()}, False, box)
-        return closed
+            proof = prover.prove_from_doubles({i: float(v) for i, v in y.items()}, dual, box)
+            if proof is None and all(isinstance(v, Fraction) for v in y.values()):
+                proof = prover.prove_from_fractions({i: Fraction(v) for i, v in y.items()}, dual, box)
+        return proof
 
     def know_leaves(self, found: Iterable[short.ShortDuals]) -> None:
         for duals in found:
@@ -305,10 +308,10 @@ class Certifying(Contradicting):
         if clp is None or state is not State.OPTIMAL or not any(p.costs):
             return
         self.know_leaves(short.short_duals(p, clp, self.clp_seconds()))
-        closer = Closer(p, None)
-        closed = closer.exactly(closer.basis_duals(*clp.basis()), False, Box(p.lo, p.hi))
-        if closed is not None:
-            self.know_leaf(closed.leaf, True)
+        duals = basis_duals(p, *clp.basis())
+        proof = LeafProver(p, None).prove_from_fractions(duals, MultiplierKind.DUAL, Box(p.lo, p.hi))
+        if proof is not None:
+            self.know_leaf(proof.multipliers, True)
 
     def bounds(self) -> Iterator[Verdict]:
         """Of a linear program what is true of it, of another one a bound."""
@@ -331,7 +334,7 @@ class Certifying(Contradicting):
         try:
             with self.watch.alarmed(self.watch.to_end() - KEPT):
                 if self.linear and self.given.duals is not None:
-                    self.know_leaves(short.roundings(Closer(self.model, None), self.own_duals()))
+                    self.know_leaves(short.roundings(self.model, self.own_duals()))
                 elif not self.linear and point is not None and (self.proves or self.bounded):
                     self.know_root()
         except Over:
@@ -347,9 +350,9 @@ class Certifying(Contradicting):
         """With what the answer's own duals say, where the time of a run without `proves` is over."""
         is_told = self.given.values is not None and self.given.duals is not None
         if self.proves or not is_told or not (self.linear or self.relaxed) or verdict.claim() == "optimal" \
-                or not doubles.closes(self.model, self.given.doubles(), self.own_duals()):
+                or not is_optimal_in_doubles(self.model, self.given.doubles(), self.own_duals()):
             return verdict
-        return verdict._replace(by_doubles=True, note=doubles.NOTE)
+        return verdict._replace(by_doubles=True, note=DOUBLES_NOTE)
 
 
 def both(note: str, more: str) -> str:

@@ -70,7 +70,8 @@ class Command(Finding, Driver):
         self.is_quiet = given == "-"
         if self.options.json and self.is_quiet:
             raise Failure(Code.BAD_OPTION, "json=1 and certificate=- both want standard output")
-        self.options.certificate = self.inputs.place() if self.is_quiet else given or self.model.stub + ".certificate"
+        kept = given or self.model.stub + ".certificate"
+        self.options.certificate = self.workspace.new_path() if self.is_quiet else kept
 
     def lines(self, result: Result) -> list[str]:
         """Where it is kept is not told of standard output."""

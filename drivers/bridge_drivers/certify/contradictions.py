@@ -9,10 +9,11 @@ from . import points, simplex, text
 from .clp import NoClp, State
 from .equations import hollow, parity
 from .judging import WITHOUT, Given, Judging, Verdict
-from .leaves import Closer
 from .model import Model, Point
 from .parts import Better
 from .watch import Stopped
+from ..exact.dual_bound import MultiplierKind
+from ..exact.leaf_proofs import from_fractions
 
 
 class Contradicting(Judging):
@@ -72,7 +73,8 @@ class Contradicting(Judging):
             yield Verdict(f"{WITHOUT}{fault}")
             return
         point, is_infeasible = ended.point, ended.claim == "infeasible"
-        leaf = Closer(self.model, None).of_fractions(ended.rows, is_infeasible)
+        kind = MultiplierKind.FARKAS if is_infeasible else MultiplierKind.DUAL
+        leaf = from_fractions(self.model, ended.rows, kind)
         if is_infeasible:
             yield self.one_leaf(leaf, "infeasible", None)
         elif point is not None and self.model.fits(point) and ended.claim == "unbounded":

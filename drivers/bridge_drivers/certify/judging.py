@@ -12,13 +12,13 @@ from typing import Callable, Iterator, Mapping, NamedTuple, Sequence
 from . import points, text
 from .clp import Basis, Clp, State, library
 from .crowd import Crowd
-from .leaves import Closer, Multipliers, is_narrow, width
 from .model import Box, Model, Point, model_of
 from .plans import Plans, Shaped, written
 from .pool import Pool, Problem
 from .short import shortened
 from .text import Naming
 from .watch import Watch
+from ..exact.dual_bound import Multipliers, bit_width, dual_bound, fits_certificate
 from ..bridge import Bridge, Late, Refused
 from ..files import naming
 from ..program import Program
@@ -162,7 +162,7 @@ class Judging:
 
     def know_point(self, point: Point) -> None:
         """An exact point that a certificate can hold; the best stays."""
-        if all(map(is_narrow, point)) and point not in self.points:
+        if all(map(fits_certificate, point)) and point not in self.points:
             self.points = sorted([*self.points, point], key=self.model.value)[:MOST_POINTS]
             self.point = self.points[0]
 
@@ -173,12 +173,12 @@ class Judging:
 
     def know_leaf(self, leaf: Multipliers, is_exact: bool = False) -> None:
         """The bound of one leaf: in few digits, but where they are few anyway, or `is_exact`."""
-        judged = Closer(self.model, None).judge(leaf, Box(self.model.lo, self.model.hi))
-        if judged.sideless or not leaf.is_narrow():
+        bound = dual_bound(self.model, leaf, Box(self.model.lo, self.model.hi))
+        if not bound.is_finite or not leaf.fits_certificate():
             return
-        value = Fraction(judged.bound, judged.scale)
+        value = bound.value
         most = max(len(str(value.numerator)), len(str(value.denominator)))
-        if not is_narrow(value) or most > MOST_DIGITS and not is_exact:
+        if not fits_certificate(value) or most > MOST_DIGITS and not is_exact:
             value = shortened(self.model, value)
         self.know_bound(self.bound_of(leaf, value))
 
@@ -216,9 +216,9 @@ class Judging:
 
     def bound_of(self, leaf: Multipliers, value: Fraction = Fraction(0)) -> Bound:
         """Its duals are those of exported rows."""
-        sign, numbers = self.model.sign, leaf.numbers
+        sign, numbers = self.model.sign, leaf.numerators
         y = dict.fromkeys(range(self.model.m), Fraction(0))
-        y.update((i, Fraction(sign * v, leaf.den * self.factors.get(i, 1))) for i, v in numbers.items())
+        y.update((i, Fraction(sign * v, leaf.denominator * self.factors.get(i, 1))) for i, v in numbers.items())
         return Bound(value, lambda: text.leaf_lines(leaf, Naming({}, 0, sign), {}), None,
                      f"one leaf, {len(numbers)} duals", y)
 
@@ -228,7 +228,7 @@ class Judging:
 
     def at_optimum(self, point: Point, leaf: Multipliers) -> Iterator[Verdict]:
         """Both are exact; where they do not fit, the note says so."""
-        bits = width([*point, *(Fraction(y, leaf.den) for y in leaf.numbers.values())])
+        bits = bit_width([*point, *(Fraction(y, leaf.denominator) for y in leaf.numerators.values())])
         self.note = wide_note(f"{bits} bits")
         if bits <= WIDTH:
             verdict = self.one_leaf(leaf, "optimal", point)

@@ -11,8 +11,8 @@ from fractions import Fraction
 from typing import FrozenSet, Iterable, Iterator, List, Mapping, NamedTuple, Optional, Sequence, Tuple, Union
 
 from .clp import Clp
-from .leaves import Multipliers
 from .model import Box, Model, Point, Side
+from ..exact.dual_bound import MultiplierKind, Multipliers
 
 
 class Leaf(NamedTuple):
@@ -23,8 +23,9 @@ class Leaf(NamedTuple):
     nodes: int = 1
 
     def multipliers(self) -> Multipliers:
-        weights, den, *pairs = map(int, self.packed.split())
-        return Multipliers(dict(zip(pairs[::2], pairs[1::2])), den, bool(weights))
+        is_farkas, denominator, *pairs = map(int, self.packed.split())
+        kind = MultiplierKind.FARKAS if is_farkas else MultiplierKind.DUAL
+        return Multipliers(dict(zip(pairs[::2], pairs[1::2])), denominator, kind)
 
 
 class Empty(NamedTuple):
@@ -56,8 +57,8 @@ Needs = FrozenSet[int]          # depths of splits
 
 
 def leaf(given: Multipliers, added: Iterable[int]) -> Leaf:
-    pairs = "".join(f" {i} {v}" for i, v in given.numbers.items())
-    return Leaf(f"{int(given.weights)} {given.den}{pairs}".encode(), tuple(added))
+    pairs = "".join(f" {i} {v}" for i, v in given.numerators.items())
+    return Leaf(f"{int(given.is_farkas)} {given.denominator}{pairs}".encode(), tuple(added))
 
 
 def count(tree: Tree) -> int:

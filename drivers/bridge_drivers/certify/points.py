@@ -9,8 +9,8 @@ from typing import Iterator, Mapping, NamedTuple, Sequence
 
 from .clp import Basis, State, library
 from .exact import solved
-from .leaves import is_narrow
 from .model import Model, Point, Side
+from ..exact.dual_bound import fits_certificate
 from ..terms import Pairs
 
 NEAR_WHOLE = 1e-3               # how far from whole numbers a point may be
@@ -107,7 +107,7 @@ def whole_point(p: Model, x: Sequence[float | Fraction], seconds: float) -> Poin
         clp.seconds = seconds
         if clp.solve_somehow() is State.OPTIMAL:
             found = vertex(around, clp.basis(), clp.values())
-            if found is None or not all(map(is_narrow, found)):
+            if found is None or not all(map(fits_certificate, found)):
                 found = nearest(p, clp.values()) or found
             if found is not None:
                 return found

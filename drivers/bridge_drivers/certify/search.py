@@ -11,11 +11,12 @@ from fractions import Fraction
 from typing import Any, Callable, Dict, Iterable, Mapping, NamedTuple, Sequence, Tuple
 
 from .clp import Clp, State
-from .leaves import Closed, Closer, Multipliers
 from .model import TIGHT, Box, Model, Point
 from .parts import Better, Done, Empty, Opened, Parts, Step, count, joined, leaf
 from .points import vertex
 from .watch import Paused, Stopped, Watch
+from ..exact.dual_bound import MultiplierKind, Multipliers
+from ..exact.leaf_proofs import LeafProof, LeafProver, basis_duals, phase_one_duals
 
 NEAR, TINY = 1e-6, Fraction(1, 10 ** 9)     # of a whole number: not split first; it is this
 LARGE = 2.0 ** 53               # from here on doubles do not hold each whole number
@@ -148,7 +149,7 @@ class Search(Parts):
 
     def aim_at(self, goal: Goal) -> None:
         """What is closed already closes for a target that is not better, too."""
-        self.aim, self.closer = goal, Closer(self.model, goal.target, goal.strict)
+        self.aim, self.prover = goal, LeafProver(self.model, goal.target, goal.strict)
         self.goal = math.inf if goal.target is None else float(goal.target)
 
     def worked(self) -> Done:
@@ -327,25 +328,33 @@ class Search(Parts):
         return Done([found], frozenset(owner for owner in owners if owner is not None))
 
     def by_duals(self) -> Done | None:
-        closed = self.closer.close(dict(enumerate(self.clp.duals())), False, self.box)
-        return self.leaf(closed or self.closer.exactly(self.closer.basis_duals(*self.clp.basis()), False, self.box))
+        return self.fathomed(self.proved_leaf(self.clp, MultiplierKind.DUAL, basis_duals))
+
+    def proved_leaf(self, clp: Clp, kind: MultiplierKind, exact_duals: Callable[..., Any]) -> LeafProof | None:
+        """By CLP's duals, else by the exact ones of its basis."""
+        proof = self.prover.prove_from_doubles(dict(enumerate(clp.duals())), kind, self.box)
+        if proof is not None:
+            return proof
+        return self.prover.prove_from_fractions(exact_duals(self.model, *clp.basis()), kind, self.box)
 
     def by_contradiction(self) -> Done | None:
         """With weights, from a ray of CLP or from phase one."""
         ray = self.clp.ray()
         for sign in (1, -1):
-            closed = self.closer.close({i: sign * v for i, v in enumerate(ray)}, True, self.box)
-            if closed is not None:
-                return self.leaf(closed)
+            weights = {i: sign * v for i, v in enumerate(ray)}
+            proof = self.prover.prove_from_doubles(weights, MultiplierKind.FARKAS, self.box)
+            if proof is not None:
+                return self.fathomed(proof)
         return self.by_missing()
 
     def by_row(self) -> Done | None:
         p = self.model
         for i in range(p.m) if p.m * p.n <= MOST_LOOKED_AT else ():
             for side, one in ((p.side_lo[i], 1), (p.side_hi[i], -1)):
-                closed = None if side is None else self.closer.attempt(Multipliers({i: one}, 1, True), self.box)
-                if closed is not None:
-                    return self.leaf(closed)
+                weights = Multipliers({i: one}, 1, MultiplierKind.FARKAS)
+                proof = None if side is None else self.prover.prove(weights, self.box)
+                if proof is not None:
+                    return self.fathomed(proof)
         return None
 
     def by_missing(self, least: float = FEASIBLE) -> Done | None:
@@ -359,15 +368,14 @@ class Search(Parts):
         clp.tighten(min(TIGHT, least))
         if clp.solve() is not State.OPTIMAL or clp.objective() < least:
             return None
-        closed = self.closer.close(dict(enumerate(clp.duals())), True, self.box)
-        return self.leaf(closed or self.closer.exactly(self.closer.missing_duals(*clp.basis()), True, self.box))
+        return self.fathomed(self.proved_leaf(clp, MultiplierKind.FARKAS, phase_one_duals))
 
-    def leaf(self, closed: Closed | None) -> Done | None:
-        """What it has over the target is spent on the file's own bounds in place of those of splits, the deepest first;
-        then it loses duals that it closes without."""
-        if closed is None:
+    def fathomed(self, proof: LeafProof | None) -> Done | None:
+        """The part with its leaf. What the bound has over the target is spent on the file's own bounds in place of
+        those of splits, the deepest first; then the leaf loses multipliers that it does not need."""
+        if proof is None:
             return None
-        p, used, slack = self.model, self.ends_used(closed), closed.slack
+        p, used, slack = self.model, self.ends_used(proof), proof.surplus
         needed = {owner for owner, _, _ in used}
         for owner, j, r in sorted(used, reverse=True):
             own = None if j >= p.n else p.lo[j] if r > 0 else p.hi[j]
@@ -377,15 +385,15 @@ class Search(Parts):
                 needed.discard(owner)
         ends = ([end if owner in needed else own for end, owner, own in zip(*part)]
                 for part in zip(self.box, self.owners, (p.lo, p.hi)))
-        closed = self.closer.thinned(closed._replace(slack=slack), Box(*ends))
+        proof = self.prover.sparsified(proof._replace(surplus=slack), Box(*ends))
         self.nodes += 1
-        return Done([leaf(closed.leaf, (i for i in closed.leaf.numbers if i >= p.n_con))],
-                    frozenset(needed.intersection(owner for owner, _, _ in self.ends_used(closed))))
+        return Done([leaf(proof.multipliers, (i for i in proof.multipliers.numerators if i >= p.n_con))],
+                    frozenset(needed.intersection(owner for owner, _, _ in self.ends_used(proof))))
 
-    def ends_used(self, closed: Closed) -> list[tuple[int, int, int]]:
+    def ends_used(self, proof: LeafProof) -> list[tuple[int, int, int]]:
         """The splits that gave the ends which a leaf uses, with the columns, and their reduced costs or multipliers."""
-        (lows, highs), numbers, n = self.owners, closed.leaf.numbers, self.model.n
-        used = [(j, r) for j, r in enumerate(closed.reduced) if r]
+        (lows, highs), numbers, n = self.owners, proof.multipliers.numerators, self.model.n
+        used = [(j, r) for j, r in enumerate(proof.reduced_costs) if r]
         used += [(j, numbers[j - n]) for j in self.forms if j - n in numbers]
         found = [(lows[j] if r > 0 else highs[j], j, r) for j, r in used]
         return [(owner, j, r) for owner, j, r in found if owner is not None]

@@ -14,8 +14,9 @@ from typing import Iterator, Mapping, NamedTuple, Sequence, Tuple
 
 from .clp import Clp, Linear, State
 from .exact import solved
-from .leaves import Closer, Judged, Multipliers, is_narrow
 from .model import Box, Model, Point, over_one
+from ..exact.dual_bound import DualBound, MultiplierKind, Multipliers, dual_bound, fits_certificate, has_needed_bound
+from ..exact.leaf_proofs import repaired_bound, rounded
 from ..printable import counted
 
 PLACES = (9, 8, 7, 6, 5)         # decimals of a point
@@ -32,7 +33,7 @@ MOST_EXTRA = 6                  # decimals that a row's rest needs beyond those 
 MOST_MORE = 12                  # decimals that a column has beyond others
 APART = 20                      # rooms between the ends of what is tightened
 ZERO = Fraction(0)
-NOTHING = Multipliers({}, 1, False)     # the leaf of bounds alone
+NOTHING = Multipliers({}, 1, MultiplierKind.DUAL)     # the leaf of bounds alone
 Pairs = Sequence[Tuple[int, int]]       # columns of a row, with their coefficients
 
 
@@ -47,10 +48,10 @@ class ShortDuals(NamedTuple):
     """Duals, with what is judged of them: their bound over a scale."""
 
     leaf: Multipliers
-    judged: Judged
+    judged: DualBound
 
     def bound(self) -> Fraction:
-        return Fraction(self.judged.bound, self.judged.scale)
+        return self.judged.value
 
 
 class Rounding:
@@ -87,7 +88,7 @@ class Rounding:
                 yield found
 
     def fits(self, found: ShortPoint) -> bool:
-        return all(map(is_narrow, found.point)) and self.p.fits(found.point)
+        return all(map(fits_certificate, found.point)) and self.p.fits(found.point)
 
     def solved(self, places: int) -> ShortPoint | None:
         """The program with room, its point rounded; None where it has none."""
@@ -278,13 +279,13 @@ def solved_again(linear: Linear, kept: bytes, seconds: float, tolerance: float) 
 
 def short_duals(p: Model, clp: Clp, seconds: float) -> list[ShortDuals]:
     """Those of the least room whose bound is near CLP's objective, else all; the best first."""
-    closer, kept = Closer(p, None), clp.keep()
+    kept = clp.keep()
     found: list[ShortDuals] = []
     size = max((abs(float(c)) for c in p.cost), default=0.0)
     top = clp.objective() + float(p.constant)
     for share in SHARES:
         y = with_room(p, share * size, kept, seconds) if share else clp.duals()
-        found += roundings(closer, dict(enumerate(y)))
+        found += roundings(p, dict(enumerate(y)))
         found.sort(key=lambda one: -one.bound())
         if found and top - float(found[0].bound()) <= NEAR * max(1.0, abs(top)):
             break
@@ -299,29 +300,29 @@ def with_room(p: Model, room: float, kept: bytes, seconds: float) -> list[float]
     return clp.duals() if clp is not None else []
 
 
-def roundings(closer: Closer, y: Mapping[int, float]) -> list[ShortDuals]:
-    """Those that close."""
-    p, found = closer.model, []
+def roundings(p: Model, y: Mapping[int, float]) -> list[ShortDuals]:
+    """Those whose bound is finite."""
+    found = []
     box, given = Box(p.lo, p.hi), {i: v for i, v in y.items() if v}
     first = -math.floor(math.log10(max((abs(v) for v in given.values()), default=1.0)))
     for places in DUAL_PLACES:
-        leaf = closer.rounded(given, first + places, False)
-        made, judged = closer.judged(leaf, box)
+        leaf = rounded(p, given, first + places, MultiplierKind.DUAL)
+        made, judged = repaired_bound(p, leaf, box)
         short: ShortDuals | None = ShortDuals(made, judged)
-        if judged.sideless:
-            short = met_exactly(closer, leaf, judged if made is leaf else closer.judge(leaf, box))
+        if not judged.is_finite:
+            short = met_exactly(p, leaf, judged if made is leaf else dual_bound(p, leaf, box))
         if short is not None:
             found.append(short)
     return found
 
 
-def met_exactly(closer: Closer, leaf: Multipliers, judged: Judged) -> ShortDuals | None:
+def met_exactly(p: Model, leaf: Multipliers, judged: DualBound) -> ShortDuals | None:
     """Columns that lack the bound that their reduced cost needs get the reduced cost 0: duals move
     that stand far enough from 0, or are those of equations."""
-    p, columns, base = closer.model, set(judged.sideless), judged.reduced
+    columns, base = set(judged.unbounded_columns), judged.reduced_costs
     box = Box(p.lo, p.hi)
-    far = max((abs(v) for v in leaf.numbers.values()), default=0) * MOVED
-    free = [lo is not None and lo == hi or abs(leaf.numbers.get(i, 0)) > far
+    far = max((abs(v) for v in leaf.numerators.values()), default=0) * MOVED
+    free = [lo is not None and lo == hi or abs(leaf.numerators.get(i, 0)) > far
             for i, (lo, hi) in enumerate(zip(p.side_lo, p.side_hi))]
     for _ in range(ROUNDS):
         system = [({i: a * p.cost_scale for i, a in p.terms.column(j) if free[i]}, base[j]) for j in columns]
@@ -329,23 +330,23 @@ def met_exactly(closer: Closer, leaf: Multipliers, judged: Judged) -> ShortDuals
         if moves is None:
             return None
         over = lcm(1, *{v.denominator for v in moves.values()})
-        numbers = {i: v * over for i, v in leaf.numbers.items()}
+        numbers = {i: v * over for i, v in leaf.numerators.items()}
         for i, v in moves.items():
             numbers[i] = numbers.get(i, 0) + int(v * over)
-        if any(not closer.has_side(i, v) for i, v in numbers.items()):
+        if any(not has_needed_bound(p, i, v) for i, v in numbers.items()):
             return None
-        made = Multipliers({i: v for i, v in numbers.items() if v}, leaf.den * over, False)
-        found = closer.judge(made, box)
-        if not found.sideless:
-            return ShortDuals(made, found) if made.is_narrow() else None
-        columns |= set(found.sideless)
+        made = Multipliers({i: v for i, v in numbers.items() if v}, leaf.denominator * over, MultiplierKind.DUAL)
+        found = dual_bound(p, made, box)
+        if found.is_finite:
+            return ShortDuals(made, found) if made.fits_certificate() else None
+        columns |= set(found.unbounded_columns)
     return None
 
 
 def trivial(p: Model) -> Fraction | None:
     """What the objective is at least within bounds alone, where they say it."""
-    judged = Closer(p, None).judge(NOTHING, Box(p.lo, p.hi))
-    return None if judged.sideless else Fraction(judged.bound, judged.scale)
+    bound = dual_bound(p, NOTHING, Box(p.lo, p.hi))
+    return bound.value if bound.is_finite else None
 
 
 def shortened(p: Model, bound: Fraction) -> Fraction:

@@ -13,12 +13,14 @@ from typing import Dict, Iterator, Mapping, NamedTuple, Sequence, Tuple
 
 from . import text
 from .clp import Clp, State
-from .lemmas import Proof, Rounded, Source, proved
 from .model import Added, Model, Step
 from .parts import Better, Tree, count, rows_used
 from .search import Goal, Search
 from .text import Naming
 from .watch import Stopped, Watch
+from ..exact.dual_bound import MultiplierKind
+from ..exact.mir import MIRCut, MIRProof, prove_mir_cut
+from ..exact.mir_separation import MIRSeparator
 
 ROUNDS = 30
 EACH = 20                       # cuts of one round
@@ -36,14 +38,14 @@ Literal = Tuple[int, int]       # a binary column, and 1, or -1 for its compleme
 Items = Sequence[Tuple[int, Literal]]   # what literals weigh
 
 
-class Proposal(NamedTuple):
-    """The form of `terms` at most `at`, violated by `depth`. `before` are those below which its part beyond closes by a
-    small tree, each below the ones before it."""
+class CliqueCut(NamedTuple):
+    """The form of `coefficients` at most `rhs`. `before` are those below which its part beyond closes by a small tree,
+    each below the ones before it."""
 
-    depth: float
-    terms: Dict[int, int]
-    at: int
-    before: Sequence[Proposal] = ()
+    violation: float
+    coefficients: Dict[int, int]
+    rhs: int
+    before: Sequence[CliqueCut] = ()
 
 
 def knapsacks(m: Model) -> Iterator[tuple[Items, Fraction]]:
@@ -70,7 +72,7 @@ def conflicts(m: Model) -> Dict[Literal, set[Literal]]:
     return found
 
 
-def cliques(m: Model, x: Sequence[float]) -> Iterator[Proposal]:
+def cliques(m: Model, x: Sequence[float]) -> Iterator[CliqueCut]:
     """From each literal the clique that grows by the greatest values, literal by literal, since below the one before
     each closes by one leaf."""
     near, seen = conflicts(m), set[frozenset[Literal]]()
@@ -89,8 +91,8 @@ def cliques(m: Model, x: Sequence[float]) -> Iterator[Proposal]:
             yield clique(taken, value)._replace(before=chain)
 
 
-def clique(literals: Sequence[Literal], value: Mapping[Literal, float]) -> Proposal:
-    return Proposal(sum(value[t] for t in literals) - 1, {j: sign for j, sign in literals},
+def clique(literals: Sequence[Literal], value: Mapping[Literal, float]) -> CliqueCut:
+    return CliqueCut(sum(value[t] for t in literals) - 1, {j: sign for j, sign in literals},
                     1 - sum(sign < 0 for _, sign in literals))
 
 
@@ -99,13 +101,13 @@ class Row(NamedTuple):
 
     terms: Dict[int, int]
     at: int
-    proof: Tree | Proof
+    proof: Tree | MIRProof
 
     def added(self) -> Added:
         return Added(self.terms, None, self.at)
 
     def parts(self) -> Sequence[Tree]:
-        return ([self.proof.low], [self.proof.high]) if isinstance(self.proof, Proof) else (self.proof,)
+        return ([self.proof.low], [self.proof.high]) if isinstance(self.proof, MIRProof) else (self.proof,)
 
 
 class Value:
@@ -160,49 +162,49 @@ class Maker:
             for cut in self.proposed(*relaxed, kinds, used, until):
                 if self.is_over(until):
                     break
-                if key(cut.terms, cut.at) in seen:
+                if key(cut.coefficients, cut.rhs) in seen:
                     continue
-                seen.add(key(cut.terms, cut.at))
-                if not any(is_parallel(cut.terms, other) for other in used) \
+                seen.add(key(cut.coefficients, cut.rhs))
+                if not any(is_parallel(cut.coefficients, other) for other in used) \
                         and self.is_proved(cut, rows, relaxed[0]):
-                    used.append(cut.terms)
+                    used.append(cut.coefficients)
             if len(rows) == size or self.is_over(until):
                 break
         return rows
 
     def proposed(self, m: Model, clp: Clp, kinds: Sequence[str], used: Sequence[object],
-                 until: float) -> Iterator[Proposal | Rounded]:
+                 until: float) -> Iterator[CliqueCut | MIRCut]:
         """Cliques and lemmas, of each the deepest first, as long as fewer than there may be in one round are used."""
         x = clp.values()
-        found = [cut for cut in cliques(m, x) if cut.depth > LEAST_DEPTH] if "clique" in kinds else []
-        for cut in sorted(found, key=lambda cut: -cut.depth / math.hypot(*cut.terms.values())):
+        found = [cut for cut in cliques(m, x) if cut.violation > LEAST_DEPTH] if "clique" in kinds else []
+        for clique_cut in sorted(found, key=lambda cut: -cut.violation / math.hypot(*cut.coefficients.values())):
             if len(used) >= EACH:
                 break
-            yield cut
+            yield clique_cut
         most = len(used) + EACH_LEMMA
-        source = Source(m, clp, x)
-        for lemma in source.proposals(lambda: self.is_over(until)) if "row" in kinds else ():
+        separator = MIRSeparator(m, clp, x)
+        for cut in separator.cuts(lambda: self.is_over(until)) if "row" in kinds else ():
             if len(used) >= most:
                 break
-            yield lemma
+            yield cut
 
-    def is_proved(self, cut: Proposal | Rounded, rows: list[Row], model: Model) -> bool:
+    def is_proved(self, cut: CliqueCut | MIRCut, rows: list[Row], model: Model) -> bool:
         """With what comes before it; as far as that goes, it is among the rows."""
-        if isinstance(cut, Rounded):
-            proof = proved(model, cut)
-            rows += [] if proof is None else [Row(cut.terms, cut.at, proof)]
+        if isinstance(cut, MIRCut):
+            proof = prove_mir_cut(model, cut)
+            rows += [] if proof is None else [Row(cut.coefficients, cut.rhs, proof)]
             return proof is not None
         for one in (*cut.before, cut):
-            if one is cut or all(row.terms != one.terms or row.at != one.at for row in rows):
+            if one is cut or all(row.terms != one.coefficients or row.at != one.rhs for row in rows):
                 tree = self.beyond(one, rows)
                 if tree is None:
                     return False
-                rows.append(Row(one.terms, one.at, tree))
+                rows.append(Row(one.coefficients, one.rhs, tree))
         return True
 
-    def beyond(self, cut: Proposal, rows: Sequence[Row]) -> Tree | None:
+    def beyond(self, cut: CliqueCut, rows: Sequence[Row]) -> Tree | None:
         """The tree of the part beyond a cut, under the plane on the objective."""
-        added = [*self.value.added, *(row.added() for row in rows), Added(cut.terms, cut.at + 1)]
+        added = [*self.value.added, *(row.added() for row in rows), Added(cut.coefficients, cut.rhs + 1)]
         search = Search(self.model.with_rows(added), Goal(None), self.watch, strong=4)
         search.until, search.most = self.watch.spent() + BEYOND_SECONDS, BEYOND_NODES
         try:
@@ -236,7 +238,7 @@ class Spined:
         self.end = start + len(kept)
 
     def nodes(self) -> int:
-        proofs = sum(1 + (3 if isinstance(row.proof, Proof) else count(row.proof)) for row in self.kept.values())
+        proofs = sum(1 + (3 if isinstance(row.proof, MIRProof) else count(row.proof)) for row in self.kept.values())
         return count(self.tree) + 2 * len(self.value.added) + proofs
 
     def lines(self) -> Iterator[str]:
@@ -246,7 +248,7 @@ class Spined:
             yield from text.plane_lines(step.form, self.value.at)
         beyond: list[tuple[int, Tree]] = []
         for at, (terms, side, proof) in self.kept.items():
-            if isinstance(proof, Proof):
+            if isinstance(proof, MIRProof):
                 yield from text.lemma_lines(terms, side, proof, {**self.place, proof.row: at})
             else:
                 yield from text.plane_lines(terms, side)
@@ -256,7 +258,7 @@ class Spined:
         for first, tree in reversed(beyond):
             yield from self.tree_lines(tree, first)
         if step is not None:
-            yield from text.duals_lines({row: sign * step.size}, False)
+            yield from text.multiplier_lines({row: sign * step.size}, MultiplierKind.DUAL)
 
     def tree_lines(self, tree: Tree, first: int, plane: tuple[int, Fraction] | None = None) -> Iterator[str]:
         return text.tree_lines(self.searched, tree, Naming(self.place, first, self.model.sign, plane))

@@ -6,10 +6,10 @@ from fractions import Fraction
 from typing import Dict, Iterator, Mapping, NamedTuple, Optional, Sequence, Tuple
 
 from .equations import Parity
-from .leaves import Multipliers
-from .lemmas import Proof
 from .model import Model, Point
 from .parts import Empty, Leaf, Split, Tree
+from ..exact.dual_bound import MultiplierKind, Multipliers
+from ..exact.mir import MIRProof
 from ..values import exact_decimal
 
 FIRST = "certificate 1"
@@ -53,19 +53,20 @@ def plane_lines(form: Mapping[int, int], at: int, word: str = "plane") -> Iterat
     return pairs(word, form, f" {written(at)}")
 
 
-def duals_lines(values: Mapping[int, Fraction], weights: bool) -> Iterator[str]:
-    return pairs("weights" if weights else "duals", values)
+def multiplier_lines(values: Mapping[int, Fraction], kind: MultiplierKind) -> Iterator[str]:
+    return pairs(kind.value, values)
 
 
 def leaf_lines(leaf: Multipliers, naming: Naming, names: Names) -> Iterator[str]:
     """`names` are those of forms in this part."""
-    numbers, den, weights = leaf
-    sign = 1 if weights or naming.plane is not None else naming.sign
-    values = {names[i][0 if y > 0 else 1] if i in names else naming.place.get(i, i): Fraction(sign * y, den)
-              for i, y in numbers.items()}
-    if naming.plane is not None and not weights:
-        values[naming.plane[0]], weights = -naming.plane[1], True
-    yield from duals_lines(values, weights)
+    kind = leaf.kind
+    sign = 1 if leaf.is_farkas or naming.plane is not None else naming.sign
+    values = {names[i][0 if y > 0 else 1] if i in names else naming.place.get(i, i):
+              Fraction(sign * y, leaf.denominator) for i, y in leaf.numerators.items()}
+    if naming.plane is not None and not leaf.is_farkas:
+        values[naming.plane[0]] = -naming.plane[1]
+        kind = MultiplierKind.FARKAS
+    yield from multiplier_lines(values, kind)
 
 
 def tree_lines(model: Model, tree: Tree, naming: Naming) -> Iterator[str]:
@@ -86,10 +87,10 @@ def tree_lines(model: Model, tree: Tree, naming: Naming) -> Iterator[str]:
             parts += [({**names, form: (row, most)}, row + 1), ({**names, form: (least, row)}, row + 1)]
 
 
-def lemma_lines(terms: Mapping[int, int], at: int, proof: Proof, place: Mapping[int, int]) -> Iterator[str]:
+def lemma_lines(terms: Mapping[int, int], at: int, proof: MIRProof, place: Mapping[int, int]) -> Iterator[str]:
     """The lemma and its proof, whose plane takes the number that the lemma gets below."""
     yield from plane_lines(terms, at, "lemma")
-    yield from plane_lines(proof.form, proof.at)
+    yield from plane_lines(*proof.split)
     for leaf in (proof.low, proof.high):
         yield from leaf_lines(leaf.multipliers(), Naming(place, 0, -1), {})
 
@@ -120,4 +121,4 @@ def parity_lines(odd: Parity, row: int) -> Iterator[str]:
     yield from plane_lines(odd.form, odd.at)
     for sign, multipliers in ((1, odd.low), (-1, odd.high)):
         weights = {i: sign * u for i, u in multipliers.items()}
-        yield from duals_lines({**weights, row: Fraction(-sign)}, True)
+        yield from multiplier_lines({**weights, row: Fraction(-sign)}, MultiplierKind.FARKAS)

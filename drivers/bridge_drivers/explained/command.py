@@ -27,6 +27,10 @@ class Files(NamedTuple):
     html: str = ""
     svg: str = ""
     overwrite: bool = False
+    copy: str = ""           # of the certificate, where it is read from one
+
+    def judged(self) -> str:
+        return self.copy or self.certificate
 
 
 class Explaining:
@@ -34,8 +38,8 @@ class Explaining:
 
     def __init__(self, model: Subject, files: Files, verdict: str, holds: bool) -> None:
         self.files, self.verdict, self.holds = files, verdict, holds
-        self.shown, self.path = model.given.shown, model.path
-        self.certificate: Certificate = read(files.certificate)
+        self.shown, self.path = model.given.name, model.path
+        self.certificate: Certificate = read(files.judged())
         self.note = ""
         self.drawn: Picture | None = None
         self.bounds = self.exact(model)
@@ -97,12 +101,12 @@ class Explaining:
 def explained(model: Subject, files: Files, report: Report) -> None:
     """What a certificate says, into the report, and the pages that are asked for. The status is
     that of `verify`, or 5 where a page could not be written. Refused where it is none."""
-    verdict = model.bridge.verdict("verify", model.path, files.certificate)
+    verdict = model.bridge.verdict("verify", model.path, files.judged())
     told = Explaining(model, files, verdict, verdicts.read(verdict) is not None)
     report.take_line(verdict)
     report.status = Status.DONE if told.holds else Status.FAILED
     lines = [*map(in_a_line, told.lines()), *model.notes]
-    places = Places([model.given.path, model.given.shown, files.certificate], files.overwrite)
+    places = Places([model.given.path, model.given.name, files.certificate], files.overwrite)
     for path, text in ((files.html, told.page), (files.svg, told.picture)):
         if path:
             try:

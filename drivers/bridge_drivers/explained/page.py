@@ -50,7 +50,7 @@ def text_of(told: Explaining) -> str:
     mark, word = ("yes", "holds of") if told.holds else ("no", "does not hold of")
     lines = [line.partition(" ") for line in told.wording.lines()]
     facts = [(head, text.strip()) for head, _, text in lines if head != "uses"]
-    files = {"model's sum": told.path, "certificate's sum": told.files.certificate}
+    files = {"model's sum": told.path, "certificate's sum": told.files.judged()}
     facts += [(head, f"SHA-256 {sum_of(path)}") for head, path in files.items()]
     point = [(told.wording.column(j), both(value)) for j, value in (told.certificate.point or {}).items()]
     drawn = told.tree()

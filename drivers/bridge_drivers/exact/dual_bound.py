@@ -1,0 +1,279 @@
+"""The bound that row multipliers give: exactly, and in doubles rounded to the safe side.
+
+For the program
+
+    minimise  c x + c0   subject to   L <= A x <= U,   l <= x <= u
+
+multipliers `y` of the rows leave the reduced costs `d = c - y A`. By weak duality no feasible point
+has less than
+
+    c0 + sum of (y_i L_i if y_i > 0 else y_i U_i) + sum of (d_j l_j if d_j > 0 else d_j u_j).
+
+That is the rule by which `bridge verify` judges a leaf. With the costs 0 a bound above 0 says that
+there is no feasible point (Farkas' lemma).
+"""
+
+from __future__ import annotations
+
+import enum
+import math
+from fractions import Fraction
+from typing import Dict, Iterable, List, Mapping, NamedTuple, Optional, Sequence
+
+from ..certify.model import Box, Model, Side
+from ..miss import OWN as ROUNDING_OF_A_ROW
+from ..values import MOST_DIGITS as LARGEST_INTEGER
+
+UNIT_ROUNDOFF = 2.0**-53
+ZERO_REDUCED_COST = 1e-12  # as a share of the terms of a reduced cost: as much may be rounding
+ASSUMED_BOUND = 1e4  # times the value, or 1: where a column without a bound is taken to end
+RELATIVE_GAP = 1e-6  # of the objective, of 1, or of the sum of the sizes of its terms
+DOUBLES_NOTE = (
+    "by doubles: the duals, rounded to the safe side, bound the objective to 1e-6 at a point that "
+    "misses nothing"
+)
+
+
+class MultiplierKind(enum.Enum):
+    """What multipliers of rows prove. The value is the word of a certificate's leaf."""
+
+    DUAL = "duals"  # a bound of the objective
+    FARKAS = "weights"  # that there is no point: the objective counts as 0
+
+
+class Multipliers(NamedTuple):
+    """Multipliers of rows, exact, over one denominator.
+
+    Attributes:
+        numerators: By row, those that are not 0.
+        denominator: Above 0.
+        kind: What they prove.
+    """
+
+    numerators: Dict[int, int]
+    denominator: int
+    kind: MultiplierKind
+
+    @property
+    def is_farkas(self) -> bool:
+        return self.kind is MultiplierKind.FARKAS
+
+    def fits_certificate(self) -> bool:
+        """Whether the judge can hold each of them."""
+        return all(
+            fits_certificate(Fraction(numerator, self.denominator))
+            for numerator in self.numerators.values()
+        )
+
+    def reduced(self) -> Multipliers:
+        """The same over the least denominator."""
+        common = math.gcd(self.denominator, *self.numerators.values())
+        if common == 1:
+            return self
+        numerators = {row: v // common for row, v in self.numerators.items()}
+        return Multipliers(numerators, self.denominator // common, self.kind)
+
+
+class DualBound(NamedTuple):
+    """What multipliers show of one box.
+
+    Attributes:
+        numerator: Of the bound, over `denominator`. It means nothing unless `is_finite`.
+        denominator: Above 0.
+        reduced_costs: By column, over `denominator` of the bound and under the program's unit.
+        unbounded_columns: Columns without the bound that the sign of their reduced cost needs.
+    """
+
+    numerator: int
+    denominator: int
+    reduced_costs: List[int]
+    unbounded_columns: List[int]
+
+    @property
+    def is_finite(self) -> bool:
+        return not self.unbounded_columns
+
+    @property
+    def value(self) -> Fraction:
+        return Fraction(self.numerator, self.denominator)
+
+
+def fits_certificate(value: Fraction) -> bool:
+    """Whether numerator and denominator fit the 128 bits that the judge has for each."""
+    return abs(value.numerator) <= LARGEST_INTEGER and value.denominator <= LARGEST_INTEGER
+
+
+def bit_width(values: Iterable[Fraction]) -> int:
+    """Bits of the widest numerator or denominator; 0 of none. Equal objects are looked at once."""
+    distinct = {id(value): value for value in values}.values()
+    return max((max(abs(v.numerator), v.denominator).bit_length() for v in distinct), default=0)
+
+
+def needed_row_bound(program: Model, row: int, multiplier: float | Fraction) -> Side:
+    """The bound of a row that a multiplier of this sign rests on, over the program's unit."""
+    return program.side_lo[row] if multiplier > 0 else program.side_hi[row]
+
+
+def has_needed_bound(program: Model, row: int, multiplier: float | Fraction) -> bool:
+    """Whether a row can have a multiplier of this sign; any row can have 0."""
+    return multiplier == 0 or needed_row_bound(program, row, multiplier) is not None
+
+
+def needed_column_bound(box: Box, column: int, reduced_cost: float) -> Side:
+    """The bound of a column that a reduced cost of this sign rests on, over the program's unit."""
+    return box.lo[column] if reduced_cost > 0 else box.hi[column]
+
+
+def reduced_cost_term(box: Box, column: int, reduced_cost: int) -> Optional[int]:
+    """What a reduced cost adds to a bound; None where the column lacks the bound for it."""
+    if not reduced_cost:
+        return 0
+    end = needed_column_bound(box, column, reduced_cost)
+    return None if end is None else reduced_cost * end
+
+
+def dual_bound(program: Model, multipliers: Multipliers, box: Box) -> DualBound:
+    """The exact bound of the rule above, in whole numbers.
+
+    Args:
+        program: Its row bounds must be there where multipliers rest on them.
+        multipliers: Of its rows.
+        box: Bounds of the columns, over the program's unit, in place of the program's own.
+
+    Returns:
+        The bound, over cost_scale * scale * unit of the program times the multipliers' denominator.
+    """
+    common = multipliers.denominator * program.scale
+    if multipliers.is_farkas:
+        cost_scale, bound, costs = 1, 0, [0] * program.n
+    else:
+        cost_scale = program.cost_scale
+        bound = program.start * common * program.unit
+        costs = [cost * common for cost in program.costs]
+    for row, numerator in multipliers.numerators.items():
+        row_bound = needed_row_bound(program, row, numerator)
+        assert row_bound is not None, f"row {row} lacks the bound that its multiplier needs"
+        bound += numerator * row_bound * cost_scale * program.scale
+    reduced_costs = program.terms.without(costs, multipliers.numerators, cost_scale)
+    unbounded = []
+    for column, reduced_cost in enumerate(reduced_costs):
+        if reduced_cost:  # most are 0; no call for each, since this is the inner loop of a search
+            end = box.lo[column] if reduced_cost > 0 else box.hi[column]
+            if end is None:
+                unbounded.append(column)
+            else:
+                bound += reduced_cost * end
+    return DualBound(bound, cost_scale * common * program.unit, reduced_costs, unbounded)
+
+
+def is_optimal_in_doubles(program: Model, x: Sequence[float], duals: Mapping[int, float]) -> bool:
+    """Whether duals bound the objective at a point that misses nothing but rounding.
+
+    That is no proof: a column without the bound that its reduced cost needs is taken to end far
+    beyond its value where that cost is next to nothing. A message that rests on it says so
+    (`DOUBLES_NOTE`).
+
+    Args:
+        x: Values of the columns.
+        duals: By row, of the program as it is minimised here.
+    """
+    point = [
+        _at_bound(value, program.double(lower), program.double(upper))
+        for value, lower, upper in zip(x, program.lo, program.hi)
+    ]
+    residuals = row_residuals(program, point)
+    if residuals is None:
+        return False
+    terms = [float(cost) * value for cost, value in zip(program.cost, point) if cost]
+    constant = float(program.constant)
+    size = sum([abs(term) for term in terms]) + abs(constant)
+    objective = sum(terms) + constant
+    worth_of_residuals = sum(abs(dual) * residuals[row] for row, dual in duals.items())
+    rounding = (len(terms) + 2) * UNIT_ROUNDOFF * size
+    gap = objective - lower_bound_in_doubles(program, point, duals) + worth_of_residuals + rounding
+    return gap <= RELATIVE_GAP * max(1.0, abs(objective), size)
+
+
+def row_residuals(program: Model, x: Sequence[float]) -> Optional[List[float]]:
+    """By how much rows are missed at a point, and what doubles leave out of that.
+
+    Returns:
+        By row, at least 0; None where a column's bound is missed, or a row by more than rounding.
+    """
+    for value, lower, upper in zip(x, program.lo, program.hi):
+        if violation(value, program.double(lower), program.double(upper)):
+            return None
+    found = []
+    for row, lower, upper in zip(program.rows, program.side_lo, program.side_hi):
+        terms = [coefficient / program.scale * x[column] for column, coefficient in row]
+        low, high = program.double(lower), program.double(upper)
+        sizes = [abs(v) for v in (*terms, low or 0.0, high or 0.0)]
+        missed = abs(violation(sum(terms), low, high))
+        if missed > ROUNDING_OF_A_ROW * max(sizes):
+            return None
+        found.append(missed + (len(terms) + 3) * UNIT_ROUNDOFF * sum(sizes))
+    return found
+
+
+def violation(value: float, lower: Optional[float], upper: Optional[float]) -> float:
+    """How far a value is beyond its bounds: below 0 where it is below, 0 within."""
+    if lower is not None and value < lower:
+        return value - lower
+    if upper is not None and value > upper:
+        return value - upper
+    return 0.0
+
+
+def lower_bound_in_doubles(program: Model, x: Sequence[float], duals: Mapping[int, float]) -> float:
+    """The rule above in doubles, less all that their rounding may have added.
+
+    Args:
+        x: Values of the columns, by which those are taken to end that have no bound.
+        duals: By row; those without the row bound that they rest on count as 0.
+    """
+    reduced_costs = [float(cost) for cost in program.cost]
+    sizes = [abs(cost) for cost in reduced_costs]
+    operations = [2] * program.n
+    bound = float(program.constant)
+    total_size = abs(bound)
+    for row, dual in duals.items():
+        end = program.double(needed_row_bound(program, row, dual)) if dual else None
+        if end is None:
+            continue
+        bound += dual * end
+        total_size += abs(dual * end)
+        for column, coefficient in program.rows[row]:
+            term = dual * (coefficient / program.scale)
+            reduced_costs[column] -= term
+            sizes[column] += abs(term)
+            operations[column] += 1
+    box = Box(program.lo, program.hi)
+    for column, cost in enumerate(reduced_costs):
+        error = operations[column] * UNIT_ROUNDOFF * sizes[column]
+        zero = ZERO_REDUCED_COST * sizes[column]
+        least = math.inf
+        for near in (cost - error, cost + error):
+            end = program.double(needed_column_bound(box, column, near))
+            least = min(least, _least_term(near, end, x[column], zero))
+        bound += least
+        total_size += abs(least)
+    return bound - (program.n + len(duals) + 2) * UNIT_ROUNDOFF * total_size
+
+
+def _at_bound(value: float, lower: Optional[float], upper: Optional[float]) -> float:
+    """The bound that a value misses by no more than rounding, else the value."""
+    missed = violation(value, lower, upper)
+    is_rounding = abs(missed) <= ROUNDING_OF_A_ROW * max(1.0, abs(value))
+    return value - missed if is_rounding else value
+
+
+def _least_term(cost: float, end: Optional[float], value: float, zero: float) -> float:
+    """The least that a column at `value` adds at this cost; up to twice `zero` that is none.
+
+    `end` is the bound that the cost rests on, None where the column has no such bound.
+    """
+    if end is not None:
+        return cost * end
+    if abs(cost) <= 2 * zero:
+        return -abs(cost) * ASSUMED_BOUND * max(1.0, abs(value))
+    return -math.inf

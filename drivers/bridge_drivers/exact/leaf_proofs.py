@@ -1,0 +1,380 @@
+"""Proofs of the leaves of a tree: multipliers in few digits whose exact bound reaches the cutoff.
+
+CLP's duals are doubles. What stands in a certificate is exact, and is read and judged again: so
+short decimals and fractions are tried first. Each candidate is judged by the exact rule of
+`dual_bound` before it is kept.
+"""
+
+from __future__ import annotations
+
+import math
+from fractions import Fraction
+from typing import Dict, Iterable, Iterator, List, Mapping, NamedTuple, Optional, Sequence, Tuple
+
+from ..certify.exact import Equation, solved
+from ..certify.model import Box, Model
+from .dual_bound import (
+    DualBound,
+    MultiplierKind,
+    Multipliers,
+    dual_bound,
+    has_needed_bound,
+    needed_row_bound,
+    reduced_cost_term,
+)
+
+ZERO_MULTIPLIER = 1e-11  # multipliers in doubles up to this size count as 0
+DECIMAL_DIGITS = (0, 1, 2, 3, 4, 5, 6, 7, 8, 9, 10, 12, 14)  # beyond the first of the greatest one
+DENOMINATORS = {
+    3: 12,
+    6: 60,
+    9: 1000,
+    14: 10**5,
+    16: 10**7,
+}  # by the place among the candidates
+FARKAS_MULTIPLES = (1, 2, 3, 4, 6)  # of the least multiplier, which is tried as a whole number
+FARKAS_SPREAD = 1e6  # of the sizes of multipliers that are tried so
+LARGEST_DENOMINATOR = 10**24
+MOST_REPAIRED_COLUMNS = 60
+REPAIR_ROUNDS = 6
+MOST_BASIC_COLUMNS = 3000  # of a basis whose duals are solved for in fractions
+LEAST_SPARSIFIED = 4  # multipliers of a proof from which on needless ones are looked for
+SHRINKAGES = (1e-10, 1e-8, 1e-6, 1e-4)  # by what share duals are made smaller at last
+SHRUNK_DIGITS = 13  # of them, beyond the first of the greatest one
+
+Ratio = Tuple[int, int]  # numerator and denominator, which is above 0
+
+
+class LeafProof(NamedTuple):
+    """Multipliers that prove a leaf.
+
+    Attributes:
+        multipliers: What stands in the certificate.
+        reduced_costs: By column, in the units of `DualBound.reduced_costs`.
+        surplus: What the bound has over the cutoff, at least 0, in the same units.
+    """
+
+    multipliers: Multipliers
+    reduced_costs: List[int]
+    surplus: int
+
+
+class LeafProver:
+    """Finds proofs that a box has no point better than a cutoff.
+
+    Args:
+        program: Whose rows the multipliers are for.
+        cutoff: What the bound of dual multipliers must reach, minimised; None: any bound will do.
+            Farkas multipliers prove that there is no point, whatever the cutoff.
+        is_strict: Whether the bound must exceed the cutoff.
+    """
+
+    def __init__(self, program: Model, cutoff: Optional[Fraction], is_strict: bool = False) -> None:
+        self.program = program
+        self.cutoff = cutoff
+        self.is_strict = is_strict
+
+    def prove(self, multipliers: Multipliers, box: Box) -> Optional[LeafProof]:
+        """The proof by these multipliers, or by those that a repair makes of them."""
+        repaired, bound = repaired_bound(self.program, multipliers.reduced(), box)
+        surplus = self._surplus(repaired, bound)
+        if surplus < 0 or not bound.is_finite:
+            return None
+        return LeafProof(repaired, bound.reduced_costs, surplus)
+
+    def prove_from_doubles(
+        self, values: Mapping[int, float], kind: MultiplierKind, box: Box
+    ) -> Optional[LeafProof]:
+        """The first proof among ever longer roundings of these multipliers."""
+        nonzero = {row: v for row, v in values.items() if abs(v) > ZERO_MULTIPLIER}
+        if not nonzero and kind is MultiplierKind.FARKAS:
+            return None
+        tried = set()
+        for candidate in short_candidates(self.program, nonzero, kind):
+            key = (tuple(candidate.numerators.values()), candidate.denominator)
+            if key in tried or candidate.denominator > LARGEST_DENOMINATOR:
+                continue
+            tried.add(key)
+            proof = self.prove(candidate, box)
+            if proof is not None:
+                return proof
+        return None
+
+    def prove_from_fractions(
+        self, values: Optional[Mapping[int, Fraction]], kind: MultiplierKind, box: Box
+    ) -> Optional[LeafProof]:
+        """The proof by exactly these; None where they are none, or too wide for a certificate."""
+        if values is None:
+            return None
+        proof = self.prove(from_fractions(self.program, values, kind), box)
+        return proof if proof is not None and proof.multipliers.fits_certificate() else None
+
+    def sparsified(self, proof: LeafProof, box: Box) -> LeafProof:
+        """The proof without the multipliers that it does not need, the smallest ones first."""
+        if len(proof.multipliers.numerators) < LEAST_SPARSIFIED or proof.surplus == 0:
+            return proof
+        numerators = dict(proof.multipliers.numerators)
+        reduced_costs = proof.reduced_costs[:]
+        surplus = proof.surplus
+        for row in sorted(numerators, key=lambda row: self._size(row, numerators[row])):
+            left = self._surplus_without(row, proof.multipliers, reduced_costs, surplus, box)
+            if left is not None and left >= 0:
+                surplus = left
+                multiplier = numerators.pop(row) * self._cost_scale(proof.multipliers)
+                for column, coefficient in self.program.rows[row]:
+                    reduced_costs[column] += multiplier * coefficient
+        return LeafProof(proof.multipliers._replace(numerators=numerators), reduced_costs, surplus)
+
+    def _surplus(self, multipliers: Multipliers, bound: DualBound) -> int:
+        """What the bound has over the cutoff, in the units of its numerator."""
+        if multipliers.is_farkas:
+            return bound.numerator - 1
+        if self.cutoff is None:
+            return 0
+        wanted = self.cutoff.numerator * bound.denominator
+        floor, rest = divmod(wanted, self.cutoff.denominator)
+        least = floor + 1 if rest or self.is_strict else floor
+        return bound.numerator - least
+
+    def _cost_scale(self, multipliers: Multipliers) -> int:
+        return 1 if multipliers.is_farkas else self.program.cost_scale
+
+    def _size(self, row: int, numerator: int) -> int:
+        """Of a multiplier, beside the coefficients of its row."""
+        return abs(numerator) * max((abs(a) for _, a in self.program.rows[row]), default=0)
+
+    def _surplus_without(
+        self, row: int, multipliers: Multipliers, costs: Sequence[int], surplus: int, box: Box
+    ) -> Optional[int]:
+        """The surplus without one multiplier; None where a column lacks the bound it then needs."""
+        numerator = multipliers.numerators[row]
+        multiplier = numerator * self._cost_scale(multipliers)
+        row_bound = needed_row_bound(self.program, row, numerator)
+        assert row_bound is not None
+        left = surplus - multiplier * row_bound * self.program.scale
+        for column, coefficient in self.program.rows[row]:
+            term = reduced_cost_term(box, column, costs[column] + multiplier * coefficient)
+            if term is None:
+                return None
+            left += term - (reduced_cost_term(box, column, costs[column]) or 0)
+        return left
+
+
+def from_ratios(program: Model, values: Mapping[int, Ratio], kind: MultiplierKind) -> Multipliers:
+    """Multipliers over their least common denominator, without those that lack their row bound."""
+    kept = {
+        row: ratio
+        for row, ratio in values.items()
+        if ratio[0] and has_needed_bound(program, row, ratio[0])
+    }
+    common = math.lcm(1, *{denominator for _, denominator in kept.values()})
+    numerators = {
+        row: numerator * (common // denominator) for row, (numerator, denominator) in kept.items()
+    }
+    return Multipliers(numerators, common, kind)
+
+
+def from_fractions(
+    program: Model, values: Mapping[int, Fraction], kind: MultiplierKind
+) -> Multipliers:
+    ratios = {row: (v.numerator, v.denominator) for row, v in values.items()}
+    return from_ratios(program, ratios, kind)
+
+
+def rounded(
+    program: Model, values: Mapping[int, float], places: int, kind: MultiplierKind
+) -> Multipliers:
+    """Multipliers rounded to so many decimals, which may stand left of the point (below 0)."""
+    power = 10 ** abs(places)
+    if places >= 0:
+        numerators = {row: round(v * power) for row, v in values.items()}
+    else:
+        numerators = {row: round(v / power) * power for row, v in values.items()}
+    kept = {row: v for row, v in numerators.items() if v and has_needed_bound(program, row, v)}
+    return Multipliers(kept, 10 ** max(places, 0), kind)
+
+
+def short_candidates(
+    program: Model, values: Mapping[int, float], kind: MultiplierKind
+) -> Iterator[Multipliers]:
+    """Roundings of multipliers, about in the order of their length.
+
+    Farkas multipliers are often small whole numbers times a factor, which is theirs to choose. At
+    last duals are made a little smaller: that leaves room in columns with costs above 0.
+    """
+    largest = max([abs(v) for v in values.values()], default=1.0)
+    first_digit = -math.floor(math.log10(largest))
+    if kind is MultiplierKind.FARKAS:
+        yield from _whole_multiples(program, values)
+        values = {row: v / largest for row, v in values.items()}
+        first_digit = 0
+    yield from _decimals_and_fractions(program, values, kind, first_digit)
+    if kind is MultiplierKind.DUAL:
+        for share in SHRINKAGES:
+            shrunk = {row: v * (1 - share) for row, v in values.items()}
+            yield rounded(program, shrunk, SHRUNK_DIGITS + first_digit, kind)
+
+
+def _whole_multiples(program: Model, values: Mapping[int, float]) -> Iterator[Multipliers]:
+    sizes = [abs(v) for v in values.values()]
+    least, largest = min(sizes), max(sizes)
+    if largest / least < FARKAS_SPREAD:
+        for multiple in FARKAS_MULTIPLES:
+            scaled = {row: v * multiple / least for row, v in values.items()}
+            yield rounded(program, scaled, 0, MultiplierKind.FARKAS)
+
+
+def _decimals_and_fractions(
+    program: Model, values: Mapping[int, float], kind: MultiplierKind, first_digit: int
+) -> Iterator[Multipliers]:
+    """Ever more decimals, and among them fractions of ever larger denominators."""
+    digits = iter(DECIMAL_DIGITS)
+    for place in range(len(DECIMAL_DIGITS) + len(DENOMINATORS)):
+        if place in DENOMINATORS:
+            largest = DENOMINATORS[place]
+            ratios = {row: last_convergent(v, largest) for row, v in values.items()}
+            yield from_ratios(program, ratios, kind)
+        else:
+            yield rounded(program, values, first_digit + next(digits), kind)
+
+
+def repaired_bound(
+    program: Model, multipliers: Multipliers, box: Box
+) -> Tuple[Multipliers, DualBound]:
+    """The bound of multipliers, or of those that a repair makes of them.
+
+    A column that lacks the bound that its reduced cost needs is given the reduced cost 0, or the
+    other sign, by one multiplier of its rows. What that breaks elsewhere is repaired in the next of
+    a few rounds.
+
+    Returns:
+        The multipliers with their bound, which need not be finite.
+    """
+    bound = dual_bound(program, multipliers, box)
+    if len(bound.unbounded_columns) > MOST_REPAIRED_COLUMNS:
+        return multipliers, bound
+    for _ in range(REPAIR_ROUNDS):
+        if bound.is_finite:
+            break
+        for column in bound.unbounded_columns:
+            multipliers = _with_column_repaired(program, multipliers, box, column)
+        bound = dual_bound(program, multipliers, box)
+    return multipliers, bound
+
+
+def _with_column_repaired(
+    program: Model, multipliers: Multipliers, box: Box, column: int
+) -> Multipliers:
+    """The same where no row of the column can take up its reduced cost."""
+    numerators = multipliers.numerators
+    lower, upper = box.lo[column], box.hi[column]
+    if multipliers.is_farkas:
+        cost_scale, cost = 1, 0
+    else:
+        cost_scale = program.cost_scale
+        cost = program.costs[column] * multipliers.denominator * program.scale
+    entries = program.terms.column(column)
+    reduced_cost = cost - cost_scale * sum(numerators.get(row, 0) * a for row, a in entries)
+    if not reduced_cost or (lower if reduced_cost > 0 else upper) is not None:
+        return multipliers
+    is_free = lower is None and upper is None
+
+    def rank(entry: Tuple[int, int]) -> Tuple[bool, int]:
+        return entry[0] not in numerators, program.terms.lengths[entry[0]]
+
+    for row, a in sorted(entries, key=rank):
+        found = _absorbed(program, multipliers, row, reduced_cost, cost_scale * a, is_free)
+        if found is not None:
+            return found
+    return multipliers
+
+
+def _absorbed(
+    program: Model, given: Multipliers, row: int, reduced_cost: int, coefficient: int, is_free: bool
+) -> Optional[Multipliers]:
+    """The multipliers where that of one row takes up a column's reduced cost.
+
+    Args:
+        coefficient: Of the column in that row, in the units of the reduced cost.
+        is_free: Whether the column has no bound at all, so that nothing may be left over.
+
+    Returns:
+        None where the row lacks the bound for it, or the denominator would be too wide.
+    """
+    numerators, denominator = given.numerators, given.denominator
+    step, rest = divmod(reduced_cost, coefficient)
+    if rest and is_free:
+        factor = abs(coefficient) // math.gcd(coefficient, reduced_cost)
+        if denominator * factor > LARGEST_DENOMINATOR:
+            return None
+        numerators = {other: v * factor for other, v in numerators.items()}
+        denominator *= factor
+        step = reduced_cost * factor // coefficient
+    elif rest and (reduced_cost > 0) == (coefficient > 0):
+        step += 1  # past 0, to the sign whose bound is there
+    numerator = numerators.get(row, 0) + step
+    if not has_needed_bound(program, row, numerator):
+        return None
+    changed = {**numerators, row: numerator}
+    if not numerator:
+        del changed[row]
+    return Multipliers(changed, denominator, given.kind)
+
+
+def basis_duals(
+    program: Model, basic: Sequence[int], rows: Sequence[int]
+) -> Optional[Dict[int, Fraction]]:
+    """The exact duals of a basis: the reduced costs of its basic columns are 0.
+
+    Args:
+        basic: The basic columns.
+        rows: As many rows that are not basic.
+
+    Returns:
+        By row, without zeros; None where the basis is too large, or has no such duals.
+    """
+    if len(basic) > MOST_BASIC_COLUMNS or len(basic) != len(rows):
+        return None
+    columns = ((dict(program.by_column[j]), program.costs[j] * program.scale) for j in basic)
+    found = _solved_in(rows, columns)
+    if found is None:
+        return None
+    return {row: dual / program.cost_scale for row, dual in found.items() if dual}
+
+
+def phase_one_duals(
+    program: Model, basic: Sequence[int], rows: Sequence[int]
+) -> Optional[Dict[int, Fraction]]:
+    """The same of the program of phase one, which has two artificial columns a row.
+
+    Column n + i adds row i's unit to it and n + m + i takes it away, each at the cost 1.
+    """
+    columns: List[Equation] = []
+    for column in basic:
+        if column < program.n:
+            columns.append((dict(program.by_column[column]), 0))
+        else:
+            is_negative, row = divmod(column - program.n, program.m)
+            columns.append(({row: program.row_unit(row)}, -1 if is_negative else 1))
+    return _solved_in(rows, columns)
+
+
+def _solved_in(rows: Sequence[int], columns: Iterable[Equation]) -> Optional[Dict[int, Fraction]]:
+    """The duals of these rows under which each column, with its cost, has the reduced cost 0."""
+    unknowns = set(rows)
+    return solved(
+        [({i: a for i, a in terms.items() if i in unknowns}, cost) for terms, cost in columns]
+    )
+
+
+def last_convergent(value: float, largest: int) -> Ratio:
+    """The last convergent of a double's continued fraction with a denominator up to `largest`."""
+    numerator, denominator = value.as_integer_ratio()
+    before, last = (0, 1), (1, 0)
+    while denominator:
+        quotient, rest = divmod(numerator, denominator)
+        if before[1] + quotient * last[1] > largest:
+            break
+        before, last = last, (before[0] + quotient * last[0], before[1] + quotient * last[1])
+        numerator, denominator = denominator, rest
+    return last

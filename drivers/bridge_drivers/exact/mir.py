@@ -1,0 +1,316 @@
+"""Mixed integer rounding (MIR) cuts, each with its proof as a split of the program.
+
+Take a combination of the rows, and count each column, and each row's activity, from one of its
+bounds, so that all that counts is `t >= 0` (bound substitution):
+
+    sum of c_k t_k <= b.
+
+Divide by d > 0, and let f be the fractional part of b / d. Then, over the t_k that are integer and
+those that are not,
+
+    sum of F(c_k / d) t_k (integers) + sum of min(0, c_k / d) / (1 - f) t_k (others) <= floor(b / d)
+
+holds at all integer points, with F(q) = floor(q) + max(0, q - floor(q) - f) / (1 - f) (Marchand and
+Wolsey 2001).
+
+Its proof is a split disjunction: an integer form is at most `floor` in one part and at least `floor
++ 1` in the other, and in both parts multipliers of rows bound the cut's left side. All here
+is in whole numbers; `mir_separation` looks for cuts, in doubles.
+"""
+
+from __future__ import annotations
+
+from fractions import Fraction
+from math import gcd, lcm, sqrt
+from typing import Dict, Mapping, NamedTuple, Optional, Sequence, Tuple, TypeVar
+
+from ..certify.model import Added, Box, Model, Side
+from ..certify.parts import Leaf, leaf
+from .dual_bound import MultiplierKind, Multipliers
+from .leaf_proofs import LeafProver, Ratio, last_convergent
+
+LEAST_EFFICACY = 1e-3
+LARGEST_DENOMINATOR = 10**6  # of the combination's multipliers
+COARSE_DENOMINATOR = 10**4  # the same where they have no such common one
+LARGEST_COEFFICIENT = 10**12
+LARGEST_SPREAD = 10**6  # of the sizes of a cut's coefficients
+
+Combination = Dict[int, float]  # multipliers by row
+Number = TypeVar("Number", int, float)
+
+
+class Substitution(NamedTuple):
+    """How a column or a row's activity z counts: z = bound / unit + sign * t, with t at least 0.
+
+    Attributes:
+        bound: Over the program's unit.
+        sign: 1 from a lower bound, -1 from an upper one.
+        value: Of t at the relaxation's optimum.
+        is_integer: Whether t is integer at all integer points.
+        is_fixed: Whether t is 0 at all points.
+    """
+
+    bound: int
+    sign: int
+    value: float
+    is_integer: bool
+    is_fixed: bool
+
+
+class Substitutions(Dict[int, Optional[Substitution]]):
+    """By column, and behind the columns by row, each made when it is first asked for.
+
+    None stands for what has no bound to count from. `x` is the point that cuts are to cut off.
+    """
+
+    def __init__(self, program: Model, x: Sequence[float]) -> None:
+        super().__init__()
+        self.program = program
+        activities = (sum([a * x[j] for j, a in row]) / program.scale for row in program.rows)
+        self.x = [*x, *activities]
+
+    def __missing__(self, place: int) -> Optional[Substitution]:
+        self[place] = self._from_nearest_bound(place)
+        return self[place]
+
+    def _from_nearest_bound(self, place: int) -> Optional[Substitution]:
+        unit, value = self.program.unit, self.x[place]
+        lower, upper, is_integer = self._bounds(place)
+        if upper is not None and (lower is None or value - lower / unit > upper / unit - value):
+            distance = max(upper / unit - value, 0.0)
+            return Substitution(upper, -1, distance, is_integer, lower == upper)
+        if lower is None:
+            return None
+        distance = max(value - lower / unit, 0.0)
+        return Substitution(lower, 1, distance, is_integer, lower == upper)
+
+    def _bounds(self, place: int) -> Tuple[Side, Side, bool]:
+        """Bounds, over the unit, and whether all is integer between them."""
+        program, row = self.program, place - self.program.n
+        if row < 0:
+            lower, upper = program.lo[place], program.hi[place]
+            if program.whole[place]:
+                lower, upper = _integral(lower, program.unit), _integral(upper, program.unit)
+            return lower, upper, program.whole[place]
+        lower, upper = program.side_lo[row], program.side_hi[row]
+        is_integer = (
+            lower == _integral(lower, program.unit)
+            and upper == _integral(upper, program.unit)
+            and all(program.whole[j] and a % program.scale == 0 for j, a in program.rows[row])
+        )
+        return lower, upper, is_integer
+
+
+def _integral(bound: Side, unit: int) -> Side:
+    """A bound that is a whole number; None of another one."""
+    return None if bound is None or bound % unit else bound
+
+
+class Divisor(NamedTuple):
+    """The number d by which a combination is divided: `multiple` of a column's coefficient.
+
+    Where there is no column, of 1.
+    """
+
+    column: Optional[int]
+    multiple: Ratio
+
+
+class SplitDisjunction(NamedTuple):
+    """An integer form, which is at most `floor` or at least `floor + 1` at each integer point."""
+
+    form: Dict[int, int]
+    floor: int
+
+
+class MIRCut(NamedTuple):
+    """A cut in whole numbers.
+
+    Attributes:
+        coefficients: Of its left side, by column.
+        rhs: What that is at most.
+        split: The disjunction of its proof.
+        multipliers: In both parts of it, those of rows and of the split's form, which is the row
+            behind all others.
+        efficacy: The Euclidean distance of the relaxation's optimum from it; 0 where the cut is
+            not to be used.
+    """
+
+    coefficients: Dict[int, int]
+    rhs: int
+    split: SplitDisjunction
+    multipliers: Tuple[Multipliers, Multipliers]
+    efficacy: float = 0.0
+
+
+class MIRProof(NamedTuple):
+    """A cut's proof as it stands in a certificate.
+
+    Attributes:
+        split: On which the proof branches.
+        row: The place of its form among the rows, in both leaves.
+        low: The leaf of the part `at most floor`.
+        high: The leaf of the part `at least floor + 1`.
+    """
+
+    split: SplitDisjunction
+    row: int
+    low: Leaf
+    high: Leaf
+
+
+def aggregated(
+    program: Model, combination: Mapping[int, Number], factor: Number
+) -> Dict[int, Number]:
+    """A combination of rows as a sum that is 0 at each point: of columns, and of rows behind them.
+
+    Returns:
+        Coefficients by place, times the program's scale and `factor`.
+    """
+    total: Dict[int, Number] = {}
+    for row, multiplier in combination.items():
+        for column, a in program.rows[row]:
+            product = multiplier * a
+            total[column] = total[column] + product if column in total else product
+        total[program.n + row] = -multiplier * program.scale
+    return {place: coefficient * factor for place, coefficient in total.items()}
+
+
+def mir_cut(
+    substitutions: Substitutions, combination: Combination, divisor: Divisor
+) -> Optional[MIRCut]:
+    """The cut in whole numbers.
+
+    The combination's multipliers are rounded to fractions first: any multipliers of rows are right.
+
+    Returns:
+        None where the exact cut is none, cuts off too little, or has coefficients too wide.
+    """
+    program = substitutions.program
+    times, over = divisor.multiple
+    common, multipliers = _over_one_denominator(combination)
+    total = aggregated(program, multipliers, over)
+    if divisor.column is None:
+        size = common * program.scale
+    else:
+        size = abs(total.get(divisor.column, 0)) // over
+    d = size * program.unit * times
+    terms = _substituted(substitutions, total)
+    if not d or terms is None:
+        return None
+    whole, rest = divmod(-sum(v * substitution.bound for substitution, v in terms.values()), d)
+    if not rest:
+        return None
+    cut = _exact_cut(program, terms, d, whole, rest)
+    cut = cut._replace(efficacy=_efficacy(cut, substitutions.x))
+    return cut if cut.efficacy >= LEAST_EFFICACY else None
+
+
+def _over_one_denominator(combination: Combination) -> Tuple[int, Dict[int, int]]:
+    """Short fractions near the multipliers: their denominator, and numerators by row."""
+    ratios = {row: last_convergent(v, LARGEST_DENOMINATOR) for row, v in combination.items()}
+    common = lcm(*(denominator for _, denominator in ratios.values()))
+    if common > LARGEST_DENOMINATOR:
+        common = COARSE_DENOMINATOR
+        ratios = {row: (round(v * common), common) for row, v in combination.items()}
+    return common, {row: p * (common // q) for row, (p, q) in ratios.items()}
+
+
+Terms = Dict[int, Tuple[Substitution, int]]  # coefficients by place, those that are not 0
+
+
+def _substituted(substitutions: Substitutions, total: Mapping[int, int]) -> Optional[Terms]:
+    """None where one has no bound to count from."""
+    terms: Terms = {}
+    for place, v in total.items():
+        if v:
+            substitution = substitutions[place]
+            if substitution is None:
+                return None
+            terms[place] = substitution, v
+    return terms
+
+
+def _exact_cut(program: Model, terms: Terms, d: int, whole: int, rest: int) -> MIRCut:
+    """The cut and the multipliers of its proof, in whole numbers.
+
+    With `rest = b - whole * d` and `room = d - rest`, all is multiplied by `room`, so that
+    F(c / d) becomes `floor(c / d) * room + max(0, c % d - rest)`. The split's form rounds up where
+    `c % d` is above `rest`. In its lower part the form has the multiplier `-room`, in the upper one
+    `rest`; what rows have there makes up the difference to the cut.
+    """
+    unit, room = program.unit, d - rest
+    coefficients, form = [0] * program.n, [0] * program.n
+    rhs, form_rhs = whole * room * program.scale * unit, whole
+    low: Dict[int, int] = {program.m: -room}
+    high: Dict[int, int] = {program.m: rest}
+    for place, (substitution, v) in terms.items():
+        sign = substitution.sign
+        c = v * sign * unit
+        lifted, in_form = _rounded_coefficient(substitution, c, d, rest)
+        rhs += sign * lifted * substitution.bound * program.scale
+        form_rhs += sign * in_form * substitution.bound // unit
+        row = place - program.n
+        for j, a in program.rows[row] if row >= 0 else ((place, program.scale),):
+            coefficients[j] += sign * lifted * a * unit
+            form[j] += sign * in_form * a // program.scale
+        if row >= 0:
+            low[row] = sign * (in_form * room - lifted)
+            high[row] = sign * (c - rest * in_form - lifted)
+    common = gcd(rhs, *coefficients) or 1
+    return MIRCut(
+        {j: v // common for j, v in enumerate(coefficients) if v},
+        rhs // common,
+        SplitDisjunction({j: v for j, v in enumerate(form) if v}, form_rhs),
+        (_leaf_multipliers(program, low, common), _leaf_multipliers(program, high, common)),
+    )
+
+
+def _rounded_coefficient(substitution: Substitution, c: int, d: int, rest: int) -> Tuple[int, int]:
+    """The coefficient c in the cut, times `d - rest`, and in the form of its split."""
+    if substitution.is_fixed:
+        return 0, 0
+    if not substitution.is_integer:
+        return min(0, c), 0
+    whole, fraction = divmod(c, d)
+    return whole * (d - rest) + max(0, fraction - rest), whole + (fraction > rest)
+
+
+def _leaf_multipliers(program: Model, numerators: Mapping[int, int], common: int) -> Multipliers:
+    factor = program.scale * program.unit
+    nonzero = {row: v * factor for row, v in numerators.items() if v}
+    return Multipliers(nonzero, common, MultiplierKind.DUAL)
+
+
+def _efficacy(cut: MIRCut, x: Sequence[float]) -> float:
+    """At x; 0 where doubles or certificates do not bear the coefficients."""
+    sizes = [abs(a) for a in cut.coefficients.values()]
+    if not sizes or not cut.split.form:
+        return 0.0
+    if max(*sizes, abs(cut.rhs)) > LARGEST_COEFFICIENT:
+        return 0.0
+    if max(sizes) > LARGEST_SPREAD * min(sizes):
+        return 0.0
+    violation = sum([a * x[j] for j, a in cut.coefficients.items()]) - cut.rhs
+    return violation / sqrt(sum([float(a) ** 2 for a in sizes]))
+
+
+def prove_mir_cut(program: Model, cut: MIRCut) -> Optional[MIRProof]:
+    """The proof, where the exact rule accepts both of its leaves.
+
+    Args:
+        program: With the rows that the cut was made of.
+    """
+    form, whole = cut.split
+    split = program.with_rows([Added(form, whole + 1, whole)])
+    against_cut = split.with_form({j: -a for j, a in cut.coefficients.items()})
+    prover = LeafProver(against_cut, Fraction(-cut.rhs))
+    box = Box(program.lo, program.hi)
+    leaves = []
+    for multipliers in cut.multipliers:
+        proof = prover.prove(multipliers, box)
+        if proof is None or not proof.multipliers.fits_certificate():
+            return None
+        added = (i for i in proof.multipliers.numerators if program.n_con <= i < program.m)
+        leaves.append(leaf(proof.multipliers, added))
+    return MIRProof(cut.split, program.m, *leaves)

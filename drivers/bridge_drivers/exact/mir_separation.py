@@ -1,0 +1,253 @@
+"""Looks for MIR cuts at the optimum of a relaxation: which combinations of rows, divided by what.
+
+Rows are aggregated so that continuous columns which stand between their bounds go out (Marchand and
+Wolsey 2001), and rows of the simplex tableau are tried. How deep a cut is is seen in doubles; the
+cut itself is made by `mir`, in whole numbers.
+"""
+
+from __future__ import annotations
+
+from itertools import chain
+from math import floor, sqrt
+from typing import (
+    Callable,
+    Dict,
+    Iterable,
+    Iterator,
+    List,
+    Mapping,
+    NamedTuple,
+    Optional,
+    Sequence,
+    Tuple,
+)
+
+from ..certify.clp import Clp
+from ..certify.model import Model
+from .leaf_proofs import Ratio
+from .mir import Combination, Divisor, MIRCut, Substitution, Substitutions, aggregated, mir_cut
+
+LEAST_FRACTION = 0.01  # how far b / d must be from whole numbers
+MOST_DIVISORS = 12  # columns whose coefficients are tried as divisors
+DIVISOR_MULTIPLES: Tuple[Ratio, ...] = ((1, 1), (1, 2), (1, 3), (2, 1), (4, 1))
+TABLEAU_MULTIPLES = DIVISOR_MULTIPLES[:4]
+MOST_AGGREGATED_ROWS = 5
+MOST_TABLEAU_ROWS = 30
+LEAST_TABLEAU_FRACTION = 0.01  # how far a basic column's value must be from whole numbers
+POSITIVE = 1e-6  # what is above 0 beyond the rounding of doubles
+ZERO_COEFFICIENT = 1e-9  # what doubles leave of 0
+FAR_FROM_BOUNDS = 1e9  # how far a column without a bound is from it
+
+
+def mir_coefficient(quotient: float, fraction: float) -> float:
+    """F(quotient) in doubles; what is just below a whole number counts as that."""
+    whole = floor(quotient + ZERO_COEFFICIENT)
+    rest = quotient - whole - fraction
+    return whole + rest / (1 - fraction) if rest > 0 else float(whole)
+
+
+class _Screening:
+    """A combination after bound substitution, in doubles: how deep its MIR cut is by a divisor."""
+
+    def __init__(self, substitutions: Substitutions, combination: Combination) -> None:
+        """Raises LookupError where a column that it has cannot be substituted."""
+        program = substitutions.program
+        self.integers: List[Tuple[float, float, int]] = []  # coefficients, values and places
+        self.rhs = 0.0
+        self.slack = 0.0  # of the other columns with coefficients below 0, as their squares
+        self.squares = 0.0
+        for place, v in aggregated(program, combination, 1 / program.scale).items():
+            if abs(v) <= ZERO_COEFFICIENT:
+                continue
+            substitution = substitutions[place]
+            if substitution is None:
+                raise LookupError(place)
+            self.rhs -= v * substitution.bound / program.unit
+            if not substitution.is_fixed:
+                self._add(v * substitution.sign, substitution, place)
+
+    def _add(self, coefficient: float, substitution: Substitution, place: int) -> None:
+        if substitution.is_integer:
+            self.integers.append((coefficient, substitution.value, place))
+        elif coefficient < 0:
+            self.slack -= coefficient * substitution.value
+            self.squares += coefficient * coefficient
+
+    def efficacy(self, divisor: float) -> float:
+        """How far the relaxation's optimum is beyond the cut; 0 where it is not."""
+        whole = floor(self.rhs / divisor)
+        fraction = self.rhs / divisor - whole
+        if not LEAST_FRACTION <= fraction <= 1 - LEAST_FRACTION:
+            return 0.0
+        violation = self.slack / divisor / (1 - fraction) - whole
+        violation += sum(
+            [
+                mir_coefficient(c / divisor, fraction) * value
+                for c, value, _ in self.integers
+                if value > POSITIVE
+            ]
+        )
+        if violation <= POSITIVE:
+            return 0.0
+        squares = sum([mir_coefficient(c / divisor, fraction) ** 2 for c, _, _ in self.integers])
+        return violation / sqrt(squares + self.squares / (divisor * (1 - fraction)) ** 2)
+
+    def sizes(self) -> Dict[float, Optional[int]]:
+        """Sizes of coefficients that divisors are multiples of, with a column that has each."""
+        sizes: Dict[float, Optional[int]] = {
+            abs(c): place for c, value, place in self.integers if value > POSITIVE
+        }
+        sizes.setdefault(1.0, None)
+        return dict(list(sizes.items())[:MOST_DIVISORS]) if self.integers else {}
+
+
+def best_divisor(
+    substitutions: Substitutions, combination: Combination, multiples: Iterable[Ratio]
+) -> Optional[Divisor]:
+    """The divisor whose cut has the greatest efficacy, in doubles; None where none cuts."""
+    try:
+        screening = _Screening(substitutions, combination)
+    except LookupError:
+        return None
+    best, greatest = None, 0.0
+    for size, column in screening.sizes().items():
+        for times, over in multiples:
+            efficacy = screening.efficacy(size * times / over)
+            if efficacy > greatest:
+                best, greatest = Divisor(column, (times, over)), efficacy
+    return best
+
+
+class VariableBound(NamedTuple):
+    """A continuous column is at most `slope` times the integer one `column`.
+
+    Attributes:
+        row: The row of two columns that says so.
+        coefficient: Of the continuous column in it.
+    """
+
+    slope: float
+    column: int
+    row: int
+    coefficient: float
+
+
+def variable_bounds(program: Model) -> Dict[int, List[VariableBound]]:
+    """Those that rows of two columns give, by continuous column."""
+    found: Dict[int, List[VariableBound]] = {}
+    for i, row in enumerate(program.rows):
+        if len(row) != 2:
+            continue
+        for sign, bound in ((1, program.side_hi[i]), (-1, program.side_lo[i])):
+            for (j, a), (y, b) in (row, row[::-1]) if bound == 0 else ():
+                is_mixed = program.whole[y] and not program.whole[j]
+                if is_mixed and sign * a > 0 > sign * b:
+                    variable_bound = VariableBound(-b / a, y, i, a / program.scale)
+                    found.setdefault(j, []).append(variable_bound)
+    return found
+
+
+class MIRSeparator:
+    """Looks for MIR cuts at the optimum x of a relaxation (aggregation heuristic)."""
+
+    def __init__(self, program: Model, clp: Clp, x: Sequence[float]) -> None:
+        self.program = program
+        self.clp = clp
+        self.x = x
+        self.substitutions = Substitutions(program, x)
+        self.distances = [0.0] * program.n  # of continuous columns from their nearest bound
+        self.nearest: Dict[int, VariableBound] = {}  # where that is a variable bound
+        known = variable_bounds(program)
+        for j in (j for j in range(program.n) if not program.whole[j]):
+            substitution = self.substitutions[j]
+            self.distances[j] = FAR_FROM_BOUNDS if substitution is None else substitution.value
+            for bound in known.get(j, ()):
+                distance = bound.slope * x[bound.column] - x[j]
+                if distance <= self.distances[j]:
+                    self.distances[j] = distance
+                    self.nearest[j] = bound
+
+    def cuts(self, is_over: Callable[[], bool]) -> List[MIRCut]:
+        """Cuts by falling efficacy, of as many combinations as there is time for."""
+        combinations = chain(
+            ((combination, DIVISOR_MULTIPLES) for combination in self.aggregations()),
+            ((combination, TABLEAU_MULTIPLES) for combination in self.tableau_rows()),
+        )
+        found: List[MIRCut] = []
+        for combination, multiples in combinations:
+            if is_over():
+                break
+            divisor = best_divisor(self.substitutions, combination, multiples)
+            cut = None if divisor is None else mir_cut(self.substitutions, combination, divisor)
+            if cut is not None:
+                found.append(cut)
+        return sorted(found, key=lambda cut: -cut.efficacy)
+
+    def aggregations(self) -> Iterator[Combination]:
+        """Each row by each of its bounds, and sums of rows that begin with it."""
+        for row in range(self.program.m):
+            for sign, bound in (
+                (1.0, self.program.side_hi[row]),
+                (-1.0, self.program.side_lo[row]),
+            ):
+                if bound is not None and self.program.rows[row]:
+                    yield from self._sums_from({row: sign})
+
+    def _sums_from(self, combination: Combination) -> Iterator[Combination]:
+        """The combination, and those that take out columns which stand between their bounds."""
+        for _ in range(MOST_AGGREGATED_ROWS):
+            total = aggregated(self.program, combination, 1 / self.program.scale)
+            yield self._with_variable_bounds(combination, total)
+            between = [
+                j
+                for j, a in total.items()
+                if j < self.program.n and abs(a) > ZERO_COEFFICIENT and self.distances[j] > POSITIVE
+            ]
+            if not between:
+                return
+            column = max(between, key=self.distances.__getitem__)
+            eliminating = self._row_to_eliminate(column, total[column], combination)
+            if eliminating is None:
+                return
+            row, a = eliminating
+            combination = {**combination, row: -total[column] * self.program.scale / a}
+
+    def _row_to_eliminate(
+        self, column: int, coefficient: float, used: Combination
+    ) -> Optional[Tuple[int, int]]:
+        """The row that takes the column out and brings in least between bounds.
+
+        Returns:
+            The row, and what the column has in it.
+        """
+        found = []
+        for row, a in self.program.by_column[column]:
+            lower, upper = self.program.side_lo[row], self.program.side_hi[row]
+            needed = upper if coefficient * a < 0 else lower
+            is_variable_bound = len(self.program.rows[row]) == 2 and lower != upper
+            if row not in used and not is_variable_bound and needed is not None:
+                brought_in = sum([self.distances[j] for j, _ in self.program.rows[row]])
+                found.append((brought_in, row, a))
+        return min(found)[1:] if found else None
+
+    def _with_variable_bounds(
+        self, combination: Combination, total: Mapping[int, float]
+    ) -> Combination:
+        """With the rows of the variable bounds that columns are counted from."""
+        found = dict(combination)
+        for j in self.nearest.keys() & total.keys():
+            bound = self.nearest[j]
+            found[bound.row] = found.get(bound.row, 0.0) - total[j] / bound.coefficient
+        return found
+
+    def tableau_rows(self) -> Iterator[Combination]:
+        """Rows of the simplex tableau whose basic columns are to be integer and are not."""
+        basis = self.clp.keep()
+        basic, _ = self.clp.basis()
+        from_half = [
+            (abs(self.x[j] - floor(self.x[j]) - 0.5), j) for j in basic if self.program.whole[j]
+        ]
+        for distance, j in sorted(from_half)[:MOST_TABLEAU_ROWS]:
+            if distance < 0.5 - LEAST_TABLEAU_FRACTION:
+                row_of_inverse = self.clp.row_of_inverse(j, basis)
+                yield {i: v for i, v in enumerate(row_of_inverse) if abs(v) > ZERO_COEFFICIENT}

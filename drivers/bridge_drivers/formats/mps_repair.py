@@ -1,0 +1,157 @@
+"""What other programs write in MPS files and the proved program does not read, repaired in a copy.
+
+The text is gone through by lines: its head, as far as COLUMNS, and its first BOUNDS section. Each
+line is looked at once, whatever it has.
+"""
+
+from __future__ import annotations
+
+import re
+from typing import Dict, Iterator, List, NamedTuple, Optional, Tuple
+
+BYTE_ORDER_MARK = b"\xef\xbb\xbf"
+INFINITY = re.compile(rb"(?P<sign>[-+]?)inf(?:inity)?", re.IGNORECASE)  # of one word
+BRITISH = re.compile(rb"(MAX|MIN)IMISE\b", re.IGNORECASE)
+BARE_KINDS: Dict[Tuple[bytes, bytes], bytes] = {  # by kind and sign of the infinite bound
+    (b"LO", b"-"): b"MI",
+    (b"UP", b""): b"PL",
+    (b"UP", b"+"): b"PL",
+}
+
+
+class RepairedMps(NamedTuple):
+    """A text as it is judged, and what there is to say of its repair; no notes: it is as it was."""
+
+    text: bytes
+    notes: List[str]
+
+
+class _Line(NamedTuple):
+    start: int
+    end: int  # without the line's end
+    words: List[bytes]
+
+
+class _Edit(NamedTuple):
+    start: int
+    end: int
+    text: bytes
+
+
+def repair_mps(text: bytes) -> RepairedMps:
+    """The text without a byte order mark, bounds of infinity, British senses and a plain OBJNAME.
+
+    An upper bound of infinity and a lower one of minus infinity are written as none. OBJNAME is
+    left out where it names the first N row, which is the objective anyway.
+    """
+    notes = []
+    if text.startswith(BYTE_ORDER_MARK):
+        text = text[len(BYTE_ORDER_MARK) :]
+        notes.append("its byte order mark is left out")
+    bounds = list(_bound_edits(text))
+    if bounds:
+        one, more = "a bound of infinity is", f"{len(bounds)} bounds of infinity are"
+        notes.append(f"{one if len(bounds) == 1 else more} read as none")
+    sense = _sense_repair(text)
+    objective = _objective_repair(text)
+    if sense is not None:
+        notes.append("MAXIMISE and MINIMISE are read as MAX and MIN")
+    if objective is not None:
+        notes.append("OBJNAME names the first N row: it is left out")
+    edits = [edit for edit in (sense, objective, *bounds) if edit is not None]
+    if notes:
+        notes.append("what is judged is the text with these changes")
+    return RepairedMps(_edited(text, edits), notes)
+
+
+def _lines(text: bytes, start: int) -> Iterator[_Line]:
+    """From a place on which a line begins."""
+    while start < len(text):
+        end = text.find(b"\n", start)
+        end = len(text) if end < 0 else end
+        yield _Line(start, end, text[start:end].split())
+        start = end + 1
+
+
+def _is_head(text: bytes, line: _Line) -> bool:
+    """Whether a line begins in the first column, as heads of sections do."""
+    return bool(line.words) and not text[line.start : line.start + 1].isspace()
+
+
+def _is_comment(line: _Line) -> bool:
+    return bool(line.words) and line.words[0].startswith(b"*")
+
+
+def _sense_repair(text: bytes) -> Optional[_Edit]:
+    """Of the first MAXIMISE or MINIMISE below or behind OBJSENSE."""
+    for head, line, words in _records(text):
+        found = BRITISH.match(words[0]) if head.words[0].upper() == b"OBJSENSE" and words else None
+        if found is not None:
+            at = text.rindex(words[0], line.start, line.end)
+            return _Edit(at, at + found.end(), found[1])
+    return None
+
+
+def _objective_repair(text: bytes) -> Optional[_Edit]:
+    """Leaves OBJNAME out, where the first N row has its name."""
+    name, edit = b"", _Edit(0, 0, b"")
+    for head, line, words in _records(text):
+        section = head.words[0].upper()
+        if section == b"OBJNAME" and len(words) == 1 and not name:
+            name, edit = words[0], _Edit(head.start, min(line.end + 1, len(text)), b"")
+        elif section == b"ROWS" and len(words) > 1 and words[0].upper() == b"N":
+            return edit if name == words[1] else None
+    return None
+
+
+def _records(text: bytes) -> Iterator[Tuple[_Line, _Line, List[bytes]]]:
+    """Of each line before COLUMNS that is no comment its section's head, and its data."""
+    head: Optional[_Line] = None
+    for line in _lines(text, 0):
+        words = line.words
+        if _is_comment(line):
+            continue
+        if _is_head(text, line):
+            head = line
+            words = words[1:]
+            if head.words[0].upper() == b"COLUMNS":
+                return
+        if head is not None:
+            yield head, line, words
+
+
+def _bound_edits(text: bytes) -> Iterator[_Edit]:
+    """Of the lines of the BOUNDS section."""
+    start = 0 if text.startswith(b"BOUNDS") else text.find(b"\nBOUNDS") + 1
+    if not text.startswith(b"BOUNDS", start):
+        return
+    lines = _lines(text, start)
+    next(lines)
+    for line in lines:
+        if _is_head(text, line) and not _is_comment(line):
+            return
+        edit = _bound_edit(text, line)
+        if edit is not None:
+            yield edit
+
+
+def _bound_edit(text: bytes, line: _Line) -> Optional[_Edit]:
+    """Of a line `KIND [SET] COLUMN VALUE` whose value is an infinity that says nothing."""
+    if _is_comment(line) or len(line.words) not in (3, 4):
+        return None
+    kind, value = line.words[0], line.words[-1]
+    infinity = INFINITY.fullmatch(value)
+    bare = BARE_KINDS.get((kind.upper(), infinity["sign"])) if infinity else None
+    if bare is None:
+        return None
+    kind_at = text.index(kind, line.start)
+    value_at = text.rindex(value, line.start, line.end)
+    return _Edit(kind_at, line.end, bare + text[kind_at + len(kind) : value_at].rstrip())
+
+
+def _edited(text: bytes, edits: List[_Edit]) -> bytes:
+    pieces, at = [], 0
+    for edit in sorted(edits):
+        pieces += [text[at : edit.start], edit.text]
+        at = edit.end
+    return b"".join([*pieces, text[at:]]) if edits else text
