@@ -26,13 +26,17 @@ from texts import Case, Done, Program
 from shared import asked
 
 HERE = os.path.dirname(os.path.abspath(__file__))
-Judged = tuple[bool, str, Done]         # whether a run is as it should be, what it is, how it ended
+Judged = tuple[bool, str, Done]  # whether a run is as it should be, what it is, how it ended
 
 
 def is_judged(done: Done) -> bool:
     """Whether an answer of a text that may be cut is one of the three that may come."""
     if done.status == 2:
-        return done.out == b"" and done.told.startswith(b"refused ") and done.told.find(b"\n") == len(done.told) - 1
+        return (
+            done.out == b""
+            and done.told.startswith(b"refused ")
+            and done.told.find(b"\n") == len(done.told) - 1
+        )
     return done.status in (0, 1) and done.told == b"" and done.out != b""
 
 
@@ -48,8 +52,13 @@ def truncation(program: Program) -> Iterator[Judged]:
 def without(program: Program, case: Case, library: str, number: int) -> tuple[bool, Done]:
     """Whether this allocation was met, which was refused, and how the run ended."""
     reading, writing = os.pipe()
-    done = program.run(case.spelled(), case.files, env=os.environ | {"LD_PRELOAD": library, "REFUSE": str(number)},
-                       preexec_fn=lambda: os.dup2(writing, 9), pass_fds=(9,))
+    done = program.run(
+        case.spelled(),
+        case.files,
+        env=os.environ | {"LD_PRELOAD": library, "REFUSE": str(number)},
+        preexec_fn=lambda: os.dup2(writing, 9),
+        pass_fds=(9,),
+    )
     os.close(writing)
     is_met = os.read(reading, 1) != b""
     os.close(reading)
@@ -58,7 +67,10 @@ def without(program: Program, case: Case, library: str, number: int) -> tuple[bo
 
 def memory(program: Program) -> Iterator[Judged]:
     library = program.place("refuse.so")
-    subprocess.run(["cc", "-O2", "-shared", "-fPIC", "-o", library, os.path.join(HERE, "refuse.c"), "-ldl"], check=True)
+    subprocess.run(
+        ["cc", "-O2", "-shared", "-fPIC", "-o", library, os.path.join(HERE, "refuse.c"), "-ldl"],
+        check=True,
+    )
     for case in texts.cases("hostile"):
         usual = program.tried(case)
         yield usual.is_of(case), case.name, usual
@@ -79,8 +91,10 @@ def limits(program: Program, table: str, chosen: Sequence[str] = ()) -> Iterator
         if not chosen or any(word in case.name for word in chosen):
             done = program.tried(case, 1000)
             yield done.is_of(case) and done.peak < 4 * 10**9, case.name, done
-            print(f"{case.words[0]}: {case.name}: {done.status} {done.told.decode().strip()} {done.seconds:.2f} s, {done.peak / 10**6:.0f} MB",
-                  flush=True)
+            print(
+                f"{case.words[0]}: {case.name}: {done.status} {done.told.decode().strip()} {done.seconds:.2f} s, {done.peak / 10**6:.0f} MB",
+                flush=True,
+            )
 
 
 def is_held(part: str, runs: Iterator[Judged]) -> bool:
@@ -90,7 +104,9 @@ def is_held(part: str, runs: Iterator[Judged]) -> bool:
         count += 1
         if not holds:
             failed += 1
-            print(f"FAILED {what}: {done.status} {done.out[:100]!r} {done.told[:100]!r}", flush=True)
+            print(
+                f"FAILED {what}: {done.status} {done.out[:100]!r} {done.told[:100]!r}", flush=True
+            )
     print(f"{part}: {count} runs, {failed} failed")
     return failed == 0
 
@@ -98,10 +114,15 @@ def is_held(part: str, runs: Iterator[Judged]) -> bool:
 def main(path: str, *wanted: str) -> None:
     at = wanted.index("largest") + 1 if "largest" in wanted else len(wanted)
     parts: dict[str, Callable[[Program], Iterator[Judged]]] = {
-        "truncation": truncation, "memory": memory,
-        "limits": lambda program: limits(program, "limits"), "largest": lambda program: limits(program, "largest", wanted[at:]),
+        "truncation": truncation,
+        "memory": memory,
+        "limits": lambda program: limits(program, "limits"),
+        "largest": lambda program: limits(program, "largest", wanted[at:]),
     }
-    results = [is_held(name, parts[name](Program(path))) for name in wanted[:at] or ("truncation", "memory", "limits")]
+    results = [
+        is_held(name, parts[name](Program(path)))
+        for name in wanted[:at] or ("truncation", "memory", "limits")
+    ]
     sys.exit(0 if all(results) else 1)
 
 

@@ -20,27 +20,57 @@ from shared import asked
 sys.path.append(str(Path(__file__).resolve().parents[1] / "drivers" / "tests"))
 from plain import Ends, Plain  # noqa: E402
 
-Column = tuple[bool, Ends, dict[int, Fraction]]     # whether it is whole, its sides, coefficients by row (-1: the objective)
-TABLES = ("check", "export", "fixed", "import", "make", "mps", "names", "nl", "prove", "refusals", "returned", "sol", "verify", "verify_mps")
+Column = tuple[
+    bool, Ends, dict[int, Fraction]
+]  # whether it is whole, its sides, coefficients by row (-1: the objective)
+TABLES = (
+    "check",
+    "export",
+    "fixed",
+    "import",
+    "make",
+    "mps",
+    "names",
+    "nl",
+    "prove",
+    "refusals",
+    "returned",
+    "sol",
+    "verify",
+    "verify_mps",
+)
 
 
 def group(column: Column) -> int:
     """0 continuous, 1 binary, 2 integer."""
     is_whole, (lower, upper), _ = column
-    return 0 if not is_whole else 1 if lower is not None and upper is not None and lower >= 0 and upper <= 1 else 2
+    return (
+        0
+        if not is_whole
+        else 1
+        if lower is not None and upper is not None and lower >= 0 and upper <= 1
+        else 2
+    )
 
 
 def said(text: str) -> tuple[bool, Fraction, list[Ends], list[Column]]:
     """What an MPS text says without names: sense, right side of the objective, sides of the rows that are no N rows, columns in order."""
     plain = Plain(text.encode())
-    places = {name: place for place, name in enumerate(plain.constraints())} | {plain.objective(): -1}
+    places = {name: place for place, name in enumerate(plain.constraints())} | {
+        plain.objective(): -1
+    }
     terms: dict[str, dict[int, Fraction]] = {name: {} for name in plain.ends}
     for (row, column), value in plain.entries.items():
         if value and row in places:
             terms[column][places[row]] = value
     bounds = plain.bounds()
     columns = [(plain.whole[name], bounds[name], terms[name]) for name in plain.ends]
-    return plain.maximise, plain.rhs.get(plain.objective(), Fraction(0)), list(plain.sides().values()), columns
+    return (
+        plain.maximise,
+        plain.rhs.get(plain.objective(), Fraction(0)),
+        list(plain.sides().values()),
+        columns,
+    )
 
 
 def is_same_in_groups(text: str, other: str) -> bool:
@@ -59,7 +89,11 @@ def output(program: Program, content: bytes | None, command: str, *words: str) -
 def is_imported(program: Program, text: bytes, file: bytes | None) -> bool:
     """The file that was imported from an MPS text is exported as the same program, its columns in groups."""
     exported, written = output(program, file, "export"), output(program, text, "mps")
-    return exported is not None and written is not None and is_same_in_groups(written.decode(), exported.decode())
+    return (
+        exported is not None
+        and written is not None
+        and is_same_in_groups(written.decode(), exported.decode())
+    )
 
 
 def is_kept(program: Program, case: Case, out: bytes) -> bool:
@@ -72,9 +106,15 @@ def is_kept(program: Program, case: Case, out: bytes) -> bool:
     if command == "import":
         return is_imported(program, content, out)
     file = output(program, content, "nl")
-    return output(program, out, "mps") == out and (len(words) == 4 or (
-        file is not None and output(program, file, "nl") == file and output(program, file, "export", *words[1:]) == out
-        and is_imported(program, out, output(program, out, "import"))))
+    return output(program, out, "mps") == out and (
+        len(words) == 4
+        or (
+            file is not None
+            and output(program, file, "nl") == file
+            and output(program, file, "export", *words[1:]) == out
+            and is_imported(program, out, output(program, out, "import"))
+        )
+    )
 
 
 def check(program: Program, case: Case) -> bool:
@@ -93,7 +133,12 @@ def check(program: Program, case: Case) -> bool:
 
 def main(path: str, *commands: str) -> None:
     program = Program(path)
-    cases = [case for name in TABLES for case in texts.cases(name) if not commands or case.words[0] in commands]
+    cases = [
+        case
+        for name in TABLES
+        for case in texts.cases(name)
+        if not commands or case.words[0] in commands
+    ]
     results = [check(program, case) for case in cases]
     print(f"{len(results)} examples, {results.count(False)} failed")
     sys.exit(1 if False in results else 0)

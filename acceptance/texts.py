@@ -32,8 +32,10 @@ from string import Template
 from typing import Any, Union
 
 HERE = os.path.dirname(os.path.abspath(__file__))
-sys.path.append(os.path.join(HERE, "..", "dev"))     # of `shared`
-HOLDS = re.compile(r"(yes \S+|proved|infeasible|unbounded|(optimal|feasible|bound|within \S+) \S+)( of objective \d+)?")
+sys.path.append(os.path.join(HERE, "..", "dev"))  # of `shared`
+HOLDS = re.compile(
+    r"(yes \S+|proved|infeasible|unbounded|(optimal|feasible|bound|within \S+) \S+)( of objective \d+)?"
+)
 MAKER = re.compile(r"(\w+)\((.*?)\) = (.*)")
 NAMED = re.compile(r"([A-Z_]+) = (.*)")
 STATUSES = {"refused": 2, "bad words": 3, "input fault": 4}
@@ -44,7 +46,18 @@ def head(counts: str) -> list[str]:
     """The ten header lines of a file with these counts: variables, constraints, objectives, binary and integer variables, nonzeros of
     rows and of objectives, defined variables."""
     v, c, o, nbv, niv, nzc, nzo, d = counts.split()
-    return ["g3 1 1 0", f"{v} {c} {o} 0 0", "0 0", "0 0", "0 0 0", "0 0 0 1", f"{nbv} {niv} 0 0 0", f"{nzc} {nzo}", "0 0", f"{d} 0 0 0 0"]
+    return [
+        "g3 1 1 0",
+        f"{v} {c} {o} 0 0",
+        "0 0",
+        "0 0",
+        "0 0 0",
+        "0 0 0 1",
+        f"{nbv} {niv} 0 0 0",
+        f"{nzc} {nzo}",
+        "0 0",
+        f"{d} 0 0 0 0",
+    ]
 
 
 def data(path: str) -> list[str]:
@@ -53,10 +66,20 @@ def data(path: str) -> list[str]:
         return stream.read().split("\n")[:-1]
 
 
-def solved(primals: str, duals: str, rows: int = 1, columns: int = 2, end: str = "objno 0 0") -> list[str]:
+def solved(
+    primals: str, duals: str, rows: int = 1, columns: int = 2, end: str = "objno 0 0"
+) -> list[str]:
     """A .sol text with these values."""
     y, x = duals.split(), primals.split()
-    return ["", "Options", "0", *map(str, (rows, len(y), columns, len(x))), *y, *x, *filter(None, [end])]
+    return [
+        "",
+        "Options",
+        "0",
+        *map(str, (rows, len(y), columns, len(x))),
+        *y,
+        *x,
+        *filter(None, [end]),
+    ]
 
 
 def halved(low: int, high: int) -> Iterator[str]:
@@ -78,7 +101,14 @@ def expanded(words: Sequence[str], names: Names) -> Iterator[str]:
             count, index = word[1:].rsplit(" ", 1)
             made.append(" " * depth + f"for {index} in range({count}):")
         elif word != "]":
-            made.append(" " * depth + (f"yield from {word[1:]}" if word.startswith("<") else f"yield {'f' * ('{' in word)}{word!r}"))
+            made.append(
+                " " * depth
+                + (
+                    f"yield from {word[1:]}"
+                    if word.startswith("<")
+                    else f"yield {'f' * ('{' in word)}{word!r}"
+                )
+            )
         depth += word.startswith("[") - (word == "]")
     scope = dict(names)
     exec("\n".join(made), scope)
@@ -126,7 +156,11 @@ class Case:
     @property
     def files(self) -> dict[str, Text]:
         """By the names A, B, C .., of which those that are named `missing` are not there."""
-        return {name: text for name, text in zip("ABCD", self.texts) if len(self.words) == 1 or name in self.words}
+        return {
+            name: text
+            for name, text in zip("ABCD", self.texts)
+            if len(self.words) == 1 or name in self.words
+        }
 
     def spelled(self) -> list[str]:
         """The words with the files."""
@@ -137,7 +171,15 @@ class Table:
     """The cases of a table, over the names of `texts.txt`."""
 
     def __init__(self, name: str) -> None:
-        self.names: Names = {"head": head, "data": data, "solved": solved, "halved": halved, "BIG": 2**127 - 1, "TAB": "\t", "CR": "\r"}
+        self.names: Names = {
+            "head": head,
+            "data": data,
+            "solved": solved,
+            "halved": halved,
+            "BIG": 2**127 - 1,
+            "TAB": "\t",
+            "CR": "\r",
+        }
         self.makers: dict[str, tuple[list[str], str]] = {}
         self.cases: list[Case] = []
         for row in [*rows("texts"), *rows(name)]:
@@ -150,7 +192,9 @@ class Table:
             self.makers[found[1]] = (found[2].split(", "), found[3])
         else:
             made, name, *cells = row.split(" | ")
-            self.cases.append(self.case(name, cells if made == "call" else self.made(made, [name, *cells])))
+            self.cases.append(
+                self.case(name, cells if made == "call" else self.made(made, [name, *cells]))
+            )
 
     def made(self, maker: str, cells: Sequence[str]) -> list[str]:
         """What a maker stands for with these cells."""
@@ -168,18 +212,31 @@ class Table:
     def case(self, name: str, cells: Sequence[str]) -> Case:
         words, *texts, outcome = cells
         limited = re.match(r"(\d+) s: ", outcome)
-        seconds, outcome = (int(limited[1]), outcome[limited.end():]) if limited else (600, outcome)
+        seconds, outcome = (
+            (int(limited[1]), outcome[limited.end() :]) if limited else (600, outcome)
+        )
         kind, _, rest = outcome.partition(" ")
         status = STATUSES.get(outcome, STATUSES.get(kind, 0))
         if kind == "says":
             status = int(not HOLDS.fullmatch(rest))
         out = self.text("<[]" if status > 1 else rest)
-        return Case(name, words.split(), [self.text(text) for text in texts], status, out, f"{outcome}\n" if status > 1 else "", seconds, kind == "begins")
+        return Case(
+            name,
+            words.split(),
+            [self.text(text) for text in texts],
+            status,
+            out,
+            f"{outcome}\n" if status > 1 else "",
+            seconds,
+            kind == "begins",
+        )
 
 
 def rows(name: str) -> list[str]:
     """The lines of a table, each with those that go on with it."""
-    text = "\n".join(line for line in data(f"tables/{name}.txt") if line.strip() and not line.startswith("# "))
+    text = "\n".join(
+        line for line in data(f"tables/{name}.txt") if line.strip() and not line.startswith("# ")
+    )
     return text.replace("\n    ", "").split("\n")
 
 
@@ -201,7 +258,11 @@ class Done:
     def is_of(self, case: Case) -> bool:
         """Whether this is what the case says."""
         out = case.out.content()
-        is_written = self.out != b"" and self.out.startswith(out.rstrip(b"\n")) if case.is_begun else self.out == out
+        is_written = (
+            self.out != b"" and self.out.startswith(out.rstrip(b"\n"))
+            if case.is_begun
+            else self.out == out
+        )
         return is_written and (self.status, self.told) == (case.status, case.told.encode())
 
 
@@ -217,20 +278,45 @@ class Program:
         with open(self.place(name), "rb") as stream:
             return stream.read(most)
 
-    def run(self, words: Sequence[str], files: Mapping[str, Union[Text, bytes]], seconds: int = 600, most: int = -1, **more: Any) -> Done:
+    def run(
+        self,
+        words: Sequence[str],
+        files: Mapping[str, Union[Text, bytes]],
+        seconds: int = 600,
+        most: int = -1,
+        **more: Any,
+    ) -> Done:
         """The run with these words where these files lie; it is killed after so many seconds of the processor."""
         for name, text in files.items():
             with open(self.place(name), "wb", buffering=1 << 20) as stream:
-                stream.writelines((text,) if isinstance(text, bytes) else (line.encode() for line in text.lines()))
-        more = {"preexec_fn": partial(resource.setrlimit, resource.RLIMIT_CPU, (seconds, seconds)), **more}
+                stream.writelines(
+                    (text,) if isinstance(text, bytes) else (line.encode() for line in text.lines())
+                )
+        more = {
+            "preexec_fn": partial(resource.setrlimit, resource.RLIMIT_CPU, (seconds, seconds)),
+            **more,
+        }
         begun = time.monotonic()
         with open(self.place("out"), "wb") as out, open(self.place("told"), "wb") as told:
-            process = subprocess.Popen([self.path, *words], cwd=self.folder.name, stdin=subprocess.DEVNULL, stdout=out, stderr=told, **more)
+            process = subprocess.Popen(
+                [self.path, *words],
+                cwd=self.folder.name,
+                stdin=subprocess.DEVNULL,
+                stdout=out,
+                stderr=told,
+                **more,
+            )
             _, ended, used = os.wait4(process.pid, 0)
         process.returncode = os.waitstatus_to_exitcode(ended)
         for name in files:
             os.remove(self.place(name))
-        return Done(process.returncode, self.read("out", most), self.read("told", most), time.monotonic() - begun, used.ru_maxrss * 1024)
+        return Done(
+            process.returncode,
+            self.read("out", most),
+            self.read("told", most),
+            time.monotonic() - begun,
+            used.ru_maxrss * 1024,
+        )
 
     def tried(self, case: Case, most: int = -1) -> Done:
         return self.run(case.spelled(), case.files, case.seconds, most)

@@ -43,9 +43,13 @@ TERMS = 10
 GOAL = 30  # the objective is the sum of so many variables: those of rows 0, 1 and 2, and of each hundredth after them
 
 
-def header(variables: int, rows: int, binary: int, integer: int, terms: int, slopes: int, defined: int = 0) -> str:
-    return (f"g3 1 1 0\n {variables} {rows} 1 0 0\n 0 0\n 0 0\n 0 0 0\n 0 0 0 1\n {binary} {integer} 0 0 0\n {terms} {slopes}\n 0 0\n"
-            f" {defined} 0 0 0 0\n")
+def header(
+    variables: int, rows: int, binary: int, integer: int, terms: int, slopes: int, defined: int = 0
+) -> str:
+    return (
+        f"g3 1 1 0\n {variables} {rows} 1 0 0\n 0 0\n 0 0\n 0 0 0\n 0 0 0 1\n {binary} {integer} 0 0 0\n {terms} {slopes}\n 0 0\n"
+        f" {defined} 0 0 0 0\n"
+    )
 
 
 def columns_before(counts: list[int]) -> str:
@@ -71,7 +75,9 @@ def decimal(rnd: random.Random) -> str:
 def factor(rnd: random.Random, form: str) -> str:
     """The factor of a term under J."""
     if form == "exponents":
-        return f"{rnd.choice((-1, 1)) * rnd.randint(1000, 9999) / 1000:.3f}e{rnd.randint(-9, 9):+03d}"
+        return (
+            f"{rnd.choice((-1, 1)) * rnd.randint(1000, 9999) / 1000:.3f}e{rnd.randint(-9, 9):+03d}"
+        )
     return decimal(rnd) if form == "linear" else "0"
 
 
@@ -81,15 +87,27 @@ def rows(variables: int, count: int, per_row: int, form: str = "linear") -> Iter
     binary = variables // 4
     integer = variables // 2 - binary
     columns = [sorted(rnd.sample(range(variables), per_row)) for _ in range(count)]
-    yield header(variables, count, binary, integer, count * per_row, variables, count if form == "defined" else 0)
+    yield header(
+        variables,
+        count,
+        binary,
+        integer,
+        count * per_row,
+        variables,
+        count if form == "defined" else 0,
+    )
     if form == "defined":
         for i, row in enumerate(columns):
-            yield f"V{variables + i} {len(row)} 0\n" + "".join(f"{j} {decimal(rnd)}\n" for j in row) + "n0\n"
+            yield f"V{variables + i} {len(row)} 0\n" + "".join(
+                f"{j} {decimal(rnd)}\n" for j in row
+            ) + "n0\n"
     for i, row in enumerate(columns):
         if form == "list":
             yield f"C{i}\no54\n{len(row)}\n" + "".join(f"o2\nn{decimal(rnd)}\nv{j}\n" for j in row)
         elif form == "quotients":
-            yield f"C{i}\no54\n{len(row)}\n" + "".join(f"o3\nv{j}\nn{rnd.choice((3, 6, 7, 9))}\n" for j in row)
+            yield f"C{i}\no54\n{len(row)}\n" + "".join(
+                f"o3\nv{j}\nn{rnd.choice((3, 6, 7, 9))}\n" for j in row
+            )
         else:
             yield f"C{i}\nv{variables + i}\n" if form == "defined" else f"C{i}\nn0\n"
     yield "O0 1\nn12.5\nr\n"
@@ -146,8 +164,8 @@ def spine(variables: list[str]) -> Iterator[str]:
     """Chains of some variables, each beside the tree of those after it."""
     for first in range(0, len(variables) - SIDE, SIDE):
         yield "o0\n"
-        yield from right(variables[first:first + SIDE])
-    yield from right(variables[(len(variables) - 1) // SIDE * SIDE:])
+        yield from right(variables[first : first + SIDE])
+    yield from right(variables[(len(variables) - 1) // SIDE * SIDE :])
 
 
 def nested(count: int, shape: str) -> Iterator[str]:
@@ -157,13 +175,25 @@ def nested(count: int, shape: str) -> Iterator[str]:
     variables = [f"v{place}\n" for place in places]
     if shape == "products":
         variables = [f"o2\nn{rnd.randint(1, 99999) / 100}\n{it}" for it in variables]
-    fronts = {"right": "o0\n", "products": "o0\n", "differences": "o1\n", "negations": "o16\no0\n", "negatives": "o2\nn-1\no0\n"}
+    fronts = {
+        "right": "o0\n",
+        "products": "o0\n",
+        "differences": "o1\n",
+        "negations": "o16\no0\n",
+        "negatives": "o2\nn-1\no0\n",
+    }
     if shape in fronts:
         tree = right(variables, fronts[shape])
     elif shape == "factors":
-        tree = right([f"o2\nn{2 - place % 2 * 1.5:g}\no0\n{it}" for place, it in enumerate(variables[:-1])] + variables[-1:], "")
+        tree = right(
+            [f"o2\nn{2 - place % 2 * 1.5:g}\no0\n{it}" for place, it in enumerate(variables[:-1])]
+            + variables[-1:],
+            "",
+        )
     else:
-        tree = {"left": left, "lists": lists, "balanced": balanced, "spine": spine}[shape](variables)
+        tree = {"left": left, "lists": lists, "balanced": balanced, "spine": spine}[shape](
+            variables
+        )
     return single_row(count, tree, (f"{place} 0\n" for place in range(count)))
 
 
@@ -172,7 +202,11 @@ def one_row(count: int, order: str) -> Iterator[str]:
     places = list(range(count))
     if order == "mixed":
         rnd.shuffle(places)
-    return single_row(count, ["n0\n"], (f"{place} {decimal(rnd)}\n" for place in places[::-1 if order == "descending" else 1]))
+    return single_row(
+        count,
+        ["n0\n"],
+        (f"{place} {decimal(rnd)}\n" for place in places[:: -1 if order == "descending" else 1]),
+    )
 
 
 def distinct(rnd: random.Random, first: str, count: int, size: int) -> list[str]:
@@ -192,7 +226,9 @@ def mps(entries: int, names: str) -> Iterator[str]:
     rows, columns = (distinct(rnd, first, count, size) for first in "RC")
     yield "NAME x FREE\nROWS\n N OBJ\n" + "".join(f" L {row}\n" for row in rows) + "COLUMNS\n"
     for column in columns:
-        yield "".join(f" {column} {rows[i]} {decimal(rnd)}\n" for i in sorted(rnd.sample(range(count), TERMS)))
+        yield "".join(
+            f" {column} {rows[i]} {decimal(rnd)}\n" for i in sorted(rnd.sample(range(count), TERMS))
+        )
     yield "RHS\n" + "".join(f" RHS {row} 50\n" for row in rows) + "BOUNDS\n"
     yield "".join(f" UP BND {column} 100\n" for column in columns) + "ENDATA\n"
 
@@ -200,11 +236,15 @@ def mps(entries: int, names: str) -> Iterator[str]:
 def program() -> Iterator[str]:
     """Each row's sum is at least 1, the least objective is 3; the variables of rows repeat after a hundred."""
     yield header(VARIABLES, ROWS, 0, VARIABLES, ROWS * TERMS, GOAL)
-    yield "".join(f"C{row}\nn0\n" for row in range(ROWS)) + "O0 0\nn0\nr\n" + "2 1\n" * ROWS + "b\n" + "0 0 9\n" * VARIABLES
+    yield "".join(
+        f"C{row}\nn0\n" for row in range(ROWS)
+    ) + "O0 0\nn0\nr\n" + "2 1\n" * ROWS + "b\n" + "0 0 9\n" * VARIABLES
     yield columns_before([ROWS // VARIABLES * TERMS] * VARIABLES)
     for row in range(ROWS):
         start = row % (VARIABLES // TERMS) * TERMS
-        yield f"J{row} {TERMS}\n" + "".join(f"{column} 1\n" for column in range(start, start + TERMS))
+        yield f"J{row} {TERMS}\n" + "".join(
+            f"{column} 1\n" for column in range(start, start + TERMS)
+        )
     yield f"G0 {GOAL}\n" + "".join(f"{column} 1\n" for column in range(GOAL))
 
 
@@ -218,7 +258,9 @@ def leaves(depth: int) -> Iterator[str]:
     """A balanced tree: on the way down each level splits a variable of its own."""
     for leaf in range(1 << depth):
         above = depth if leaf == 0 else (leaf & -leaf).bit_length() - 1
-        yield "".join(f"split {GOAL + level} 4\n" for level in range(depth - above, depth)) + duals(leaf)
+        yield "".join(f"split {GOAL + level} 4\n" for level in range(depth - above, depth)) + duals(
+            leaf
+        )
 
 
 def planes(count: int) -> Iterator[str]:
@@ -230,11 +272,20 @@ def planes(count: int) -> Iterator[str]:
 
 def main(kind: str, out: str, size: str, *more: str) -> None:
     makers: dict[str, Callable[..., Iterator[str]]] = {
-        "rows": rows, "nested": nested, "row": one_row, "mps": mps, "leaves": leaves, "planes": planes}
+        "rows": rows,
+        "nested": nested,
+        "row": one_row,
+        "mps": mps,
+        "leaves": leaves,
+        "planes": planes,
+    }
     made = makers[kind](int(size), *(int(word) if word.isdecimal() else word for word in more))
     texts = {Path(out): made}
     if kind in ("leaves", "planes"):
-        texts = {Path(out, f"{kind}.nl"): program(), Path(out, f"{kind}.certificate"): chain(["certificate 1\nbound 0 3\n"], made)}
+        texts = {
+            Path(out, f"{kind}.nl"): program(),
+            Path(out, f"{kind}.certificate"): chain(["certificate 1\nbound 0 3\n"], made),
+        }
     for path, parts in texts.items():
         with path.open("w") as stream:
             stream.writelines(parts)

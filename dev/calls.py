@@ -22,7 +22,9 @@ TESTS = ("call_tests", "command_tests")
 
 HANDED = re.compile(r"^pub use (?:\w+::)*(?:(\w+)|\{([^}]*)\});", re.M)
 OPENED = re.compile(r"^pub mod (\w+);", re.M)
-IMPL = re.compile(r"^impl(?:<[^{;]*?>)? (?:(?P<trait>[\w:]+)(?:<[^{]*?>)? for )?(?P<type>\w+)", re.M)
+IMPL = re.compile(
+    r"^impl(?:<[^{;]*?>)? (?:(?P<trait>[\w:]+)(?:<[^{]*?>)? for )?(?P<type>\w+)", re.M
+)
 LABEL = re.compile(r"^\s*ensures(?: (\w+))? \{", re.M)
 MEMORY = re.compile(r"AllocError|Stop<|Answer>")
 
@@ -46,21 +48,36 @@ class Call(NamedTuple):
 
     def made_in(self, texts: Mapping[str, str]) -> list[str]:
         """The files of tests that make it."""
-        made = re.compile(rf"\b{self.kind}::{self.word}\(|\.{self.word}\(" if self.kind else rf"\b{self.word}\b[(<:]")
-        return [name for name, text in texts.items() if made.search(text) and (self.kind in text or self.word not in ("new", "push"))]
+        made = re.compile(
+            rf"\b{self.kind}::{self.word}\(|\.{self.word}\("
+            if self.kind
+            else rf"\b{self.word}\b[(<:]"
+        )
+        return [
+            name
+            for name, text in texts.items()
+            if made.search(text) and (self.kind in text or self.word not in ("new", "push"))
+        ]
 
     def told(self, texts: Mapping[str, str]) -> str:
         clauses = ", ".join(label or "its clause" for label in LABEL.findall(self.head)) or "none"
         tests = ", ".join(self.made_in(texts))
-        return f"{self.crate}: {self.name}: {clauses}{'; memory' * self.wants_memory}" + \
-            (f"; {tests}" if tests else "") + (f"\n    {self.words}" if self.words else "")
+        return (
+            f"{self.crate}: {self.name}: {clauses}{'; memory' * self.wants_memory}"
+            + (f"; {tests}" if tests else "")
+            + (f"\n    {self.words}" if self.words else "")
+        )
 
 
 def handed_out(root: str) -> set[str]:
     """The names that the root of a crate hands out."""
     found: set[str] = set()
     for one, many in HANDED.findall(root):
-        found |= {one} if one else {word.strip().split(" as ")[0].split("::")[-1] for word in many.split(",")}
+        found |= (
+            {one}
+            if one
+            else {word.strip().split(" as ")[0].split("::")[-1] for word in many.split(",")}
+        )
     return found - {""}
 
 
@@ -70,11 +87,21 @@ def functions(crate: str, text: str) -> Iterator[Call]:
     for block in re.split(r"\n(?=\S)", text):
         found = IMPL.match(block.lstrip("\n"))
         indent = 4 if found else 0
-        for at in re.finditer(r"^ {%d}pub fn (\w+)" % indent, block, re.M) if not (found and found["trait"]) else ():
+        for at in (
+            re.finditer(r"^ {%d}pub fn (\w+)" % indent, block, re.M)
+            if not (found and found["trait"])
+            else ()
+        ):
             end = re.compile(r"^ {%d}\{|;$" % indent, re.M).search(block, at.end())
-            above = text[:start + at.start()].rpartition("\n\n")[2].splitlines()
+            above = text[: start + at.start()].rpartition("\n\n")[2].splitlines()
             words = " ".join(line.strip(" /") for line in above if line.lstrip().startswith("///"))
-            yield Call(crate, found["type"] if found else "", at[1], block[at.start():end.start() if end else len(block)], words)
+            yield Call(
+                crate,
+                found["type"] if found else "",
+                at[1],
+                block[at.start() : end.start() if end else len(block)],
+                words,
+            )
         start += len(block) + 1
 
 
@@ -86,17 +113,33 @@ def calls(crates: Iterable[str]) -> Iterator[Call]:
         text = root.read_text() if root.exists() and crate not in TESTS else ""
         handed, opened = handed_out(text), set(OPENED.findall(text))
         for path in sorted(source.rglob("*.rt")) if text else ():
-            is_open = path == root or path.relative_to(source).parts[0].removesuffix(".rt") in opened
-            yield from (it for it in functions(crate, path.read_text()) if is_open or (it.kind or it.word) in handed)
+            is_open = (
+                path == root or path.relative_to(source).parts[0].removesuffix(".rt") in opened
+            )
+            yield from (
+                it
+                for it in functions(crate, path.read_text())
+                if is_open or (it.kind or it.word) in handed
+            )
 
 
 def main(words: list[str]) -> int:
     crates, page = list(own_uses()), PAGE.read_text()
-    tests = {path.stem: path.read_text() for crate in TESTS for path in sorted((TOP / "crates" / crate / "src").glob("*.rt"))}
+    tests = {
+        path.stem: path.read_text()
+        for crate in TESTS
+        for path in sorted((TOP / "crates" / crate / "src").glob("*.rt"))
+    }
     if words == ["--check"]:
-        found = [it for it in calls(crates) if it.wants_memory and not it.made_in(tests) and f"`{it.name}`" not in page]
+        found = [
+            it
+            for it in calls(crates)
+            if it.wants_memory and not it.made_in(tests) and f"`{it.name}`" not in page
+        ]
         for it in found:
-            print(f"{it.crate}: {it.name} may want memory, and no test makes it (docs/verify/calls.md)")
+            print(
+                f"{it.crate}: {it.name} may want memory, and no test makes it (docs/verify/calls.md)"
+            )
         return 1 if found else 0
     if unknown := set(words) - set(crates):
         print(f"dev/calls.py: no crate {', '.join(sorted(unknown))}", file=sys.stderr)

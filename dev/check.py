@@ -18,10 +18,14 @@ import sys
 
 from shared import TOP, own_uses, reached, rooms
 
-if {"-h", "--help"} & set(sys.argv[1:]):        # of the script that is called, also where there is no toolchain
+if {"-h", "--help"} & set(
+    sys.argv[1:]
+):  # of the script that is called, also where there is no toolchain
     print(sys.modules["__main__"].__doc__)
     sys.exit()
-KIT = os.path.dirname(os.path.dirname(os.path.realpath(shutil.which("rt") or sys.exit("rt is not on the PATH"))))
+KIT = os.path.dirname(
+    os.path.dirname(os.path.realpath(shutil.which("rt") or sys.exit("rt is not on the PATH")))
+)
 GATE = os.path.abspath(os.environ.get("GATE", f"{TOP}/../gate"))
 PARTS = ("src", "specs", "proofs")
 
@@ -30,7 +34,10 @@ def is_same(crate: str) -> bool:
     """Whether a crate's text is the same here and at GATE, and it is not to be taken from here all the same."""
     parts = [[f"{top}/crates/{crate}/{part}" for top in (TOP, GATE)] for part in PARTS]
     return crate not in os.environ.get("OWN", "").split() and not any(
-        subprocess.run(["diff", "-rq", *folders], capture_output=True).returncode for folders in parts if any(map(os.path.exists, folders)))
+        subprocess.run(["diff", "-rq", *folders], capture_output=True).returncode
+        for folders in parts
+        if any(map(os.path.exists, folders))
+    )
 
 
 def library(crate: str) -> str:
@@ -46,12 +53,27 @@ def words(crate: str) -> list[str]:
     """The words that name the crate and all libraries for rattle."""
     uses, own = rooms()[1], own_uses()
     root = "src/main.rt" if os.path.exists(f"{TOP}/crates/{crate}/src/main.rt") else "src/lib.rt"
-    of_kit = [f"{name}={KIT}/rlibs/{name}.rlib" for name in ["std", *uses[crate]] if name not in own]
+    of_kit = [
+        f"{name}={KIT}/rlibs/{name}.rlib" for name in ["std", *uses[crate]] if name not in own
+    ]
     libraries = [*of_kit, *(f"{name}={library(name)}" for name in own[crate])]
-    folders = [f"{KIT}/rlibs", *(os.path.dirname(library(name)) for name in reached([crate], lambda it: set(own[it])))]
-    return ["--crate-name", crate, root, *(word for it in libraries for word in ("--extern", it)),
-            *(word for it in folders for word in ("-L", f"dependency={it}")),
-            "--antt-project", f"{KIT}/rattle/logic/antt-project.json", "--logic-built", f"{KIT}/logic_built", "--links", f"{crate}="]
+    folders = [
+        f"{KIT}/rlibs",
+        *(os.path.dirname(library(name)) for name in reached([crate], lambda it: set(own[it]))),
+    ]
+    return [
+        "--crate-name",
+        crate,
+        root,
+        *(word for it in libraries for word in ("--extern", it)),
+        *(word for it in folders for word in ("-L", f"dependency={it}")),
+        "--antt-project",
+        f"{KIT}/rattle/logic/antt-project.json",
+        "--logic-built",
+        f"{KIT}/logic_built",
+        "--links",
+        f"{crate}=",
+    ]
 
 
 def main(crate: str, flags: list[str]) -> int:
@@ -66,7 +88,7 @@ def main(crate: str, flags: list[str]) -> int:
         if "--kept" in flags:
             at = flags.index("--kept")
             kept = flags[at + 1]
-            del flags[at:at + 2]
+            del flags[at : at + 2]
         if "--test" not in flags:
             os.makedirs(kept, exist_ok=True)
             ask += ["--incremental", kept]

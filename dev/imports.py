@@ -24,7 +24,12 @@ UNREAD = ("Goals", "Given", "TheInside", "TheConstants")
 def names_in(path: Path) -> frozenset[str]:
     """The names that a file of specs/ or proofs/ shows to others."""
     text = path.read_text(encoding="utf-8") if path.is_file() else ""
-    defined = (name for line in text.splitlines() if (found := DEFINED.match(line)) for name in found["names"].split())
+    defined = (
+        name
+        for line in text.splitlines()
+        if (found := DEFINED.match(line))
+        for name in found["names"].split()
+    )
     return frozenset(defined) | {entry.known_as for entry in imports_of(text) if entry.passed_on}
 
 
@@ -42,7 +47,12 @@ def is_declared(source: Path, words: list[str], name: str) -> bool:
 def is_there(entry: Import) -> bool:
     """Whether a module of this repository has the name; true for what is not looked up."""
     crate, *rest = entry.module.split(".")
-    if not (CRATES / crate).is_dir() or not rest or rest[:2] == ["specs", "contracts"] or rest[-1] in UNREAD:
+    if (
+        not (CRATES / crate).is_dir()
+        or not rest
+        or rest[:2] == ["specs", "contracts"]
+        or rest[-1] in UNREAD
+    ):
         return True
     if rest[:2] == ["specs", "declared"]:
         return is_declared(CRATES / crate / "src", rest[2:], entry.name)
@@ -52,7 +62,10 @@ def is_there(entry: Import) -> bool:
 def is_used(entry: Import, words: set[str], body: str) -> bool:
     if "◌" in entry.known_as:
         return all(any(part in word for word in words) for part in entry.known_as.split("◌"))
-    return entry.known_as in words or re.search(rf"(?<![\w-]){re.escape(entry.known_as)}(?![\w-])", body) is not None
+    return (
+        entry.known_as in words
+        or re.search(rf"(?<![\w-]){re.escape(entry.known_as)}(?![\w-])", body) is not None
+    )
 
 
 def main(arguments: list[str]) -> int:
@@ -69,7 +82,11 @@ def main(arguments: list[str]) -> int:
                 if not is_there(entry):
                     missing += 1
                     print(f"{place}: {entry.module} has no {entry.name}")
-                elif path.suffix == ".antt" and not entry.passed_on and not is_used(entry, words, body):
+                elif (
+                    path.suffix == ".antt"
+                    and not entry.passed_on
+                    and not is_used(entry, words, body)
+                ):
                     print(f"{place}: {entry.known_as} is not used")
     return 1 if missing else 0
 

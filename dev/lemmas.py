@@ -15,11 +15,26 @@ from collections import defaultdict
 from collections.abc import Iterator
 from pathlib import Path
 
-from shared import APART, CITED, CRATES, TOP, File, Key, Library, asked, imports_of, reached, without_imports
+from shared import (
+    APART,
+    CITED,
+    CRATES,
+    TOP,
+    File,
+    Key,
+    Library,
+    asked,
+    imports_of,
+    reached,
+    without_imports,
+)
 
 PATHED = re.compile(r"(?:(\w+)::)?proofs::([\w:]+)::(\w+)")
-BODY = re.compile(r"^(?P<indent> *)(?:pub(?:\(crate\))? )?fn (?P<name>\w+).*?^(?P=indent)\{\n(?P<body>.*?)^(?P=indent)\}$", re.M | re.S)
-LEAST = 5                       # lines of a body that is told
+BODY = re.compile(
+    r"^(?P<indent> *)(?:pub(?:\(crate\))? )?fn (?P<name>\w+).*?^(?P=indent)\{\n(?P<body>.*?)^(?P=indent)\}$",
+    re.M | re.S,
+)
+LEAST = 5  # lines of a body that is told
 
 
 def words_of(text: str) -> set[str]:
@@ -33,33 +48,52 @@ class Repository(Library):
 
     def __init__(self) -> None:
         super().__init__("specs", "proofs")
-        self.first: set[Key | None] = {it for file in self.files.values() for it in self.named(file, "\n".join(file.others))}
+        self.first: set[Key | None] = {
+            it for file in self.files.values() for it in self.named(file, "\n".join(file.others))
+        }
         own = {file.path for file in self.files.values()}
-        for path in sorted([*CRATES.glob("*/*/**/*.antt"), *CRATES.glob("*/src/**/*.rt"), *TOP.glob("**/*.md")]):
+        for path in sorted(
+            [*CRATES.glob("*/*/**/*.antt"), *CRATES.glob("*/src/**/*.rt"), *TOP.glob("**/*.md")]
+        ):
             if "out" not in path.relative_to(TOP).parts and path.stem != "Lib" and path not in own:
                 self.first |= self.roots(path)
 
     def named(self, file: File, text: str) -> set[Key]:
         """What a text in a file of definitions names."""
-        return {found for word in words_of(text) & {*file.imports, *file.definitions, *file.owners}
-                if (found := self.resolve(file.module, word))}
+        return {
+            found
+            for word in words_of(text) & {*file.imports, *file.definitions, *file.owners}
+            if (found := self.resolve(file.module, word))
+        }
 
     def roots(self, path: Path) -> set[Key | None]:
         """What code, an answer or a document names."""
         text = path.read_text(encoding="utf-8")
         if path.suffix == ".md":
-            return {self.resolve(f"{crate}.specs.{file}", name) for crate, file, name in CITED.findall(text)}
+            return {
+                self.resolve(f"{crate}.specs.{file}", name)
+                for crate, file, name in CITED.findall(text)
+            }
         words, own = words_of(without_imports(text)), path.relative_to(CRATES).parts[0]
-        return {self.resolve(it.module, it.name) for it in imports_of(text) if it.known_as in words} | {
-            self.resolve(f"{own if crate == 'crate' else crate}.proofs.{module.replace('::', '.')}", name)
-            for crate, module, name in PATHED.findall(text)}
+        return {
+            self.resolve(it.module, it.name) for it in imports_of(text) if it.known_as in words
+        } | {
+            self.resolve(
+                f"{own if crate == 'crate' else crate}.proofs.{module.replace('::', '.')}", name
+            )
+            for crate, module, name in PATHED.findall(text)
+        }
 
     def unneeded(self) -> Iterator[tuple[File, str]]:
         """What nothing reaches."""
         first = {it for it in self.first if it}
-        needed = first | set(reached(list(first), lambda key: self.named(self.files[key[0]], self[key].text)))
+        needed = first | set(
+            reached(list(first), lambda key: self.named(self.files[key[0]], self[key].text))
+        )
         for file in self.files.values():
-            yield from ((file, name) for name in file.definitions if (file.module, name) not in needed)
+            yield from (
+                (file, name) for name in file.definitions if (file.module, name) not in needed
+            )
 
 
 def bodies() -> dict[str, list[str]]:
@@ -69,7 +103,9 @@ def bodies() -> dict[str, list[str]]:
         text = path.read_text(encoding="utf-8")
         for one in BODY.finditer(text):
             lines = [line.strip() for line in one["body"].splitlines()]
-            found["\n".join(lines)].append(f"{path.relative_to(TOP)}:{text.count(chr(10), 0, one.start()) + 1}: {one['name']}")
+            found["\n".join(lines)].append(
+                f"{path.relative_to(TOP)}:{text.count(chr(10), 0, one.start()) + 1}: {one['name']}"
+            )
     return found
 
 
@@ -80,7 +116,14 @@ def told(crates: list[str]) -> Iterator[str]:
             it = file.definitions[name]
             yield f"{file.path.relative_to(TOP)}:{it.line}: {name} has no user ({len(it.own_lines)} lines)"
     for body, places in bodies().items():
-        if len(places) > 1 and body.count("\n") + 1 >= LEAST and (not crates or any(f"crates/{crate}/" in place for place in places for crate in crates)):
+        if (
+            len(places) > 1
+            and body.count("\n") + 1 >= LEAST
+            and (
+                not crates
+                or any(f"crates/{crate}/" in place for place in places for crate in crates)
+            )
+        ):
             yield f"{places[0]} stands again in {', '.join(places[1:])}"
 
 

@@ -96,8 +96,16 @@ def judge_in_batches(module: Any, size: int, seconds: float) -> None:
         left = max(min(seconds, copy.end - time.monotonic()), 0)
         try:
             whole = [*module.rt.guarded(), module.rt.RATTLE, "check", *words]
-            ran = subprocess.run(whole, timeout=left, cwd=copy.folder, stdin=subprocess.DEVNULL, stdout=subprocess.PIPE,
-                                 stderr=subprocess.STDOUT, text=True, errors="replace")
+            ran = subprocess.run(
+                whole,
+                timeout=left,
+                cwd=copy.folder,
+                stdin=subprocess.DEVNULL,
+                stdout=subprocess.PIPE,
+                stderr=subprocess.STDOUT,
+                text=True,
+                errors="replace",
+            )
         except subprocess.TimeoutExpired:
             return None
         return ran.stdout if ran.returncode >= 0 else None
@@ -110,7 +118,9 @@ def judge_in_batches(module: Any, size: int, seconds: float) -> None:
             if said and re.search(r"(?m)^(only=|rattle: no verdict)", said):
                 module.read(now, said)
                 return []
-            wrong = {copy.lines.get((file, int(line))) for file, line in module.ERROR.findall(said or "")} - {None}
+            wrong = {
+                copy.lines.get((file, int(line))) for file, line in module.ERROR.findall(said or "")
+            } - {None}
             for it in wrong:
                 it.kind = "not-source"
             if not wrong and len(now) > 1:
@@ -143,7 +153,9 @@ def main(words: list[str]) -> int:
     choose(module, said.only)
     judge_in_batches(module, said.batch, 3600)
     os.chdir(f"{TOP}/crates/{said.crate}")
-    status: int = module.main(said.crate, "--all", "--minutes", said.minutes, "--max", "100000", "--jobs", "1")
+    status: int = module.main(
+        said.crate, "--all", "--minutes", said.minutes, "--max", "100000", "--jobs", "1"
+    )
     return status
 
 

@@ -11,9 +11,15 @@ from typing import Any, TypeVar
 
 TOP = Path(__file__).resolve().parent.parent
 CRATES = TOP / "crates"
-IMPORT = re.compile(r"^\s*(?P<head>(?:pub |ghost |unfoldable )*)use (?:Rattle\.)?(?P<module>[\w.]+)(?:\.\{(?P<names>[^}]*)\})?;?\s*$")
-DEFINED = re.compile(r"^\s*(?:(?:unfoldable|abbrev|pub|record|data) )*(?P<names>[^:({]+?) (?:[({].*)?: ")
-BEGINS = re.compile(r"^\s*(?:pub |abbrev |unfoldable |record |data )*(?P<name>[^\s:(){}]+)[^=]*? : ")
+IMPORT = re.compile(
+    r"^\s*(?P<head>(?:pub |ghost |unfoldable )*)use (?:Rattle\.)?(?P<module>[\w.]+)(?:\.\{(?P<names>[^}]*)\})?;?\s*$"
+)
+DEFINED = re.compile(
+    r"^\s*(?:(?:unfoldable|abbrev|pub|record|data) )*(?P<names>[^:({]+?) (?:[({].*)?: "
+)
+BEGINS = re.compile(
+    r"^\s*(?:pub |abbrev |unfoldable |record |data )*(?P<name>[^\s:(){}]+)[^=]*? : "
+)
 MODULE = re.compile(r"^\s*(?:module |(?:abbrev )?mutual|(?:pub )?ruleset )")
 CONSTRUCTOR = re.compile(r"^\s+([\w\-]+)\s*:")
 WORD = re.compile(r"[^\s(){}\[\];,]+")
@@ -21,7 +27,7 @@ APART = re.compile(r"[\s(){}\[\],;.]+")
 CITED = re.compile(r"`(\w+)/(?:specs/)?(\w+):([\w\-◌]+)`")
 KEYWORDS = ("let", "in", "where", "|")
 
-Key = tuple[str, str]           # a module, as `texts.proofs.Judged`, and a name in it
+Key = tuple[str, str]  # a module, as `texts.proofs.Judged`, and a name in it
 T = TypeVar("T", bound=Any)
 
 
@@ -94,7 +100,9 @@ def imports_of(text: str) -> Iterator[Import]:
         for part in (found["names"] or "").split(",") if found else ():
             name, *others = (word.strip() for word in part.split(" as "))
             if found and name:
-                yield Import(number, found["module"], name, [name, *others][-1], "pub" in found["head"])
+                yield Import(
+                    number, found["module"], name, [name, *others][-1], "pub" in found["head"]
+                )
 
 
 def without_imports(text: str) -> str:
@@ -141,7 +149,9 @@ class File:
         self.head, self.others = list[str](), list[str]()
         self.definitions: dict[str, Definition] = {}
         self.read(text)
-        self.owners = {case: name for name, it in self.definitions.items() for case in it.constructors()}
+        self.owners = {
+            case: name for name, it in self.definitions.items() for case in it.constructors()
+        }
 
     def read(self, text: str) -> None:
         comment, last, is_open, depths = list[str](), list[str](), False, {0}
@@ -160,7 +170,12 @@ class File:
                 if MODULE.match(line):
                     depths.add(depth + 2)
                     comment, last = [*comment, line], self.others
-                elif begun and depth in depths and DEFINED.match(line) and begun["name"] not in KEYWORDS:
+                elif (
+                    begun
+                    and depth in depths
+                    and DEFINED.match(line)
+                    and begun["name"] not in KEYWORDS
+                ):
                     made = Definition((self.module, begun["name"]), number, comment)
                     comment, last = [], self.definitions.setdefault(begun["name"], made).lines
                 is_open = last is not self.others
@@ -171,7 +186,12 @@ class Library:
     """The files of definitions, by module."""
 
     def __init__(self, *parts: str) -> None:
-        paths = sorted(path for part in parts for path in CRATES.glob(f"*/{part}/*.antt") if path.stem not in ("Lib", "Examples"))
+        paths = sorted(
+            path
+            for part in parts
+            for path in CRATES.glob(f"*/{part}/*.antt")
+            if path.stem not in ("Lib", "Examples")
+        )
         self.files = {file.module: file for file in map(File, paths)}
 
     def __getitem__(self, key: Key) -> Definition:

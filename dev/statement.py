@@ -29,13 +29,31 @@ from shared import T, TOP, WORD, Definition, File, Key, Library, asked, reached
 READING = TOP / "docs" / "verify" / "reading.md"
 HEADLINE = "".join(re.findall(r"headline: `(.*?)`", READING.read_text())[:1])
 # each promise, and each row of commands that share one, that these name has a row there
-COMMANDS = ("bridge_tool/Commands:promise_of", "bridge_tool/OneFile:row_of", "bridge_tool/Verify:claim_row_of")
-ARITHMETIC = ("fractions", "exact_numbers/Fraction", "exact_numbers/Values")    # what numbers are
+COMMANDS = (
+    "bridge_tool/Commands:promise_of",
+    "bridge_tool/OneFile:row_of",
+    "bridge_tool/Verify:claim_row_of",
+)
+ARITHMETIC = ("fractions", "exact_numbers/Fraction", "exact_numbers/Values")  # what numbers are
 # names that stand for two things in the statement of a theorem: never more
-TWO_SENSES = {"what a yes of an MPS file says": 2, "what an export is read as": 19, "export with names": 5, "return": 16,
-              "return with names": 18, "verify_mps, verify_fixed": 7, "check": 20, "import": 2, "nl": 2, "mps, fixed": 2,
-              "sol": 1, "make": 11}
-ROW = re.compile(r"^\| (?P<name>[^|]+) \| (?P<roots>(?:headline|`\w+/[^|]*)[^|]*) \| (?P<said>[^|]+) \| (?P<count>[^|]*) \|$", re.M)
+TWO_SENSES = {
+    "what a yes of an MPS file says": 2,
+    "what an export is read as": 19,
+    "export with names": 5,
+    "return": 16,
+    "return with names": 18,
+    "verify_mps, verify_fixed": 7,
+    "check": 20,
+    "import": 2,
+    "nl": 2,
+    "mps, fixed": 2,
+    "sol": 1,
+    "make": 11,
+}
+ROW = re.compile(
+    r"^\| (?P<name>[^|]+) \| (?P<roots>(?:headline|`\w+/[^|]*)[^|]*) \| (?P<said>[^|]+) \| (?P<count>[^|]*) \|$",
+    re.M,
+)
 PROPOSITION = re.compile(r"[≡<≤∣≢]|\b(?:Is|Are|Has)[A-Z]")
 FIELD = re.compile(r"(?:^\s+|[{;]\s*)[\w\-]+ = ", re.M)
 
@@ -52,9 +70,14 @@ def place_of(module: str) -> str:
 
 
 # of each row of the reading list, what is promised, the definitions that say it
-THEOREMS = {row["name"]: [key_of(HEADLINE if root == "headline" else root.strip("`")) for root in row["roots"].split(", ")]
-            for row in ROW.finditer(READING.read_text())}
-ALONE = list(THEOREMS)[:-1]     # those but the last, which is of all commands
+THEOREMS = {
+    row["name"]: [
+        key_of(HEADLINE if root == "headline" else root.strip("`"))
+        for root in row["roots"].split(", ")
+    ]
+    for row in ROW.finditer(READING.read_text())
+}
+ALONE = list(THEOREMS)[:-1]  # those but the last, which is of all commands
 
 
 def is_lemma(key: Key) -> bool:
@@ -64,7 +87,11 @@ def is_lemma(key: Key) -> bool:
 
 def is_proof(it: Definition) -> bool:
     """Whether its type, up to its first clause, ends in a relation or in a proposition's name."""
-    later = [line for line in it.own_lines[1:] if not re.match(rf"\s*({re.escape(it.key[1])}|unfolding)\b", line)]
+    later = [
+        line
+        for line in it.own_lines[1:]
+        if not re.match(rf"\s*({re.escape(it.key[1])}|unfolding)\b", line)
+    ]
     return bool(PROPOSITION.search(" ".join([it.lines[0], *later])))
 
 
@@ -75,7 +102,11 @@ def is_arithmetic(module: str) -> bool:
 
 def upwards(below: dict[T, set[T]]) -> list[T]:
     """Each after those that it rests on."""
-    return list(TopologicalSorter({it: sorted(others) for it, others in sorted(below.items())}).static_order())
+    return list(
+        TopologicalSorter(
+            {it: sorted(others) for it, others in sorted(below.items())}
+        ).static_order()
+    )
 
 
 class Statement(Library):
@@ -89,7 +120,11 @@ class Statement(Library):
         file, text = self.files[key[0]], self[key].text
         names = set(WORD.findall(FIELD.sub(" { ", text)))
         names |= {name.split(".")[0] for name in names}
-        names |= {name for name in (*file.imports, *file.definitions) if name.startswith("◌") and name.strip("◌") in text}
+        names |= {
+            name
+            for name in (*file.imports, *file.definitions)
+            if name.startswith("◌") and name.strip("◌") in text
+        }
         return {found for name in names if (found := self.resolve(key[0], name))} - {key}
 
     def rests_on(self, key: Key) -> set[Key]:
@@ -121,18 +156,29 @@ class Statement(Library):
             crates[crate] |= {other.split(".")[0] for other in others} - {crate}
         rank = {crate: number for number, crate in enumerate(upwards(crates))}
         order = sorted(upwards(files), key=lambda it: (is_arithmetic(it), rank[it.split(".")[0]]))
-        return {it: sorted((key for key in keys if key[0] == it), key=lambda key: self[key].line) for it in order}
+        return {
+            it: sorted((key for key in keys if key[0] == it), key=lambda key: self[key].line)
+            for it in order
+        }
 
     def types_of(self, keys: list[Key]) -> dict[tuple[str, str], list[str]]:
         """The types that code declares and these definitions use, by file and name, with their lines."""
-        found = {it for module, group in groupby(keys, lambda key: key[0])
-                 for it in types_in(self.files[module], self.words_of(group))}
+        found = {
+            it
+            for module, group in groupby(keys, lambda key: key[0])
+            for it in types_in(self.files[module], self.words_of(group))
+        }
         return {it: declaration(*it) for it in sorted(found)}
 
     def figures(self, keys: Sequence[Key]) -> tuple[int, int, int, int]:
         """How many definitions, lines, files and crates these are."""
         modules = {module for module, _ in keys}
-        return len(keys), sum(len(self[key].own_lines) for key in keys), len(modules), len({it.split(".")[0] for it in modules})
+        return (
+            len(keys),
+            sum(len(self[key].own_lines) for key in keys),
+            len(modules),
+            len({it.split(".")[0] for it in modules}),
+        )
 
     def words_of(self, keys: Iterable[Key]) -> set[str]:
         return {word for key in keys for word in WORD.findall(self[key].text)}
@@ -159,10 +205,18 @@ def declaration(file: str, name: str) -> list[str]:
     """The lines by which code declares a type; of one that contracts see as another value, that value."""
     text = (TOP / file).read_text() if (TOP / file).exists() else ""
     if model := re.search(rf"^impl(?:<[^>]*>)? Model for {name}\b", text, re.M):
-        value = re.search(r"^.*ghost Value = .*$", text[model.start():], re.M)
-        return [f"{name} is seen as {value[0].strip().removeprefix('ghost Value = ').strip('{ };') if value else ''}"]
-    begun = re.search(rf"^(?:pub(?:\(\w+\))? )?(?:struct|enum) {name}\b(?:.*\n)*?(?!    ).*[;}}] *$", text, re.M)
-    return [line for line in (begun[0] if begun else "").splitlines() if not line.strip().startswith("//")]
+        value = re.search(r"^.*ghost Value = .*$", text[model.start() :], re.M)
+        return [
+            f"{name} is seen as {value[0].strip().removeprefix('ghost Value = ').strip('{ };') if value else ''}"
+        ]
+    begun = re.search(
+        rf"^(?:pub(?:\(\w+\))? )?(?:struct|enum) {name}\b(?:.*\n)*?(?!    ).*[;}}] *$", text, re.M
+    )
+    return [
+        line
+        for line in (begun[0] if begun else "").splitlines()
+        if not line.strip().startswith("//")
+    ]
 
 
 def texts_of(statement: Statement, file: File, found: list[Key]) -> list[str]:
@@ -170,21 +224,45 @@ def texts_of(statement: Statement, file: File, found: list[Key]) -> list[str]:
     words = statement.words_of(found)
     types = types_in(file, words)
     others = [it for name, it in sorted(file.imports.items()) if name != it.name and name in words]
-    lines = [f"==== crates/{file.module.replace('.', '/')}.antt: {statement.size(found)}", *file.head,
-             *(f"-- here {it.known_as} is {it.module}:{it.name}" for it in others)]
-    lines += [f"-- {', '.join(name for _, name in group)} of code: {place}" for place, group in groupby(types, lambda it: it[0])]
-    return [*lines, "", *(line for it in map(statement.__getitem__, found) for line in (*it.comment, *it.lines, ""))]
+    lines = [
+        f"==== crates/{file.module.replace('.', '/')}.antt: {statement.size(found)}",
+        *file.head,
+        *(f"-- here {it.known_as} is {it.module}:{it.name}" for it in others),
+    ]
+    lines += [
+        f"-- {', '.join(name for _, name in group)} of code: {place}"
+        for place, group in groupby(types, lambda it: it[0])
+    ]
+    return [
+        *lines,
+        "",
+        *(
+            line
+            for it in map(statement.__getitem__, found)
+            for line in (*it.comment, *it.lines, "")
+        ),
+    ]
 
 
 def printed(statement: Statement, roots: Iterable[Key]) -> str:
     """The texts of all definitions, by file."""
     keys = statement.closure(roots)
-    lines = [next(part for part in READING.read_text().split("\n\n") if part.startswith("How to read them")), ""]
+    lines = [
+        next(
+            part
+            for part in READING.read_text().split("\n\n")
+            if part.startswith("How to read them")
+        ),
+        "",
+    ]
     files = statement.by_file(keys)
     arithmetic = [key for module in files if is_arithmetic(module) for key in files[module]]
     for module, found in files.items():
         if found[0] in arithmetic[:1]:
-            lines += [f"######## Arithmetic: for who doubts the rational numbers: {statement.size(arithmetic)}", ""]
+            lines += [
+                f"######## Arithmetic: for who doubts the rational numbers: {statement.size(arithmetic)}",
+                "",
+            ]
         lines += texts_of(statement, statement.files[module], found)
     types = statement.types_of(keys)
     types_size = f"{len(types)} types of code, {sum(map(len, types.values()))} lines"
@@ -192,7 +270,13 @@ def printed(statement: Statement, roots: Iterable[Key]) -> str:
     for (place, name), declared in types.items():
         lines += [f"-- {name}: {place}", *declared, ""]
     cited = statement.figures(statement.lemmas_below(keys))[1]
-    return "\n".join([*lines, f"{statement.whole_size(keys)}; {types_size}", f"lemmas that they cite, not to be read: {cited} lines"])
+    return "\n".join(
+        [
+            *lines,
+            f"{statement.whole_size(keys)}; {types_size}",
+            f"lemmas that they cite, not to be read: {cited} lines",
+        ]
+    )
 
 
 def lists(statement: Statement) -> str:
@@ -203,7 +287,9 @@ def lists(statement: Statement) -> str:
         lines += [f"==== {it}: {statement.whole_size(keys)}", ""]
         for module, found in statement.by_file(keys).items():
             names = ", ".join(f"{statement[key].line} {key[1]}" for key in found)
-            lines.append(f"crates/{module.replace('.', '/')}.antt ({statement.size(found)}): {names}")
+            lines.append(
+                f"crates/{module.replace('.', '/')}.antt ({statement.size(found)}): {names}"
+            )
         lines.append("")
     return "\n".join(lines)
 
@@ -215,9 +301,12 @@ def all_texts(statement: Statement) -> str:
 
 def reading(statement: Statement) -> str:
     """The text of docs/verify/reading.md, with the figures of today."""
+
     def counted(row: re.Match[str]) -> str:
         keys = statement.of(row["name"])
-        count = "{}, {}; {}, {}; ".format(*statement.figures(keys)) + str(len(statement.types_of(keys)))
+        count = "{}, {}; {}, {}; ".format(*statement.figures(keys)) + str(
+            len(statement.types_of(keys))
+        )
         return f"{row[0][:row.start('count') - row.start()]}{count} |"
 
     return ROW.sub(counted, READING.read_text())
@@ -235,7 +324,10 @@ def told_senses(statement: Statement) -> str:
     lines = []
     for it in ALONE:
         named = senses(statement, it)
-        lines += [f"{it}: {len(named)}", *(f"    {name}: " + ", ".join(places) for name, places in named.items())]
+        lines += [
+            f"{it}: {len(named)}",
+            *(f"    {name}: " + ", ".join(places) for name, places in named.items()),
+        ]
     return "\n".join(lines)
 
 
@@ -243,21 +335,38 @@ def complaints(statement: Statement) -> list[str]:
     """Promises without a theorem, what statements rest on and may not (what is inside, and a lemma whose type is no proposition),
     and names of two senses."""
     rows = {root for roots in THEOREMS.values() for root in roots}
-    promised = {it for table in COMMANDS for it in statement.rests_on(key_of(table)) if it[1].endswith(("_promise", "_row"))}
-    found = {f"no theorem of docs/verify/reading.md has {place_of(module)}:{name}" for module, name in promised - rows}
+    promised = {
+        it
+        for table in COMMANDS
+        for it in statement.rests_on(key_of(table))
+        if it[1].endswith(("_promise", "_row"))
+    }
+    found = {
+        f"no theorem of docs/verify/reading.md has {place_of(module)}:{name}"
+        for module, name in promised - rows
+    }
     for it in THEOREMS:
         for key in statement.of(it):
             shown = f"{place_of(key[0])}/{key[1]}"
             if ".Inside" in key[0]:
                 found.add(f"{shown} is part of the statement of `{it}`")
-            found |= {f"{place_of(lemma[0])}/{lemma[1]} is no proof, and {shown} cites it" for lemma in statement.names_in(key)
-                      if is_lemma(lemma) and not is_proof(statement[lemma])}
+            found |= {
+                f"{place_of(lemma[0])}/{lemma[1]} is no proof, and {shown} cites it"
+                for lemma in statement.names_in(key)
+                if is_lemma(lemma) and not is_proof(statement[lemma])
+            }
         named, most = senses(statement, it), TWO_SENSES.get(it, 0)
         if len(named) > most and it in ALONE:
-            found.add(f"{len(named)} names have two senses in the statement of `{it}`, more than {most}: "
-                      f"{', '.join(named)} (dev/statement.py --senses)")
+            found.add(
+                f"{len(named)} names have two senses in the statement of `{it}`, more than {most}: "
+                f"{', '.join(named)} (dev/statement.py --senses)"
+            )
     is_stale = READING.read_text() != reading(statement)
-    return sorted(found) + [f"{READING.relative_to(TOP)} is not as the definitions are: dev/statement.py --write"] * is_stale
+    return (
+        sorted(found)
+        + [f"{READING.relative_to(TOP)} is not as the definitions are: dev/statement.py --write"]
+        * is_stale
+    )
 
 
 def main(words: list[str]) -> int:
@@ -272,7 +381,9 @@ def main(words: list[str]) -> int:
     elif len(words) == 1 and words[0] in texts:
         print(texts[words[0]](statement))
     elif unknown := next((word for word in words if not statement.has(key_of(word))), None):
-        sys.exit(f"dev/statement.py: {unknown}: no definition CRATE/FILE:NAME and no option (dev/statement.py without words lists them)")
+        sys.exit(
+            f"dev/statement.py: {unknown}: no definition CRATE/FILE:NAME and no option (dev/statement.py without words lists them)"
+        )
     else:
         print(printed(statement, [key_of(word) for word in words]))
     return 0

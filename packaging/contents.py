@@ -21,20 +21,31 @@ except ImportError:
 from sources import BUILT, TOP, TRIED, fault_of, said_by
 
 sys.path.insert(0, os.path.join(TOP, "drivers"))
-import manual                                           # noqa: E402
-from bridge_drivers import VERSION                      # noqa: E402
-from bridge_drivers.completion import Completion, place     # noqa: E402
+import manual  # noqa: E402
+from bridge_drivers import VERSION  # noqa: E402
+from bridge_drivers.completion import Completion, place  # noqa: E402
 
 PACKAGE = "bridge_drivers"
-DOCUMENTS = ("README.md", "drivers/*.md", "drivers/report.schema.json", "docs/user/*.md",
-             "docs/verify/*.md", "docs/dev/*.md", "docs/pictures/*", "crates/*/README.md")
-MADE = {"docs/verify/definitions.txt": ("statement.py", "--all"), "docs/verify/calls.txt": ("calls.py",),
-        "docs/verify/wrong-bodies.txt": ("wrong-bodies", "--list"),
-        "docs/dev/crates.txt": ("map.py", "--table")}       # texts that scripts of dev/ print
+DOCUMENTS = (
+    "README.md",
+    "drivers/*.md",
+    "drivers/report.schema.json",
+    "docs/user/*.md",
+    "docs/verify/*.md",
+    "docs/dev/*.md",
+    "docs/pictures/*",
+    "crates/*/README.md",
+)
+MADE = {
+    "docs/verify/definitions.txt": ("statement.py", "--all"),
+    "docs/verify/calls.txt": ("calls.py",),
+    "docs/verify/wrong-bodies.txt": ("wrong-bodies", "--list"),
+    "docs/dev/crates.txt": ("map.py", "--table"),
+}  # texts that scripts of dev/ print
 LINK = re.compile(r"\]\(([^)#]+)(?:#[^)]*)?\)")
-DRIVER = "bridge_drivers.driver:main"       # commands of this kind share a man page
+DRIVER = "bridge_drivers.driver:main"  # commands of this kind share a man page
 OWN_PAGES = set(os.listdir(os.path.join(TOP, "packaging", "man")))
-X86_64 = b"\x3e\x00"                        # the machine in an ELF file's head
+X86_64 = b"\x3e\x00"  # the machine in an ELF file's head
 
 
 class File(NamedTuple):
@@ -69,10 +80,18 @@ def dead_links(documents: Sequence[File]) -> list[str]:
     """Links between documents that lead to none of them, with the documents that have them."""
     paths = {file.path for file in documents}
     paths |= {os.path.dirname(path) for path in paths}
-    links = ((file.path, link) for file in documents if file.path.endswith(".md")
-             for link in LINK.findall(file.data.decode()))
-    return [f"{link} ({path})" for path, link in links
-            if "://" not in link and os.path.normpath(os.path.join(os.path.dirname(path), link)) not in paths]
+    links = (
+        (file.path, link)
+        for file in documents
+        if file.path.endswith(".md")
+        for link in LINK.findall(file.data.decode())
+    )
+    return [
+        f"{link} ({path})"
+        for path, link in links
+        if "://" not in link
+        and os.path.normpath(os.path.join(os.path.dirname(path), link)) not in paths
+    ]
 
 
 def program_of(other: str | None) -> tuple[str, bool, str]:
@@ -85,8 +104,10 @@ def program_of(other: str | None) -> tuple[str, bool, str]:
         return BUILT, True, facts["toolchain"]
     told, no_trial = fault_of(TRIED)
     if no_trial:
-        raise Unfit(f"{os.path.relpath(BUILT, TOP)}: {why}: .ci/run builds and proves it; "
-                    f"{os.path.relpath(TRIED, TOP)}: {no_trial}: dev/try builds it without proofs")
+        raise Unfit(
+            f"{os.path.relpath(BUILT, TOP)}: {why}: .ci/run builds and proves it; "
+            f"{os.path.relpath(TRIED, TOP)}: {no_trial}: dev/try builds it without proofs"
+        )
     return TRIED, False, told["toolchain"]
 
 
@@ -123,8 +144,12 @@ class Project:
     def built(self) -> bytes:
         """What `nl-bridge version` tells of the program."""
         commit = said_by("git", "describe", "--always", "--dirty", "--abbrev=40", "--exclude=*")
-        facts = {"sha256": hashlib.sha256(self.program).hexdigest(), "toolchain": self.toolchain,
-                 "commit": commit, "proved": "yes" if self.proved else "no"}
+        facts = {
+            "sha256": hashlib.sha256(self.program).hexdigest(),
+            "toolchain": self.toolchain,
+            "commit": commit,
+            "proved": "yes" if self.proved else "no",
+        }
         return (json.dumps(facts, indent=1, sort_keys=True) + "\n").encode()
 
     def modules(self) -> Iterator[File]:
@@ -147,8 +172,12 @@ class Project:
     def pages(self) -> Iterator[File]:
         """The man pages of the commands, with their words filled in."""
         drivers = [name for name, entry in self.scripts.items() if entry == DRIVER]
-        words = {"VERSION": self.version, "DRIVERS": ", ".join(drivers).replace("-", "\\-"),
-                 "DATE": time.strftime("%Y-%m-%d", time.gmtime(self.epoch)), **manual.parts()}
+        words = {
+            "VERSION": self.version,
+            "DRIVERS": ", ".join(drivers).replace("-", "\\-"),
+            "DATE": time.strftime("%Y-%m-%d", time.gmtime(self.epoch)),
+            **manual.parts(),
+        }
         for name in OWN_PAGES & {f"{script}.1" for script in self.scripts}:
             yield File(name, filled(read("packaging", "man", name), words))
 
@@ -166,7 +195,9 @@ class Project:
         found = [File(path, read(path)) for path in paths]
         for path, (script, *words) in MADE.items():
             call = [sys.executable, os.path.join(TOP, "dev", script), *words]
-            found.append(File(path, subprocess.run(call, stdout=subprocess.PIPE, check=True).stdout))
+            found.append(
+                File(path, subprocess.run(call, stdout=subprocess.PIPE, check=True).stdout)
+            )
         dead = dead_links(found)
         if dead:
             raise Unfit("links that lead nowhere: " + ", ".join(dead))
@@ -185,9 +216,20 @@ class Project:
     def installed(self, modules: str, program: str, share: str, zsh: str) -> list[File]:
         """What both packages have, beside man pages. The examples are not among the documents,
         which small systems leave out."""
-        examples = [File(path.name, path.read_bytes()) for path in Path(TOP, "packaging", "examples").iterdir()]
-        inside = {modules: self.modules(), os.path.dirname(program): [File("bridge", self.program, 0o755)],
-                  f"{share}/minizinc/solvers": self.configurations(), os.path.dirname(share): self.completions(zsh),
-                  f"{share}/doc/{self.name}": self.documents(), f"{share}/{self.name}/examples": examples}
-        return [file._replace(path=os.path.join(folder, file.path))
-                for folder, files in inside.items() for file in files]
+        examples = [
+            File(path.name, path.read_bytes())
+            for path in Path(TOP, "packaging", "examples").iterdir()
+        ]
+        inside = {
+            modules: self.modules(),
+            os.path.dirname(program): [File("bridge", self.program, 0o755)],
+            f"{share}/minizinc/solvers": self.configurations(),
+            os.path.dirname(share): self.completions(zsh),
+            f"{share}/doc/{self.name}": self.documents(),
+            f"{share}/{self.name}/examples": examples,
+        }
+        return [
+            file._replace(path=os.path.join(folder, file.path))
+            for folder, files in inside.items()
+            for file in files
+        ]

@@ -41,15 +41,23 @@ def drivers_options() -> list[Option]:
     for name in solvers.NAMES:
         for option in solvers.load(name).options:
             own.setdefault(option.name, []).append("bridge-" + name)
-            found[option.name] = Option(option.name, option.default, option.kind,
-                                        f"{', '.join(own[option.name])}: {option.text}")
+            found[option.name] = Option(
+                option.name,
+                option.default,
+                option.kind,
+                f"{', '.join(own[option.name])}: {option.text}",
+            )
     return [found[name] for name in sorted(found)]
 
 
 def parts() -> dict[str, str]:
     """What stands for each mark of a page."""
-    return {"COMMANDS": of_commands(commands.COMMANDS), "OWN": of_commands(commands.OWN),
-            "MODEL": roff(commands.MODEL[:1].upper() + commands.MODEL[1:]) + ".",
-            "STATUS": "\n".join(item(str(int(status)), text) for status, text in STATUSES.items()),
-            "OPTIONS": of_options(drivers_options()), "CERTIFY": of_options(OPTIONS),
-            "DASHED": "\n".join(item(word, text) for word, text in DASHED.items())}
+    return {
+        "COMMANDS": of_commands(commands.COMMANDS),
+        "OWN": of_commands(commands.OWN),
+        "MODEL": roff(commands.MODEL[:1].upper() + commands.MODEL[1:]) + ".",
+        "STATUS": "\n".join(item(str(int(status)), text) for status, text in STATUSES.items()),
+        "OPTIONS": of_options(drivers_options()),
+        "CERTIFY": of_options(OPTIONS),
+        "DASHED": "\n".join(item(word, text) for word, text in DASHED.items()),
+    }

@@ -19,7 +19,7 @@ from typing import Iterator, Mapping, Sequence
 
 TOP = os.path.dirname(os.path.dirname(os.path.realpath(__file__)))
 BUILT = os.path.join(TOP, "crates", "bridge", "out", "bridge")
-TRIED = os.path.join(TOP, "out", "try", "bridge")     # by dev/try, without proofs
+TRIED = os.path.join(TOP, "out", "try", "bridge")  # by dev/try, without proofs
 
 
 def said_by(*words: str) -> str:
@@ -52,7 +52,12 @@ def sources() -> str:
 
 def note(program: str, of: str, proved: str) -> None:
     """Beside a program, where `nl-bridge version` and the packages find it."""
-    facts = {"program": sum_of(program), "sources": of, "toolchain": said_by("rt", "--version"), "proved": proved}
+    facts = {
+        "program": sum_of(program),
+        "sources": of,
+        "toolchain": said_by("rt", "--version"),
+        "proved": proved,
+    }
     with open(program + ".built", "w", encoding="ascii") as f:
         f.write(json.dumps(facts, indent=1) + "\n")
 

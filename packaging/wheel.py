@@ -38,19 +38,37 @@ def name_of(project: Project) -> str:
 def facts(project: Project) -> list[File]:
     """The folder dist-info."""
     folder = name_of(project) + ".dist-info"
-    metadata = ["Metadata-Version: 2.1", f"Name: {project.name}", f"Version: {project.version}",
-                f"Summary: {project.description()}", "License: MIT", f"Maintainer-email: {project.maintainer()}",
-                f"Requires-Python: {project.table['requires-python']}"]
+    metadata = [
+        "Metadata-Version: 2.1",
+        f"Name: {project.name}",
+        f"Version: {project.version}",
+        f"Summary: {project.description()}",
+        "License: MIT",
+        f"Maintainer-email: {project.maintainer()}",
+        f"Requires-Python: {project.table['requires-python']}",
+    ]
     for extra, needs in project.table["optional-dependencies"].items():
         metadata.append(f"Provides-Extra: {extra}")
         metadata += [f"Requires-Dist: {need}; extra == '{extra}'" for need in needs]
-    metadata += ["Description-Content-Type: text/markdown", "", read("drivers", project.table["readme"]).decode()]
-    wheel = ["Wheel-Version: 1.0", "Generator: packaging/build", "Root-Is-Purelib: false", "Tag: " + tag(project), ""]
+    metadata += [
+        "Description-Content-Type: text/markdown",
+        "",
+        read("drivers", project.table["readme"]).decode(),
+    ]
+    wheel = [
+        "Wheel-Version: 1.0",
+        "Generator: packaging/build",
+        "Root-Is-Purelib: false",
+        "Tag: " + tag(project),
+        "",
+    ]
     scripts = ["[console_scripts]", *(f"{a} = {b}" for a, b in project.scripts.items()), ""]
-    return [File(f"{folder}/METADATA", "\n".join(metadata).encode()),
-            File(f"{folder}/WHEEL", "\n".join(wheel).encode()),
-            File(f"{folder}/entry_points.txt", "\n".join(scripts).encode()),
-            File(f"{folder}/LICENSE", read(TOP, "LICENSE"))]
+    return [
+        File(f"{folder}/METADATA", "\n".join(metadata).encode()),
+        File(f"{folder}/WHEEL", "\n".join(wheel).encode()),
+        File(f"{folder}/entry_points.txt", "\n".join(scripts).encode()),
+        File(f"{folder}/LICENSE", read(TOP, "LICENSE")),
+    ]
 
 
 def digest(data: bytes) -> str:
@@ -72,6 +90,6 @@ def build(project: Project, folder: str) -> str:
         for file in [*inside, record(project, inside)]:
             entry = zipfile.ZipInfo(file.path, when)
             entry.external_attr = (0o100000 | file.mode) << 16
-            entry.create_system = 3                 # Unix
+            entry.create_system = 3  # Unix
             z.writestr(entry, file.data, zipfile.ZIP_DEFLATED, LEVEL)
     return name

@@ -6,9 +6,32 @@ answer and check it. `solve`, `certify`, `verify` and `explain` are the calls th
 
 VERSION = "0.1.0"
 
-from . import certify as searches       # noqa: E402,F401  read before the call of this name
-from .interface import (BridgeError, FileFault, ModelRefused, NotInstalled, Report, WrongOption, certify,   # noqa: E402
-                        explain, figures, solve, verify)
+from . import certify as searches  # noqa: E402,F401  read before the call of this name
+from .interface import (
+    BridgeError,
+    FileFault,
+    ModelRefused,
+    NotInstalled,
+    Report,
+    WrongOption,
+    certify,  # noqa: E402
+    explain,
+    figures,
+    solve,
+    verify,
+)
 
-__all__ = ["BridgeError", "FileFault", "ModelRefused", "NotInstalled", "Report", "VERSION",
-           "WrongOption", "certify", "explain", "figures", "solve", "verify"]
+__all__ = [
+    "BridgeError",
+    "FileFault",
+    "ModelRefused",
+    "NotInstalled",
+    "Report",
+    "VERSION",
+    "WrongOption",
+    "certify",
+    "explain",
+    "figures",
+    "solve",
+    "verify",
+]

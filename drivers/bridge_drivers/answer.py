@@ -18,7 +18,7 @@ from .values import Named, Number, double_of, finite, in_order, texts_of
 
 NEAR_WHOLE = 1e-5
 NEAR_DUAL = 1e-7
-BLOCK = 1 << 14                 # lines that are made at once
+BLOCK = 1 << 14  # lines that are made at once
 
 
 class Answer:
@@ -82,7 +82,11 @@ class Answer:
 
     def notes(self) -> list[str]:
         apart, loose = len(self.apart), self.loose + self.loose_duals
-        notes = [f"{apart} integer variables are not within {NEAR_WHOLE:g} of a whole number"] if apart else []
+        notes = (
+            [f"{apart} integer variables are not within {NEAR_WHOLE:g} of a whole number"]
+            if apart
+            else []
+        )
         told = f"{loose} exact values have no decimal of at most 38 digits; the nearest ones are written"
         return notes + [told] * bool(loose)
 
@@ -94,19 +98,45 @@ class Answer:
         other.given_costs, other.loose_duals = None, 0
         return other
 
-    def at(self, values: Sequence[Number], duals: Mapping[str, Fraction], code: Code, is_own: bool = True) -> Answer:
+    def at(
+        self,
+        values: Sequence[Number],
+        duals: Mapping[str, Fraction],
+        code: Code,
+        is_own: bool = True,
+    ) -> Answer:
         """At other values of columns. Near its own ones its duals, costs and basis still stand, and given duals in
         their place where they are near all of them; at another point given ones alone."""
-        outcome = replace(self.outcome, values=Named(self.program.columns, values), objective=None, code=code)
+        outcome = replace(
+            self.outcome, values=Named(self.program.columns, values), objective=None, code=code
+        )
         if not is_own:
             known = {row: duals[row] for row in self.program.constraints if row in duals}
-            lacks = len(known) < len(self.program.constraints) or bool(self.program.whole) and not self.options.relax
-            return Answer(self.program, replace(
-                outcome, duals=None if lacks else known, column_basis=None, row_basis=None,
-                costs=None if lacks else self.reduced_costs(known)), self.options)
+            lacks = (
+                len(known) < len(self.program.constraints)
+                or bool(self.program.whole)
+                and not self.options.relax
+            )
+            return Answer(
+                self.program,
+                replace(
+                    outcome,
+                    duals=None if lacks else known,
+                    column_basis=None,
+                    row_basis=None,
+                    costs=None if lacks else self.reduced_costs(known),
+                ),
+                self.options,
+            )
         old = outcome.duals
-        if duals and old is not None and all(
-                abs(float(y) - float(old[row])) <= NEAR_DUAL * max(1.0, abs(float(y))) for row, y in duals.items()):
+        if (
+            duals
+            and old is not None
+            and all(
+                abs(float(y) - float(old[row])) <= NEAR_DUAL * max(1.0, abs(float(y)))
+                for row, y in duals.items()
+            )
+        ):
             outcome.duals = {**old, **duals}
         other = Answer(self.program, replace(outcome, costs=None), self.options)
         other.outcome, other.given_costs = outcome, self.given_costs
@@ -162,13 +192,19 @@ class Answer:
             known = [pair for pair in zip(names, costs.given) if pair[1] != "0"]
             told.append(("suffix 4 rc %s %s\n", known or [(names[0], costs.given[0])]))
         if o.column_basis and o.row_basis is not None and costs is not None:
-            told += [("suffix 0 sstatus %s %s\n", zip(names, in_order(o.column_basis, names))),
-                     ("suffix 1 sstatus %s %s\n", o.row_basis.items())]
+            told += [
+                ("suffix 0 sstatus %s %s\n", zip(names, in_order(o.column_basis, names))),
+                ("suffix 1 sstatus %s %s\n", o.row_basis.items()),
+            ]
         return b"".join(written(told))
 
     def text(self, message: Sequence[str]) -> bytes:
-        lines = ["answer 1", f"status {int(self.outcome.code)}", f"objno {self.options.objno - 1}",
-                 *(f"message {m}" for m in message)]
+        lines = [
+            "answer 1",
+            f"status {int(self.outcome.code)}",
+            f"objno {self.options.objno - 1}",
+            *(f"message {m}" for m in message),
+        ]
         return ("\n".join(lines) + "\n").encode() + self.body
 
 

@@ -18,13 +18,18 @@ from .interrupts import with_child
 
 PACKAGE = os.path.dirname(os.path.abspath(__file__))
 HERE = os.path.dirname(PACKAGE)
-BESIDE = (os.path.join(PACKAGE, "bin", "bridge"),                               # a wheel
-          os.path.join(HERE, "..", "..", "..", "libexec", "nl-bridge", "bridge"),   # Debian's
-          os.path.join(HERE, "bin", "bridge"),                                  # drivers/install
-          os.path.join(HERE, "..", "crates", "bridge", "out", "bridge"),        # a clone
-          os.path.join(HERE, "..", "out", "try", "bridge"))             # the same, not proved
-NOTES = ("{program}.built", os.path.join(PACKAGE, "built.json"))    # on the program of a clone, of a package
-PIECE = 1 << 20                 # bytes of a file that are read at once
+BESIDE = (
+    os.path.join(PACKAGE, "bin", "bridge"),  # a wheel
+    os.path.join(HERE, "..", "..", "..", "libexec", "nl-bridge", "bridge"),  # Debian's
+    os.path.join(HERE, "bin", "bridge"),  # drivers/install
+    os.path.join(HERE, "..", "crates", "bridge", "out", "bridge"),  # a clone
+    os.path.join(HERE, "..", "out", "try", "bridge"),
+)  # the same, not proved
+NOTES = (
+    "{program}.built",
+    os.path.join(PACKAGE, "built.json"),
+)  # on the program of a clone, of a package
+PIECE = 1 << 20  # bytes of a file that are read at once
 ENDED = {4: "a file could not be read", 5: "its output could not be written", 6: "want of memory"}
 
 
@@ -39,8 +44,13 @@ class Reply(NamedTuple):
 class Refused(Exception):
     """`bridge` ended without what was asked for, by these words; `shown` are the paths that the user knows files by."""
 
-    def __init__(self, command: str, reply: Reply, words: Sequence[str] = (),
-                 shown: Mapping[str, str] | None = None) -> None:
+    def __init__(
+        self,
+        command: str,
+        reply: Reply,
+        words: Sequence[str] = (),
+        shown: Mapping[str, str] | None = None,
+    ) -> None:
         super().__init__(reply.told)
         self.command, self.status, self.told = command, reply.status, reply.told
         self.words, self.shown = list(words), shown or {}
@@ -84,7 +94,9 @@ def find(named: str, beside: Sequence[str]) -> list[str]:
         if os.access(place, os.X_OK) and not os.path.isdir(place):
             return [place]
     folders = filter(None, os.environ.get("PATH", "").split(os.pathsep))
-    named_so = [found for found in (shutil.which("bridge", path=folder) for folder in folders) if found]
+    named_so = [
+        found for found in (shutil.which("bridge", path=folder) for folder in folders) if found
+    ]
     ours = next(filter(is_ours, named_so), "")
     if ours:
         return [ours]
@@ -124,7 +136,8 @@ class Late(Exception):
 
 class Bridge:
     """Calls of `bridge`. `note` is told the words of each; `limit` is for one call, in seconds. `shown` has the paths
-    that the user knows files by, `spelled` commands that stand for others (`verify_mps` for `verify`)."""
+    that the user knows files by, `spelled` commands that stand for others (`verify_mps` for `verify`).
+    """
 
     limit: float | None = None
     spelled: Mapping[str, str] = {}
@@ -138,8 +151,13 @@ class Bridge:
         argv = self.words + [self.reachable(word) for word in self.in_full(words)]
         self.note(argv)
         try:
-            return with_child(self.reply, argv, stdin=subprocess.DEVNULL, stdout=subprocess.PIPE,
-                              stderr=subprocess.PIPE)
+            return with_child(
+                self.reply,
+                argv,
+                stdin=subprocess.DEVNULL,
+                stdout=subprocess.PIPE,
+                stderr=subprocess.PIPE,
+            )
         except OSError as fault:
             raise Failure(Code.NOT_FOUND, f"{argv[0]} could not be run: {fault.strerror}") from None
         except subprocess.TimeoutExpired:

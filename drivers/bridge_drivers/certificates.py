@@ -25,16 +25,24 @@ from .program import TIED, TIED_ROW
 from .values import in_order, plain, text_of
 from .verdicts import Said
 
-SECONDS = 60.0              # of a search, where timelim says nothing
-OLDER = 60.0                # for the verdict on an older certificate
-ONE_LEAF = 1.0              # without prove=1
-LARGE = 400_000             # bytes of an exported program that have a second each
-LEAST = 1e-15               # of the largest term: less is not told by doubles
-PLACES = 9                  # decimals that doubles are rounded to, where they do not pass
-CLAIMS = {Code.SOLVED: "point", Code.UNSURE: "point", Code.LIMIT_WITH_POINT: "point",
-          Code.INFEASIBLE: "infeasible", Code.UNBOUNDED: "unbounded",
-          Code.INFEASIBLE_OR_UNBOUNDED: "either", Code.LIMIT: "nothing"}
-NO_SEARCH = ("prove=1 needs the library of CLP, which is not there (Debian: apt install coinor-libclp1)")
+SECONDS = 60.0  # of a search, where timelim says nothing
+OLDER = 60.0  # for the verdict on an older certificate
+ONE_LEAF = 1.0  # without prove=1
+LARGE = 400_000  # bytes of an exported program that have a second each
+LEAST = 1e-15  # of the largest term: less is not told by doubles
+PLACES = 9  # decimals that doubles are rounded to, where they do not pass
+CLAIMS = {
+    Code.SOLVED: "point",
+    Code.UNSURE: "point",
+    Code.LIMIT_WITH_POINT: "point",
+    Code.INFEASIBLE: "infeasible",
+    Code.UNBOUNDED: "unbounded",
+    Code.INFEASIBLE_OR_UNBOUNDED: "either",
+    Code.LIMIT: "nothing",
+}
+NO_SEARCH = (
+    "prove=1 needs the library of CLP, which is not there (Debian: apt install coinor-libclp1)"
+)
 
 
 class Kept(NamedTuple):
@@ -56,7 +64,9 @@ class Certifier:
         self.is_interrupted = False
         self.pool_note = ""
 
-    def returned(self, answer: Answer, lines: list[str], name: str = "bridge", at: int = 0) -> tuple[Answer, bytes]:
+    def returned(
+        self, answer: Answer, lines: list[str], name: str = "bridge", at: int = 0
+    ) -> tuple[Answer, bytes]:
         """An answer and its .sol by `bridge return`; without duals, as a line says, where they are too wide."""
         if self.alone:
             return answer, b""
@@ -83,13 +93,17 @@ class Certifier:
             elif answer.duals is None or not self.linear:
                 name, zeros = "check.sol", dict.fromkeys(self.program.constraints, "0")
                 self.returned(answer.with_duals(zeros), [], "check")
-            verdict: str = self.job.clock.timed("check", self.bridge.verdict, command, self.nl, self.job.path(name))
+            verdict: str = self.job.clock.timed(
+                "check", self.bridge.verdict, command, self.nl, self.job.path(name)
+            )
         except Refused as fault:
             return fault.line().removeprefix(self.job.path(name) + ": ")
         word, *rest = verdict.split()
         if self.alone and word == "variable":
             return f"{self.thing('column', int(rest[0]))} is not whole"
-        return self.reading(f"yes {rest[0]}" if self.alone and word == "feasible" else verdict, name == "bridge.sol")
+        return self.reading(
+            f"yes {rest[0]}" if self.alone and word == "feasible" else verdict, name == "bridge.sol"
+        )
 
     def verdict(self, answer: Answer) -> Verdict:
         """By the certificate of a search, which has `timelim`, and without prove=1 a second of
@@ -101,20 +115,37 @@ class Certifier:
             seconds = min(max(size / LARGE, ONE_LEAF), seconds)
         watch = Watch(seconds, self.job.clock.progress, not proves)
         pool = pool_of(options.jobs, options.cluster) if proves else None
-        work = Certifying(self.bridge, self.nl, self.job.folder, self.program, options.objno - 1,
-                          watch, proves, self.relaxed, bool(options.bound), bool(options.shorten), pool)
+        work = Certifying(
+            self.bridge,
+            self.nl,
+            self.job.folder,
+            self.program,
+            options.objno - 1,
+            watch,
+            proves,
+            self.relaxed,
+            bool(options.bound),
+            bool(options.shorten),
+            pool,
+        )
         claim = CLAIMS[answer.outcome.code]
         try:
-            verdict: Verdict = self.job.clock.timed("certify", certified, work, claim, self.given(answer))
+            verdict: Verdict = self.job.clock.timed(
+                "certify", certified, work, claim, self.given(answer)
+            )
         finally:
             if pool is not None:
                 pool.close()
-                self.pool_note = "the search went on in one process: " + pool.fault if pool.fault else pool.note
+                self.pool_note = (
+                    "the search went on in one process: " + pool.fault if pool.fault else pool.note
+                )
         self.is_interrupted = watch.is_stopped
         if claim == "point" and not self.relaxed and not verdict.is_proved() and size > LARGE:
             stands = self.as_it_stands(work, answer)
             if stands.is_proved():
-                return stands._replace(by_doubles=verdict.by_doubles, note=verdict.note, is_open=verdict.is_open)
+                return stands._replace(
+                    by_doubles=verdict.by_doubles, note=verdict.note, is_open=verdict.is_open
+                )
         return verdict
 
     def as_it_stands(self, work: Certifying, answer: Answer) -> Verdict:
@@ -124,16 +155,26 @@ class Certifier:
             verdict = work.verified(answer_lines(values, duals, work.objective))
             if verdict.is_proved():
                 return verdict
-            values, duals = [[text_of(round(float(text), PLACES))[0] for text in texts] for texts in (values, duals)]
+            values, duals = [
+                [text_of(round(float(text), PLACES))[0] for text in texts]
+                for texts in (values, duals)
+            ]
             second = work.verified(answer_lines(values, duals, work.objective))
-            return second._replace(point=list(map(Fraction, values))) if second.is_proved() else verdict
+            return (
+                second._replace(point=list(map(Fraction, values)))
+                if second.is_proved()
+                else verdict
+            )
         except Refused as fault:
             return Verdict(WITHOUT + fault.line())
 
     def numbers(self, answer: Answer) -> tuple[list[str], list[str]]:
         """The values and duals of an answer as they are written."""
         if self.alone:
-            values, duals = (list(part.given) if part is not None else [] for part in (answer.values, answer.duals))
+            values, duals = (
+                list(part.given) if part is not None else []
+                for part in (answer.values, answer.duals)
+            )
         else:
             duals, values = numbers_of(self.returned(answer, [], "numbers")[1])
         return values, duals if self.linear else []
@@ -148,14 +189,18 @@ class Certifier:
             numbers = in_order(outcome.values, p.columns)[:n]
             values = [v if type(v) in (float, Fraction) else float(v) for v in numbers]
             if p.whole and not self.relaxed:
-                values = [Fraction(text) if whole else v for text, whole, v in
-                          zip(answer.values.given, p.read.whole, values)]
+                values = [
+                    Fraction(text) if whole else v
+                    for text, whole, v in zip(answer.values.given, p.read.whole, values)
+                ]
         if outcome.duals is not None:
             duals = {int(row[1:]): outcome.duals[row] for row in rows}
         if outcome.column_basis is not None and outcome.row_basis is not None:
             ends = in_order(outcome.column_basis, p.columns)[:n]
-            basis = clp.Basis([j for j, end in enumerate(ends) if end == BASIC],
-                              [int(r[1:]) for r in rows if outcome.row_basis[r] != BASIC])
+            basis = clp.Basis(
+                [j for j, end in enumerate(ends) if end == BASIC],
+                [int(r[1:]) for r in rows if outcome.row_basis[r] != BASIC],
+            )
         return Given(values, duals, basis)
 
     def ended(self, verdict: Verdict, said: Said | None) -> tuple[list[str], Kept | None]:
@@ -163,7 +208,12 @@ class Certifier:
         made is told as `not proved`, with what is proved without it."""
         kept, last, options = self.kept(verdict), verdict.line, self.job.options
         lines = [*self.words(said, verdict.note), self.pool_note]
-        if options.prove and options.check and clp.library() is None and (said is None or not said.is_settled()):
+        if (
+            options.prove
+            and options.check
+            and clp.library() is None
+            and (said is None or not said.is_settled())
+        ):
             lines.append(NO_SEARCH)
             if said is not None:
                 last = f"{WITHOUT}there was no search; without it: {last}"
@@ -184,8 +234,17 @@ class Certifier:
             else:
                 told += f"; no row or bound is {by}"
         said = verdicts.read(verdict.line)
-        what = [word for word, count in (("values", answer.loose), ("duals", answer.loose_duals)) if count]
-        if what and said is not None and said.word == "optimal" and told.split()[-1:] != [plain(str(said.value))]:
+        what = [
+            word
+            for word, count in (("values", answer.loose), ("duals", answer.loose_duals))
+            if count
+        ]
+        if (
+            what
+            and said is not None
+            and said.word == "optimal"
+            and told.split()[-1:] != [plain(str(said.value))]
+        ):
             told += f"; the exact {' and '.join(what)} are rounded to decimals in it"
         is_sol = self.job.options.is_written and not self.alone
         return f"bridge check of the {'.sol' if is_sol else 'values'}: {told}"
@@ -199,7 +258,9 @@ class Certifier:
         if said.word == "feasible" and self.linear:
             text += "; no bound was found that says how good it is" if not note else ""
         elif said.word == "feasible":
-            text += "; the search for a better one did not end" + ": prove=1 goes on" * (not self.job.options.prove)
+            text += "; the search for a better one did not end" + ": prove=1 goes on" * (
+                not self.job.options.prove
+            )
         return ["in words: " + text]
 
     def kept(self, verdict: Verdict) -> Kept | None:
@@ -210,15 +271,24 @@ class Certifier:
         if verdict.path is None:
             stays = f"; {target} stays as it was" if os.path.exists(target) else ""
             return Kept("no certificate is written" + stays)
-        return keep(self.bridge, self.nl, self.program.maximise, bool(self.job.options.overwrite), verdict.path,
-                    verdict.line, target)
+        return keep(
+            self.bridge,
+            self.nl,
+            self.program.maximise,
+            bool(self.job.options.overwrite),
+            verdict.path,
+            verdict.line,
+            target,
+        )
 
     def reading(self, verdict: str, has_duals: bool) -> str:
         """A verdict of `bridge check`; that of zeros as duals says what they cannot break."""
         words = verdict.split()
         is_broken = words[-1] == "broken" or verdict.startswith("too wide at row ")
         if not has_duals and not is_broken and words[0] in ("yes", "gap", "bound", "too"):
-            return "feasible" + (f", objective exactly {plain(words[1])}" if words[0] in ("yes", "gap") else "")
+            return "feasible" + (
+                f", objective exactly {plain(words[1])}" if words[0] in ("yes", "gap") else ""
+            )
         if words[0] in ("yes", "gap"):
             return " ".join([words[0], *map(plain, words[1:])])
         if words[0] not in ("row", "bound"):
@@ -241,16 +311,22 @@ class Certifier:
         return self.thing(kind, int(digits)) if digits.isdigit() else "the objective's row"
 
 
-def keep(bridge: Bridge, nl: str, maximise: bool, overwrite: bool, source: str, line: str, target: str) -> Kept:
+def keep(
+    bridge: Bridge, nl: str, maximise: bool, overwrite: bool, source: str, line: str, target: str
+) -> Kept:
     """The certificate in the file `source`, whose verdict is the line, at `target`, where nothing stands that stays."""
     try:
         with open(source, "rb") as f:
             data = f.read()
         Places([nl, bridge.shown.get(nl, nl)], overwrite).write(target, data)
     except OSError as fault:
-        proves = older(bridge, nl, maximise, line, target) if isinstance(fault, FileExistsError) else ""
+        proves = (
+            older(bridge, nl, maximise, line, target) if isinstance(fault, FileExistsError) else ""
+        )
         if proves:
-            return Kept(f"{target} stays as it is: it proves `{proves}`; overwrite=1 replaces it", target)
+            return Kept(
+                f"{target} stays as it is: it proves `{proves}`; overwrite=1 replaces it", target
+            )
         return Kept(f"the certificate is not kept: {target}: {fault.strerror}", None, True)
     return Kept(f"{target} is written: the certificate of `{line}`, {len(data)} bytes", target)
 

@@ -10,11 +10,16 @@ from .codes import STATUSES, Status
 from .texts import tables
 
 NAME = "nl-bridge"
-MODEL = ("a MODEL is a stub (knap for knap.nl), an .nl file or an MPS file; what is read may be "
-         "packed (.gz, .bz2, .xz), a pipe, or - for standard input")
-FLAGS = {"json": ("json=1", "one object of JSON on standard output, and nothing else"),
-         "overwrite": ("overwrite=1", "what stands where a file is to be written is replaced"),
-         "html": ("--html FILE", "a page with the tree as a picture"), "svg": ("--svg FILE", "the picture alone")}
+MODEL = (
+    "a MODEL is a stub (knap for knap.nl), an .nl file or an MPS file; what is read may be "
+    "packed (.gz, .bz2, .xz), a pipe, or - for standard input"
+)
+FLAGS = {
+    "json": ("json=1", "one object of JSON on standard output, and nothing else"),
+    "overwrite": ("overwrite=1", "what stands where a file is to be written is replaced"),
+    "html": ("--html FILE", "a page with the tree as a picture"),
+    "svg": ("--svg FILE", "the picture alone"),
+}
 SHELLS = ("bash", "fish", "zsh")
 WIDTH = 96
 
@@ -32,8 +37,12 @@ class Command(NamedTuple):
     def forms(self, count: int) -> list[list[str]]:
         """What so many words behind it are called: those in brackets may be missing, `..` are more of the last one."""
         found = [re.sub(pattern, "", self.rest).split() for pattern in (r"\[.*?\]", r"[][]")]
-        found = [[*names[:-1], *names[-2:-1] * (count - len(names) + 1)]
-                 if names[-1:] == [".."] else names for names in found]
+        found = [
+            [*names[:-1], *names[-2:-1] * (count - len(names) + 1)]
+            if names[-1:] == [".."]
+            else names
+            for names in found
+        ]
         return [names for names in found if len(names) == count]
 
     def call(self) -> str:
@@ -43,16 +52,26 @@ class Command(NamedTuple):
 def commands_of(title: str) -> Sequence[Command]:
     """Of rows `word | what follows | what it writes | more | options | example`."""
     rows = (row + [""] * (6 - len(row)) for row in tables("commands.txt")[title])
-    return [Command(word, rest, text, more, [FLAGS[flag] for flag in flags.split()], example)
-            for word, rest, text, more, flags, example in rows]
+    return [
+        Command(word, rest, text, more, [FLAGS[flag] for flag in flags.split()], example)
+        for word, rest, text, more, flags, example in rows
+    ]
 
 
 # those of the proved program, in the order of docs/user/commands.md, and those around it
 COMMANDS, OWN = map(commands_of, ("of the proved program", "around it"))
 WORDS = sorted({command.word for command in (*COMMANDS, *OWN)})
 VERDICTS = ("verify", "verify_mps", "verify_fixed", "check", "prove")
-PROVED = (Status.DONE, Status.FAILED, Status.REFUSED, Status.BAD_WORDS, Status.UNREAD,
-          Status.UNWRITTEN, Status.NO_MEMORY, Status.NOT_THERE)
+PROVED = (
+    Status.DONE,
+    Status.FAILED,
+    Status.REFUSED,
+    Status.BAD_WORDS,
+    Status.UNREAD,
+    Status.UNWRITTEN,
+    Status.NO_MEMORY,
+    Status.NOT_THERE,
+)
 
 
 def rows(word: str) -> list[Command]:
@@ -62,8 +81,17 @@ def rows(word: str) -> list[Command]:
 
 def wrapped(text: str, first: str, indent: int) -> str:
     """A text behind what it is about, its lines below each other."""
-    return textwrap.fill(text, WIDTH, initial_indent=f"{first:{indent}}",
-                         subsequent_indent=" " * indent, break_on_hyphens=False, break_long_words=False) + "\n"
+    return (
+        textwrap.fill(
+            text,
+            WIDTH,
+            initial_indent=f"{first:{indent}}",
+            subsequent_indent=" " * indent,
+            break_on_hyphens=False,
+            break_long_words=False,
+        )
+        + "\n"
+    )
 
 
 def rows_of(commands: Iterable[Command]) -> str:
@@ -75,11 +103,14 @@ def status_text(statuses: Iterable[Status]) -> str:
 
 
 def usage() -> str:
-    return (f"usage: {NAME} COMMAND ..\n\nof the proved program:\n{rows_of(COMMANDS)}\n"
-            f"around it:\n{rows_of(OWN)}\n{wrapped(MODEL, '', 0)}" + wrapped(status_text(PROVED), "status: ", 8)
-            + f"{NAME} help COMMAND says more of one; words and options in any order, -- ends "
-            f"options\nexample: {NAME} verify knap.nl knap.certificate\n"
-            f"Solvers are run by bridge-cbc and kin. More: man {NAME}\n")
+    return (
+        f"usage: {NAME} COMMAND ..\n\nof the proved program:\n{rows_of(COMMANDS)}\n"
+        f"around it:\n{rows_of(OWN)}\n{wrapped(MODEL, '', 0)}"
+        + wrapped(status_text(PROVED), "status: ", 8)
+        + f"{NAME} help COMMAND says more of one; words and options in any order, -- ends "
+        f"options\nexample: {NAME} verify knap.nl knap.certificate\n"
+        f"Solvers are run by bridge-cbc and kin. More: man {NAME}\n"
+    )
 
 
 def help_of(word: str) -> str:
@@ -87,11 +118,19 @@ def help_of(word: str) -> str:
     found = rows(word)
     if not found:
         return ""
-    text = "".join(wrapped(c.text + (f": {c.more}" if c.more else ""),
-                           f"{'usage: ' if k == 0 else '       '}{NAME} {c.call()}  ", 47) for k, c in enumerate(found))
+    text = "".join(
+        wrapped(
+            c.text + (f": {c.more}" if c.more else ""),
+            f"{'usage: ' if k == 0 else '       '}{NAME} {c.call()}  ",
+            47,
+        )
+        for k, c in enumerate(found)
+    )
     options = {name: said for c in found for name, said in c.options}
     if options:
-        text += "\noptions:\n" + "".join(wrapped(said, f"  {name}", 16) for name, said in options.items())
+        text += "\noptions:\n" + "".join(
+            wrapped(said, f"  {name}", 16) for name, said in options.items()
+        )
     text += "\n" + wrapped(MODEL, "", 0) if any("MODEL" in c.rest for c in found) else "\n"
     text += wrapped(status_text(PROVED), "status: ", 8)
     return text + "".join(f"example: {NAME} {c.example}\n" for c in found if c.example)

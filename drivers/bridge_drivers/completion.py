@@ -11,8 +11,14 @@ from .commands import SHELLS
 from .options import COMMON, FILE, FOLDER, Option, Options
 from .texts import text
 
-DASHED = {"-AMPL": "called by a modelling system", "-s": "write the .sol",
-          "-e": "no echo of options", "-=": "list the options", "-v": "versions", "-h": "help"}
+DASHED = {
+    "-AMPL": "called by a modelling system",
+    "-s": "write the .sol",
+    "-e": "no echo of options",
+    "-=": "list the options",
+    "-v": "versions",
+    "-h": "help",
+}
 ENDS = [end + packed for end in (".nl", ".mps") for packed in ("", ".gz", ".bz2", ".xz")]
 
 
@@ -26,8 +32,10 @@ def tables() -> dict[str, Mapping[str, Option]]:
 
 def described(words: Mapping[str, str], indent: str) -> str:
     """Lines of zsh's lists, `'word:what it is'`."""
-    return "\n".join(indent + "'" + (word.replace(":", "\\:") + ":" + text).replace("'", "'\\''")
-                     + "'" for word, text in words.items())
+    return "\n".join(
+        indent + "'" + (word.replace(":", "\\:") + ":" + text).replace("'", "'\\''") + "'"
+        for word, text in words.items()
+    )
 
 
 def fished(text: str) -> str:
@@ -40,7 +48,9 @@ class Completion:
 
     def __init__(self) -> None:
         self.options = tables()
-        self.dashed = {command: DASHED if command != "bridge-certify" else {} for command in self.options}
+        self.dashed = {
+            command: DASHED if command != "bridge-certify" else {} for command in self.options
+        }
         self.known = {name: o for known in self.options.values() for name, o in known.items()}
         self.known = dict(sorted({**self.known, **{o.name: o for o in COMMON}}.items()))
         self.texts: dict[str, str] = {}
@@ -53,41 +63,77 @@ class Completion:
 
     def values(self, line: str, files: str, folders: str, words: str) -> str:
         """A line of each option that has files, folders or known words."""
-        made = {name: files if o.kind is FILE else folders if o.kind is FOLDER
-                else words % " ".join(o.kind.known) if o.kind.known else "" for name, o in self.known.items()}
+        made = {
+            name: files
+            if o.kind is FILE
+            else folders
+            if o.kind is FOLDER
+            else words % " ".join(o.kind.known)
+            if o.kind.known
+            else ""
+            for name, o in self.known.items()
+        }
         return "\n".join(line % pair for pair in made.items() if pair[1])
 
     def after(self, line: str) -> str:
         """A line of each word of nl-bridge that known ones may follow."""
-        return "\n".join(line % (word, " ".join(after)) for word, after in self.behind.items() if after)
+        return "\n".join(
+            line % (word, " ".join(after)) for word, after in self.behind.items() if after
+        )
 
     def bash(self) -> dict[str, str]:
         made = 'COMPREPLY=($(compgen %s -- "$cur"))'
         files = "compopt -o filenames 2>/dev/null; " + made
         words = made % "-W '%s'"
-        options = [f"    {command}) echo '{' '.join([*(f'{name}=' for name in known), *self.dashed[command]])}' ;;"
-                   for command, known in self.options.items()]
-        return {"values": self.values("    %s) %s ;;", files % "-f", files % "-d", words),
-                "options": "\n".join(options), "commands": " ".join(sorted(self.texts)),
-                "behind": self.after(f"        %s) {words} ;;"), "ends": " ".join(ENDS)}
+        options = [
+            f"    {command}) echo '{' '.join([*(f'{name}=' for name in known), *self.dashed[command]])}' ;;"
+            for command, known in self.options.items()
+        ]
+        return {
+            "values": self.values("    %s) %s ;;", files % "-f", files % "-d", words),
+            "options": "\n".join(options),
+            "commands": " ".join(sorted(self.texts)),
+            "behind": self.after(f"        %s) {words} ;;"),
+            "ends": " ".join(ENDS),
+        }
 
     def zsh(self) -> dict[str, str]:
-        options = [f"        {command}) words_of=(\n" + described({name: o.text for name, o in known.items()}, " " * 12)
-                   + "\n            ) ;;" for command, known in self.options.items()]
-        return {"values": self.values(" " * 12 + "%s) %s ;;", "_files", "_files -/", "compadd -- %s"),
-                "options": "\n".join(options), "commands": described(self.texts, " " * 16),
-                "behind": self.after(" " * 12 + "%s) compadd -- %s ;;"), "dashed": described(DASHED, " " * 8)}
+        options = [
+            f"        {command}) words_of=(\n"
+            + described({name: o.text for name, o in known.items()}, " " * 12)
+            + "\n            ) ;;"
+            for command, known in self.options.items()
+        ]
+        return {
+            "values": self.values(" " * 12 + "%s) %s ;;", "_files", "_files -/", "compadd -- %s"),
+            "options": "\n".join(options),
+            "commands": described(self.texts, " " * 16),
+            "behind": self.after(" " * 12 + "%s) compadd -- %s ;;"),
+            "dashed": described(DASHED, " " * 8),
+        }
 
     def fish(self) -> dict[str, str]:
         lines = []
         for command, known in self.options.items():
-            words = {" ".join(f"{name}={word}" for word in o.kind.known or [""]): o.text for name, o in known.items()}
-            lines += [f"complete -c {command} -a {fished(word)} -d {fished(text)}"
-                      for word, text in {**words, **self.dashed[command]}.items()]
-        own = [f"complete -c nl-bridge -n __fish_use_subcommand -f -a {word} -d {fished(text)}"
-               for word, text in self.texts.items()]
-        return {"commands": "\n".join(own), "options": "\n".join(lines), "behind": self.after(
-            "complete -c nl-bridge -n '__fish_seen_subcommand_from %s' -a '%s'")}
+            words = {
+                " ".join(f"{name}={word}" for word in o.kind.known or [""]): o.text
+                for name, o in known.items()
+            }
+            lines += [
+                f"complete -c {command} -a {fished(word)} -d {fished(text)}"
+                for word, text in {**words, **self.dashed[command]}.items()
+            ]
+        own = [
+            f"complete -c nl-bridge -n __fish_use_subcommand -f -a {word} -d {fished(text)}"
+            for word, text in self.texts.items()
+        ]
+        return {
+            "commands": "\n".join(own),
+            "options": "\n".join(lines),
+            "behind": self.after(
+                "complete -c nl-bridge -n '__fish_seen_subcommand_from %s' -a '%s'"
+            ),
+        }
 
     def text(self, shell: str) -> str:
         made = {"bash": self.bash, "fish": self.fish, "zsh": self.zsh}[shell]()
@@ -96,6 +142,9 @@ class Completion:
 
 def place(shell: str, prefix: str, command: str, folder: str = "") -> str:
     """Where a shell looks for it below a prefix; `folder` is zsh's."""
-    path = {"bash": f"bash-completion/completions/{command}", "fish": f"fish/vendor_completions.d/{command}.fish",
-            "zsh": f"zsh/{folder or 'site-functions'}/_{command}"}[shell]
+    path = {
+        "bash": f"bash-completion/completions/{command}",
+        "fish": f"fish/vendor_completions.d/{command}.fish",
+        "zsh": f"zsh/{folder or 'site-functions'}/_{command}",
+    }[shell]
     return os.path.join(prefix, "share", path)

@@ -16,8 +16,8 @@ from .interrupts import SIGNALS, Interrupted
 from .printable import printable
 
 GREEN, YELLOW, RED = 32, 33, 31
-PROVED = ("yes ", "proved")             # verdicts of `check` and `prove`
-COLLECTED = (200_000, 20, 50)   # a run makes millions of objects, of which few go in circles
+PROVED = ("yes ", "proved")  # verdicts of `check` and `prove`
+COLLECTED = (200_000, 20, 50)  # a run makes millions of objects, of which few go in circles
 
 
 class OutputBroken(BaseException):
@@ -81,7 +81,9 @@ def colour_of(verdict: str) -> int:
 
 
 def is_coloured(stream: TextIO) -> bool:
-    return not os.environ.get("NO_COLOR") and os.environ.get("TERM") != "dumb" and is_terminal(stream)
+    return (
+        not os.environ.get("NO_COLOR") and os.environ.get("TERM") != "dumb" and is_terminal(stream)
+    )
 
 
 def tell(line: str, stream: TextIO, verdict: str = "") -> None:
@@ -104,13 +106,18 @@ def tell_all(lines: Sequence[str], stream: TextIO) -> None:
 
 def run(name: str, command: Callable[[], int]) -> NoReturn:
     """Ends the process with the command's status. Bytes of paths that are not UTF-8 are printed as they are, controls
-    of a terminal as `\\x1b`; a standard output that breaks or is closed is told in one line, and so is a signal."""
+    of a terminal as `\\x1b`; a standard output that breaks or is closed is told in one line, and so is a signal.
+    """
     gc.set_threshold(*COLLECTED)
     SIGNALS.take()
     fill()
     for stream in (sys.stdout, sys.stderr):
         if hasattr(stream, "reconfigure"):
-            stream.reconfigure(errors="surrogateescape" if stream.encoding.lower() == "utf-8" else "backslashreplace")
+            stream.reconfigure(
+                errors="surrogateescape"
+                if stream.encoding.lower() == "utf-8"
+                else "backslashreplace"
+            )
     sys.stdout = cast(TextIO, Output(sys.stdout))
     sys.stderr = cast(TextIO, Shown(sys.stderr))
     try:
@@ -131,7 +138,7 @@ def fill() -> None:
     for number, stream in enumerate((sys.stdin, sys.stdout, sys.stderr)):
         if stream is None:
             nowhere = os.open(os.devnull, os.O_WRONLY if number == 2 else os.O_RDONLY)
-            os.dup2(nowhere, number)        # children have it too
+            os.dup2(nowhere, number)  # children have it too
     sys.stdout = sys.stdout or open(1, "w", encoding="utf-8", closefd=False)
     sys.stderr = sys.stderr or open(2, "w", encoding="utf-8", closefd=False)
 

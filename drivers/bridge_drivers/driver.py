@@ -26,7 +26,9 @@ def writing(path: str) -> Iterator[None]:
     try:
         yield
     except OSError as fault:
-        raise Failure(Code.FILE, f"{fault.filename or path}: {fault.strerror}", Status.UNWRITTEN) from None
+        raise Failure(
+            Code.FILE, f"{fault.filename or path}: {fault.strerror}", Status.UNWRITTEN
+        ) from None
 
 
 class Run:
@@ -66,12 +68,14 @@ class Run:
             return self.deliver(self.work())
         except Failure as fault:
             return self.failed(fault)
-        except Exception as fault:      # a modelling system is told, whatever it was
+        except Exception as fault:  # a modelling system is told, whatever it was
             if self.options.outlev >= 2:
                 raise
-            if self.is_put:             # such as a closed output: the .sol stands
+            if self.is_put:  # such as a closed output: the .sol stands
                 return Status.FAILED
-            return self.failed(Failure(Code.FAULT, f"a fault of the driver: {fault!r} (outlev=2 shows where)"))
+            return self.failed(
+                Failure(Code.FAULT, f"a fault of the driver: {fault!r} (outlev=2 shows where)")
+            )
 
     def take_model(self) -> None:
         """Where there is none, `missing` says why, once options and an older .sol are seen to."""
@@ -79,8 +83,11 @@ class Run:
         try:
             self.model = read_model(word, self.workspace)
         except (Failure, OSError) as fault:
-            self.missing = fault if isinstance(fault, Failure) else \
-                Failure(Code.FILE, f"{word}: {fault.strerror}", Status.UNREAD)
+            self.missing = (
+                fault
+                if isinstance(fault, Failure)
+                else Failure(Code.FILE, f"{word}: {fault.strerror}", Status.UNREAD)
+            )
             self.model = missing_source(word)
         self.nl, self.is_mps = self.model.path, self.model.is_mps
         self.sol = self.model.stub + ".sol"
@@ -97,9 +104,11 @@ class Run:
             raise BadOption("check=0 proves nothing: it does not go with prove=1 or strict=1")
         if o.format and not self.is_mps and self.missing is None:
             raise BadOption(f"format={o.format} is for MPS files, and {self.model.name} is none")
-        if self.is_mps and self.writes():       # it is judged as it stands
-            raise BadOption("a .sol is the answer to an .nl file: wantsol=2 prints the values of "
-                            f"{self.model.name}, `nl-bridge import` makes an .nl of it")
+        if self.is_mps and self.writes():  # it is judged as it stands
+            raise BadOption(
+                "a .sol is the answer to an .nl file: wantsol=2 prints the values of "
+                f"{self.model.name}, `nl-bridge import` makes an .nl of it"
+            )
         if self.is_mps and o.shortest:
             raise BadOption("shortest=1 is for .nl files: an MPS file is read as it stands")
         o.prove = int(bool(o.prove or o.strict))
@@ -128,8 +137,15 @@ class Run:
         solver, named = self.solver, self.options.solver
         place = solver.place(named)
         if place is None:
-            how = f"apt install {solver.package} (Debian)" if solver.package and not named else "install it"
-            raise Failure(Code.NOT_FOUND, f"{named or solver.program} was not found: {how} or give solver=PATH")
+            how = (
+                f"apt install {solver.package} (Debian)"
+                if solver.package and not named
+                else "install it"
+            )
+            raise Failure(
+                Code.NOT_FOUND,
+                f"{named or solver.program} was not found: {how} or give solver=PATH",
+            )
         return os.path.abspath(place)
 
     def work(self) -> Result:
@@ -139,13 +155,20 @@ class Run:
         bridge.shown[self.nl] = self.model.name
         solver_path = "" if self.options.only else self.find_solver()
         with SIGNALS.kept(True):
-            with writing(self.options.keep):        # the folder for files in between, this run's alone
+            with writing(self.options.keep):  # the folder for files in between, this run's alone
                 self.kept_in = own_folder(self.options.keep, self.name) if self.options.keep else ""
             folder = self.kept_in or tempfile.mkdtemp(prefix=self.name + "-")
             try:
                 with SIGNALS.kept(False), writing(folder):
-                    return self.make_solving(self.solver, self.options, bridge, self.clock, self.model, solver_path,
-                                             os.path.abspath(folder)).result()
+                    return self.make_solving(
+                        self.solver,
+                        self.options,
+                        bridge,
+                        self.clock,
+                        self.model,
+                        solver_path,
+                        os.path.abspath(folder),
+                    ).result()
             finally:
                 if not self.options.keep:
                     shutil.rmtree(folder, ignore_errors=True)
@@ -153,7 +176,11 @@ class Run:
     def lines(self, result: Result) -> list[str]:
         first = result.lines[0] if result.sol is not None else f"{self.name}: {result.lines[0]}"
         is_told = self.kept_in not in ("", self.options.keep)
-        return [first, *[f"the files in between are in {self.kept_in}"] * is_told, *result.lines[1:]]
+        return [
+            first,
+            *[f"the files in between are in {self.kept_in}"] * is_told,
+            *result.lines[1:],
+        ]
 
     def deliver(self, result: Result) -> Status:
         """The .sol, where it is asked for and in a folder that is kept, and the values, at once or not at all."""
@@ -161,8 +188,11 @@ class Run:
         if self.options.solution:
             self.message.insert(1, self.write_solution())
         if not self.is_mps:
-            data = sol.with_message(result.sol, self.message) if result.sol is not None else \
-                sol.bare(self.nl, result.code, self.options.objno - 1, self.message)
+            data = (
+                sol.with_message(result.sol, self.message)
+                if result.sol is not None
+                else sol.bare(self.nl, result.code, self.options.objno - 1, self.message)
+            )
             if self.writes():
                 self.put(data)
             if self.kept_in:
@@ -180,8 +210,11 @@ class Run:
             return []
         name_of = answer.program.names.row if key == "duals" else answer.program.names.column
         has_names = bool(name_of(0))
-        return [((name_of(int(name[1:])) if has_names else "") or name, text)
-                for name, text in (getattr(answer, key) or {}).items() if name[1:].isdigit()]
+        return [
+            ((name_of(int(name[1:])) if has_names else "") or name, text)
+            for name, text in (getattr(answer, key) or {}).items()
+            if name[1:].isdigit()
+        ]
 
     def numbers(self, key: str, bit: int) -> dict[str, str] | None:
         """The same where `wantsol` asks for them; None where there are none."""
@@ -206,9 +239,18 @@ class Run:
     def failed(self, fault: Failure) -> int:
         """With -AMPL a .sol with the code, and exit 0 with it."""
         self.fault = fault
-        if self.words.ampl and not self.is_mps and fault.code != Code.STOPPED and not self.options.failexit:
+        if (
+            self.words.ampl
+            and not self.is_mps
+            and fault.code != Code.STOPPED
+            and not self.options.failexit
+        ):
             with contextlib.suppress(Failure, OSError, ValueError, IndexError):
-                self.put(sol.bare(self.nl, fault.code, self.options.objno - 1, [f"{self.name}: {fault.text}"]))
+                self.put(
+                    sol.bare(
+                        self.nl, fault.code, self.options.objno - 1, [f"{self.name}: {fault.text}"]
+                    )
+                )
                 return Status.DONE
         return fault.status
 
@@ -217,8 +259,8 @@ class Driver(Run):
     """The command: a run that is told."""
 
     usage_text, example_text = USAGE, EXAMPLE
-    is_quiet = False                # standard output is wanted for something else
-    shows = True                    # a screen of values that nobody asked for
+    is_quiet = False  # standard output is wanted for something else
+    shows = True  # a screen of values that nobody asked for
 
     def main(self, argv: Sequence[str]) -> int:
         asked = words_of(argv)
@@ -231,8 +273,12 @@ class Driver(Run):
         return self.run(asked)
 
     def usage(self) -> str:
-        return self.usage_text.format(name=self.name, title=self.solver.title, model=MODEL,
-                                      variable=self.name.replace("-", "_") + "_options")
+        return self.usage_text.format(
+            name=self.name,
+            title=self.solver.title,
+            model=MODEL,
+            variable=self.name.replace("-", "_") + "_options",
+        )
 
     def told(self, ask: str, topic: str = "") -> str:
         """What -v, -= and -? print."""
@@ -259,13 +305,17 @@ class Driver(Run):
         lines, answer = self.message, result.answer
         out = sys.stderr if self.is_quiet else sys.stdout
         if (not self.words.ampl or o.failexit) and not o.wantsol & 8:
-            if answer is None:                  # no verdict
+            if answer is None:  # no verdict
                 print("\n".join(lines), file=out, flush=True)
             else:
                 console.tell_all(lines, out)
         if o.failexit:
             unsure, last = f"{lines[0]}; " if result.code == Code.UNSURE else "", lines[-1]
-            if last in ("optimal 0", "feasible 0") and answer and not answer.program.has_objective():
+            if (
+                last in ("optimal 0", "feasible 0")
+                and answer
+                and not answer.program.has_objective()
+            ):
                 last = "satisfied"
             minizinc.tell(f"{self.name}: {unsure}{last}")
         if not self.words.ampl:
@@ -277,10 +327,19 @@ class Driver(Run):
     def numbers_told(self) -> list[str]:
         """Values and duals, one a line, by their names; a screen of values unasked where it is called by hand."""
         o = self.options
-        is_asked = self.words.save or o.failexit or o.json or any(word.startswith("wantsol=") for word in o.given)
+        is_asked = (
+            self.words.save
+            or o.failexit
+            or o.json
+            or any(word.startswith("wantsol=") for word in o.given)
+        )
         tells = sol.lines if o.wantsol & 2 else sol.screen if self.shows and not is_asked else None
         duals = self.pairs("duals") if o.wantsol & 4 else []
-        return [*(tells(self.pairs("values")) if tells else ()), *["duals"] * bool(duals), *sol.lines(duals)]
+        return [
+            *(tells(self.pairs("values")) if tells else ()),
+            *["duals"] * bool(duals),
+            *sol.lines(duals),
+        ]
 
     def failed(self, fault: Failure) -> int:
         line = f"{self.name}: {fault.text}"

@@ -19,15 +19,22 @@ from .names import Names, comment_of, with_name
 from .nl import expression as expression_of
 from .printable import in_a_line, printable
 
-TOLD = re.compile(r"refused (?:file (\d+) ?)?(?:(line|row|column|objective) (\d+)|program)?: (.*)", re.S)
+TOLD = re.compile(
+    r"refused (?:file (\d+) ?)?(?:(line|row|column|objective) (\d+)|program)?: (.*)", re.S
+)
 HEADS = b"COVLFSJGKkbrdx"
-BODIES = b"COVL"                        # segments that hold an expression
+BODIES = b"COVL"  # segments that hold an expression
 HEAD_LINES = 10
-NL_FIRST = ("export", "nl", "return", "check", "prove", "verify")     # commands of an .nl file
+NL_FIRST = ("export", "nl", "return", "check", "prove", "verify")  # commands of an .nl file
 
-FIRST_LINES = {"verify": "certificate 1", "verify_mps": "certificate 1",
-               "verify_fixed": "certificate 1", "prove": "proof 1", "return": "answer 1"}
-AT_END = ("end in header", "missing segment", "nonzero count", "column count")    # of the file
+FIRST_LINES = {
+    "verify": "certificate 1",
+    "verify_mps": "certificate 1",
+    "verify_fixed": "certificate 1",
+    "prove": "proof 1",
+    "return": "answer 1",
+}
+AT_END = ("end in header", "missing segment", "nonzero count", "column count")  # of the file
 
 
 class Told(NamedTuple):
@@ -49,7 +56,7 @@ def parsed(told: str) -> Told | None:
 def files_of(words: Sequence[str]) -> list[str]:
     """The files among the words of a command, in order."""
     command = "".join(words[:1])
-    return [] if command == "make" else [*words[1:2], *words[3 if command == "export" else 2:]]
+    return [] if command == "make" else [*words[1:2], *words[3 if command == "export" else 2 :]]
 
 
 def meaning(reason: str) -> str:
@@ -66,7 +73,7 @@ def fault_at(path: str) -> str:
         if os.path.isfile(path) or os.path.isdir(path) or not os.path.exists(path):
             with open(path, "rb"):
                 pass
-    except (OSError, ValueError) as fault:          # a byte 0 in the path
+    except (OSError, ValueError) as fault:  # a byte 0 in the path
         return getattr(fault, "strerror", "") or str(fault)
     return ""
 
@@ -74,8 +81,14 @@ def fault_at(path: str) -> str:
 def unreadable(files: Sequence[str], shown: Mapping[str, str]) -> str:
     """Which of the files cannot be read, and why, and what is there that may be meant."""
     for file in filter(fault_at, files):
-        beside = "" if os.path.lexists(file) else file_kinds.explain_missing_model(file).partition("; ")[2]
-        return f"{shown.get(file, file)}: input fault ({fault_at(file)})" + (beside and f"; {beside}")
+        beside = (
+            ""
+            if os.path.lexists(file)
+            else file_kinds.explain_missing_model(file).partition("; ")[2]
+        )
+        return f"{shown.get(file, file)}: input fault ({fault_at(file)})" + (
+            beside and f"; {beside}"
+        )
     return "input fault: " + " or ".join(shown.get(f, f) for f in files) + " could not be read"
 
 
@@ -128,9 +141,19 @@ def place_of(segment: Segment, line: int, names: Names) -> str:
         return names.constraint(number, said)
     if letter in ("O", "G"):
         return names.objective(number, said)
-    return {"": "header", "V": with_name(f"defined variable {number}", said), "L": f"logical constraint {number}",
-            "b": "bounds", "r": "sides of constraints", "k": "column counts", "K": "column counts", "S": "suffix",
-            "d": "guesses of duals", "x": "guesses of values", "F": "imported function"}[letter]
+    return {
+        "": "header",
+        "V": with_name(f"defined variable {number}", said),
+        "L": f"logical constraint {number}",
+        "b": "bounds",
+        "r": "sides of constraints",
+        "k": "column counts",
+        "K": "column counts",
+        "S": "suffix",
+        "d": "guesses of duals",
+        "x": "guesses of values",
+        "F": "imported function",
+    }[letter]
 
 
 def fault_of(reason: str, expression: str) -> str:
@@ -152,8 +175,10 @@ class Refusal:
         self.shown = [shown.get(file, file) for file in self.files]
         self.parts = parsed(told)
         self.is_model = self.command in NL_FIRST and bool(self.files)
-        self.names = Names(file_kinds.stub_of("".join(self.shown[:1])),
-                           *(counts_of(self.files[0]) if self.is_model else (None, None)))
+        self.names = Names(
+            file_kinds.stub_of("".join(self.shown[:1])),
+            *(counts_of(self.files[0]) if self.is_model else (None, None)),
+        )
         self.segment: Segment | None = None
         self.line = in_a_line(self.text())
 
@@ -172,7 +197,9 @@ class Refusal:
 
     def at_line(self, t: Told) -> str:
         is_mps = t.file == 1 and self.command in faults.COMMANDS
-        if t.file == 1 and (is_mps and t.number == 1 or self.is_model and t.reason == "bad first line"):
+        if t.file == 1 and (
+            is_mps and t.number == 1 or self.is_model and t.reason == "bad first line"
+        ):
             kind = file_kinds.kind_of_file(self.files[0])
             if kind is not None and not (is_mps and kind is file_kinds.MPS):
                 return f"{t.reason}: it {file_kinds.describe(self.files[0], kind, self.shown[0])}"
@@ -238,11 +265,19 @@ def in_words(words: Sequence[str], told: str, shown: Mapping[str, str]) -> str:
     return Refusal(words, told, shown).line
 
 
-def object_of(words: Sequence[str], told: str, shown: Mapping[str, str]) -> dict[str, object] | None:
+def object_of(
+    words: Sequence[str], told: str, shown: Mapping[str, str]
+) -> dict[str, object] | None:
     """A refusal for programs; None where it is none."""
     t = parsed(told)
     if t is None or not words:
         return None
     refusal = Refusal(words, told, shown)
-    return {"told": told, "reason": t.reason, "kind": t.kind or None, "number": t.number if t.kind else None,
-            "file": refusal.file() or None, "more": refusal.more()}
+    return {
+        "told": told,
+        "reason": t.reason,
+        "kind": t.kind or None,
+        "number": t.number if t.kind else None,
+        "file": refusal.file() or None,
+        "more": refusal.more(),
+    }

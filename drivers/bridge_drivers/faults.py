@@ -11,13 +11,18 @@ from .texts import tables
 
 OPCODE = re.compile(r"refused opcode (\d+)$")
 WIDTH = 96
-COMMANDS = ("mps", "fixed", "import", "verify_mps", "verify_fixed")     # whose first file is one
+COMMANDS = ("mps", "fixed", "import", "verify_mps", "verify_fixed")  # whose first file is one
 SECTIONS = ("NAME", "OBJSENSE", "ROWS", "COLUMNS", "RHS", "RANGES", "BOUNDS", "ENDATA")
-BEYOND = {word: text for words, text in tables("sections.txt")["not read"] for word in words.split()}
+BEYOND = {
+    word: text for words, text in tables("sections.txt")["not read"] for word in words.split()
+}
 KINDS = ("LO", "UP", "FX", "FR", "MI", "PL", "BV", "LI", "UI")
-BARE = ("FR", "MI", "PL", "BV")         # kinds of bounds that have no number
-PLAIN = {"column again": (0, "the lines of a column must stand together"), "repeated row": (-1, "a line before has it"),
-         "bad marker": (-1, "'INTORG' or 'INTEND' is wanted")}     # which word, and what of it
+BARE = ("FR", "MI", "PL", "BV")  # kinds of bounds that have no number
+PLAIN = {
+    "column again": (0, "the lines of a column must stand together"),
+    "repeated row": (-1, "a line before has it"),
+    "bad marker": (-1, "'INTORG' or 'INTEND' is wanted"),
+}  # which word, and what of it
 NUMBER = re.compile(r"[-+]?(\d+\.?\d*|\.\d+)([eEdD][-+]?\d+)?")
 
 
@@ -31,8 +36,12 @@ class Meaning(NamedTuple):
 
 
 TABLES = {title: [Meaning(*row) for row in rows] for title, rows in tables("reasons.txt").items()}
-MEANING: Mapping[str, Meaning] = {       # of the first table that has the reason
-    reason: row for rows in reversed(list(TABLES.values())) for row in rows for reason in row.reasons.split(", ")}
+MEANING: Mapping[str, Meaning] = {  # of the first table that has the reason
+    reason: row
+    for rows in reversed(list(TABLES.values()))
+    for row in rows
+    for reason in row.reasons.split(", ")
+}
 
 
 def meaning_of(reason: str) -> Meaning:
@@ -47,7 +56,12 @@ def listed() -> str:
         for row in rows:
             said = "; ".join(filter(None, (row.text, row.more)))
             said += f" => {row.help}" if row.help else ""
-            told += textwrap.fill(said, WIDTH, initial_indent=f"  {row.reasons}:  ", subsequent_indent=" " * 6) + "\n"
+            told += (
+                textwrap.fill(
+                    said, WIDTH, initial_indent=f"  {row.reasons}:  ", subsequent_indent=" " * 6
+                )
+                + "\n"
+            )
     return told
 
 
@@ -97,7 +111,12 @@ def fault(path: str, number: int, reason: str) -> str:
     if reason == "bad section":
         return of(word, "no section that is known", (*SECTIONS, *BEYOND))
     if reason == "bad bound kind":
-        return of(word, "semi-continuous columns are not read" if known in ("SC", "SI") else "not " + either(KINDS))
+        return of(
+            word,
+            "semi-continuous columns are not read"
+            if known in ("SC", "SI")
+            else "not " + either(KINDS),
+        )
     if reason == "unknown row":
         return unknown(line.words[-2:0:-2][::-1], line.rows)
     if reason == "unknown column":
@@ -118,7 +137,9 @@ def decimal(line: Line) -> str:
     word = next((word for word in places if not NUMBER.fullmatch(word)), "")
     if not word:
         return of(places[0], "more than 38 digits") if places else ""
-    return of(word, "no decimal number" + ("; a point stands before decimals" if "," in word else ""))
+    return of(
+        word, "no decimal number" + ("; a point stands before decimals" if "," in word else "")
+    )
 
 
 def unknown(words: Sequence[str], known: Iterable[str]) -> str:

@@ -15,7 +15,7 @@ from typing import BinaryIO, Iterator, Sequence
 
 from .interrupts import SIGNALS
 
-NO_ONE = 0o222              # the bits of a mode that let someone write
+NO_ONE = 0o222  # the bits of a mode that let someone write
 READ = "it is what this command reads"
 STANDS = "it stands there, and this run did not make it; overwrite=1 replaces it"
 OPEN = re.compile(r"/dev/std(?P<name>out|err)|/(?:dev|proc/self)/fd/(?P<number>\d+)")
@@ -34,7 +34,9 @@ def naming(path: str) -> Iterator[None]:
 
 def is_special(path: str) -> bool:
     """Whether it is there and is no plain file, or one that this process has open: a device, a pipe, /dev/stdout."""
-    return os.path.exists(path) and (not os.path.isfile(path) or OPEN.fullmatch(os.path.abspath(path)) is not None)
+    return os.path.exists(path) and (
+        not os.path.isfile(path) or OPEN.fullmatch(os.path.abspath(path)) is not None
+    )
 
 
 def added_to(path: str) -> BinaryIO:
@@ -113,13 +115,19 @@ class Places:
 
     def is_read(self, target: str) -> bool:
         return os.path.exists(target) and any(
-            os.path.exists(path) and os.path.samefile(path, target) for path in self.reads)
+            os.path.exists(path) and os.path.samefile(path, target) for path in self.reads
+        )
 
     def check(self, target: str, data: bytes) -> None:
         """Nothing is lost where what stands there is empty, or has the data already."""
         if self.is_read(target) or not (
-                self.overwrite or not os.path.isfile(target) or is_special(target) or os.path.getsize(target) == 0
-                or os.path.getsize(target) == len(data) and Path(target).read_bytes() == data):
+            self.overwrite
+            or not os.path.isfile(target)
+            or is_special(target)
+            or os.path.getsize(target) == 0
+            or os.path.getsize(target) == len(data)
+            and Path(target).read_bytes() == data
+        ):
             raise FileExistsError(errno.EEXIST, READ if self.is_read(target) else STANDS, target)
 
     def write(self, target: str, data: bytes) -> None:

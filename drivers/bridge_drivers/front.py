@@ -25,8 +25,8 @@ from .printable import near
 if TYPE_CHECKING:
     from .driver import Driver
 
-NUMBERS = ("K", "SEED", "SIZE")             # words of the table that are no files
-MODELS = ("NL", "FILE")                     # those that may be a stub
+NUMBERS = ("K", "SEED", "SIZE")  # words of the table that are no files
+MODELS = ("NL", "FILE")  # those that may be a stub
 PROVED = {command.word for command in COMMANDS}
 NUMBER, MOST = re.compile("0|[1-9][0-9]*"), 4294967295
 HELP = ("-h", "-?", "-=", "--help")
@@ -121,8 +121,11 @@ def done(call: Call) -> int:
 def is_model(rest: Sequence[str]) -> bool:
     """Whether `verify` is about what the proved program does not read itself: an MPS file, or a binary .nl file."""
     path = name_of_model(rest[0]) if len(rest) == 2 else ""
-    return is_stream(path) or os.path.isfile(path) and (
-        is_mps_file(path) or is_packed_file(path) or start_of_file(path)[:1] == b"b")
+    return (
+        is_stream(path)
+        or os.path.isfile(path)
+        and (is_mps_file(path) or is_packed_file(path) or start_of_file(path)[:1] == b"b")
+    )
 
 
 def helped(call: Call) -> int:
@@ -131,9 +134,13 @@ def helped(call: Call) -> int:
     if topic in ("", "help"):
         sys.stdout.write(commands.usage())
         return Status.DONE
-    text = commands.help_of(topic) or faults.listed() * (topic == "refusals") or helped_driver(topic)
+    text = (
+        commands.help_of(topic) or faults.listed() * (topic == "refusals") or helped_driver(topic)
+    )
     if not text:
-        raise BadWords(f"no help on {topic}", topic, [*WORDS, "refusals", *certifier().options.known])
+        raise BadWords(
+            f"no help on {topic}", topic, [*WORDS, "refusals", *certifier().options.known]
+        )
     sys.stdout.write(text)
     return Status.DONE
 
@@ -142,17 +149,25 @@ def helped_driver(topic: str) -> str:
     """Of a driver, or of an option that one has."""
     from . import solvers
     from .driver import Driver
+
     name = topic.removeprefix("bridge-")
     if topic != name and name in solvers.NAMES:
         return Driver(name).told("-?")
     known = certifier().options.known
-    return certifier().told("-?") if topic == "bridge-certify" else known[topic].line() + "\n" if topic in known else ""
+    return (
+        certifier().told("-?")
+        if topic == "bridge-certify"
+        else known[topic].line() + "\n"
+        if topic in known
+        else ""
+    )
 
 
 def certifier() -> Driver:
     """bridge-certify, which has the options of all drivers."""
     from . import solvers
     from .certify.command import Command
+
     return Command(solvers.NAMES[0])
 
 
@@ -190,8 +205,13 @@ def explained(call: Call) -> Report:
             return interface.called([rest[0], *plain_files(workspace, rest)], rest)
     if len(rest) == 1 or NUMBER.fullmatch(rest[1]):
         return interface.explain(rest[0], objective=int((*rest, "0")[1]))
-    return interface.explain(rest[0], rest[1], html=call.pages.get("html", ""),
-                             svg=call.pages.get("svg", ""), overwrite=call.overwrite)
+    return interface.explain(
+        rest[0],
+        rest[1],
+        html=call.pages.get("html", ""),
+        svg=call.pages.get("svg", ""),
+        overwrite=call.overwrite,
+    )
 
 
 def version(call: Call) -> Report:
@@ -201,14 +221,25 @@ def version(call: Call) -> Report:
     digest = sum_of(place[0]) if len(place) == 1 else None
     facts = built(place[0]) if len(place) == 1 else {}
     trial = "" if facts.get("proved") == "yes" else " (NOT PROVED: a build for trials)"
-    toolchain = (facts.get("toolchain") or "not told") + trial if facts else \
-        "not told: there is no note on this program, so that it may not be proved"
+    toolchain = (
+        (facts.get("toolchain") or "not told") + trial
+        if facts
+        else "not told: there is no note on this program, so that it may not be proved"
+    )
     told.text = f"{NAME} {VERSION}"
-    told.lines = [told.text, f"program    {' '.join(map(os.path.normpath, place))}",
-                  f"sha256     {digest or 'cannot be read'}", f"toolchain  {toolchain}",
-                  f"drivers    {VERSION} {PACKAGE}"]
-    told.more = {"program": list(place), "toolchain": facts.get("toolchain"),
-                 "proved": facts.get("proved") == "yes" if facts else None, "drivers": PACKAGE}
+    told.lines = [
+        told.text,
+        f"program    {' '.join(map(os.path.normpath, place))}",
+        f"sha256     {digest or 'cannot be read'}",
+        f"toolchain  {toolchain}",
+        f"drivers    {VERSION} {PACKAGE}",
+    ]
+    told.more = {
+        "program": list(place),
+        "toolchain": facts.get("toolchain"),
+        "proved": facts.get("proved") == "yes" if facts else None,
+        "drivers": PACKAGE,
+    }
     return told.end()
 
 
@@ -221,20 +252,26 @@ def import_into(call: Call) -> Report:
         try:
             told.say(imported(bridge, path, call.rest[1], call.overwrite))
         except OSError as fault:
-            raise Failure(Code.FILE, f"{fault.filename}: {fault.strerror}", Status.UNWRITTEN) from None
+            raise Failure(
+                Code.FILE, f"{fault.filename}: {fault.strerror}", Status.UNWRITTEN
+            ) from None
     return told
 
 
 def completion(shell: str) -> str:
     """Of all commands. The drivers are read for it alone."""
     from .completion import Completion
+
     return Completion().text(shell)
 
 
 REPORTS: Mapping[str, Callable[[Call], Report]] = {
-    "explain": explained, "version": version, "import": import_into,
+    "explain": explained,
+    "version": version,
+    "import": import_into,
     "verify": lambda call: interface.verify(*call.rest),
-    "stats": lambda call: interface.figures(call.rest[0], objective=int((*call.rest, "0")[1]))}
+    "stats": lambda call: interface.figures(call.rest[0], objective=int((*call.rest, "0")[1])),
+}
 
 
 def wrong_words(words: Sequence[str]) -> str:
@@ -266,7 +303,9 @@ def plain(workspace: Workspace, name: str, word: str) -> str:
     if name in NUMBERS:
         return word
     found = name_of_model(word) if name in MODELS and not os.path.isfile(word) else word
-    path = read_source(found, workspace).path if is_stream(found) or is_packed_file(found) else found
+    path = (
+        read_source(found, workspace).path if is_stream(found) or is_packed_file(found) else found
+    )
     return path if is_plain(path) else workspace.link_to(path)
 
 
@@ -276,7 +315,7 @@ def passed_on(place: Sequence[str], words: Sequence[str]) -> int:
     with Workspace() as workspace:
         status = run(place, [words[0], *plain_files(workspace, words)], words)
     if status < 0:
-        with contextlib.suppress(OSError):              # of SIGKILL
+        with contextlib.suppress(OSError):  # of SIGKILL
             signal.signal(-status, signal.SIG_DFL)
         os.kill(os.getpid(), -status)
     if status == Status.REFUSED:
@@ -292,8 +331,12 @@ def run(place: Sequence[str], call: Sequence[str], words: Sequence[str]) -> int:
     is_coloured = words[0] in VERDICTS and console.is_coloured(sys.stdout)
     out, err = (subprocess.PIPE if wanted else None for wanted in (is_coloured, faulty))
     try:
-        said, status = with_child(lambda child: (child.communicate(), child.returncode),
-                                  [*place, *call], stdout=out, stderr=err)
+        said, status = with_child(
+            lambda child: (child.communicate(), child.returncode),
+            [*place, *call],
+            stdout=out,
+            stderr=err,
+        )
     except OSError as fault:
         raise Failure(Code.NOT_FOUND, f"{place[0]} could not be run: {fault.strerror}") from None
     line, told = ((part or b"").decode("utf-8", "surrogateescape") for part in said)

@@ -23,12 +23,12 @@ from .options import BadOption, Options, Words, words_of
 from .values import double_of
 from .verdicts import Said
 
-if TYPE_CHECKING:                       # what few calls need is read by them
+if TYPE_CHECKING:  # what few calls need is read by them
     from .driver import Driver, Run
 
 Path = Union[str, "os.PathLike[str]"]
 FRONT = "nl-bridge"
-ALL_NUMBERS = 6                 # wantsol: values and duals
+ALL_NUMBERS = 6  # wantsol: values and duals
 Object = dict[str, Any]
 HIDDEN = ("more", "program", "began", "sources")
 OPTIONAL = ("values", "duals", "costs", "stats", "explained", "refusal")
@@ -68,15 +68,21 @@ class Report:
     more: Object = field(default_factory=dict)
     program: Sequence[str] = ()
     began: float = field(default_factory=time.monotonic, repr=False)
-    sources: dict[str, Source] = field(default_factory=dict, repr=False)    # what was read, by its place in `sums`
+    sources: dict[str, Source] = field(
+        default_factory=dict, repr=False
+    )  # what was read, by its place in `sums`
 
     def end(self) -> Report:
         """Takes what is known at the end of the call: seconds and sums."""
         program = self.program[0] if len(self.program) == 1 else None
         self.seconds = round(time.monotonic() - self.began, 3)
         self.sums = {name: source.sha256() for name, source in self.sources.items()}
-        for name, path in (("program", program), ("model", None), ("certificate", self.certificate)):
-            if name not in self.sums:               # a source is not opened again: it may be a pipe
+        for name, path in (
+            ("program", program),
+            ("model", None),
+            ("certificate", self.certificate),
+        ):
+            if name not in self.sums:  # a source is not opened again: it may be a pipe
                 self.sums[name] = sum_of(path)
         self.sums = {name: self.sums[name] for name in SUMMED}
         return self
@@ -84,8 +90,14 @@ class Report:
     def object(self) -> Object:
         left_out = {*HIDDEN, *(key for key in OPTIONAL if getattr(self, key) is None)}
         found = {key: value for key, value in vars(self).items() if key not in left_out}
-        return {**found, "status": int(self.status), "lines": list(self.lines),
-                "value": number(self.value), "bound": number(self.bound), **self.more}
+        return {
+            **found,
+            "status": int(self.status),
+            "lines": list(self.lines),
+            "value": number(self.value),
+            "bound": number(self.bound),
+            **self.more,
+        }
 
     def show(self) -> int:
         print(json.dumps(self.object(), ensure_ascii=True, indent=1), flush=True)
@@ -134,7 +146,9 @@ def fill(told: Report, run: Run) -> None:
         told.code, told.lines, told.text = int(result.code), result.lines, result.lines[-1]
         told.take(result.said)
         told.certificate = result.kept.path if result.kept else None
-        told.values, told.duals, told.costs = map(run.numbers, ("values", "duals", "costs"), (2, 4, 4))
+        told.values, told.duals, told.costs = map(
+            run.numbers, ("values", "duals", "costs"), (2, 4, 4)
+        )
 
 
 class BridgeError(Exception):
@@ -163,38 +177,83 @@ class NotInstalled(BridgeError):
 
 
 KINDS: dict[int, type[BridgeError]] = {
-    Status.REFUSED: ModelRefused, Status.BAD_WORDS: WrongOption, Status.UNREAD: FileFault,
-    Status.UNWRITTEN: FileFault, Status.NOT_THERE: NotInstalled}
+    Status.REFUSED: ModelRefused,
+    Status.BAD_WORDS: WrongOption,
+    Status.UNREAD: FileFault,
+    Status.UNWRITTEN: FileFault,
+    Status.NOT_THERE: NotInstalled,
+}
 
 
 def error_of(report: Report) -> BridgeError:
     return KINDS.get(report.status, BridgeError)(report)
 
 
-def solve(model: Path, solver: str = "cbc", *, prove: bool = False,
-          certificate: Path | None = None, timelim: float | None = None,
-          program: Path | None = None, **options: object) -> Report:
+def solve(
+    model: Path,
+    solver: str = "cbc",
+    *,
+    prove: bool = False,
+    certificate: Path | None = None,
+    timelim: float | None = None,
+    program: Path | None = None,
+    **options: object,
+) -> Report:
     """What bridge-SOLVER answers. `prove` searches a certificate that the answer is optimal, which
     is kept where `certificate` says; `program` is the solver's, where it is not on the PATH, and
     `options` are those of the driver. Values and duals are in the report."""
     from .driver import Run
-    return solved("bridge-" + solver, Run, solver, model, prove=prove or None, certificate=certificate, timelim=timelim,
-                  program=program, options=options)
+
+    return solved(
+        "bridge-" + solver,
+        Run,
+        solver,
+        model,
+        prove=prove or None,
+        certificate=certificate,
+        timelim=timelim,
+        program=program,
+        options=options,
+    )
 
 
-def certify(model: Path, *, solver: str = "cbc", certificate: Path | None = None,
-            timelim: float | None = None, program: Path | None = None, **options: object) -> Report:
+def certify(
+    model: Path,
+    *,
+    solver: str = "cbc",
+    certificate: Path | None = None,
+    timelim: float | None = None,
+    program: Path | None = None,
+    **options: object,
+) -> Report:
     """What is true of a model, as bridge-certify finds it by a driver and a search. The certificate
     is kept where it is named."""
     from .certify.command import Finding
-    return solved("bridge-certify", Finding, solver, model, certificate=certificate, timelim=timelim, program=program,
-                  options=options)
+
+    return solved(
+        "bridge-certify",
+        Finding,
+        solver,
+        model,
+        certificate=certificate,
+        timelim=timelim,
+        program=program,
+        options=options,
+    )
 
 
-def solved(command: str, kind: type[Run], solver: str, model: Path, options: Mapping[str, object], program: Path | None,
-           **given: object) -> Report:
+def solved(
+    command: str,
+    kind: type[Run],
+    solver: str,
+    model: Path,
+    options: Mapping[str, object],
+    program: Path | None,
+    **given: object,
+) -> Report:
     """By the words of these options that are given; values of both kinds are wanted."""
     from .solvers import NAMES
+
     told = Report(command)
     if solver not in NAMES:
         told.code = int(Code.BAD_OPTION)
@@ -202,8 +261,13 @@ def solved(command: str, kind: type[Run], solver: str, model: Path, options: Map
         raise error_of(told.end())
     run = kind(solver)
     known: dict[str, object] = {"wantsol": ALL_NUMBERS, **given, "solver": program, **options}
-    words = [f"{name}={int(value) if isinstance(value, bool) else value}" if not isinstance(value, os.PathLike) else
-             f"{name}={os.fspath(value)}" for name, value in known.items() if value is not None]
+    words = [
+        f"{name}={int(value) if isinstance(value, bool) else value}"
+        if not isinstance(value, os.PathLike)
+        else f"{name}={os.fspath(value)}"
+        for name, value in known.items()
+        if value is not None
+    ]
     told.status = run.run(Words(os.fspath(model), echo=False, options=words))
     fill(told, run)
     if run.fault is not None:
@@ -258,12 +322,21 @@ def verify(model: Path, certificate: Path, *, bridge: str = "") -> Report:
     return told.end()
 
 
-def explain(model: Path, certificate: Path | None = None, *, objective: int = 0, html: Path = "",
-            svg: Path = "", overwrite: bool = False, bridge: str = "") -> Report:
+def explain(
+    model: Path,
+    certificate: Path | None = None,
+    *,
+    objective: int = 0,
+    html: Path = "",
+    svg: Path = "",
+    overwrite: bool = False,
+    bridge: str = "",
+) -> Report:
     """What a certificate says, or where it fails, in `lines` and in `explained`; `html` and `svg`
     name a page and a picture of its tree. Without a certificate: whether the model is refused, and
     then, in a ModelRefused, why and what helps (`refusal`)."""
     from .explained.command import Files, explained
+
     told = Report(FRONT)
     with about(told, model, bridge) as (found, workspace):
         if certificate is None:
@@ -273,7 +346,14 @@ def explain(model: Path, certificate: Path | None = None, *, objective: int = 0,
             told.lines = [*found.notes, told.text]
         else:
             source = certificate_of(told, found, workspace, certificate)
-            files = Files(found.given.name, source.name, os.fspath(html), os.fspath(svg), overwrite, source.path)
+            files = Files(
+                found.given.name,
+                source.name,
+                os.fspath(html),
+                os.fspath(svg),
+                overwrite,
+                source.path,
+            )
             explained(found, files, told)
     return told.end()
 
@@ -281,6 +361,7 @@ def explain(model: Path, certificate: Path | None = None, *, objective: int = 0,
 def figures(model: Path, *, objective: int = 0, bridge: str = "") -> Report:
     """Sizes and kinds of a model, in `lines` and in `stats`."""
     from .stats import Stats
+
     told = Report(FRONT, text="stats")
     with about(told, model, bridge) as (found, workspace):
         stats = Stats(found, str(objective))

@@ -19,7 +19,7 @@ from .progress import Progress, detailed
 
 LOG = "solver.log"
 T = TypeVar("T")
-ANSWERS = ("answer.",)          # what files that solvers write begin with
+ANSWERS = ("answer.",)  # what files that solvers write begin with
 
 
 class Ran(NamedTuple):
@@ -48,21 +48,34 @@ class Clock:
 
     def note(self, argv: Sequence[str], where: str = "") -> None:
         if self.tells:
-            print(f"{self.name}: {time.monotonic() - self.began:.2f} s: {shlex.join(argv)}{where}", flush=True)
+            print(
+                f"{self.name}: {time.monotonic() - self.began:.2f} s: {shlex.join(argv)}{where}",
+                flush=True,
+            )
 
     def summary(self) -> str:
         parts = "".join(f"{part} {seconds:.2f}, " for part, seconds in self.spent.items())
-        return (f"{self.name}: seconds: {parts}all {time.monotonic() - self.began:.2f}; "
-                f"driver's own processor time {time.process_time():.2f}")
+        return (
+            f"{self.name}: seconds: {parts}all {time.monotonic() - self.began:.2f}; "
+            f"driver's own processor time {time.process_time():.2f}"
+        )
 
 
 class Job:
     """What a solver's module works with: `program`, `options`, `solver` (its path), `extra` (further words for it), and
     files in `folder`. `again`: it is asked once more, in another way. `given` is the program as solvers get it,
-    `status` how the last run ended. `is_interrupted`: it was told to end. `read` tells what a line of its log says."""
+    `status` how the last run ended. `is_interrupted`: it was told to end. `read` tells what a line of its log says.
+    """
 
-    def __init__(self, program: Program, options: Options, folder: str, solver: str,
-                 extra: Sequence[str], clock: Clock) -> None:
+    def __init__(
+        self,
+        program: Program,
+        options: Options,
+        folder: str,
+        solver: str,
+        extra: Sequence[str],
+        clock: Clock,
+    ) -> None:
         self.program, self.options, self.folder = program, options, folder
         self.solver, self.extra, self.clock = solver, list(extra), clock
         self.given = given(program, bool(options.relax))
@@ -79,11 +92,20 @@ class Job:
     def run(self, argv: Sequence[str], log: str = LOG) -> Ran:
         """One run in the folder, whose paths become plain names; killed a tenth and 5 seconds after `timelim`."""
         inside = self.folder + os.sep
-        argv = [w[len(inside):] if w.startswith(inside) else w for w in argv]
+        argv = [w[len(inside) :] if w.startswith(inside) else w for w in argv]
         self.clock.note(argv, f"  (in {self.folder})")
-        ran = self.clock.timed("solver", lambda: with_child(
-            self.followed, argv, stdin=subprocess.DEVNULL, stdout=subprocess.PIPE,
-            stderr=subprocess.STDOUT, cwd=self.folder, start_new_session=True))
+        ran = self.clock.timed(
+            "solver",
+            lambda: with_child(
+                self.followed,
+                argv,
+                stdin=subprocess.DEVNULL,
+                stdout=subprocess.PIPE,
+                stderr=subprocess.STDOUT,
+                cwd=self.folder,
+                start_new_session=True,
+            ),
+        )
         self.write(log, ran.log.encode("utf-8", "replace"))
         if log == LOG:
             self.log, self.status = ran.log, ran.status
@@ -96,6 +118,7 @@ class Job:
         def late() -> None:
             killed.set()
             send(child, signal.SIGKILL)
+
         timer = threading.Timer(self.options.timelim * 1.1 + 5, late)
         if self.options.timelim:
             timer.daemon = True
@@ -105,7 +128,7 @@ class Job:
             with SIGNALS.first_to(lambda: self.interrupt(child)):
                 log = self.logged(child)
                 status = child.wait()
-        finally:                    # also where a signal ends the driver
+        finally:  # also where a signal ends the driver
             timer.cancel()
             self.clock.progress.begin("")
         sys.stdout.flush()

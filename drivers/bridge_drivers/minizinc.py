@@ -15,7 +15,7 @@ from .printable import in_a_line
 
 PROGRAM = b"minizinc"
 VERBOSE = (b"-v", b"--verbose")
-ROOM = 200                      # bytes of what MiniZinc writes after its solver has ended
+ROOM = 200  # bytes of what MiniZinc writes after its solver has ended
 
 
 def told_of(process: int, name: str) -> bytes:
@@ -44,4 +44,7 @@ def tell(line: str, is_error: bool = False) -> None:
         return
     path, flags = f"/proc/{parent}/fd/2", os.O_WRONLY | os.O_APPEND | os.O_NOCTTY
     with contextlib.suppress(OSError), open(os.open(path, flags), "wb", buffering=0) as out:
-        out.write(room_in(parent, out.fileno()) + f"% {in_a_line(line)}\n".encode("utf-8", "surrogateescape"))
+        out.write(
+            room_in(parent, out.fileno())
+            + f"% {in_a_line(line)}\n".encode("utf-8", "surrogateescape")
+        )

@@ -7,9 +7,9 @@ from typing import Collection, Iterator, Mapping, NamedTuple
 from .program import Program
 from .values import in_order
 
-MOST = 1e-6                 # of the largest term: what counts as satisfied
-ROUNDING = 1e-12            # the same where all columns are whole numbers
-OWN = 2.0 ** -45            # the same of a linear program: what rounding its own terms leaves
+MOST = 1e-6  # of the largest term: what counts as satisfied
+ROUNDING = 1e-12  # the same where all columns are whole numbers
+OWN = 2.0**-45  # the same of a linear program: what rounding its own terms leaves
 
 
 class Miss(NamedTuple):
@@ -35,10 +35,16 @@ def misses(program: Program, values: Mapping[str, str], whole: Collection[str]) 
     """Of rows and bounds that are missed. A bound is its own largest term, and 0 is measured by 1."""
     read, texts, terms = program.read, in_order(values, program.columns), program.terms()
     xs, (los, his) = list(map(float, texts)), program.sides()
-    are_whole = [name in whole and text.lstrip("-").isdigit() for name, text in
-                 zip(program.columns, texts)] if whole else [False] * len(xs)
-    broken = [(i, at, lo, hi) for i, (at, lo, hi) in enumerate(zip(terms.activities(xs), los, his))
-              if not lo <= at <= hi]
+    are_whole = (
+        [name in whole and text.lstrip("-").isdigit() for name, text in zip(program.columns, texts)]
+        if whole
+        else [False] * len(xs)
+    )
+    broken = [
+        (i, at, lo, hi)
+        for i, (at, lo, hi) in enumerate(zip(terms.activities(xs), los, his))
+        if not lo <= at <= hi
+    ]
     if broken:
         sizes, mixed = terms.greatest([max(1.0, abs(x)) for x in xs]), set(read.row)
         if any(are_whole):

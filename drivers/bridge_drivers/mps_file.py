@@ -13,10 +13,10 @@ from .mps_reader import Text, exact
 from .program import Program, program_of
 
 FREE, FIXED = "free", "fixed"
-READS = {FREE: "mps", FIXED: "fixed"}               # commands by form
+READS = {FREE: "mps", FIXED: "fixed"}  # commands by form
 VERIFIES = {FREE: "verify_mps", FIXED: "verify_fixed"}
-PROBE = b"certificate 1\nfeasible 0\npoint 0\n"     # one that any program can be asked about
-NAMES = ((4, 12), (14, 22), (39, 47))               # the fields of names in fixed columns
+PROBE = b"certificate 1\nfeasible 0\npoint 0\n"  # one that any program can be asked about
+NAMES = ((4, 12), (14, 22), (39, 47))  # the fields of names in fixed columns
 
 
 class MpsRefused(Refused):
@@ -46,7 +46,9 @@ def reading(bridge: Bridge, path: str, form: str = "") -> Reading:
         raise both_refused(bridge, path, replies)
     notes = []
     if len(taken) > 1 and replies[FREE].out != replies[FIXED].out:
-        notes.append("it is read in free form; in fixed columns it is another program, which format=fixed reads")
+        notes.append(
+            "it is read in free form; in fixed columns it is another program, which format=fixed reads"
+        )
     return Reading(taken[0], replies[taken[0]].out, notes)
 
 
@@ -96,26 +98,37 @@ def judged(bridge: Bridge, path: str, probe: str, read: Reading) -> Program:
 
 def lists_of(text: bytes) -> tuple[list[bytes], list[bytes]]:
     """Names of constraints, then of the objective, and of variables: continuous, binary, integer ones, each in the
-    order of the columns. The proved program does not write that order, so it is worked out again from its MPS text."""
+    order of the columns. The proved program does not write that order, so it is worked out again from its MPS text.
+    """
     read = Text(text)
 
     def place(j: int) -> int:
         is_binary = low[j] and exact(low[j]) >= 0 and high[j] and exact(high[j]) <= 1
         return 0 if not read.whole[j] else 1 if is_binary else 2
+
     low, high = read.bounds()
     objective = [read.objective] if read.objective else []
-    return [*read.constraints, *objective], [read.columns[j] for j in sorted(range(len(low)), key=place)]
+    return [*read.constraints, *objective], [
+        read.columns[j] for j in sorted(range(len(low)), key=place)
+    ]
 
 
 def imported(bridge: Bridge, mps: str, nl: str, overwrite: bool = False) -> str:
     """Writes the .nl and the lists, all or none; a line on them. Refused where `bridge` refuses the text."""
     text, (rows, columns) = bridge.text("import", mps), lists_of(bridge.text("mps", mps))
     stub = nl.removesuffix(".nl")
-    texts = {stub + ".nl": text, **{stub + end: b"".join(name + b"\n" for name in names)
-                                    for end, names in ((".row", rows), (".col", columns))}}
+    texts = {
+        stub + ".nl": text,
+        **{
+            stub + end: b"".join(name + b"\n" for name in names)
+            for end, names in ((".row", rows), (".col", columns))
+        },
+    }
     places = Places([mps], overwrite)
     for act in (places.check, places.write):
         for path, data in texts.items():
             act(path, data)
-    return (f"{stub}.nl is written, with the names of {len(rows) - 1} constraints and {len(columns)} variables in "
-            f"{stub}.row and {stub}.col")
+    return (
+        f"{stub}.nl is written, with the names of {len(rows) - 1} constraints and {len(columns)} variables in "
+        f"{stub}.row and {stub}.col"
+    )

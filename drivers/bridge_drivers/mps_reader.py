@@ -14,14 +14,14 @@ from typing import Iterator, NamedTuple, Optional, Sequence
 from .values import wholes_of
 
 SECTIONS = (b"OBJSENSE", b"ROWS", b"COLUMNS", b"RHS", b"RANGES", b"BOUNDS")
-BLOCK = 1 << 17                         # bytes that are taken apart at once
-OBJECTIVE, OTHER = -1, -2               # places of N rows: the first one, and others
-WHOLE = (b"BV", b"LI", b"UI")           # kinds of bounds that make a column whole
+BLOCK = 1 << 17  # bytes that are taken apart at once
+OBJECTIVE, OTHER = -1, -2  # places of N rows: the first one, and others
+WHOLE = (b"BV", b"LI", b"UI")  # kinds of bounds that make a column whole
 LOW = {b"LO": None, b"LI": None, b"FX": None, b"BV": b"0", b"MI": b"", b"FR": b""}
 HIGH = {b"UP": None, b"UI": None, b"FX": None, b"BV": b"1", b"PL": b"", b"FR": b""}
-BARE = (b"BV", b"MI", b"PL", b"FR")     # without a value
+BARE = (b"BV", b"MI", b"PL", b"FR")  # without a value
 MARKS = (b"'INTORG'", b"'INTEND'")
-End = Optional[bytes]                   # empty where it is infinite, None where it is not set
+End = Optional[bytes]  # empty where it is infinite, None where it is not set
 
 
 class Part(NamedTuple):
@@ -36,27 +36,33 @@ class Text:
     """Constraints and columns by number; the k-th entry is `numbers[number[k]]` in `row[k]` and `column[k]`."""
 
     def __init__(self, text: bytes) -> None:
-        self.kinds: list[str] = []              # of constraints: L, G or E
+        self.kinds: list[str] = []  # of constraints: L, G or E
         self.constraints: list[bytes] = []
         self.objective = b""
-        self.places: dict[bytes, int] = {}      # of rows
+        self.places: dict[bytes, int] = {}  # of rows
         self.columns: list[bytes] = []
-        self.counts: list[int] = []             # entries of columns
+        self.counts: list[int] = []  # entries of columns
         self.whole: list[bool] = []
         self.row, self.number = array("i"), array("i")
         known: defaultdict[bytes, int] = defaultdict()
-        known.default_factory = known.__len__           # a place in the order in which they are first asked for
+        known.default_factory = (
+            known.__len__
+        )  # a place in the order in which they are first asked for
         self.number_of = known.__getitem__
         sense, rows, columns, rhs, ranges, bounds = parts(text)
         self.maximise = list(blocks(sense)) == [b" MAX\n"]
         self.read_rows(rows)
         self.read_columns(columns)
-        self.rhs, self.ranges = ({self.places[words[2]]: words[3] for words in lines(part)} for part in (rhs, ranges))
+        self.rhs, self.ranges = (
+            {self.places[words[2]]: words[3] for words in lines(part)} for part in (rhs, ranges)
+        )
         self.low: list[End] = [None] * len(self.columns)
         self.high: list[End] = [None] * len(self.columns)
         self.read_bounds(bounds)
         self.numbers = list(known)
-        self.column = array("i", itertools.chain.from_iterable((j,) * count for j, count in enumerate(self.counts)))
+        self.column = array(
+            "i", itertools.chain.from_iterable((j,) * count for j, count in enumerate(self.counts))
+        )
 
     def read_rows(self, part: Part) -> None:
         for words in lines(part):
@@ -78,12 +84,14 @@ class Text:
             names, rows, values = words[1::3], words[2::3], words[3::3]
             start = 0
             marks = enumerate(values) if b"'MARKER'" in block else ()
-            for at in [k for k, value in marks if value in MARKS]:      # whose values are no numbers
+            for at in [k for k, value in marks if value in MARKS]:  # whose values are no numbers
                 self.take(names[start:at], rows[start:at], values[start:at], is_whole)
                 is_whole, start = values[at] == MARKS[0], at + 1
             self.take(names[start:], rows[start:], values[start:], is_whole)
 
-    def take(self, names: Sequence[bytes], rows: Sequence[bytes], values: Sequence[bytes], is_whole: bool) -> None:
+    def take(
+        self, names: Sequence[bytes], rows: Sequence[bytes], values: Sequence[bytes], is_whole: bool
+    ) -> None:
         """Those of columns that are whole, or are not."""
         counts = Counter(names)
         if self.columns and self.columns[-1] in counts:
@@ -104,7 +112,9 @@ class Text:
             for kind in BARE:
                 lines = lines.replace(b"\n %s " % kind, b"\n %s  " % kind)
             words = lines.replace(b"\n", b"").split(b" ")
-            for kind, first, third, fourth in zip(words[1::4], words[2::4], words[3::4], words[4::4]):
+            for kind, first, third, fourth in zip(
+                words[1::4], words[2::4], words[3::4], words[4::4]
+            ):
                 name = third if first else fourth
                 if name != last:
                     at, last = (at + 1) % len(columns), name
@@ -135,8 +145,11 @@ class Text:
 
     def without_low(self) -> list[int]:
         """Columns whose upper bound takes the lower one away."""
-        return [j for j, (low, high) in enumerate(zip(self.low, self.high))
-                if low is None and high and high.startswith(b"-") and exact(high) < 0]
+        return [
+            j
+            for j, (low, high) in enumerate(zip(self.low, self.high))
+            if low is None and high and high.startswith(b"-") and exact(high) < 0
+        ]
 
     def sides(self) -> tuple[list[int | None], list[int | None], int]:
         """Lower and upper ones of constraints, and what they are over."""
@@ -161,7 +174,10 @@ def parts(text: bytes) -> list[Part]:
     starts = {name: at for name in SECTIONS for at in [text.find(b"\n%s\n" % name)] if at >= 0}
     stops = [*starts.values(), text.find(b"\nENDATA")][1:]
     ends = dict(zip(starts, [stop + 1 or len(text) for stop in stops]))
-    return [Part(text, starts[name] + len(name) + 2, ends[name]) if name in starts else Part() for name in SECTIONS]
+    return [
+        Part(text, starts[name] + len(name) + 2, ends[name]) if name in starts else Part()
+        for name in SECTIONS
+    ]
 
 
 def blocks(part: Part) -> Iterator[bytes]:

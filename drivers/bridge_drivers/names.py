@@ -27,7 +27,9 @@ class Names:
     many there are, where that is known: numbers from there on are defined variables. So is
     `constraints`: the names of objectives follow theirs."""
 
-    def __init__(self, stub: str, variables: int | None = None, constraints: int | None = None) -> None:
+    def __init__(
+        self, stub: str, variables: int | None = None, constraints: int | None = None
+    ) -> None:
         self.stub, self.variables, self.constraints = stub, variables, constraints
         self.lists: dict[str, list[str]] = {}
 

@@ -17,20 +17,33 @@ from .formats.source import Damaged
 from .names import Names, comment_of
 from .texts import tables
 
-LOOKED_AT = 1 << 20             # bytes that are looked through for printed doubles
-MOST_DIGITS = 16                # and more have decimals that are printed doubles
+LOOKED_AT = 1 << 20  # bytes that are looked through for printed doubles
+MOST_DIGITS = 16  # and more have decimals that are printed doubles
 LONG = re.compile(rb"(?<![^\sn])-?\d+\.\d+(?:[eE][-+]?\d+)?(?!\S)")
 SUM = 54
-OPEN, CLOSE = ">>", "<<"        # about the fault
-MOST_PART = 40                  # characters of a part that is not the fault
+OPEN, CLOSE = ">>", "<<"  # about the fault
+MOST_PART = 40  # characters of a part that is not the fault
 MOST_MARKED = 160
 MOST_TERMS = 6
 PIECEWISE, LIST = 64, -1
 # the name of each operator, and how it stands: with so many operands, between two (infix), or before a count of them
 OPCODES = {int(number): (name, kind) for number, name, kind in tables("opcodes.txt")["opcodes"]}
 # the numbers of a segment's head, n a count of what follows; doubles and numbers of sides by kind
-SEGMENTS = {"C": "i", "L": "i", "O": "ii", "V": "ini", "J": "in", "G": "in", "S": "in", "F": "iii",
-            "d": "n", "x": "n", "k": "n", "r": "", "b": ""}
+SEGMENTS = {
+    "C": "i",
+    "L": "i",
+    "O": "ii",
+    "V": "ini",
+    "J": "in",
+    "G": "in",
+    "S": "in",
+    "F": "iii",
+    "d": "n",
+    "x": "n",
+    "k": "n",
+    "r": "",
+    "b": "",
+}
 SIDES = {"0": "dd", "1": "d", "2": "d", "3": "", "4": "d", "5": "ii"}
 
 
@@ -48,7 +61,7 @@ def header(path: str) -> Header:
     with open(path, "rb") as f:
         first, second = (f.readline(1000).split(b"#")[0].split() for _ in range(2))
     count = int(first[0][1:])
-    options = [str(int(w)) for w in first[1:1 + count]]
+    options = [str(int(w)) for w in first[1 : 1 + count]]
     if len(options) != count or not 0 <= count <= 9:
         raise ValueError("options")
     return Header(options, int(second[1]), int(second[0]), int(second[2]) if len(second) > 2 else 0)
@@ -68,11 +81,15 @@ def prepared(path: str, target: str, shorter: bool, is_told: bool = True) -> tup
         text, count = shortest_numbers(data)
         if not count:
             return path, []
-        return fill(target, text), [f"{count} numbers of the .nl file were read in their shortest spelling"]
+        return fill(target, text), [
+            f"{count} numbers of the .nl file were read in their shortest spelling"
+        ]
     try:
         text = Binary(data).text()
     except (struct.error, IndexError, ValueError) as fault:
-        raise Damaged(f"{path}: the binary .nl file ends too soon or is damaged ({fault})") from None
+        raise Damaged(
+            f"{path}: the binary .nl file ends too soon or is damaged ({fault})"
+        ) from None
     return fill(target, text), ["the binary .nl file was turned into text, which is not proved"]
 
 
@@ -88,7 +105,9 @@ def digits_of(text: bytes) -> int:
 
 def long_numbers(data: bytes) -> list[str]:
     """A line where the first decimal of 16 digits or more is that of a double with fewer."""
-    text = next((found[0] for found in LONG.finditer(data) if digits_of(found[0]) >= MOST_DIGITS), b"0")
+    text = next(
+        (found[0] for found in LONG.finditer(data) if digits_of(found[0]) >= MOST_DIGITS), b"0"
+    )
     short = shortest(float(text))
     told = f"{text.decode()} in the .nl looks like a printed double: shortest=1 reads such numbers as {short}"
     return [told] if len(short) < len(text) - 2 else []
@@ -104,6 +123,7 @@ def shortest_numbers(data: bytes) -> tuple[bytes, int]:
         short = shortest(float(text)).encode() if digits_of(text) >= MOST_DIGITS else text
         changed += short != text
         return short
+
     return LONG.sub(one, data), changed
 
 
@@ -120,7 +140,7 @@ class Binary:
         self.data, self.at, self.order = data, 0, "<"
         for _ in range(10):
             self.at = data.index(b"\n", self.at) + 1
-        head = data[:self.at].decode("latin-1").split("\n")
+        head = data[: self.at].decode("latin-1").split("\n")
         if head[5].split("#")[0].split()[2:3] == ["2"]:
             self.order = ">"
         self.out = ["g" + head[0][1:], *head[1:10]]
@@ -160,9 +180,12 @@ class Binary:
         name = [self.name()] if letter in "FS" else []
         self.out.append(letter + " ".join([*map(str, numbers), *name]))
         count = numbers[SEGMENTS[letter].find("n")] if numbers else 0
-        if letter in "VJGSdx":              # lines `index value`
+        if letter in "VJGSdx":  # lines `index value`
             is_whole = letter == "S" and not numbers[0] & 4
-            self.out += [f"{self.take('i')} {self.take('i') if is_whole else self.double()}" for _ in range(count)]
+            self.out += [
+                f"{self.take('i')} {self.take('i') if is_whole else self.double()}"
+                for _ in range(count)
+            ]
         if letter in "CLOV":
             wanted = 1
             while wanted:
@@ -206,7 +229,9 @@ class Binary:
         kind = self.letter()
         if kind not in SIDES:
             raise ValueError(f"an unknown side {kind!r}")
-        return " ".join([kind, *(self.double() if form == "d" else str(self.take("i")) for form in SIDES[kind])])
+        return " ".join(
+            [kind, *(self.double() if form == "d" else str(self.take("i")) for form in SIDES[kind])]
+        )
 
 
 class Part(NamedTuple):
@@ -219,7 +244,7 @@ class Part(NamedTuple):
         """Short enough to stand in a line: the mark stays, with what is around it."""
         text = self.text
         if not self.is_marked:
-            return text if len(text) <= MOST_PART else text[:MOST_PART - 12] + " .. " + text[-8:]
+            return text if len(text) <= MOST_PART else text[: MOST_PART - 12] + " .. " + text[-8:]
         if len(text) <= MOST_MARKED:
             return text
         return f".. {text[max(0, text.index(OPEN) - 40):text.index(CLOSE) + len(CLOSE) + 40]} .."
@@ -272,8 +297,11 @@ class Node:
             text = f"({texts[0]} {text} {texts[1]})"
         elif self.opcode not in (-1, PIECEWISE):
             text += f"({', '.join(texts)})"
-        return Part(OPEN + Part(text).cut() + CLOSE, True) if self.is_fault else \
-            Part(text, any(part.is_marked for part in self.parts))
+        return (
+            Part(OPEN + Part(text).cut() + CLOSE, True)
+            if self.is_fault
+            else Part(text, any(part.is_marked for part in self.parts))
+        )
 
 
 def count_of(words: list[str]) -> int:
@@ -299,7 +327,7 @@ def expression(lines: Iterable[bytes], names: Names, mark: int = -1) -> str:
             if not stack:
                 return part.cut()
             stack[-1].take(part)
-    inner: list[Part] = []              # of the one that the lines end within
+    inner: list[Part] = []  # of the one that the lines end within
     while stack:
         operator = stack.pop()
         for part in inner:

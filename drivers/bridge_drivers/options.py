@@ -41,7 +41,10 @@ class Range(Text):
 
     def __init__(self, kind: type[int] | type[float], low: int, high: int | None = None) -> None:
         self.kind, self.low, self.high = kind, low, high
-        number, end = "a whole number" if kind is int else "a number", "on" if high is None else f"to {high}"
+        number, end = (
+            "a whole number" if kind is int else "a number",
+            "on" if high is None else f"to {high}",
+        )
         few = range(low, high + 1) if kind is int and high is not None and high <= low + 2 else ()
         super().__init__(f"{number} from {low} {end}", list(map(str, few)))
 
@@ -55,7 +58,7 @@ class Range(Text):
 SWITCH, COUNT = Range(int, 0, 1), Range(int, 0)
 AMOUNT, SHARE = Range(float, 0), Range(float, 0, 1)
 FILE, FOLDER, WORD = Text("a file"), Text("a folder"), Text()
-WIDTH = 96                      # of a line of help
+WIDTH = 96  # of a line of help
 PLAIN: dict[object, Text] = {int: COUNT, float: AMOUNT, str: WORD}
 
 
@@ -84,8 +87,13 @@ class Option:
 
     def values(self) -> str:
         """Its values, and what it is where nothing is said."""
-        default = f"; {self.default:g}" if isinstance(self.default, (int, float)) else \
-            f"; {self.default}" if self.default else ""
+        default = (
+            f"; {self.default:g}"
+            if isinstance(self.default, (int, float))
+            else f"; {self.default}"
+            if self.default
+            else ""
+        )
         return f"({self.kind}{default})"
 
     def line(self) -> str:
@@ -93,8 +101,16 @@ class Option:
 
     def paragraph(self) -> str:
         """The same for people, in lines of one width."""
-        return textwrap.fill(self.line(), WIDTH, initial_indent="  ", subsequent_indent=" " * 14,
-                             break_on_hyphens=False) + "\n"
+        return (
+            textwrap.fill(
+                self.line(),
+                WIDTH,
+                initial_indent="  ",
+                subsequent_indent=" " * 14,
+                break_on_hyphens=False,
+            )
+            + "\n"
+        )
 
 
 def common(default: T, kind: Text | type[Value], text: str) -> T:
@@ -105,37 +121,77 @@ def common(default: T, kind: Text | type[Value], text: str) -> T:
 class Options:
     """The options of one run: common ones are attributes, a solver's own are in `own`. `given` lists what was said."""
 
-    bound = common(1, SWITCH, "0: for integer programs no proved bound is looked for without prove=1")
+    bound = common(
+        1, SWITCH, "0: for integer programs no proved bound is looked for without prove=1"
+    )
     bridge = common("", Text("words"), "what starts the proved program (also $BRIDGE)")
     certificate = common("", FILE, "where an accepted certificate is kept")
     check = common(1, SWITCH, "1: ask bridge what it can prove of the answer; 0: do not")
     cluster = common("", Text("an address"), "a scheduler of Dask, whose workers search (prove=1)")
     extra = common("", str, "further words for the solver, in quotes")
-    failexit = common(0, SWITCH, "1: where there is no answer, write no .sol and end with another "
-                                 "status than 0 (MiniZinc)")
-    format = common("", Text(known=("free", "fixed")), "how the lines of an MPS file are read, where both can be")
+    failexit = common(
+        0,
+        SWITCH,
+        "1: where there is no answer, write no .sol and end with another "
+        "status than 0 (MiniZinc)",
+    )
+    format = common(
+        "",
+        Text(known=("free", "fixed")),
+        "how the lines of an MPS file are read, where both can be",
+    )
     jobs = common(0, COUNT, "processes that search (prove=1); 0: as many as processors may be used")
     json = common(0, SWITCH, "1: standard output gets one object of JSON, and nothing else")
     keep = common("", FOLDER, "where the files in between are kept")
     objno = common(1, Range(int, 1), "which objective")
     outlev = common(0, Range(int, 0, 2), "1: the solver's log, 2: also the commands and times")
-    only = common("", Text(known=("mps",)), "mps: write the MPS text that this solver reads beside the model, and stop")
-    overwrite = common(0, SWITCH, "1: a certificate, and the text of only=mps, replaces what stands at its place")
-    prove = common(0, SWITCH, "1: search a certificate that the answer is optimal (timelim holds "
-                              "for it too; 60 seconds where there is none)")
+    only = common(
+        "",
+        Text(known=("mps",)),
+        "mps: write the MPS text that this solver reads beside the model, and stop",
+    )
+    overwrite = common(
+        0, SWITCH, "1: a certificate, and the text of only=mps, replaces what stands at its place"
+    )
+    prove = common(
+        0,
+        SWITCH,
+        "1: search a certificate that the answer is optimal (timelim holds "
+        "for it too; 60 seconds where there is none)",
+    )
     relax = common(0, SWITCH, "1: integer variables as continuous ones")
-    round = common(1, SWITCH, "1: values of integer variables within 1e-5 of a whole number are written as that number")
-    shortest = common(0, SWITCH, "1: numbers of the .nl with 16 digits or more become the shortest "
-                                 "ones with the same double")
-    shorten = common(0, SWITCH, "1: after a certificate, a shorter one is looked for in the time "
-                                "that is left (prove=1)")
-    solution = common("", FILE, "where names and values are written; as JSON where it ends with .json")
+    round = common(
+        1,
+        SWITCH,
+        "1: values of integer variables within 1e-5 of a whole number are written as that number",
+    )
+    shortest = common(
+        0,
+        SWITCH,
+        "1: numbers of the .nl with 16 digits or more become the shortest "
+        "ones with the same double",
+    )
+    shorten = common(
+        0,
+        SWITCH,
+        "1: after a certificate, a shorter one is looked for in the time " "that is left (prove=1)",
+    )
+    solution = common(
+        "", FILE, "where names and values are written; as JSON where it ends with .json"
+    )
     solver = common("", FILE, "the solver's program, where it is not on the PATH")
-    strict = common(0, SWITCH, "1: what is not proved optimal, infeasible or unbounded is not "
-                               "solved (code 100, exit status 7); sets prove=1")
+    strict = common(
+        0,
+        SWITCH,
+        "1: what is not proved optimal, infeasible or unbounded is not "
+        "solved (code 100, exit status 7); sets prove=1",
+    )
     timelim = common(0.0, AMOUNT, "seconds for the solver; 0: no limit")
-    wantsol = common(0, Range(int, 0, 15), "without -AMPL, a sum of 1 write .sol, 2 print values, "
-                                           "4 print duals, 8 no message")
+    wantsol = common(
+        0,
+        Range(int, 0, 15),
+        "without -AMPL, a sum of 1 write .sol, 2 print values, " "4 print duals, 8 no message",
+    )
 
     def __init__(self, own: Iterable[Option] = ()) -> None:
         """An option of its own that has the name of a common one takes its place."""
@@ -166,7 +222,7 @@ class Options:
             name, equal, value = left.pop().partition("=")
             if not value and not equal and left and left[-1].startswith("="):
                 value = left.pop()[1:]
-            option = self.find(name)        # an unknown one is told as that
+            option = self.find(name)  # an unknown one is told as that
             if not value and not left:
                 raise BadOption(f"no value for {name}")
             value = value or left.pop()
@@ -201,7 +257,8 @@ class Words:
 
 def words_of(argv: Sequence[str]) -> Words:
     """In any order: what is `name=value`, or begins with `-`, is an option, the first other word the model, and what
-    follows it options of the form `name value`. After `--` nothing begins with `-`, and the first word is the model."""
+    follows it options of the form `name value`. After `--` nothing begins with `-`, and the first word is the model.
+    """
     words, left, is_plain = Words(), list(argv)[::-1], False
     if argv[:1] == ["help"] and not any(map(os.path.exists, ("help", "help.nl"))):
         words.ask, words.topic = "-?", argv[1] if len(argv) > 1 else ""
@@ -215,7 +272,9 @@ def words_of(argv: Sequence[str]) -> Words:
         elif word in ("-AMPL", "-e", "-s") and not is_plain:
             words.ampl, words.save = words.ampl or word == "-AMPL", words.save or word == "-s"
             words.echo = words.echo and word != "-e"
-        elif not is_plain and (word[:1] == "-" and word != "-" or NAMED.match(word) or left and left[-1][:1] == "="):
+        elif not is_plain and (
+            word[:1] == "-" and word != "-" or NAMED.match(word) or left and left[-1][:1] == "="
+        ):
             words.options += [word, *rest_of(word, left)]
         elif words.stub is None:
             words.stub = word

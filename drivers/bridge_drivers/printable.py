@@ -11,8 +11,11 @@ from .texts import tables
 # of C0 all but the tab and the line's end, DEL, C1, and single bytes that stand for C1
 CONTROLS = re.compile("[\x00-\x08\x0b-\x1f\x7f-\x9f\udc80-\udc9f]")
 IN_A_LINE = re.compile("[\t\n]")
-ELSEWHERE = {word: ours for ours, words in tables("elsewhere.txt")["what other programs call it"]
-             for word in words.split()}
+ELSEWHERE = {
+    word: ours
+    for ours, words in tables("elsewhere.txt")["what other programs call it"]
+    for word in words.split()
+}
 
 
 def printable(text: str) -> str:

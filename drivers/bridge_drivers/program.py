@@ -20,7 +20,7 @@ from .terms import Terms, entries_of, terms_of
 
 TIED, TIED_ROW = "z", "zdef"
 INFINITE = math.inf
-MOST_NAMED = 3                          # columns that a note names
+MOST_NAMED = 3  # columns that a note names
 BOUND = re.compile(rb"^ (LO|UP) (\S+) (\S+) (\S*[.eE]\S*)$", re.M)
 
 
@@ -51,8 +51,13 @@ class Program:
     has its own, with `notes` on what other readers take otherwise; else `is_exported`: `bridge export` wrote it, which
     scales rows and leaves those without sides out."""
 
-    def __init__(self, text: bytes, read: Text | None = None, names: Names | None = None,
-                 notes: Sequence[str] = ()) -> None:
+    def __init__(
+        self,
+        text: bytes,
+        read: Text | None = None,
+        names: Names | None = None,
+        notes: Sequence[str] = (),
+    ) -> None:
         self.text, self.read = text, read or Text(text)
         self.is_exported, self.names, self.notes = names is None, names or Names(""), notes
         self.maximise = self.read.maximise
@@ -67,15 +72,23 @@ class Program:
     @cached_property
     def costs(self) -> dict[str, str]:
         numbers = self.read.numbers
-        return {self.columns[j]: numbers[k].decode() for j, k in zip(*self.objective) if numbers[k] != b"0"}
+        return {
+            self.columns[j]: numbers[k].decode()
+            for j, k in zip(*self.objective)
+            if numbers[k] != b"0"
+        }
 
     def has_objective(self) -> bool:
         """Whether the objective is anything but the constant 0."""
-        return self.objective_rhs != "0" or any(self.read.numbers[k] != b"0" for k in self.objective.numbers)
+        return self.objective_rhs != "0" or any(
+            self.read.numbers[k] != b"0" for k in self.objective.numbers
+        )
 
     def at(self, x: Sequence[float]) -> Objective:
         columns, costs = self.cost_doubles
-        return Objective(-float(self.objective_rhs), list(map(mul, costs, map(x.__getitem__, columns))))
+        return Objective(
+            -float(self.objective_rhs), list(map(mul, costs, map(x.__getitem__, columns)))
+        )
 
     @cached_property
     def cost_doubles(self) -> tuple[array[int], array[float]]:
@@ -103,14 +116,19 @@ class Program:
     def sides(self) -> tuple[list[float], list[float]]:
         """Of the constraints, lower and upper."""
         low, high, scale = self.read.sides()
-        return ([-INFINITE if side is None else side / scale for side in low],
-                [INFINITE if side is None else side / scale for side in high])
+        return (
+            [-INFINITE if side is None else side / scale for side in low],
+            [INFINITE if side is None else side / scale for side in high],
+        )
 
     def bounds(self) -> tuple[list[float], list[float]]:
         """Of the columns."""
         texts = self.read.bounds()
         known = {text: float(text) for part in texts for text in set(part) if text}
-        low, high = ([known.get(text, end) for text in part] for part, end in zip(texts, (-INFINITE, INFINITE)))
+        low, high = (
+            [known.get(text, end) for text in part]
+            for part, end in zip(texts, (-INFINITE, INFINITE))
+        )
         return low, high
 
 
@@ -129,7 +147,12 @@ def given(program: Program, relaxed: bool = False) -> Program:
     def rounded(found: re.Match[bytes]) -> bytes:
         kind, label, name, text = found.groups()
         rounds = math.ceil if kind == b"LO" else math.floor
-        return b" %s %s %s %d" % (kind, label, name, rounds(exact(text))) if name in whole else found.group()
+        return (
+            b" %s %s %s %d" % (kind, label, name, rounds(exact(text)))
+            if name in whole
+            else found.group()
+        )
+
     other = copy.copy(program)
     other.text = program.text[:start] + BOUND.sub(rounded, program.text[start:])
     return program if other.text == program.text else other
@@ -138,7 +161,10 @@ def given(program: Program, relaxed: bool = False) -> Program:
 def is_hollow(program: Program) -> bool:
     """Whether a whole column has no whole number between its bounds."""
     ends = zip(program.read.whole, *program.read.bounds()) if program.whole else ()
-    return any(whole and low and high and math.floor(exact(high)) < math.ceil(exact(low)) for whole, low, high in ends)
+    return any(
+        whole and low and high and math.floor(exact(high)) < math.ceil(exact(low))
+        for whole, low, high in ends
+    )
 
 
 def program_of(text: bytes) -> Program:
@@ -165,8 +191,9 @@ def exported(read: Text) -> Text:
                 own.kinds[i] = "L" if text.startswith(b"-") else "G"
     if OTHER in read.row:
         kept = [i != OTHER for i in read.row]
-        own.row, own.column, own.number = (array("i", compress(numbers, kept)) for numbers in
-                                           (read.row, read.column, read.number))
+        own.row, own.column, own.number = (
+            array("i", compress(numbers, kept)) for numbers in (read.row, read.column, read.number)
+        )
     return own
 
 
@@ -213,13 +240,24 @@ def bound_lines(column: bytes, low: bytes | None, high: bytes | None) -> Iterato
 
 def notes_of(read: Text) -> list[str]:
     """On columns whose bounds other readers take otherwise."""
-    bare = [shown(name) for name, whole, low, high in zip(read.columns, read.whole, read.low, read.high)
-            if whole and low is None and high is None]
+    bare = [
+        shown(name)
+        for name, whole, low, high in zip(read.columns, read.whole, read.low, read.high)
+        if whole and low is None and high is None
+    ]
     below = [shown(read.columns[j]) for j in read.without_low()]
-    told = [f"whole columns without bounds go from 0 on: {some(bare, MOST_NAMED)}; cbc and "
-            "glpsol, where they read the file, take 0 and 1 for their bounds"] if bare else []
-    return told + ["columns with an upper bound below 0 and no lower one have no lower end: "
-                   + some(below, MOST_NAMED)] * bool(below)
+    told = (
+        [
+            f"whole columns without bounds go from 0 on: {some(bare, MOST_NAMED)}; cbc and "
+            "glpsol, where they read the file, take 0 and 1 for their bounds"
+        ]
+        if bare
+        else []
+    )
+    return told + [
+        "columns with an upper bound below 0 and no lower one have no lower end: "
+        + some(below, MOST_NAMED)
+    ] * bool(below)
 
 
 def shown(name: bytes) -> str:

@@ -11,10 +11,10 @@ from typing import Mapping, TextIO
 
 from .console import is_terminal
 
-FIRST, EVERY = 1.0, 0.5         # seconds on a terminal
-EVERY_LINE = 5.0                # seconds between lines elsewhere
+FIRST, EVERY = 1.0, 0.5  # seconds on a terminal
+EVERY_LINE = 5.0  # seconds between lines elsewhere
 CLEAR = "\r\x1b[K"
-WIDTH = 80                      # where a terminal does not tell its own
+WIDTH = 80  # where a terminal does not tell its own
 
 
 class Progress:
@@ -53,7 +53,11 @@ class Progress:
         wait = FIRST if self.in_place else EVERY_LINE
         while not self.ended.wait(wait):
             if self.stage:
-                self.write(CLEAR + self.line()[:width(self.stream) - 1] if self.in_place else self.line() + "\n")
+                self.write(
+                    CLEAR + self.line()[: width(self.stream) - 1]
+                    if self.in_place
+                    else self.line() + "\n"
+                )
                 self.is_shown = self.in_place
             wait = EVERY if self.in_place else EVERY_LINE
 
@@ -70,7 +74,7 @@ class Progress:
         try:
             self.stream.write(text)
             self.stream.flush()
-        except (OSError, ValueError):       # a stream that is closed
+        except (OSError, ValueError):  # a stream that is closed
             self.ended.set()
 
 
@@ -83,12 +87,23 @@ def width(stream: TextIO) -> int:
 
 def detailed(known: Mapping[str, float]) -> str:
     """The words of what is known, and finite. A bound by cuts that are still being made is no claim yet."""
-    known = {name: value for name, value in known.items()
-             if math.isfinite(value) and not (name == "bound" and "cuts" in known)}
-    parts = [f"{name} {value:.10g}" for name, value in known.items() if name in ("incumbent", "bound", "objective")]
+    known = {
+        name: value
+        for name, value in known.items()
+        if math.isfinite(value) and not (name == "bound" and "cuts" in known)
+    }
+    parts = [
+        f"{name} {value:.10g}"
+        for name, value in known.items()
+        if name in ("incumbent", "bound", "objective")
+    ]
     if "incumbent" in known and "bound" in known:
         parts.append(f"gap {gap(known['incumbent'], known['bound']):.3g} %")
-    parts += [f"{value:.0f} {name}" for name, value in known.items() if name in ("nodes", "open", "iterations", "cuts")]
+    parts += [
+        f"{value:.0f} {name}"
+        for name, value in known.items()
+        if name in ("nodes", "open", "iterations", "cuts")
+    ]
     return ", ".join(parts)
 
 

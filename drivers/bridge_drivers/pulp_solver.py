@@ -19,18 +19,25 @@ import pulp
 from . import solvers
 from .interface import BridgeError, Report, solve
 
-FILES = ("mps", "json")         # the problem, and what is told of it
-MOST_BYTES = 255                # of a name in an MPS file
-WORDS = (("relax=1", "mip=False"), ("prove=1", "prove=True"), ("timelim=", "timeLimit="),
-         ("mipgap=", "gapRel="), ("solver=PATH", "options=['solver=PATH']"),
-         ("bridge=PATH", "bridge='PATH'"))              # a driver's, and what they are here
-STATUSES = (                    # of codes below the first number
-    (100, pulp.LpStatusOptimal, pulp.LpSolutionOptimal), (200, pulp.LpStatusNotSolved, pulp.LpSolutionNoSolutionFound),
+FILES = ("mps", "json")  # the problem, and what is told of it
+MOST_BYTES = 255  # of a name in an MPS file
+WORDS = (
+    ("relax=1", "mip=False"),
+    ("prove=1", "prove=True"),
+    ("timelim=", "timeLimit="),
+    ("mipgap=", "gapRel="),
+    ("solver=PATH", "options=['solver=PATH']"),
+    ("bridge=PATH", "bridge='PATH'"),
+)  # a driver's, and what they are here
+STATUSES = (  # of codes below the first number
+    (100, pulp.LpStatusOptimal, pulp.LpSolutionOptimal),
+    (200, pulp.LpStatusNotSolved, pulp.LpSolutionNoSolutionFound),
     (290, pulp.LpStatusInfeasible, pulp.LpSolutionInfeasible),
     (300, pulp.LpStatusUndefined, pulp.LpSolutionNoSolutionFound),
     (400, pulp.LpStatusUnbounded, pulp.LpSolutionUnbounded),
     (401, pulp.LpStatusNotSolved, pulp.LpSolutionIntegerFeasible),
-    (1000, pulp.LpStatusNotSolved, pulp.LpSolutionNoSolutionFound))
+    (1000, pulp.LpStatusNotSolved, pulp.LpSolutionNoSolutionFound),
+)
 
 
 class BridgeCmd(pulp.LpSolver_CMD):
@@ -40,12 +47,29 @@ class BridgeCmd(pulp.LpSolver_CMD):
 
     name = "BridgeCmd"
 
-    def __init__(self, driver: str = "bridge-cbc", bridge: str = "", mip: bool = True,
-                 msg: bool = True, options: Sequence[str] = (), timeLimit: float | None = None,
-                 gapRel: float | None = None, threads: int | None = None,
-                 keepFiles: bool = False, prove: bool = False) -> None:
-        super().__init__(path=driver, keepFiles=keepFiles, mip=mip, msg=msg,
-                         options=list(options), timeLimit=timeLimit, gapRel=gapRel, threads=threads)
+    def __init__(
+        self,
+        driver: str = "bridge-cbc",
+        bridge: str = "",
+        mip: bool = True,
+        msg: bool = True,
+        options: Sequence[str] = (),
+        timeLimit: float | None = None,
+        gapRel: float | None = None,
+        threads: int | None = None,
+        keepFiles: bool = False,
+        prove: bool = False,
+    ) -> None:
+        super().__init__(
+            path=driver,
+            keepFiles=keepFiles,
+            mip=mip,
+            msg=msg,
+            options=list(options),
+            timeLimit=timeLimit,
+            gapRel=gapRel,
+            threads=threads,
+        )
         self.bridge, self.prove, self.message = bridge, prove, ""
 
     def defaultPath(self) -> str:
@@ -96,19 +120,30 @@ class BridgeCmd(pulp.LpSolver_CMD):
     def free_name(self, name: str) -> str:
         """One that no kept file of another run has."""
         names = (name if number == 1 else f"{name}-{number}" for number in itertools.count(1))
-        return next(free for free in names
-                    if not self.keepFiles or not any(map(os.path.exists, self.create_tmp_files(free, *FILES))))
+        return next(
+            free
+            for free in names
+            if not self.keepFiles
+            or not any(map(os.path.exists, self.create_tmp_files(free, *FILES)))
+        )
 
     @staticmethod
     def take(lp: pulp.LpProblem, told: Report, names: Mapping[str, str]) -> None:
         """Values, slacks, duals and reduced costs, each where there are any. `names` are those of
         the file by PuLP's."""
-        values, duals, costs = ({name: float(text) for name, text in (texts or {}).items()}
-                                for texts in (told.values, told.duals, told.costs))
+        values, duals, costs = (
+            {name: float(text) for name, text in (texts or {}).items()}
+            for texts in (told.values, told.duals, told.costs)
+        )
         if values:
             lp.assignVarsVals({name: values[own] for name, own in names.items()})
-            lp.assignConsSlack({name: sum(a * x.varValue for x, a in constraint.items())
-                                for name, constraint in lp.constraints.items()}, activity=True)
+            lp.assignConsSlack(
+                {
+                    name: sum(a * x.varValue for x, a in constraint.items())
+                    for name, constraint in lp.constraints.items()
+                },
+                activity=True,
+            )
         else:
             lp.assignVarsVals(dict.fromkeys(names))
         lp.assignConsPi(dict(zip(lp.constraints, duals.values())))
@@ -123,7 +158,7 @@ class BridgeCmd(pulp.LpSolver_CMD):
             try:
                 lp.writeMPS(path)
                 names = {v.name: v.name for v in lp.variables()}
-            except UnicodeError:                # of a place that is not in UTF-8
+            except UnicodeError:  # of a place that is not in UTF-8
                 pass
         if names is None:
             _, names, _, objective = lp.writeMPS(path, rename=1)
@@ -134,9 +169,15 @@ class BridgeCmd(pulp.LpSolver_CMD):
         return dict(names)
 
     def given(self) -> dict[str, Any]:
-        options: dict[str, Any] = {"format": "free", "prove": self.prove, "bridge": self.bridge,
-                                   "relax": not self.mip, "timelim": self.timeLimit,
-                                   "mipgap": self.optionsDict.get("gapRel"), "threads": self.optionsDict.get("threads")}
+        options: dict[str, Any] = {
+            "format": "free",
+            "prove": self.prove,
+            "bridge": self.bridge,
+            "relax": not self.mip,
+            "timelim": self.timeLimit,
+            "mipgap": self.optionsDict.get("gapRel"),
+            "threads": self.optionsDict.get("threads"),
+        }
         said = dict(word.partition("=")[::2] for word in self.options)
         said = {"program" if name == "solver" else name: value for name, value in said.items()}
         return {**{name: value for name, value in options.items() if value}, **said}
@@ -147,7 +188,8 @@ def are_words(names: Iterable[str]) -> bool:
     listed = list(names)
     return len(set(listed)) == len(listed) and all(
         name.isprintable() and name.split() == [name] and len(name.encode()) <= MOST_BYTES
-        for name in listed)
+        for name in listed
+    )
 
 
 def forget(lp: pulp.LpProblem) -> None:
@@ -168,8 +210,14 @@ def in_words(text: str) -> str:
 def empty_interval(lp: pulp.LpProblem) -> str:
     """The first variable whose lower bound is above its upper one, or nothing. PuLP's own MPS
     would lose a lower bound of 0 under a negative upper one."""
-    return next((f"{v.name} has the lower bound {v.lowBound} and the upper bound {v.upBound}" for v in lp.variables()
-                 if v.lowBound is not None and v.upBound is not None and v.lowBound > v.upBound), "")
+    return next(
+        (
+            f"{v.name} has the lower bound {v.lowBound} and the upper bound {v.upBound}"
+            for v in lp.variables()
+            if v.lowBound is not None and v.upBound is not None and v.lowBound > v.upBound
+        ),
+        "",
+    )
 
 
 def completed(mps: str, maximise: bool, objective: str, constant: float | None) -> str:
@@ -177,7 +225,7 @@ def completed(mps: str, maximise: bool, objective: str, constant: float | None) 
     lines = mps.split("\n")
     if maximise:
         at = next(i for i, line in enumerate(lines) if line.startswith("NAME"))
-        lines[at + 1:at + 1] = ["OBJSENSE", " MAX"]
+        lines[at + 1 : at + 1] = ["OBJSENSE", " MAX"]
     if constant:
         lines.insert(lines.index("RHS") + 1, f"    RHS       {objective}  {-constant!r}")
     return "\n".join(lines)

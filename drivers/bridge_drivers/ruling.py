@@ -8,7 +8,7 @@ from typing import NamedTuple
 
 from .codes import Code
 
-FINAL = ("optimal", "infeasible", "unbounded")      # claims that end the question
+FINAL = ("optimal", "infeasible", "unbounded")  # claims that end the question
 NO_BOUND = "no bound is proved"
 STRICT = "not proved, as strict=1 wants it"
 
@@ -16,7 +16,7 @@ STRICT = "not proved, as strict=1 wants it"
 # what the answer's own values miss of the model: nothing (or the rounding of a row's own terms), little, or so much
 # that they are no point
 Misses = enum.Enum("Misses", "NOTHING LITTLE MUCH")
-At = enum.Enum("At", "NONE ANSWER PROVED")          # whose point is passed on
+At = enum.Enum("At", "NONE ANSWER PROVED")  # whose point is passed on
 
 
 class Found(NamedTuple):
@@ -112,5 +112,8 @@ def of_answer(f: Found) -> Ruling:
         return Ruling(Code.UNSURE, At.ANSWER, "no exact point is near it")
     if f.closes or f.by_doubles:
         return Ruling(Code.SOLVED, At.ANSWER)
-    return Ruling(Code.UNSURE, At.ANSWER,
-                  "the bound that is proved is away from it" if f.claim == "bound" else NO_BOUND)
+    return Ruling(
+        Code.UNSURE,
+        At.ANSWER,
+        "the bound that is proved is away from it" if f.claim == "bound" else NO_BOUND,
+    )

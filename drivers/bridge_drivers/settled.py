@@ -17,12 +17,17 @@ from .ruling import STRICT, At, Found, Misses, Ruling, ruled
 from .values import double_of
 from .verdicts import Said
 
-FAR = 1e-6                  # of the largest term or the sum: between unequal objectives
-CLOSE = Fraction(1, 10 ** 6)    # of the objective: a bound that is at it
-DIGITS = 1e-5               # of values that are the same: a solver may print six digits
-WORDS = {Code.SOLVED: "optimal solution", Code.UNSURE: "feasible solution",
-         Code.INFEASIBLE: "infeasible", Code.UNBOUNDED: "unbounded",
-         Code.LIMIT_WITH_POINT: "stopped with a feasible solution", Code.LIMIT: "stopped without a feasible solution"}
+FAR = 1e-6  # of the largest term or the sum: between unequal objectives
+CLOSE = Fraction(1, 10**6)  # of the objective: a bound that is at it
+DIGITS = 1e-5  # of values that are the same: a solver may print six digits
+WORDS = {
+    Code.SOLVED: "optimal solution",
+    Code.UNSURE: "feasible solution",
+    Code.INFEASIBLE: "infeasible",
+    Code.UNBOUNDED: "unbounded",
+    Code.LIMIT_WITH_POINT: "stopped with a feasible solution",
+    Code.LIMIT: "stopped without a feasible solution",
+}
 IN_GAP = "solution within the gap that was asked for"
 
 
@@ -37,7 +42,8 @@ class Facts(NamedTuple):
 
 class Settled(NamedTuple):
     """`text` says the code in words; None where the solver's own words hold. `kind` is what the point is beside the
-    solver's: `a`, `a better`, `another`, nothing where it is the same. `lacks` is what code 0 is not earned for."""
+    solver's: `a`, `a better`, `another`, nothing where it is the same. `lacks` is what code 0 is not earned for.
+    """
 
     code: Code
     answer: Answer
@@ -80,12 +86,26 @@ def found(answer: Answer, verdict: Verdict, facts: Facts, proved: Proved | None)
     kind = proved.kind if proved else ""
     mended = bool(program.whole) and proved is not None and not kind and proved.is_apart
     is_missed = facts.missed.share > (OWN if linear else ROUNDING)
-    misses = Misses.MUCH if facts.missed.is_much() else Misses.LITTLE if is_missed else Misses.NOTHING
+    misses = (
+        Misses.MUCH if facts.missed.is_much() else Misses.LITTLE if is_missed else Misses.NOTHING
+    )
     return Found(
-        outcome.code, verdict.claim(), linear, outcome.is_gap, kind, mended,
-        said is not None and closes(answer, proved, said), said is not None and is_within(said, facts.gap), misses,
+        outcome.code,
+        verdict.claim(),
+        linear,
+        outcome.is_gap,
+        kind,
+        mended,
+        said is not None and closes(answer, proved, said),
+        said is not None and is_within(said, facts.gap),
+        misses,
         said is not None and said.word == "bound" and is_beyond(answer, said.bound),
-        verdict.contradicted, verdict.by_doubles, verdict.is_open, facts.checked, facts.strict)
+        verdict.contradicted,
+        verdict.by_doubles,
+        verdict.is_open,
+        facts.checked,
+        facts.strict,
+    )
 
 
 def closes(answer: Answer, proved: Proved | None, said: Said) -> bool:
@@ -138,7 +158,11 @@ def at_point(answer: Answer, verdict: Verdict, proved: Proved, ruling: Ruling) -
     if ruling.lacks == STRICT:
         return Settled(code, moved, STRICT, kind, ruling.lacks)
     is_own = not kind and (code == own or bool(ruling.lacks) or answer.outcome.is_gap)
-    words = IN_GAP if code == Code.SOLVED and verdict.claim() == "within" and answer.outcome.is_gap else WORDS[code]
+    words = (
+        IN_GAP
+        if code == Code.SOLVED and verdict.claim() == "within" and answer.outcome.is_gap
+        else WORDS[code]
+    )
     return Settled(code, moved, None if is_own else words, kind, ruling.lacks)
 
 

@@ -15,21 +15,30 @@ from .nl import header
 from .printable import in_a_line
 
 MARK = b"\nOptions\n"
-SCREEN = 20                     # lines of values that are printed without asking
+SCREEN = 20  # lines of values that are printed without asking
 Pairs = List[Tuple[str, str]]
 
 
 def bare(nl: str, code: int, objective: int, message: Sequence[str]) -> bytes:
     """A .sol that has a code and no values, for the .nl file at this path."""
     head = header(nl)
-    lines = ["", "Options", str(len(head.options)), *head.options,
-             str(head.constraints), "0", str(head.variables), "0", f"objno {objective} {code}"]
+    lines = [
+        "",
+        "Options",
+        str(len(head.options)),
+        *head.options,
+        str(head.constraints),
+        "0",
+        str(head.variables),
+        "0",
+        f"objno {objective} {code}",
+    ]
     return encoded([*map(in_a_line, message), *lines])
 
 
 def with_message(sol: bytes, message: Sequence[str]) -> bytes:
     """The same .sol under another message; an empty line ends it."""
-    return encoded(list(map(in_a_line, message))) + sol[sol.index(MARK):]
+    return encoded(list(map(in_a_line, message))) + sol[sol.index(MARK) :]
 
 
 def numbers_of(sol: bytes) -> tuple[list[str], list[str]]:
@@ -39,16 +48,20 @@ def numbers_of(sol: bytes) -> tuple[list[str], list[str]]:
     at += 2 + int(lines[at + 1])
     first = at + 4
     middle = first + int(lines[at + 1])
-    return lines[first:middle], lines[middle:middle + int(lines[at + 3])]
+    return lines[first:middle], lines[middle : middle + int(lines[at + 3])]
 
 
-def factors_of(bridge: Bridge, nl: str, rows: Sequence[str], objective: str = "0") -> dict[str, str]:
+def factors_of(
+    bridge: Bridge, nl: str, rows: Sequence[str], objective: str = "0"
+) -> dict[str, str]:
     """What `export` multiplied each written row by: duals of 1, as `return` gives them back."""
     if not rows:
         return {}
     answer = f"answer 1\nobjno {objective}\n" + "".join(f"row {r} 1\n" for r in rows)
     with tempfile.TemporaryDirectory(prefix="nl-bridge-") as folder:
-        duals, _ = numbers_of(bridge.text("return", nl, fill(os.path.join(folder, "ones.txt"), answer.encode())))
+        duals, _ = numbers_of(
+            bridge.text("return", nl, fill(os.path.join(folder, "ones.txt"), answer.encode()))
+        )
     return {row: duals[int(row[1:])] for row in rows}
 
 

@@ -28,8 +28,10 @@ from .solvers.base import Outcome, Solver, Unclear
 from .values import BadValue, in_order
 from .verdicts import Said, percent, read
 
-INTERRUPTED = {Code.LIMIT_WITH_POINT: "interrupted with a feasible solution",
-               Code.LIMIT: "interrupted without a feasible solution"}
+INTERRUPTED = {
+    Code.LIMIT_WITH_POINT: "interrupted with a feasible solution",
+    Code.LIMIT: "interrupted without a feasible solution",
+}
 
 
 @dataclass
@@ -50,16 +52,25 @@ class Result:
 
 class Solving:
     """`nl` is the path of the model's text, `solver_path` that of the solver, `folder` one for files. Of an MPS file no
-    .sol is made, rows and columns are its own, and certificates are judged by `verify_mps` or `verify_fixed`."""
+    .sol is made, rows and columns are its own, and certificates are judged by `verify_mps` or `verify_fixed`.
+    """
 
     make_job = Job
 
-    def __init__(self, solver: Solver, options: Options, bridge: Bridge, clock: Clock,
-                 model: Source, solver_path: str, folder: str) -> None:
+    def __init__(
+        self,
+        solver: Solver,
+        options: Options,
+        bridge: Bridge,
+        clock: Clock,
+        model: Source,
+        solver_path: str,
+        folder: str,
+    ) -> None:
         self.solver, self.options, self.bridge, self.clock = solver, options, bridge, clock
         self.model, self.nl = model, model.path
         self.solver_path, self.folder = solver_path, folder
-        self.gap = 0.0                      # that is asked for
+        self.gap = 0.0  # that is asked for
 
     def result(self) -> Result:
         """The outcome. Failure where there is none."""
@@ -69,15 +80,22 @@ class Solving:
         except Damaged as fault:
             raise Failure(fault.code, fault.text.replace(self.nl, self.model.name)) from None
         self.bridge.shown[path] = self.model.name
-        if self.options.keep and path != kept and not (os.path.exists(kept) and os.path.samefile(path, kept)):
-            shutil.copyfile(path, kept)                # MiniZinc, for one, removes its file
+        if (
+            self.options.keep
+            and path != kept
+            and not (os.path.exists(kept) and os.path.samefile(path, kept))
+        ):
+            shutil.copyfile(path, kept)  # MiniZinc, for one, removes its file
         try:
             program = self.exported(path)
         except Refused as fault:
             return self.refused(fault, path)
         if program.whole and not self.solver.integers and not self.options.relax:
-            raise Failure(Code.TAKES_NO_INTEGERS, f"{self.solver.title} takes no integer variables, and the model has "
-                          f"{len(program.whole)}; relax=1 drops that they are whole")
+            raise Failure(
+                Code.TAKES_NO_INTEGERS,
+                f"{self.solver.title} takes no integer variables, and the model has "
+                f"{len(program.whole)}; relax=1 drops that they are whole",
+            )
         if self.options.only:
             return self.only_written(program)
         try:
@@ -97,8 +115,11 @@ class Solving:
             is_told = not any(word.startswith("shortest") for word in self.options.given)
             return prepared(self.nl, target, bool(self.options.shortest), is_told)
         if self.options.objno != 1:
-            raise Failure(Code.REFUSED, f"{self.model.name}: objno={self.options.objno}: no such "
-                          "objective: the first N row of an MPS file is its objective, and its only one")
+            raise Failure(
+                Code.REFUSED,
+                f"{self.model.name}: objno={self.options.objno}: no such "
+                "objective: the first N row of an MPS file is its objective, and its only one",
+            )
         return self.nl, []
 
     def exported(self, nl: str) -> Program:
@@ -106,7 +127,14 @@ class Solving:
         timed = self.clock.timed
         if self.model.is_mps:
             read = timed("reading", reading, self.bridge, nl, self.options.format)
-            program = timed("export", judged, self.bridge, nl, os.path.join(self.folder, "probe.certificate"), read)
+            program = timed(
+                "export",
+                judged,
+                self.bridge,
+                nl,
+                os.path.join(self.folder, "probe.certificate"),
+                read,
+            )
             program.notes = [*read.notes, *program.notes]
             return program
         objective = [str(self.options.objno - 1)] if self.options.objno != 1 else []
@@ -118,25 +146,37 @@ class Solving:
         """In words; an objective that is not there by the number that the option says."""
         line, strict = fault.line(), bool(self.options.strict)
         if fault.told.endswith(": empty interval"):
-            return Result(Code.UNSURE if strict else Code.INFEASIBLE,
-                          [f"infeasible: {line}", WITHOUT + "bridge refuses the model for this"], is_final=not strict)
+            return Result(
+                Code.UNSURE if strict else Code.INFEASIBLE,
+                [f"infeasible: {line}", WITHOUT + "bridge refuses the model for this"],
+                is_final=not strict,
+            )
         if fault.told.endswith(": no such objective"):
-            line = (f"{self.model.name}: objno={self.options.objno}: no such objective: the file "
-                    f"has {header(nl).objectives}, and objno counts from 1")
+            line = (
+                f"{self.model.name}: objno={self.options.objno}: no such objective: the file "
+                f"has {header(nl).objectives}, and objno counts from 1"
+            )
         raise Failure(Code.REFUSED, line, Status.REFUSED if fault.status == 2 else Status.FAILED)
 
     def only_written(self, program: Program) -> Result:
         """With only=mps: the text that the solver reads, beside the model, and how it is called with it."""
         o, solver, path = self.options, self.solver, f"{self.model.stub}.{self.solver.name}.mps"
         Places([self.nl], bool(o.overwrite)).write(path, solver.text(given(program, bool(o.relax))))
-        return Result(Code.LIMIT, [f"{path} is written, and nothing was solved; {solver.title} reads and solves it by",
-                                   shlex.join(solver.command(program, path, o.solver))])
+        return Result(
+            Code.LIMIT,
+            [
+                f"{path} is written, and nothing was solved; {solver.title} reads and solves it by",
+                shlex.join(solver.command(program, path, o.solver)),
+            ],
+        )
 
     def answered(self, job: Job) -> Answer:
         """What the solver answered. Where that misses the model by much, or says little, it is asked once more."""
         if not self.options.relax and is_hollow(job.program):
             note = f"{self.solver.title} was not asked: a whole variable has no whole number between its bounds"
-            return Answer(job.program, Outcome(Code.INFEASIBLE, "infeasible", notes=[note]), self.options)
+            return Answer(
+                job.program, Outcome(Code.INFEASIBLE, "infeasible", notes=[note]), self.options
+            )
         try:
             answer = self.asked(job, False)
         except Failure as fault:
@@ -156,22 +196,29 @@ class Solving:
         try:
             job.again = again
             for name in os.listdir(job.folder):
-                if name.startswith(ANSWERS):        # a kept folder may hold another run's
+                if name.startswith(ANSWERS):  # a kept folder may hold another run's
                     os.unlink(job.path(name))
             outcome = self.solver.solve(job)
             if job.is_interrupted:
                 outcome.text = INTERRUPTED.get(outcome.code, f"interrupted; {outcome.text}")
             answer = Answer(job.program, outcome, self.options)
-            answer.missed                   # a value may be none
+            answer.missed  # a value may be none
             return answer
         except (Unclear, BadValue, LookupError, ValueError, ArithmeticError) as fault:
             if job.is_interrupted:
                 raise Interrupted(signal.SIGINT) from None
-            ended = f"; it was ended by {signal.Signals(-job.status).name}" if job.status < 0 else ""
-            raise Failure(Code.NO_ANSWER, f"{self.solver.title} gave no usable answer: {fault}{ended}") from None
+            ended = (
+                f"; it was ended by {signal.Signals(-job.status).name}" if job.status < 0 else ""
+            )
+            raise Failure(
+                Code.NO_ANSWER, f"{self.solver.title} gave no usable answer: {fault}{ended}"
+            ) from None
         except OSError as fault:
-            raise Failure(Code.NOT_FOUND, f"{fault.filename or self.solver_path} could not be "
-                          f"run or written: {fault.strerror}") from None
+            raise Failure(
+                Code.NOT_FOUND,
+                f"{fault.filename or self.solver_path} could not be "
+                f"run or written: {fault.strerror}",
+            ) from None
 
     def in_another_way(self, job: Job, was: str) -> Answer | None:
         """None where it was asked so before, or gives no answer. `was` says what the first answer was."""
@@ -181,8 +228,10 @@ class Solving:
             answer = self.asked(job, True)
         except Failure:
             return None
-        answer.outcome.notes.append(f"{self.solver.title} was asked once more {self.solver.again}: "
-                                    f"its first answer {was}")
+        answer.outcome.notes.append(
+            f"{self.solver.title} was asked once more {self.solver.again}: "
+            f"its first answer {was}"
+        )
         return answer
 
     def headline(self, job: Job, answer: Answer, text: str | None = None, more: str = "") -> str:
@@ -192,7 +241,9 @@ class Solving:
         said = f"stopped at {gap} that was asked for" if outcome.is_gap else outcome.text
         line = f"{title}: {said}{more}" if text is None else f"{title}, corrected: {text}"
         line += "" if figure is None else f"; objective {figure}"
-        return line + " (integer variables relaxed)" * bool(job.program.whole and self.options.relax)
+        return line + " (integer variables relaxed)" * bool(
+            job.program.whole and self.options.relax
+        )
 
     def told(self, job: Job, nl: str, answer: Answer, notes: list[str]) -> Result:
         """The .sol by `bridge return`, with a message whose last line is the verdict."""
@@ -200,7 +251,9 @@ class Solving:
         outcome, missed = answer.outcome, answer.missed
         lines = [*notes, *outcome.notes, *self.solver.far_notes(job.program)]
         if missed.is_much():
-            lines.append(f"its point misses {certifier.named(missed.name)} by {missed.share:.2g} of the largest term")
+            lines.append(
+                f"its point misses {certifier.named(missed.name)} by {missed.share:.2g} of the largest term"
+            )
         try:
             verdict, before = self.verdict(certifier, answer), len(lines)
             if verdict.contradicted and outcome.code == Code.SOLVED:
@@ -223,12 +276,23 @@ class Solving:
             print(f"certificate: {verdict.figures}", flush=True)
         said = read(verdict.line) if verdict.is_proved() else None
         last, kept = certifier.ended(verdict, said)
-        more = (proved_gap(said) if outcome.is_gap else "") + (f" (code 100: {found.lacks})" if found.lacks else "")
-        return Result(found.code, [self.headline(job, answer, found.text, more), *lines, *answer.notes(), *last], sol,
-                      answer, verdict.figures, said, kept, not self.options.strict or verdict.claim() in FINAL)
+        more = (proved_gap(said) if outcome.is_gap else "") + (
+            f" (code 100: {found.lacks})" if found.lacks else ""
+        )
+        return Result(
+            found.code,
+            [self.headline(job, answer, found.text, more), *lines, *answer.notes(), *last],
+            sol,
+            answer,
+            verdict.figures,
+            said,
+            kept,
+            not self.options.strict or verdict.claim() in FINAL,
+        )
 
-    def checked(self, certifier: Certifier, answer: Answer, verdict: Verdict, lines: list[str],
-                before: int) -> tuple[Answer, bytes]:
+    def checked(
+        self, certifier: Certifier, answer: Answer, verdict: Verdict, lines: list[str], before: int
+    ) -> tuple[Answer, bytes]:
         """What is passed on and its .sol, with a line of what the proved program says of it."""
         answer, sol = certifier.returned(answer, lines, at=before)
         if not self.options.check or answer.values is None:
@@ -259,8 +323,14 @@ class Solving:
         """With code 0 those of the certificate where its own show no optimum, or no bound; None where no others are."""
         duals, own = proved_duals(answer, verdict), answer.outcome.duals
         shows = ("yes",) if verdict.claim() == "optimal" else ("yes", "gap")
-        if answer.outcome.code != Code.SOLVED or own is None or told.startswith(shows) \
-                or told.endswith(" is broken") or not duals or all(own[row] == y for row, y in duals.items()):
+        if (
+            answer.outcome.code != Code.SOLVED
+            or own is None
+            or told.startswith(shows)
+            or told.endswith(" is broken")
+            or not duals
+            or all(own[row] == y for row, y in duals.items())
+        ):
             return None
         assert answer.outcome.values is not None
         values = in_order(answer.outcome.values, answer.program.columns)
@@ -280,4 +350,8 @@ def proved_gap(said: Said | None) -> str:
 
 def of_answer(first: Outcome) -> str:
     """What an answer was that the solver is asked once more for."""
-    return f"was `{first.text}`" if first.code == Code.INFEASIBLE_OR_UNBOUNDED else "does not satisfy the model"
+    return (
+        f"was `{first.text}`"
+        if first.code == Code.INFEASIBLE_OR_UNBOUNDED
+        else "does not satisfy the model"
+    )

@@ -22,8 +22,8 @@ from .terms import entries_of
 from .values import double_of
 
 Exact = Union[int, Fraction]
-MOST_NAMED = 5                  # rows and numbers that are named of a long list
-INFINITE = 10 ** 20             # a solver takes it for no bound
+MOST_NAMED = 5  # rows and numbers that are named of a long list
+INFINITE = 10**20  # a solver takes it for no bound
 KINDS = ("continuous", "binary", "integer")
 
 
@@ -77,8 +77,11 @@ class Figures:
                 self.entries += count
                 self.sizes.append(size(values[k][0]))
         if not all(held for _, held in values):
-            self.lost += [(f"{program.rows[i + 1]} {program.columns[j]}", read.numbers[k].decode())
-                          for i, j, k in zip(*read.entries()) if not values[k][1]]
+            self.lost += [
+                (f"{program.rows[i + 1]} {program.columns[j]}", read.numbers[k].decode())
+                for i, j, k in zip(*read.entries())
+                if not values[k][1]
+            ]
 
     def number(self, where: str, text: bytes) -> Exact:
         value, held = known(text)
@@ -87,7 +90,11 @@ class Figures:
         return value
 
     def rows(self, kind: str = "") -> list[str]:
-        return [name for name, letter in self.kinds.items() if name != TIED_ROW and (not kind or letter == kind)]
+        return [
+            name
+            for name, letter in self.kinds.items()
+            if name != TIED_ROW and (not kind or letter == kind)
+        ]
 
     def sense(self) -> str:
         return "maximise" if self.program.maximise else "minimise"
@@ -108,7 +115,10 @@ def ends_of(sizes: Collection[Exact]) -> list[float | None]:
 
 
 def told(sizes: Collection[Exact]) -> str:
-    return " to ".join("beyond doubles" if end is None else f"{end:g}" for end in ends_of(sizes)) or "none"
+    return (
+        " to ".join("beyond doubles" if end is None else f"{end:g}" for end in ends_of(sizes))
+        or "none"
+    )
 
 
 def held_ends(sizes: Collection[Exact]) -> list[float | None] | None:
@@ -130,12 +140,20 @@ def size(value: Exact) -> Exact:
 def columns_of(program: Program) -> dict[str, int]:
     """By kind, and those that are free or fixed."""
     read = program.read
-    bounds = [(known(low)[0] if low else None, known(high)[0] if high else None)
-              for name, low, high in zip(program.columns, *read.bounds()) if name != TIED]
+    bounds = [
+        (known(low)[0] if low else None, known(high)[0] if high else None)
+        for name, low, high in zip(program.columns, *read.bounds())
+        if name != TIED
+    ]
     binary = sum(whole and pair == (0, 1) for whole, pair in zip(read.whole, bounds))
     whole = len(program.whole)
-    return {"continuous": len(bounds) - whole, "binary": binary, "integer": whole - binary,
-            "free": bounds.count((None, None)), "fixed": sum(low is not None and low == high for low, high in bounds)}
+    return {
+        "continuous": len(bounds) - whole,
+        "binary": binary,
+        "integer": whole - binary,
+        "free": bounds.count((None, None)),
+        "fixed": sum(low is not None and low == high for low, high in bounds),
+    }
 
 
 def row_name(row: str, names: Names) -> str:
@@ -144,19 +162,28 @@ def row_name(row: str, names: Names) -> str:
 
 def lines_of(f: Figures, factors: dict[str, str], names: Names) -> list[str]:
     """What is printed, one figure a line."""
-    signs = ", ".join(f"{len(f.rows(kind))} {sign}" for kind, sign in (("L", "<="), ("G", ">="), ("E", "=")))
+    signs = ", ".join(
+        f"{len(f.rows(kind))} {sign}" for kind, sign in (("L", "<="), ("G", ">="), ("E", "="))
+    )
     kinds = ", ".join(f"{f.columns[kind]} {kind}" for kind in KINDS)
     lost = [f"{text[:45]} ({where})" for where, text in f.lost]
-    scaled = [f"{row_name(row, names)} by {factor}" for row, factor in factors.items() if factor != "1"]
-    lines = [f"sense         {f.sense_line()}", f"columns       {sum(map(f.columns.__getitem__, KINDS))}: {kinds}; "
-             f"{f.columns['free']} free, {f.columns['fixed']} fixed",
-             f"rows          {len(f.rows())}: {signs}; {len(f.program.read.ranges)} with two sides",
-             f"entries       {f.entries} in rows, {f.costs} in the objective",
-             f"coefficients  {told(f.sizes)} in rows, {told(f.cost_sizes)} in the objective",
-             f"sides         {told(f.sides)}"]
+    scaled = [
+        f"{row_name(row, names)} by {factor}" for row, factor in factors.items() if factor != "1"
+    ]
+    lines = [
+        f"sense         {f.sense_line()}",
+        f"columns       {sum(map(f.columns.__getitem__, KINDS))}: {kinds}; "
+        f"{f.columns['free']} free, {f.columns['fixed']} fixed",
+        f"rows          {len(f.rows())}: {signs}; {len(f.program.read.ranges)} with two sides",
+        f"entries       {f.entries} in rows, {f.costs} in the objective",
+        f"coefficients  {told(f.sizes)} in rows, {told(f.cost_sizes)} in the objective",
+        f"sides         {told(f.sides)}",
+    ]
     if f.infinite:
-        lines.append(f"infinite      {f.infinite} sides and bounds from 1e20 on: none to highs, to "
-                     "cbc and clp from 1e25, to lp_solve from 1e30")
+        lines.append(
+            f"infinite      {f.infinite} sides and bounds from 1e20 on: none to highs, to "
+            "cbc and clp from 1e25, to lp_solve from 1e30"
+        )
     for head, what, items in (("not doubles   ", " numbers", lost), ("scaled rows   ", "", scaled)):
         lines.append(head + (f"{len(items)}{what}: {some(items, MOST_NAMED)}" if items else "none"))
     return lines
@@ -177,7 +204,9 @@ class Stats:
     def in_names(self, where: str) -> str:
         """Rows and columns of an MPS file as they are called there."""
         lists = {"c": self.names.row, "x": self.names.column}
-        return " ".join(lists[word[0]](int(word[1:])) if word[1:].isdigit() else word for word in where.split())
+        return " ".join(
+            lists[word[0]](int(word[1:])) if word[1:].isdigit() else word for word in where.split()
+        )
 
     def lines(self) -> list[str]:
         return lines_of(self.figures, self.factors, self.names) + self.notes
@@ -185,13 +214,27 @@ class Stats:
     def object(self) -> dict[str, object]:
         """The same for programs: counts, and ranges in doubles."""
         f = self.figures
-        return {"sense": f.sense(), "constant": None if f.tied_by is not None else f.constant(),
-                "tied_by": None if f.tied_by is None else str(f.tied_by),
-                "columns": sum(map(f.columns.__getitem__, KINDS)), **f.columns,
-                "rows": len(f.rows()), "at_most": len(f.rows("L")), "at_least": len(f.rows("G")),
-                "equations": len(f.rows("E")), "two_sides": len(f.program.read.ranges), "entries": f.entries,
-                "costs": f.costs, "coefficients": held_ends(f.sizes),
-                "cost_coefficients": held_ends(f.cost_sizes), "sides": held_ends(f.sides),
-                "infinite": f.infinite, "not_doubles": len(f.lost),
-                "scaled_rows": {row_name(row, self.names): factor
-                                for row, factor in self.factors.items() if factor != "1"}}
+        return {
+            "sense": f.sense(),
+            "constant": None if f.tied_by is not None else f.constant(),
+            "tied_by": None if f.tied_by is None else str(f.tied_by),
+            "columns": sum(map(f.columns.__getitem__, KINDS)),
+            **f.columns,
+            "rows": len(f.rows()),
+            "at_most": len(f.rows("L")),
+            "at_least": len(f.rows("G")),
+            "equations": len(f.rows("E")),
+            "two_sides": len(f.program.read.ranges),
+            "entries": f.entries,
+            "costs": f.costs,
+            "coefficients": held_ends(f.sizes),
+            "cost_coefficients": held_ends(f.cost_sizes),
+            "sides": held_ends(f.sides),
+            "infinite": f.infinite,
+            "not_doubles": len(f.lost),
+            "scaled_rows": {
+                row_name(row, self.names): factor
+                for row, factor in self.factors.items()
+                if factor != "1"
+            },
+        }

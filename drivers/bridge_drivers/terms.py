@@ -8,11 +8,11 @@ from functools import cached_property, lru_cache
 from itertools import accumulate
 from typing import Any, Iterable, List, Mapping, NamedTuple, Sequence, Tuple
 
-MANY = 20_000                   # terms from which on NumPy is worth its start
-EXACT = 53                      # bits of whole numbers that doubles hold
-PART = 26                       # bits of a part of a wide coefficient
+MANY = 20_000  # terms from which on NumPy is worth its start
+EXACT = 53  # bits of whole numbers that doubles hold
+PART = 26  # bits of a part of a wide coefficient
 Pairs = List[List[Tuple[int, int]]]
-Entries = Tuple["array[int]", "array[int]", "array[int]"]     # rows, columns, and which numbers
+Entries = Tuple["array[int]", "array[int]", "array[int]"]  # rows, columns, and which numbers
 
 
 class Line(NamedTuple):
@@ -96,12 +96,14 @@ class Arrays(Terms):
     """The same by NumPy: the k-th term has the coefficient `table[number[k]]` in `row[k]` and
     `column_of[k]`, of `m` rows."""
 
-    def __init__(self, m: int, n: int, row: Any, column: Any, number: Any, table: Sequence[Any]) -> None:
+    def __init__(
+        self, m: int, n: int, row: Any, column: Any, number: Any, table: Sequence[Any]
+    ) -> None:
         self.m, self.n = m, n
         self.row, self.column_of, self.number, self.table = row, column, number, table
 
     @cached_property
-    def rows(self) -> Pairs:                # type: ignore[override]
+    def rows(self) -> Pairs:  # type: ignore[override]
         np = numpy()
         order = np.argsort(self.row, kind="stable")
         values = map(self.table.__getitem__, self.number[order].tolist())
@@ -122,7 +124,9 @@ class Arrays(Terms):
         return [v - by * w for v, w in zip(values, sums)]
 
     def sizes(self, weights: Sequence[int]) -> List[int]:
-        other = Arrays(self.m, self.n, self.row, self.column_of, self.number, list(map(abs, self.table)))
+        other = Arrays(
+            self.m, self.n, self.row, self.column_of, self.number, list(map(abs, self.table))
+        )
         return other.sums(weights)
 
     def doubles(self) -> Any:
@@ -140,7 +144,7 @@ class Arrays(Terms):
         return list(found.tolist())
 
     def column(self, j: int) -> List[Tuple[int, int]]:
-        ends = numpy().array((j, j + 1), dtype=self.column_of.dtype)    # of another all are copied
+        ends = numpy().array((j, j + 1), dtype=self.column_of.dtype)  # of another all are copied
         start, stop = self.column_of.searchsorted(ends).tolist()
         values = map(self.table.__getitem__, self.number[start:stop].tolist())
         return sorted(zip(self.row[start:stop].tolist(), values))
@@ -178,8 +182,10 @@ class Arrays(Terms):
     @cached_property
     def parts(self) -> List[Tuple[int, Any]]:
         """Coefficients by the digits that doubles hold."""
-        return [(shift, numpy().array(digits, dtype=float)[self.number])
-                for shift, digits in limbs(self.table, self.width())]
+        return [
+            (shift, numpy().array(digits, dtype=float)[self.number])
+            for shift, digits in limbs(self.table, self.width())
+        ]
 
 
 def places_of(chosen: Sequence[int], count: int) -> Any:

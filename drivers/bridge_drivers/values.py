@@ -13,9 +13,9 @@ from typing import Dict, Iterator, Mapping, Sequence, TypeVar, Union
 Number = Union[int, float, Fraction]
 T = TypeVar("T")
 
-MOST_DIGITS = 2 ** 127 - 1
+MOST_DIGITS = 2**127 - 1
 MOST_PLACES = 400
-NEAR = decimal.Context(prec=17, Emin=-10 ** 6, Emax=10 ** 6, rounding=decimal.ROUND_HALF_EVEN)
+NEAR = decimal.Context(prec=17, Emin=-(10**6), Emax=10**6, rounding=decimal.ROUND_HALF_EVEN)
 
 
 class BadValue(Exception):
@@ -60,7 +60,7 @@ def exact_decimal(value: Fraction) -> str | None:
     places = max(twos, fives)
     if rest != 1 or places > MOST_PLACES:
         return None
-    digits = value.numerator * 10 ** places // value.denominator
+    digits = value.numerator * 10**places // value.denominator
     if abs(digits) > MOST_DIGITS:
         return with_zeros(digits) if places == 0 else None
     if places == 0:
@@ -142,7 +142,7 @@ def wholes_of(texts: Sequence[bytes]) -> tuple[list[int], int]:
         whole, _, places = mantissa.partition(b".")
         parts.append((int(whole + places), int(power or 0) - len(places)))
     least = min([0, *(power for _, power in parts)])
-    return reduced([v * 10 ** (power - least) for v, power in parts], 10 ** -least)
+    return reduced([v * 10 ** (power - least) for v, power in parts], 10**-least)
 
 
 def reduced(numbers: list[int], den: int) -> tuple[list[int], int]:

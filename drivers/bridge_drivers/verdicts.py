@@ -12,9 +12,11 @@ from .program import Program
 from .ruling import FINAL
 from .values import exact_decimal, wholes_of
 
-LINE = re.compile(r"(?:(optimal|feasible|bound) (\S+)|within (\S+) (\S+)|(infeasible|unbounded))"
-                  r"(?: of objective (\d+))?")
-MOST_PLACES = 15                # digits of a decimal that is told in full
+LINE = re.compile(
+    r"(?:(optimal|feasible|bound) (\S+)|within (\S+) (\S+)|(infeasible|unbounded))"
+    r"(?: of objective (\d+))?"
+)
+MOST_PLACES = 15  # digits of a decimal that is told in full
 
 
 class Said(NamedTuple):
@@ -51,8 +53,12 @@ def read(line: str) -> Said | None:
     try:
         if word:
             given = Fraction(one)
-            return Said(word, None if word == "bound" else given,
-                        None if word == "feasible" else given, int(objective or 0))
+            return Said(
+                word,
+                None if word == "bound" else given,
+                None if word == "feasible" else given,
+                int(objective or 0),
+            )
         if alone:
             return Said(alone, objective=int(objective or 0))
         return Said("within", Fraction(value), Fraction(bound), int(objective or 0))
@@ -110,8 +116,10 @@ def limit_words(bound: Fraction, maximise: bool, steps: Multiples | None, which:
     more = "more" if maximise else "less"
     text = f"no point has {more} than {which}{decimal(bound)}"
     if steps is not None and steps.beside(bound, maximise) != bound:
-        text += (f", and at whole points the objective goes by {decimal(steps.step)}: none has "
-                 f"{more} than {decimal(steps.beside(bound, maximise))}")
+        text += (
+            f", and at whole points the objective goes by {decimal(steps.step)}: none has "
+            f"{more} than {decimal(steps.beside(bound, maximise))}"
+        )
     return text
 
 
@@ -131,5 +139,7 @@ def in_words(said: Said, maximise: bool, steps: Multiples | None = None) -> str:
     if said.word == "optimal":
         return point + ", and none is better"
     away = abs(said.bound - said.value)
-    return (f"{point}, and {limit_words(said.bound, maximise, steps, 'the bound ')}; the bound is "
-            f"{decimal(away)}{share(away, said.value)} {better} the point's")
+    return (
+        f"{point}, and {limit_words(said.bound, maximise, steps, 'the bound ')}; the bound is "
+        f"{decimal(away)}{share(away, said.value)} {better} the point's"
+    )

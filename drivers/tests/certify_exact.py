@@ -31,9 +31,15 @@ def program(rng: random.Random, n: int, m: int) -> Model:
         ends = [(None, None), (0, "4"), (0, "1e20"), (0, "0.5"), (-3, 7), (0, None), (0, None)]
         columns.append(real(*rng.choice(ends)))
     for _ in range(m):
-        terms = {j: rng.choice(["1", "-1", "2", "0.3", "-7", "1e-9"]) for j in range(n) if rng.random() < 0.6}
+        terms = {
+            j: rng.choice(["1", "-1", "2", "0.3", "-7", "1e-9"])
+            for j in range(n)
+            if rng.random() < 0.6
+        }
         at = rng.choice([0, 1, 5, -2, 2.5])
-        rows.append((*rng.choice([(at, at), (None, at), (at, None), (at, at + rng.choice([1, 3]))]), terms))
+        rows.append(
+            (*rng.choice([(at, at), (None, at), (at, None), (at, at + rng.choice([1, 3]))]), terms)
+        )
     return built(columns, rows, rng.choice(["min", "max"]), [rng.choice(costs) for _ in range(n)])
 
 
@@ -43,6 +49,7 @@ def ended(p: Model, rng: random.Random) -> Ended:
 
     def look() -> None:
         assert next(steps) < MOST_STEPS
+
     tableau = Simplex(p, look)
     columns = rng.sample(range(p.n), min(p.n, rng.randint(0, p.m)))
     tableau.start(columns, [rng.uniform(-2, 6) for _ in range(p.n)])
@@ -91,8 +98,13 @@ class Programs(Case):
         """Nearly singular ones, in whole numbers."""
         for model in models(4):
             if model.is_linear() and any(model.costs.values()):
-                wanted = "unbounded" if model.is_endless else \
-                    "infeasible" if model.best is None else f"optimal {model.best}"
+                wanted = (
+                    "unbounded"
+                    if model.is_endless
+                    else "infeasible"
+                    if model.best is None
+                    else f"optimal {model.best}"
+                )
                 work = self.work(model.text())
                 work.load()
                 self.assertEqual(next(work.by_simplex()).line, wanted, model.name)
@@ -114,13 +126,18 @@ class Programs(Case):
             work = self.work(model.text())
             work.load()
             p, clp = work.model, work.model.relaxation()
-            if clp.solve() is not State.OPTIMAL or not is_optimal_in_doubles(p, clp.values(), dict(enumerate(clp.duals()))):
+            if clp.solve() is not State.OPTIMAL or not is_optimal_in_doubles(
+                p, clp.values(), dict(enumerate(clp.duals()))
+            ):
                 continue
             closed += 1
             self.assertFalse(model.best is None or model.is_endless, model.name)
             terms = [float(c) * v for c, v in zip(p.cost, clp.values())]
-            self.assertLessEqual(abs(p.sign * sum(terms) - float(model.best)),
-                                 1e-6 * max(1.0, sum(map(abs, terms))), model.name)
+            self.assertLessEqual(
+                abs(p.sign * sum(terms) - float(model.best)),
+                1e-6 * max(1.0, sum(map(abs, terms))),
+                model.name,
+            )
         self.assertGreater(closed, 20)
 
     @NEEDS_CLP
@@ -135,9 +152,14 @@ class Programs(Case):
     @NEEDS_CLP
     def test_linear_ones_without_an_answer(self) -> None:
         """What is true of them, as where a solver stopped without a point."""
-        for name, line in (("product", "optimal 19"), ("thirds", "optimal 1/3"),
-                           ("infeasible", "infeasible"), ("unbounded", "unbounded"),
-                           ("unbounded_rowless", "unbounded"), ("rowless", "optimal 1")):
+        for name, line in (
+            ("product", "optimal 19"),
+            ("thirds", "optimal 1/3"),
+            ("infeasible", "infeasible"),
+            ("unbounded", "unbounded"),
+            ("unbounded_rowless", "unbounded"),
+            ("rowless", "optimal 1"),
+        ):
             for proves in (False, True):
                 verdict = certified(self.work(MODELS[name].text, proves), "nothing")
                 self.assertEqual(verdict.line, line, name)
@@ -146,13 +168,14 @@ class Programs(Case):
     def test_planes_beside_rounding(self) -> None:
         """An answer that is off by less than doubles tell is meant where numbers have decimals, and
         where all are whole the plane is true."""
-        side, step = 10 ** 13 + 1, "0.30000000000000004"
+        side, step = 10**13 + 1, "0.30000000000000004"
         odd = nl([whole(0, side)] * 2, [(side, side, {0: 2, 1: 2})], [("max", 0, {0: 1, 1: 2})])
         near = nl([whole(0, 9)], [(step, step, {0: "0.1"})], [("max", 0, {0: 1})])
         for text, x, proves, line in (
-                (odd, [998.0, 4999999999002.0], False, "infeasible"),
-                (near, [3.0], False, "not proved: rows of whole .* which is rounding"),
-                (near, [3.0], True, "infeasible")):
+            (odd, [998.0, 4999999999002.0], False, "infeasible"),
+            (near, [3.0], False, "not proved: rows of whole .* which is rounding"),
+            (near, [3.0], True, "infeasible"),
+        ):
             verdict = certified(self.work(text, proves), "point", Given(x))
             self.assertRegex(verdict.line, f"^{line}$")
 
@@ -160,14 +183,23 @@ class Programs(Case):
 class Cliques(Case):
     def test_cliques(self) -> None:
         """Of conflicts in rows of two and in a knapsack, a complement among them."""
-        p = built([BINARY] * 3, [(None, 1, {0: 1, 1: 1}), (None, 1, {0: 1, 2: 1}),
-                                    (None, -1, {1: -1, 2: -1}), (None, 7, {0: 5, 1: 4, 2: 1})])
+        p = built(
+            [BINARY] * 3,
+            [
+                (None, 1, {0: 1, 1: 1}),
+                (None, 1, {0: 1, 2: 1}),
+                (None, -1, {1: -1, 2: -1}),
+                (None, 7, {0: 5, 1: 4, 2: 1}),
+            ],
+        )
         near = spine.conflicts(p)
         self.assertEqual(near[(0, 1)], {(1, 1), (2, 1)})
         self.assertEqual(near[(1, -1)], {(2, -1)})
         q = p.with_rows([({1: 1, 2: 1}, None, 1)])
         found = list(spine.cliques(q, [0.5, 0.5, 0.5]))
-        self.assertEqual([(c.violation, c.coefficients, c.rhs) for c in found], [(0.5, {0: 1, 1: 1, 2: 1}, 1)])
+        self.assertEqual(
+            [(c.violation, c.coefficients, c.rhs) for c in found], [(0.5, {0: 1, 1: 1, 2: 1}, 1)]
+        )
 
 
-del Certified           # its tests are run where it stands
+del Certified  # its tests are run where it stands

@@ -27,7 +27,12 @@ OPTIMUM = [F(17, 13), F(1, 26)]
 
 def two() -> Model:
     """min 2 x0 + 3 x1; both rows are tight at the optimum."""
-    return built([real(), real(0, 7)], [(4, None, {0: 3, 1: 2}), (None, "1.25", {0: 1, 1: "-1.5"})], "min", (2, 3))
+    return built(
+        [real(), real(0, 7)],
+        [(4, None, {0: 3, 1: 2}), (None, "1.25", {0: 1, 1: "-1.5"})],
+        "min",
+        (2, 3),
+    )
 
 
 def rounding(p: Model) -> short.Rounding:
@@ -47,10 +52,10 @@ class Fractions(TestCase):
         rng = random.Random(3)
         for _ in range(50):
             wanted = [F(rng.randint(-999, 999), rng.choice((1, 7, 7, 91, 360))) for _ in range(4)]
-            values = [round(v * 2 ** 80) for v in wanted]
+            values = [round(v * 2**80) for v in wanted]
             found = sparse.near(values, 80, 1)
             self.assertEqual([F(v, found.den) for v in found.numbers], wanted)
-        self.assertIsNone(sparse.near([round(F(10007, 20011) * 2 ** 20)], 20, 1))
+        self.assertIsNone(sparse.near([round(F(10007, 20011) * 2**20)], 20, 1))
 
 
 @NEEDS_SCIPY
@@ -59,7 +64,10 @@ class Squares(TestCase):
         """The system and its transpose."""
         rng = random.Random(4)
         for n in (1, 2, 5, 40):
-            rows = [[(j, rng.randint(-50, 50)) for j in range(n) if j == i or rng.random() < 0.2] for i in range(n)]
+            rows = [
+                [(j, rng.randint(-50, 50)) for j in range(n) if j == i or rng.random() < 0.2]
+                for i in range(n)
+            ]
             rows = [[(j, a or 1) for j, a in row] for row in rows]
             square = sparse.Square(rows, 20_000)
             side = [rng.randint(-9, 9) for _ in range(n)]
@@ -75,9 +83,9 @@ class Squares(TestCase):
         with self.assertRaisesRegex(NoSolution, "singular"):
             sparse.Square([[(0, 1), (1, 2)], [(0, 2), (1, 4)]], 400).solve([1, 0])
         with self.assertRaisesRegex(NoSolution, "too wide"):
-            sparse.Square([[(0, 2 ** 70)]], 400)
+            sparse.Square([[(0, 2**70)]], 400)
         with self.assertRaisesRegex(NoSolution, "right side"):
-            sparse.Square([[(0, 3)]], 400).solve([2 ** 60])
+            sparse.Square([[(0, 3)]], 400).solve([2**60])
         rows = [[(0, 97), (9, 1)]] + [[(k - 1, 1), (k, 97)] for k in range(1, 10)]
         with self.assertRaises(Wide) as caught:
             sparse.Square(rows, 60).solve([1] + [0] * 9)
@@ -89,11 +97,16 @@ class Bases(TestCase):
         p = two()
         point, leaf = bases.optimum(p, bases.Basis([0, 1], [0, 1]), [1.3, 0.04])
         self.assertEqual(point, OPTIMUM)
-        self.assertEqual({i: F(y, leaf.denominator) for i, y in leaf.numerators.items()}, {0: F(12, 13), 1: F(-10, 13)})
+        self.assertEqual(
+            {i: F(y, leaf.denominator) for i, y in leaf.numerators.items()},
+            {0: F(12, 13), 1: F(-10, 13)},
+        )
         self.assertEqual(bit_width(point), 5)
-        for columns, rows, x, why in (([0], [0], [1.3, 0.0], "row 1 is broken"),
-                                      ([1], [0], [0.0, 2.0], "column 0 could be better"),
-                                      ([0, 1], [1], [1.3, 0.0], "not square")):
+        for columns, rows, x, why in (
+            ([0], [0], [1.3, 0.0], "row 1 is broken"),
+            ([1], [0], [0.0, 2.0], "column 0 could be better"),
+            ([0, 1], [1], [1.3, 0.0], "not square"),
+        ):
             with self.assertRaisesRegex(NoSolution, why):
                 bases.optimum(p, bases.Basis(columns, rows), x)
 
@@ -111,19 +124,25 @@ class Bases(TestCase):
 class Shorts(TestCase):
     def test_alone(self) -> None:
         """Columns that stand in one equation alone, with a coefficient of 1 first."""
-        p = built([real(), real(0, 7), real(), real()],
-                     [(4, 4, {0: 3, 1: 2, 2: 1}), (None, "1.25", {0: 1, 3: 1})], "min", (2, 3))
+        p = built(
+            [real(), real(0, 7), real(), real()],
+            [(4, 4, {0: 3, 1: 2, 2: 1}), (None, "1.25", {0: 1, 3: 1})],
+            "min",
+            (2, 3),
+        )
         self.assertEqual(short.alone(p), {0: (2, 1)})
 
     def test_bounds(self) -> None:
         p = two()
         self.assertEqual(short.trivial(p), 0)
-        self.assertIsNone(short.trivial(p.with_costs([F(1), F(-1)]).with_bounds([0, 0], [None, None])))
-        self.assertEqual(short.shortened(p, F(1, 10 ** 12)), 0)
+        self.assertIsNone(
+            short.trivial(p.with_costs([F(1), F(-1)]).with_bounds([0, 0], [None, None]))
+        )
+        self.assertEqual(short.shortened(p, F(1, 10**12)), 0)
         self.assertEqual(short.shortened(p, F(10, 3)), F("3.333333333"))
         found = max(short.roundings(p, {0: 12 / 13, 1: -10 / 13}), key=lambda one: one.bound())
         self.assertLess(0, F(71, 26) - found.bound())
-        self.assertLess(F(71, 26) - found.bound(), F(1, 10 ** 9))
+        self.assertLess(F(71, 26) - found.bound(), F(1, 10**9))
 
     def test_met_exactly(self) -> None:
         """Columns without an upper bound, of which rounding leaves a reduced cost below 0."""
@@ -146,23 +165,30 @@ class Shorts(TestCase):
         p = two()
         found = next(rounding(p).points())
         self.assertTrue(p.fits(found.point))
-        self.assertLess(p.value(found.point) - p.value(OPTIMUM), F(1, 10 ** 7))
-        self.assertLessEqual(over_one(found.point)[1], 10 ** 9)
+        self.assertLess(p.value(found.point) - p.value(OPTIMUM), F(1, 10**7))
+        self.assertLessEqual(over_one(found.point)[1], 10**9)
 
     @NEEDS_CLP
     def test_step_by_step(self) -> None:
         """Rows without room between them are met exactly, others get room."""
-        p = built([real()] * 4, [
-            (None, "2.9", {0: "1.3", 1: "0.7"}), ("2.9", None, {0: "1.3", 1: "0.7"}),
-            (13, None, {0: "7.1", 1: "3.3", 2: 1}), ("0.1", "0.1", {2: "1.9", 3: "-0.7"})],
-                     "min", ("1.1", "2.3", "3.1", "0.3"))
+        p = built(
+            [real()] * 4,
+            [
+                (None, "2.9", {0: "1.3", 1: "0.7"}),
+                ("2.9", None, {0: "1.3", 1: "0.7"}),
+                (13, None, {0: "7.1", 1: "3.3", 2: 1}),
+                ("0.1", "0.1", {2: "1.9", 3: "-0.7"}),
+            ],
+            "min",
+            ("1.1", "2.3", "3.1", "0.3"),
+        )
         made = rounding(p)
         self.assertEqual((made.alone, made.equations), ({3: (3, -7)}, {}))
         self.assertIsNone(made.solved(9))
         found = next(made.points())
         self.assertEqual(found.way, "rounding is taken up by a basis of 1 equation and 1 row")
         self.assertTrue(p.fits(found.point))
-        self.assertLess(abs(p.value(found.point) - F("2.617004048583")), F(1, 10 ** 6))
+        self.assertLess(abs(p.value(found.point) - F("2.617004048583")), F(1, 10**6))
 
 
 @NEEDS_CLP
@@ -188,20 +214,28 @@ class Linear(Certified):
         work = self.work(text)
         return work, certified(work, "point", Given())
 
-    def within(self, text: bytes, way: str, most: F = F(1, 10 ** 5)) -> None:
+    def within(self, text: bytes, way: str, most: F = F(1, 10**5)) -> None:
         """Whose point and bound are that near."""
         work, verdict = self.verdict(text)
         self.assertEqual(verdict.claim(), "within", verdict.line)
-        self.assertLessEqual(abs(verdict.value - F(verdict.line.split()[1])), most * abs(verdict.value))
+        self.assertLessEqual(
+            abs(verdict.value - F(verdict.line.split()[1])), most * abs(verdict.value)
+        )
         self.assertRegex(verdict.note, f"^{self.WIDE}{way}$")
 
     def test_families(self) -> None:
         """Decimals: equations with columns of their own, and inequalities."""
-        self.within(made("staircase", 757), "; rounding is taken up by columns of 80 equations alone")
-        self.within(made("staircase", 1000), "; rounding is taken up by columns of 108 equations alone")
+        self.within(
+            made("staircase", 757), "; rounding is taken up by columns of 80 equations alone"
+        )
+        self.within(
+            made("staircase", 1000), "; rounding is taken up by columns of 108 equations alone"
+        )
         self.within(made("diet", 100_000), "")
         with without_scipy():
-            self.within(made("staircase", 757), "; rounding is taken up by columns of 80 equations alone")
+            self.within(
+                made("staircase", 757), "; rounding is taken up by columns of 80 equations alone"
+            )
 
     def test_basis_of_equations(self) -> None:
         """Equations of which none has a column of its own: what rounding leaves goes through a basis of them."""
@@ -229,7 +263,7 @@ class Linear(Certified):
                 self.assertIn(verdict.claim(), ("optimal", "within", "infeasible"), verdict)
                 if verdict.claim() == "within":
                     value, bound = map(F, verdict.line.split()[1:3])
-                    self.assertLessEqual(abs(value - bound), max(1, abs(bound)) / 10 ** 6)
+                    self.assertLessEqual(abs(value - bound), max(1, abs(bound)) / 10**6)
                     self.assertIn("the exact optimum", verdict.note)
 
     def test_nearly_parallel(self) -> None:
@@ -252,16 +286,24 @@ class Linear(Certified):
         """Parallel equations that miss each other by 5e-9, which CLP takes for one: a contradiction
         is told, and no bound."""
         terms = {0: "2.5", 1: "0.1"}
-        text = nl([real(0, 5), real(0, 9)], [("7.699999995", "7.699999995", terms), ("7.7", "7.7", terms)],
-                  [("min", 0, {0: 5, 1: 1})])
+        text = nl(
+            [real(0, 5), real(0, 9)],
+            [("7.699999995", "7.699999995", terms), ("7.7", "7.7", terms)],
+            [("min", 0, {0: 5, 1: 1})],
+        )
         _, verdict = self.verdict(text)
         self.assertEqual(verdict.line, "infeasible")
 
     def test_no_room(self) -> None:
         """Equations of which nothing is left to round: no point is told that is none."""
-        text = nl([real(0, 1)] * 3, [("1.5", "1.5", {0: "1.1", 1: "0.7", 2: "0.3"}),
-                                     ("0.9", "0.9", {0: "0.3", 1: "1.3", 2: "0.1"})],
-                  [("min", 0, {0: "0.3", 1: "0.9", 2: "0.7"})])
+        text = nl(
+            [real(0, 1)] * 3,
+            [
+                ("1.5", "1.5", {0: "1.1", 1: "0.7", 2: "0.3"}),
+                ("0.9", "0.9", {0: "0.3", 1: "1.3", 2: "0.1"}),
+            ],
+            [("min", 0, {0: "0.3", 1: "0.9", 2: "0.7"})],
+        )
         work, verdict = self.verdict(text)
         self.assertEqual(verdict.claim(), "optimal", verdict.line)
         for found in rounding(work.model).points():
@@ -272,7 +314,7 @@ class Linear(Certified):
         _, verdict = self.verdict(made("uneven", 2000))
         self.assertEqual(verdict.claim(), "within", verdict.line)
         bound, value = map(F, verdict.line.split()[1:])
-        self.assertLess(abs(bound - value), value / 10 ** 6)
+        self.assertLess(abs(bound - value), value / 10**6)
 
 
 class Pairs(TestCase):
@@ -280,16 +322,19 @@ class Pairs(TestCase):
         """Decimals that make up a row's rest exactly, the second below 1 and to its side."""
         rng = random.Random(5)
         for _ in range(200):
-            a, b, rest = rng.randint(-99999, 99999) or 7, rng.randint(1, 10 ** 7), \
-                F(rng.randint(-10 ** 9, 10 ** 9), 10 ** rng.randint(0, 3))
+            a, b, rest = (
+                rng.randint(-99999, 99999) or 7,
+                rng.randint(1, 10**7),
+                F(rng.randint(-(10**9), 10**9), 10 ** rng.randint(0, 3)),
+            )
             is_high = rng.random() < 0.5
             found = short.pair([(0, a)], [(1, b)], rest, [False, is_high])
             if found is None:
                 continue
             self.assertEqual(a * found[0] + b * found.get(1, 0), rest)
-            self.assertTrue(all(10 ** 20 % v.denominator == 0 for v in found.values()))
+            self.assertTrue(all(10**20 % v.denominator == 0 for v in found.values()))
             self.assertLess(abs(found.get(1, 0)), 1)
             self.assertLessEqual(found.get(1, 0) * (1 if is_high else -1), 0)
 
 
-del Certified           # its tests are run where it stands
+del Certified  # its tests are run where it stands

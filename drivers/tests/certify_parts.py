@@ -29,25 +29,43 @@ def exported(records: str) -> bytes:
     return "\n".join(["NAME nl", *lines, "ENDATA", ""]).encode()
 
 
-TEXT = exported("OBJSENSE; MAX; ROWS; N obj; L c0; G c2; COLUMNS; x0 obj 1; x0 c0 3; M0 'MARKER' 'INTORG'; x1 obj 2; "
-                "x1 c0 4; x1 c2 2; x2 c0 -2; x2 c2 4; M1 'MARKER' 'INTEND'; RHS; RHS obj -0.5; RHS c0 6; RHS c2 1; "
-                "RANGES; RNG c2 4; BOUNDS; FR BND x0; UP BND x1 2.5; UP BND x2 3")
-LARGE_BOUND = exported("OBJSENSE; MAX; ROWS; N obj; L c0; COLUMNS; x0 obj 1; x0 c0 2; RHS; RHS c0 1999999999999; "
-                       "BOUNDS; UP BND x0 1e12")
-STEEP = exported("ROWS; N obj; G c0; COLUMNS; x0 obj 1; x0 c0 3; x1 obj 1e9; x1 c0 3e9; RHS; RHS c0 7")
+TEXT = exported(
+    "OBJSENSE; MAX; ROWS; N obj; L c0; G c2; COLUMNS; x0 obj 1; x0 c0 3; M0 'MARKER' 'INTORG'; x1 obj 2; "
+    "x1 c0 4; x1 c2 2; x2 c0 -2; x2 c2 4; M1 'MARKER' 'INTEND'; RHS; RHS obj -0.5; RHS c0 6; RHS c2 1; "
+    "RANGES; RNG c2 4; BOUNDS; FR BND x0; UP BND x1 2.5; UP BND x2 3"
+)
+LARGE_BOUND = exported(
+    "OBJSENSE; MAX; ROWS; N obj; L c0; COLUMNS; x0 obj 1; x0 c0 2; RHS; RHS c0 1999999999999; "
+    "BOUNDS; UP BND x0 1e12"
+)
+STEEP = exported(
+    "ROWS; N obj; G c0; COLUMNS; x0 obj 1; x0 c0 3; x1 obj 1e9; x1 c0 3e9; RHS; RHS c0 7"
+)
 
 
 def built(columns, rows=(), sense: str = "min", costs=()) -> Model:
     """Of the words of `models.nl`, in any order of kinds; costs by column."""
-    at, signs = dict(enumerate(costs)), ["L" if lo is None else "E" if lo == hi else "G" for lo, hi, _ in rows]
+    at, signs = dict(enumerate(costs)), [
+        "L" if lo is None else "E" if lo == hi else "G" for lo, hi, _ in rows
+    ]
     text = ["NAME nl", *["OBJSENSE", " MAX"] * (sense == "max"), "ROWS", " N obj"]
     text += [f" {sign} c{i}" for i, sign in enumerate(signs)] + ["COLUMNS"]
     for j, (kind, _, _) in enumerate(columns):
         entries = [f" x{j} obj {at.get(j, 0)}"]
         entries += [f" x{j} c{i} {terms[j]}" for i, (_, _, terms) in enumerate(rows) if j in terms]
-        text += entries if kind == "C" else [" M 'MARKER' 'INTORG'", *entries, " M 'MARKER' 'INTEND'"]
-    text += ["RHS", *(f" RHS c{i} {hi if lo is None else lo}" for i, (lo, hi, _) in enumerate(rows)), "RANGES"]
-    ranges = [(i, F(hi) - F(lo)) for i, (lo, hi, _) in enumerate(rows) if None not in (lo, hi) and lo != hi]
+        text += (
+            entries if kind == "C" else [" M 'MARKER' 'INTORG'", *entries, " M 'MARKER' 'INTEND'"]
+        )
+    text += [
+        "RHS",
+        *(f" RHS c{i} {hi if lo is None else lo}" for i, (lo, hi, _) in enumerate(rows)),
+        "RANGES",
+    ]
+    ranges = [
+        (i, F(hi) - F(lo))
+        for i, (lo, hi, _) in enumerate(rows)
+        if None not in (lo, hi) and lo != hi
+    ]
     text += [*(f" RNG c{i} {float(by)}" for i, by in ranges), "BOUNDS"]
     for j, (_, lo, hi) in enumerate(columns):
         text += [f" FR BND x{j}"] if lo is None else [f" LO BND x{j} {lo}"]
@@ -62,11 +80,20 @@ def model() -> Model:
 
 class Numbers(TestCase):
     def test_written(self) -> None:
-        for value, wanted in ((F(0), "0"), (F(7000), "7000"), (F(70000), "7e4"), (F(-1, 2), "-.5"),
-                              (F(1, 3), "1/3"), (F(13, 4), "3.25"), (F(1, 1024), "1/1024"),
-                              (F(-12, 10), "-1.2"), (3, "3")):
+        for value, wanted in (
+            (F(0), "0"),
+            (F(7000), "7000"),
+            (F(70000), "7e4"),
+            (F(-1, 2), "-.5"),
+            (F(1, 3), "1/3"),
+            (F(13, 4), "3.25"),
+            (F(1, 1024), "1/1024"),
+            (F(-12, 10), "-1.2"),
+            (3, "3"),
+        ):
             self.assertEqual(text.written(value), wanted)
             self.assertEqual(F(wanted), value)
+
 
 class Systems(TestCase):
     def test_random(self) -> None:
@@ -76,7 +103,11 @@ class Systems(TestCase):
             x = [F(rng.randint(-9, 9), rng.randint(1, 5)) for _ in range(n)]
             system = []
             for _ in range(n + 1):
-                terms = {j: F(rng.randint(-3, 3), rng.randint(1, 3)) for j in range(n) if rng.random() < 0.6}
+                terms = {
+                    j: F(rng.randint(-3, 3), rng.randint(1, 3))
+                    for j in range(n)
+                    if rng.random() < 0.6
+                }
                 system.append((terms, sum(a * x[j] for j, a in terms.items())))
             found = exact.solved(system)
             for terms, side in system:
@@ -94,13 +125,20 @@ class Models(TestCase):
     def test_program(self) -> None:
         p = model()
         self.assertEqual((p.n, p.m, p.sign, p.whole), (3, 3, -1, [False, True, True]))
-        self.assertEqual([[(j, F(a, p.scale)) for j, a in row] for row in p.rows],
-                         [[(0, F(3, 2)), (1, 2), (2, -1)], [], [(1, 2), (2, 4)]])
+        self.assertEqual(
+            [[(j, F(a, p.scale)) for j, a in row] for row in p.rows],
+            [[(0, F(3, 2)), (1, 2), (2, -1)], [], [(1, 2), (2, 4)]],
+        )
         self.assertEqual([s and F(s, p.unit) for s in p.side_lo], [None, None, 1])
         self.assertEqual([s and F(s, p.unit) for s in p.side_hi], [3, None, 5])
         self.assertEqual((p.value([F(1), F(1), F(0)]), p.step()), (F(-7, 2), None))
         self.assertTrue(p.fits([F(2, 3), F(1), F(0)]))
-        for x in ([F(2, 3), F(1, 2), F(0)], [F(1), F(1), F(0)], [F(0), F(0), F(0)], [F(-9), F(3), F(0)]):
+        for x in (
+            [F(2, 3), F(1, 2), F(0)],
+            [F(1), F(1), F(0)],
+            [F(0), F(0), F(0)],
+            [F(-9), F(3), F(0)],
+        ):
             self.assertFalse(p.fits(x), x)
 
     def test_step(self) -> None:
@@ -112,72 +150,119 @@ class Models(TestCase):
 
     def test_miss(self) -> None:
         program = Program(TEXT)
-        for x, share, name in (({"x0": "0", "x1": "1", "x2": "0"}, 0.0, ""),
-                               ({"x0": "4", "x1": "1", "x2": "0"}, 10 / 12, "c0"),
-                               ({"x0": "0", "x1": "0", "x2": "0"}, 1 / 4, "c2"),
-                               ({"x0": "-9", "x1": "0", "x2": "4"}, 11 / 16, "c2")):
+        for x, share, name in (
+            ({"x0": "0", "x1": "1", "x2": "0"}, 0.0, ""),
+            ({"x0": "4", "x1": "1", "x2": "0"}, 10 / 12, "c0"),
+            ({"x0": "0", "x1": "0", "x2": "0"}, 1 / 4, "c2"),
+            ({"x0": "-9", "x1": "0", "x2": "4"}, 11 / 16, "c2"),
+        ):
             found = miss.miss(program, x)
             self.assertEqual((round(found.share, 9), found.name), (round(share, 9), name))
 
     def test_miss_by_a_row_of_its_own_size(self) -> None:
         """Without a floor; what is near 0 beside a coefficient is measured by that."""
+
         def program(a: str, b: str, side: str, bound: str = "20") -> Program:
-            return Program(exported(f"ROWS; N obj; L c0; COLUMNS; x0 c0 {a}; x1 c0 {b}; RHS; RHS c0 {side}; BOUNDS; "
-                                    f"UP BND x0 {bound}"))
+            return Program(
+                exported(
+                    f"ROWS; N obj; L c0; COLUMNS; x0 c0 {a}; x1 c0 {b}; RHS; RHS c0 {side}; BOUNDS; "
+                    f"UP BND x0 {bound}"
+                )
+            )
+
         for words, x, share, is_much in (
-                (("3e-11", "2e-11", "5e-11"), ("20", "20"), 95 / 60, True),
-                (("3e-11", "2e-11", "5e-11"), ("1", "1"), 0, False),
-                (("1", "-1e6", "0"), ("1e-9", "0"), 1e-15, False),
-                (("1", "1", "1"), ("1", "1e-9"), 1e-9, False),
-                (("1", "1", "1", "1e-9"), ("2e-9", "0"), 0.5, True)):
+            (("3e-11", "2e-11", "5e-11"), ("20", "20"), 95 / 60, True),
+            (("3e-11", "2e-11", "5e-11"), ("1", "1"), 0, False),
+            (("1", "-1e6", "0"), ("1e-9", "0"), 1e-15, False),
+            (("1", "1", "1"), ("1", "1e-9"), 1e-9, False),
+            (("1", "1", "1", "1e-9"), ("2e-9", "0"), 0.5, True),
+        ):
             found = miss.miss(program(*words), dict(zip(("x0", "x1"), x)))
             self.assertAlmostEqual(found.share, share)
             self.assertEqual(found.is_much(), is_much, words)
 
     def test_miss_of_whole_numbers(self) -> None:
         """More than rounding is much there."""
-        for side, is_much in (("3.000001", True), ("3.00000000001", True),
-                              ("2.9999999999999", False), ("3.0000000000000004", False)):
+        for side, is_much in (
+            ("3.000001", True),
+            ("3.00000000001", True),
+            ("2.9999999999999", False),
+            ("3.0000000000000004", False),
+        ):
             text = exported(f"ROWS; N obj; G c0; COLUMNS; x0 c0 1; x1 c0 1; RHS; RHS c0 {side}")
             program, x = Program(text), {"x0": "1", "x1": "2"}
             self.assertEqual(miss.miss(program, x, ["x0", "x1"]).is_much(), is_much)
             self.assertFalse(miss.miss(program, x, ["x0"]).is_much())
             p = Model(text, {}, 1).with_whole([True, True])
-            self.assertEqual(points.broken(p, [1.0, 2.0]) > F(1, 10 ** 12), is_much)
+            self.assertEqual(points.broken(p, [1.0, 2.0]) > F(1, 10**12), is_much)
 
 
 class Texts(Case):
     def test_tree(self) -> None:
         """Splits, an empty box, a form that is split twice, and a leaf under the objective."""
         p = model().with_rows([])
-        a, b, c = (leaf(given, added) for given, added in (
-            (Multipliers({0: -2, 3: 4}, 3, MultiplierKind.DUAL), (3,)),
-            (Multipliers({3: -1}, 1, MultiplierKind.FARKAS), (3,)),
-            (Multipliers({}, 1, MultiplierKind.DUAL), ())))
+        a, b, c = (
+            leaf(given, added)
+            for given, added in (
+                (Multipliers({0: -2, 3: 4}, 3, MultiplierKind.DUAL), (3,)),
+                (Multipliers({3: -1}, 1, MultiplierKind.FARKAS), (3,)),
+                (Multipliers({}, 1, MultiplierKind.DUAL), ()),
+            )
+        )
         q = p.with_rows([({1: 1, 2: 2}, None, None)])
         tree = [Split(1, 0), Split(6, 4), b, Split(6, 6), b, a, Split(2, -1), Empty(2, 0), c]
         self.assertEqual((count(tree), rows_used(tree)), (11, {3}))
-        self.assertEqual(list(text.tree_lines(q, tree, Naming({}, 3, -1))), [
-            "split 1 0", "plane 2 4", "1 1", "2 2", "weights 1", "3 -1",
-            "plane 2 6", "1 1", "2 2", "weights 1", "4 -1", "duals 2", "0 2/3", "4 -4/3",
-            "split 2 -1", "plane 1 0", "2 1", "weights 1", "3 -1", "weights 1", "3 1", "duals 0"])
-        self.assertEqual(list(text.leaf_lines(a.multipliers(),
-                                              Naming({3: 5}, 6, -1, (4, F(1, 2))), {})),
-                         ["weights 3", "0 -2/3", "4 -.5", "5 4/3"])
+        self.assertEqual(
+            list(text.tree_lines(q, tree, Naming({}, 3, -1))),
+            [
+                "split 1 0",
+                "plane 2 4",
+                "1 1",
+                "2 2",
+                "weights 1",
+                "3 -1",
+                "plane 2 6",
+                "1 1",
+                "2 2",
+                "weights 1",
+                "4 -1",
+                "duals 2",
+                "0 2/3",
+                "4 -4/3",
+                "split 2 -1",
+                "plane 1 0",
+                "2 1",
+                "weights 1",
+                "3 -1",
+                "weights 1",
+                "3 1",
+                "duals 0",
+            ],
+        )
+        self.assertEqual(
+            list(text.leaf_lines(a.multipliers(), Naming({3: 5}, 6, -1, (4, F(1, 2))), {})),
+            ["weights 3", "0 -2/3", "4 -.5", "5 4/3"],
+        )
 
     def test_heads(self) -> None:
-        self.assertEqual(list(text.head("within", 1, F(7, 3), [F(0), F(1, 4)])),
-                         ["certificate 1", "within 1 7/3", "point 1", "1 .25"])
+        self.assertEqual(
+            list(text.head("within", 1, F(7, 3), [F(0), F(1, 4)])),
+            ["certificate 1", "within 1 7/3", "point 1", "1 .25"],
+        )
         self.assertEqual(list(text.head("infeasible", None)), ["certificate 1", "infeasible"])
-        self.assertEqual(list(text.answer_lines(["0", "1.5"], ["-2"], 0)),
-                         ["certificate 1", "optimal 0", "point 1", "1 1.5", "duals 1", "0 -2"])
+        self.assertEqual(
+            list(text.answer_lines(["0", "1.5"], ["-2"], 0)),
+            ["certificate 1", "optimal 0", "point 1", "1 1.5", "duals 1", "0 -2"],
+        )
 
 
 class Lattices(TestCase):
     def test_without_equations(self) -> None:
         """Forms that equations make the same have small coefficients."""
-        self.assertEqual(directions.without({0: 128 * 12134 + 1, 1: 128 * 12202 + 1},
-                                            [{0: 12134, 1: 12202}]), {0: 1, 1: 1})
+        self.assertEqual(
+            directions.without({0: 128 * 12134 + 1, 1: 128 * 12202 + 1}, [{0: 12134, 1: 12202}]),
+            {0: 1, 1: 1},
+        )
         self.assertEqual(directions.without({0: 6, 1: 10}, [{0: 3, 1: 5}]), {})
         self.assertEqual(directions.without({2: 7}, []), {2: 7})
 
@@ -186,7 +271,9 @@ class Lattices(TestCase):
         reduction = directions.Reduction(rows)
         self.assertTrue(reduction.run())
         for given, back in zip(rows, zip(*reduction.back)):
-            self.assertEqual(given, [sum(s * row[c] for s, row in zip(back, reduction.rows)) for c in range(4)])
+            self.assertEqual(
+                given, [sum(s * row[c] for s, row in zip(back, reduction.rows)) for c in range(4)]
+            )
         self.assertFalse(directions.Reduction([[1, 2], [2, 4]]).run())
 
     def test_parity(self) -> None:
@@ -195,7 +282,10 @@ class Lattices(TestCase):
         self.assertEqual(found, ({0: 4, 1: 7, 2: 11}, 166, {0: F(1, 3)}, {0: F(1, 3)}))
         rows = [(6, 6, {0: 2, 1: 4}), ("0.5", "0.5", {0: "0.5", 1: -1})]
         found = equations.parity(built(columns, rows))
-        sums = [sum(u * F((2, "0.5", 4, -1, 6, "0.5")[2 * k + i]) for i, u in found.low.items()) for k in range(3)]
+        sums = [
+            sum(u * F((2, "0.5", 4, -1, 6, "0.5")[2 * k + i]) for i, u in found.low.items())
+            for k in range(3)
+        ]
         self.assertEqual([v.denominator for v in sums], [1, 1, 2])
         self.assertIsNone(equations.parity(built(columns, rows[:1])))
 
@@ -203,8 +293,10 @@ class Lattices(TestCase):
 class Points(TestCase):
     def test_near(self) -> None:
         p = model()
-        for x, wanted in (([0.66666666, 1.0000001, 0.0], [F(2, 3), F(1), F(0)]),
-                          ([F(1, 7), F(1), F(0)], [F(1, 7), F(1), F(0)])):
+        for x, wanted in (
+            ([0.66666666, 1.0000001, 0.0], [F(2, 3), F(1), F(0)]),
+            ([F(1, 7), F(1), F(0)], [F(1, 7), F(1), F(0)]),
+        ):
             self.assertEqual(next(points.near(p, x)), wanted)
         self.assertIsNone(next(points.near(p, [5.0, 1.0, 0.0]), None))
 
@@ -248,8 +340,13 @@ class Forecasts(TestCase):
     def test_room(self) -> None:
         """A share of what the first plan needs in all, less what went to others; not more than half of what is left of
         it."""
-        for share, spent, room in ((0.5, 10.0, 2.0), (0.5, 9.0, 0.9), (0.9999, 10.0, 0.0005),
-                                   (0.0, 10.0, 3.0), (0.0, 8.0, 1.0)):
+        for share, spent, room in (
+            (0.5, 10.0, 2.0),
+            (0.5, 9.0, 0.9),
+            (0.9999, 10.0, 0.0005),
+            (0.0, 10.0, 3.0),
+            (0.0, 8.0, 1.0),
+        ):
             self.assertAlmostEqual(self.plans().room(self.plan(share, spent)), room, 3)
         self.assertEqual(self.plans().room(None), math.inf)
 

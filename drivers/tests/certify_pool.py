@@ -35,7 +35,7 @@ from bridge_drivers.program import Program
 from models import nl, real, whole
 import families
 
-LONG = 200.0                    # seconds for processes to start, on a busy machine
+LONG = 200.0  # seconds for processes to start, on a busy machine
 
 
 class Here(Pool):
@@ -47,7 +47,9 @@ class Here(Pool):
         self.portions += 1
         future: Future = Future()
         try:
-            future.set_result(pickle.loads(pickle.dumps(pools.work(pickle.loads(pickle.dumps(given))))))
+            future.set_result(
+                pickle.loads(pickle.dumps(pools.work(pickle.loads(pickle.dumps(given)))))
+            )
         except (Stopped, Better) as fault:
             future.set_exception(pickle.loads(pickle.dumps(fault)))
         return future
@@ -66,8 +68,12 @@ class Counting(Watch):
 
 def random_model(rng: random.Random, mixed: bool) -> bytes:
     n = rng.randint(4, 8)
-    columns = [real(0, rng.randint(3, 9)) if mixed and j < 2 else
-               whole(rng.randint(-2, 0), rng.randint(1, 9)) for j in range(n)]
+    columns = [
+        real(0, rng.randint(3, 9))
+        if mixed and j < 2
+        else whole(rng.randint(-2, 0), rng.randint(1, 9))
+        for j in range(n)
+    ]
     rows = []
     for _ in range(rng.randint(2, 4)):
         terms = {j: rng.randint(1, 30) for j in range(n)}
@@ -156,8 +162,11 @@ class Portions(Pooled):
 
     def test_other_claims(self) -> None:
         """A contradiction and a point, where all but the first nodes are worked apart."""
-        for made, line in ((families.made("pigeons", 5), "infeasible"), (families.made("split", 2), "infeasible"),
-                           (random_model(random.Random(11), True), "optimal")):
+        for made, line in (
+            (families.made("pigeons", 5), "infeasible"),
+            (families.made("split", 2), "infeasible"),
+            (random_model(random.Random(11), True), "optimal"),
+        ):
             pool = Here(3)
             work = self.work(made, pool=pool)
             with self.few(1):
@@ -182,9 +191,10 @@ class OfThisMachine(Pooled):
                 executor = submit()
                 if left[0]:
                     left[0] -= 1
-                    for _ in range(2):          # each of both, before they take a portion
+                    for _ in range(2):  # each of both, before they take a portion
                         executor.submit(killing, None)
                 return executor
+
             with mock.patch.object(pool, "executor", submitted), self.at_home():
                 self.searched(pool)
             self.assertEqual(bool(pool.fault), kills == 99, pool.fault)
@@ -194,7 +204,9 @@ class OfThisMachine(Pooled):
     def test_no_processes(self) -> None:
         """Where none can be started this process goes on alone, and says so."""
         pool = Processes(2)
-        with mock.patch("os.fork", side_effect=BlockingIOError("no more processes")), self.at_home():
+        with mock.patch(
+            "os.fork", side_effect=BlockingIOError("no more processes")
+        ), self.at_home():
             self.searched(pool)
         self.assertIn("no more processes", pool.fault)
 
@@ -208,9 +220,14 @@ class OfThisMachine(Pooled):
     def started(self) -> tuple[subprocess.Popen, list[int]]:
         """A process that searches long in a group of its own, and those that it started."""
         self.put(families.made("split", 6))
-        child = subprocess.Popen([sys.executable, __file__, self.stub + ".nl", self.folder],
-                                 stdin=subprocess.DEVNULL, stdout=subprocess.PIPE,
-                                 stderr=subprocess.STDOUT, text=True, start_new_session=True)
+        child = subprocess.Popen(
+            [sys.executable, __file__, self.stub + ".nl", self.folder],
+            stdin=subprocess.DEVNULL,
+            stdout=subprocess.PIPE,
+            stderr=subprocess.STDOUT,
+            text=True,
+            start_new_session=True,
+        )
         self.addCleanup(child.stdout.close)
         self.addCleanup(child.kill)
         self.until(lambda: len(below(child.pid)) > 1 or child.poll() is not None)
@@ -219,7 +236,11 @@ class OfThisMachine(Pooled):
 
     def test_ends(self) -> None:
         """An interrupt of a terminal ends the search, and tells so; another signal, or the end of this process, all."""
-        for number, told in ((signal.SIGINT, "not proved: interrupted"), (signal.SIGTERM, "15"), (signal.SIGKILL, "")):
+        for number, told in (
+            (signal.SIGINT, "not proved: interrupted"),
+            (signal.SIGTERM, "15"),
+            (signal.SIGKILL, ""),
+        ):
             child, others = self.started()
             self.assertEqual(len(others), 2)
             (os.killpg if number == signal.SIGINT else os.kill)(child.pid, number)
@@ -238,9 +259,13 @@ class OfACluster(Pooled):
 
     def start(self, module: str, *words: str, path: str = PACKAGE) -> subprocess.Popen:
         child = subprocess.Popen(
-            [sys.executable, "-m", "distributed.cli." + module, *words], cwd=self.folder,
-            stdin=subprocess.DEVNULL, stdout=subprocess.DEVNULL, stderr=subprocess.DEVNULL,
-            env={**os.environ, "PYTHONPATH": path})
+            [sys.executable, "-m", "distributed.cli." + module, *words],
+            cwd=self.folder,
+            stdin=subprocess.DEVNULL,
+            stdout=subprocess.DEVNULL,
+            stderr=subprocess.DEVNULL,
+            env={**os.environ, "PYTHONPATH": path},
+        )
         self.addCleanup(child.wait)
         self.addCleanup(child.kill)
         return child
@@ -248,11 +273,21 @@ class OfACluster(Pooled):
     def cluster(self, *paths: str) -> tuple[str, list[subprocess.Popen]]:
         """Its address, and a worker for each path where Python looks."""
         place = Path(self.folder, "scheduler.json")
-        self.start("dask_scheduler", "--host=127.0.0.1", "--port=0", "--no-dashboard", f"--scheduler-file={place}")
+        self.start(
+            "dask_scheduler",
+            "--host=127.0.0.1",
+            "--port=0",
+            "--no-dashboard",
+            f"--scheduler-file={place}",
+        )
         self.until(lambda: place.exists() and place.stat().st_size > 0)
         address = json.loads(place.read_text())["address"]
-        workers = [self.start("dask_worker", address, "--no-nanny", "--nthreads", "1", "--no-dashboard", path=path)
-                   for path in paths]
+        workers = [
+            self.start(
+                "dask_worker", address, "--no-nanny", "--nthreads", "1", "--no-dashboard", path=path
+            )
+            for path in paths
+        ]
         with importlib.import_module("distributed").Client(address) as client:
             client.wait_for_workers(len(paths), timeout=LONG)
         return address, workers
@@ -306,7 +341,9 @@ def long(path: str, folder: str) -> None:
     SIGNALS.take()
     crowd.AT_HOME = 3
     bridge, pool = Bridge(PROGRAM, lambda argv: None), Processes(2)
-    work = Certifying(bridge, path, folder, Program(bridge.text("export", path)), 0, Watch(600.0), pool=pool)
+    work = Certifying(
+        bridge, path, folder, Program(bridge.text("export", path)), 0, Watch(600.0), pool=pool
+    )
     try:
         print(certified(work, "infeasible").line)
     except Interrupted as fault:

@@ -31,7 +31,7 @@ import families
 from models import BINARY, CLAIMED, MODELS, nl, real, whole
 
 SECONDS = 20.0
-KNAP = [F(1), F(1), F(0)]       # the point of `knap`
+KNAP = [F(1), F(1), F(0)]  # the point of `knap`
 
 
 @NEEDS_PROGRAM
@@ -40,8 +40,16 @@ class Certified(Case):
     def work(self, text: bytes, proves: bool = True, **words) -> Certifying:
         self.put(text)
         bridge, path = Bridge(PROGRAM, lambda argv: None), self.stub + ".nl"
-        return Certifying(bridge, path, self.folder, Program(bridge.text("export", path)), 0,
-                          Watch(SECONDS), proves, **words)
+        return Certifying(
+            bridge,
+            path,
+            self.folder,
+            Program(bridge.text("export", path)),
+            0,
+            Watch(SECONDS),
+            proves,
+            **words,
+        )
 
     def found(self, text: bytes) -> Verdict:
         """Whatever is true: the search for a contradiction finds a point where there is one."""
@@ -85,6 +93,7 @@ class Torn(Certified):
             if gone > line:
                 work.watch.over(0, None)
             return traced if "certify" in frame.f_code.co_filename else None
+
         self.addCleanup(sys.settrace, None)
         sys.settrace(traced)
         with contextlib.suppress(Over):
@@ -95,7 +104,7 @@ class Torn(Certified):
     def test_over(self) -> None:
         """Wherever it comes, what is left has a bound that holds."""
         for name in ("knap", "tied", "lots", "eqknap"):
-            for line in random.Random(name).sample(range(self.over_from(10 ** 9, name)[0]), 25):
+            for line in random.Random(name).sample(range(self.over_from(10**9, name)[0]), 25):
                 self.assertTrue(self.over_from(line, name)[1], f"{name} {line}")
 
 
@@ -104,7 +113,9 @@ class Models(Certified):
         for name, model in CLAIMED.items():
             with self.subTest(name):
                 verdict = self.found(model.text)
-                self.assertEqual(verdict.line, "infeasible" if model.value is None else f"optimal {model.value}")
+                self.assertEqual(
+                    verdict.line, "infeasible" if model.value is None else f"optimal {model.value}"
+                )
                 self.assertEqual(verdict.value, model.value)
 
     def test_random(self) -> None:
@@ -114,20 +125,37 @@ class Models(Certified):
             n = rng.randint(2, 4)
             low = [rng.randint(-2, 0) for _ in range(n)]
             top = [rng.randint(1, 4) for _ in range(n)]
-            rows = self.rows(rng, n, rng.randint(1, 4), range(-6, 13), [-6, -5, -4, -3, -2, -1, 1, 1, 2, 3, 4, 5, 6], 3)
-            costs = {j: rng.choice([rng.randint(-9, 9) or 1, f"{rng.randint(1, 5)}.5"]) for j in range(n)}
+            rows = self.rows(
+                rng,
+                n,
+                rng.randint(1, 4),
+                range(-6, 13),
+                [-6, -5, -4, -3, -2, -1, 1, 1, 2, 3, 4, 5, 6],
+                3,
+            )
+            costs = {
+                j: rng.choice([rng.randint(-9, 9) or 1, f"{rng.randint(1, 5)}.5"]) for j in range(n)
+            }
             sense, constant = rng.choice(["min", "max"]), rng.randint(0, 3)
             best = self.best(low, top, rows, sense, costs, constant)
             made = nl([whole(*ends) for ends in zip(low, top)], rows, [(sense, constant, costs)])
-            self.assertEqual(self.found(made).line, "infeasible" if best is None else f"optimal {best}", k)
+            self.assertEqual(
+                self.found(made).line, "infeasible" if best is None else f"optimal {best}", k
+            )
 
     @staticmethod
-    def rows(rng: random.Random, n: int, m: int, sides: Sequence[int], numbers: Sequence, *widths: int) -> list:
+    def rows(
+        rng: random.Random, n: int, m: int, sides: Sequence[int], numbers: Sequence, *widths: int
+    ) -> list:
         """Upper sides, lower sides, and ranges of these widths."""
         found = []
         for _ in range(m):
             terms, at = {j: rng.choice(numbers) for j in range(n)}, rng.choice(sides)
-            found.append(rng.choice([(None, at, terms), (at, None, terms), *((at, at + w, terms) for w in widths)]))
+            found.append(
+                rng.choice(
+                    [(None, at, terms), (at, None, terms), *((at, at + w, terms) for w in widths)]
+                )
+            )
         return found
 
     @staticmethod
@@ -135,7 +163,10 @@ class Models(Certified):
         values = []
         for x in itertools.product(*(range(a, b + 1) for a, b in zip(low, top))):
             sums = [sum(a * x[j] for j, a in terms.items()) for _, _, terms in rows]
-            if all((lo is None or s >= lo) and (hi is None or s <= hi) for s, (lo, hi, _) in zip(sums, rows)):
+            if all(
+                (lo is None or s >= lo) and (hi is None or s <= hi)
+                for s, (lo, hi, _) in zip(sums, rows)
+            ):
                 values.append(constant + sum(F(c) * x[j] for j, c in costs.items()))
         return (max if sense == "max" else min)(values, default=None)
 
@@ -144,11 +175,19 @@ class Models(Certified):
         rng = random.Random(8)
         for k in range(40):
             n = rng.randint(2, 4)
-            columns = [real(*rng.choice([(0, None), (None, None), ("-1.5", 3), (0, "2.5")]))
-                       if j < n // 2 else whole(*rng.choice([(-2, 3), ("-1.5", "2.5"), (0, None)])) for j in range(n)]
-            rows = self.rows(rng, n, rng.randint(0, 3), range(-4, 9), [1, 2, -1, 3, -2, "0.5", 7], 0, 2)
+            columns = [
+                real(*rng.choice([(0, None), (None, None), ("-1.5", 3), (0, "2.5")]))
+                if j < n // 2
+                else whole(*rng.choice([(-2, 3), ("-1.5", "2.5"), (0, None)]))
+                for j in range(n)
+            ]
+            rows = self.rows(
+                rng, n, rng.randint(0, 3), range(-4, 9), [1, 2, -1, 3, -2, "0.5", 7], 0, 2
+            )
             costs = {j: rng.choice([1, -2, 3, "0.25"]) for j in range(n)}
-            verdict = certified(self.work(nl(columns, rows, [(rng.choice(["min", "max"]), 0, costs)])), "either")
+            verdict = certified(
+                self.work(nl(columns, rows, [(rng.choice(["min", "max"]), 0, costs)])), "either"
+            )
             self.assertTrue(verdict.is_proved(), f"{k}: {verdict.line}")
 
     def test_linear(self) -> None:
@@ -163,26 +202,38 @@ class Models(Certified):
     def test_one_leaf(self) -> None:
         """In the second that a run without `prove` has: what is optimal, else that the point is feasible; a bound where
         it is wanted; the bound of a relaxation."""
-        for name, x in (("knap", (1, 1, 0)), ("knap", (0, 1, 0)), ("at_bound", (1, 1, 2)), ("at_bound", (1, 0, 1)),
-                        ("at_bound", (1, 1, 1))):
+        for name, x in (
+            ("knap", (1, 1, 0)),
+            ("knap", (0, 1, 0)),
+            ("at_bound", (1, 1, 2)),
+            ("at_bound", (1, 0, 1)),
+            ("at_bound", (1, 1, 1)),
+        ):
             verdict = self.claimed(name, "point", Given(x), proves=False)
             self.assertEqual(verdict.line, f"optimal {CLAIMED[name].value}")
         given = Given(KNAP)
         with mock.patch("bridge_drivers.certify.search.MOST_DEPTH", -1):
             for bounds, line in ((False, "feasible 17"), (True, "within 19 17")):
-                self.assertEqual(self.claimed("knap", "point", given, proves=False, bounds=bounds).line, line)
+                self.assertEqual(
+                    self.claimed("knap", "point", given, proves=False, bounds=bounds).line, line
+                )
         word, value = self.claimed("knap", "point", given, relaxed=True).line.split()
         self.assertEqual((word, f"{float(F(value)):.4f}"), ("bound", "19.2308"))
 
     def test_answers_that_are_mended(self) -> None:
         """An objective column that is off by the digits of a solver, or by more, where an equation gives it by the
         others: the good point stays, with a search and without."""
-        made = nl([whole(0, 9), whole(0, 9), whole(0, 10 ** 7)],
-                  [(0, 0, {0: 123457, 1: 98765, 2: -1}), (None, 11, {0: 1, 1: 1})], [("max", 0, {2: 1})])
+        made = nl(
+            [whole(0, 9), whole(0, 9), whole(0, 10**7)],
+            [(0, 0, {0: 123457, 1: 98765, 2: -1}), (None, 11, {0: 1, 1: 1})],
+            [("max", 0, {2: 1})],
+        )
         best = 9 * 123457 + 2 * 98765
         for off, proves in itertools.product((-3, 4, 5000), (True, False)):
             with mock.patch.object(Plans, "goes", lambda *_: False):
-                verdict = certified(self.work(made, proves), "point", Given([9.0, 2.0, float(best + off)]))
+                verdict = certified(
+                    self.work(made, proves), "point", Given([9.0, 2.0, float(best + off)])
+                )
             self.assertRegex(verdict.line, rf"^(feasible|optimal|within \S+) {best}$")
             self.assertEqual(verdict.point, [9, 2, best])
 
@@ -197,8 +248,11 @@ class Models(Certified):
 
 
 WEIGHTS = (35, 27, 23, 19, 15, 15, 12, 8, 6, 3)
-KNAPSACK = nl([BINARY] * 10, [(None, 39, dict(enumerate(WEIGHTS))), (None, 40, {j: 3 + j for j in range(10)})],
-              [("max", 0, {j: w + j % 3 for j, w in enumerate(WEIGHTS)})])
+KNAPSACK = nl(
+    [BINARY] * 10,
+    [(None, 39, dict(enumerate(WEIGHTS))), (None, 40, {j: 3 + j for j in range(10)})],
+    [("max", 0, {j: w + j % 3 for j, w in enumerate(WEIGHTS)})],
+)
 
 
 class Spines(Certified):
@@ -210,7 +264,9 @@ class Spines(Certified):
         self.assertTrue(plans.goes(plans.begun("cuts", rows), SECONDS), plans.told())
 
     def test_cuts(self) -> None:
-        cycles = [(1, None, {(i + 5 * k): 1, (i + 1) % 5 + 5 * k: 1}) for k in range(3) for i in range(5)]
+        cycles = [
+            (1, None, {(i + 5 * k): 1, (i + 1) % 5 + 5 * k: 1}) for k in range(3) for i in range(5)
+        ]
         made = nl([BINARY] * 15, cycles, [("min", 0, dict.fromkeys(range(15), 1))])
         for model, value in ((made, F(9)), (KNAPSACK, F(44)), CLAIMED["cover"]):
             work, plans = self.plans(model, value)
@@ -226,8 +282,11 @@ class Spines(Certified):
 
     def test_thin(self) -> None:
         """Wide columns under an equation with large numbers."""
-        made = nl([whole(0, 10 ** 5)] * 4, [(89643481, 89643481, {0: 12223, 1: 12224, 2: 36674, 3: 61119})],
-                  [("min", 0, dict.fromkeys(range(4), 1))])
+        made = nl(
+            [whole(0, 10**5)] * 4,
+            [(89643481, 89643481, {0: 12223, 1: 12224, 2: 36674, 3: 61119})],
+            [("min", 0, dict.fromkeys(range(4), 1))],
+        )
         verdict = self.found(made)
         self.assertEqual(verdict.line, "infeasible")
         self.assertLess(os.path.getsize(verdict.path), 2000)
@@ -283,6 +342,7 @@ class Spines(Certified):
         def ending(search, goal):
             tries.append(goal.target)
             return None if len(tries) < 2 else ended(search, goal)
+
         with mock.patch.object(Crowd, "ended_at", ending):
             self.assertIsNotNone(self.bound(work, plans))
         self.assertEqual(sorted(tries, reverse=True), tries)
@@ -297,20 +357,27 @@ class Limits(Certified):
             if search.nodes > 3 and search.aim.target is not None:
                 work.watch.is_stopped = True
             look(search)
-        for point, line in (([F(1), F(4), F(6)], r"^not proved|^within"), (self.found(made).point, r"^within \d+ 14$")):
+
+        for point, line in (
+            ([F(1), F(4), F(6)], r"^not proved|^within"),
+            (self.found(made).point, r"^within \d+ 14$"),
+        ):
             work = self.work(made)
             with mock.patch.object(Search, "look", looking):
                 self.assertRegex(certified(work, "point", Given(point)).line, line)
 
     def test_a_step_that_never_looks_at_the_clock(self) -> None:
         """It is ended, and what is known then is judged: all within a tenth and 5 s."""
+
         def endless(*words: object) -> None:
             while True:
                 time.sleep(0.01)
+
         for part, claim, given, lines in (
-                ("contradictions.parity", "infeasible", None, "not proved: time"),
-                ("crowd.Crowd.resume", "point", KNAP, r"within \S+ 17"),
-                ("plans.Plans.bounded", "point", KNAP, r"(optimal|within \S+) 17")):
+            ("contradictions.parity", "infeasible", None, "not proved: time"),
+            ("crowd.Crowd.resume", "point", KNAP, r"within \S+ 17"),
+            ("plans.Plans.bounded", "point", KNAP, r"(optimal|within \S+) 17"),
+        ):
             work = self.work(CLAIMED["knap"].text)
             work.watch, start = Watch(1.0), time.monotonic()
             with mock.patch("bridge_drivers.certify." + part, endless):
@@ -331,9 +398,12 @@ class Limits(Certified):
 
     def test_a_tree_that_is_too_deep(self) -> None:
         """The point stays, with the bound of the relaxation."""
-        with mock.patch("bridge_drivers.certify.search.MOST_DEPTH", -1), \
-                mock.patch.object(Search, "best_bound", lambda *_: -math.inf):
-            self.assertRegex(self.claimed("eqknap", "point", Given([F(2), F(7), F(5)])).line, r"^within \S+ 14$")
+        with mock.patch("bridge_drivers.certify.search.MOST_DEPTH", -1), mock.patch.object(
+            Search, "best_bound", lambda *_: -math.inf
+        ):
+            self.assertRegex(
+                self.claimed("eqknap", "point", Given([F(2), F(7), F(5)])).line, r"^within \S+ 14$"
+            )
 
     def test_late_verdict(self) -> None:
         work = self.work(CLAIMED["knap"].text)
@@ -344,9 +414,12 @@ class Limits(Certified):
                 return call(*words)
             self.assertIsNotNone(work.bridge.limit)
             raise Late("verify")
+
         with mock.patch.object(work.bridge, "call", late):
             verdict = certified(work, "point", Given(KNAP))
-        self.assertEqual(verdict.line, "not proved: time: bridge verify was ended before its verdict")
+        self.assertEqual(
+            verdict.line, "not proved: time: bridge verify was ended before its verdict"
+        )
 
     def test_interrupt_and_progress(self) -> None:
         """An interrupt ends the search and no more; lines of progress where it takes long."""
@@ -358,6 +431,7 @@ class Limits(Certified):
             if search.nodes >= 5:
                 os.kill(os.getpid(), signal.SIGINT)
             look(search)
+
         old = signal.signal(signal.SIGINT, signal.default_int_handler)
         try:
             with mock.patch.object(Search, "look", looking):
@@ -366,4 +440,6 @@ class Limits(Certified):
         finally:
             signal.signal(signal.SIGINT, old)
         self.assertRegex(verdict.line, "^(not proved: interrupted|feasible|within)")
-        self.assertRegex(lines[-1], r"^bridge-certify: certificate, \d+ of 20 s, \d+ nodes, \d+ open$")
+        self.assertRegex(
+            lines[-1], r"^bridge-certify: certificate, \d+ of 20 s, \d+ nodes, \d+ open$"
+        )

@@ -38,15 +38,29 @@ from typing import Dict, Iterable
 HERE = os.path.dirname(os.path.abspath(__file__))
 sys.path[:0] = [os.path.join(HERE, ".."), HERE]
 
-import families                                         # noqa: E402
-from bridge_drivers.bridge import BESIDE, Bridge, Refused, find     # noqa: E402
-from bridge_drivers.formats.file_kinds import stub_of   # noqa: E402
-from bridge_drivers.formats.source import Damaged, Workspace    # noqa: E402
-from bridge_drivers.inputs import subject               # noqa: E402
+import families  # noqa: E402
+from bridge_drivers.bridge import BESIDE, Bridge, Refused, find  # noqa: E402
+from bridge_drivers.formats.file_kinds import stub_of  # noqa: E402
+from bridge_drivers.formats.source import Damaged, Workspace  # noqa: E402
+from bridge_drivers.inputs import subject  # noqa: E402
 
-SOURCES = ("/usr/share/doc/glpk-utils/examples/*.mod", "/usr/share/doc/glpk-utils/examples/*.mps",
-           "/usr/share/coin/Data/Sample/*.mps")
-HEAD = ("model", "columns", "whole", "rows", "nodes", "bytes", "seconds", "search", "memory", "line")
+SOURCES = (
+    "/usr/share/doc/glpk-utils/examples/*.mod",
+    "/usr/share/doc/glpk-utils/examples/*.mps",
+    "/usr/share/coin/Data/Sample/*.mps",
+)
+HEAD = (
+    "model",
+    "columns",
+    "whole",
+    "rows",
+    "nodes",
+    "bytes",
+    "seconds",
+    "search",
+    "memory",
+    "line",
+)
 SETTLED = ("optimal", "infeasible", "unbounded")
 RUN = """
 import resource, runpy, sys
@@ -57,20 +71,36 @@ finally:
     print(resource.getrusage(resource.RUSAGE_SELF).ru_maxrss // 1024, flush=True)
 """
 NODES = ("split", "plane", "lemma", "duals", "weights")
-READ_SECONDS = 60               # of glpsol, for one model
-MARGIN = 120                    # seconds beyond both limits
-LINEAR = ("transport", "flow", "assignment", "covering", "staircase", "diet", "dense", "decimal_flow")
+READ_SECONDS = 60  # of glpsol, for one model
+MARGIN = 120  # seconds beyond both limits
+LINEAR = (
+    "transport",
+    "flow",
+    "assignment",
+    "covering",
+    "staircase",
+    "diet",
+    "dense",
+    "decimal_flow",
+)
 SIZES = (1000, 10_000, 100_000, 1_000_000)
-OTHERS = (("parallel", (2, 3, 6)), ("knapsack", (20, 30, 40)), ("lots", (8, 12, 17, 20)),
-          ("packing", (6, 8, 10)), ("stock", (3, 4, 6)), ("pigeons", (5, 6, 8)),
-          ("frobenius", (5, 8)), ("split", (3, 4)))
+OTHERS = (
+    ("parallel", (2, 3, 6)),
+    ("knapsack", (20, 30, 40)),
+    ("lots", (8, 12, 17, 20)),
+    ("packing", (6, 8, 10)),
+    ("stock", (3, 4, 6)),
+    ("pigeons", (5, 6, 8)),
+    ("frobenius", (5, 8)),
+    ("split", (3, 4)),
+)
 
 
 def mps_of(path: str, folder: str) -> bytes | None:
     """The free MPS text that glpsol writes of a model, with its sense, which its LP text tells alone."""
     target, other = Path(folder, "model.mps"), Path(folder, "model.lp")
     target.unlink(missing_ok=True)
-    for kind in (["-m"] if path.endswith(".mod") else ["--mps", "--freemps"]):
+    for kind in ["-m"] if path.endswith(".mod") else ["--mps", "--freemps"]:
         words = ["glpsol", kind, path, "--check", "--wfreemps", target, "--wlp", other]
         try:
             subprocess.run(words, cwd=folder, capture_output=True, timeout=READ_SECONDS)
@@ -78,7 +108,13 @@ def mps_of(path: str, folder: str) -> bytes | None:
             return None
         if target.exists():
             is_max = b"\nMaximize\n" in other.read_bytes()
-            return re.sub(rb"^(NAME.*\n)", rb"\1OBJSENSE\n MAX\n" if is_max else rb"\1", target.read_bytes(), 1, re.M)
+            return re.sub(
+                rb"^(NAME.*\n)",
+                rb"\1OBJSENSE\n MAX\n" if is_max else rb"\1",
+                target.read_bytes(),
+                1,
+                re.M,
+            )
     return None
 
 
@@ -115,7 +151,9 @@ def shape(bridge: list[str], path: str) -> list[str]:
 def ended(words: list[str], limit: float) -> tuple[list[str], float]:
     """What a process wrote, and the processor seconds of it and of all that it ran."""
     with tempfile.TemporaryFile() as out:
-        child = subprocess.Popen(words, stdin=subprocess.DEVNULL, stdout=out, stderr=subprocess.STDOUT)
+        child = subprocess.Popen(
+            words, stdin=subprocess.DEVNULL, stdout=out, stderr=subprocess.STDOUT
+        )
         timer = threading.Timer(limit, child.kill)
         timer.start()
         _, status, used = os.wait4(child.pid, 0)
@@ -131,7 +169,9 @@ def line(bridge: list[str], path: str, seconds: str, folder: str) -> list[str]:
     certificate = Path(folder, name + ".certificate")
     program = os.path.join(HERE, "..", "bin", "bridge-certify")
     words = [f"timelim={seconds}", "stats=1", f"certificate={certificate}"]
-    told, spent = ended([sys.executable, "-c", RUN, program, path, *words], 2 * float(seconds) + MARGIN)
+    told, spent = ended(
+        [sys.executable, "-c", RUN, program, path, *words], 2 * float(seconds) + MARGIN
+    )
     nodes = size = search = ""
     memory = told.pop() if told[-1].isdigit() else ""
     if certificate.exists():
@@ -145,20 +185,36 @@ Row = Dict[str, str]
 
 
 def table(heads: list[str], lines: Iterable[Iterable[object]]) -> None:
-    print("\n".join([f"| {' | '.join(heads)} |", "|---" * len(heads) + "|",
-                     *(f"| {' | '.join(map(str, line))} |" for line in lines)]))
+    print(
+        "\n".join(
+            [
+                f"| {' | '.join(heads)} |",
+                "|---" * len(heads) + "|",
+                *(f"| {' | '.join(map(str, line))} |" for line in lines),
+            ]
+        )
+    )
 
 
 def shown(rows: list[Row], heads: list[str]) -> None:
     """Each model with its last line, long numbers as doubles."""
+
     def cell(row: Row, head: str) -> str:
         if head == "columns (whole)":
             return f"{row['columns']} ({row['whole']})"
         if head != "last line":
             return row[head]
-        return "`" + " ".join(
-            word if len(word) < 16 or not word[-1].isdigit()
-            else f"{float(Fraction(word)):.10g}.." for word in row["line"].split()) + "`"
+        return (
+            "`"
+            + " ".join(
+                word
+                if len(word) < 16 or not word[-1].isdigit()
+                else f"{float(Fraction(word)):.10g}.."
+                for word in row["line"].split()
+            )
+            + "`"
+        )
+
     table(heads, ([cell(row, head) for head in heads] for row in rows))
 
 
@@ -166,19 +222,28 @@ def readme(tables: list[str], count: int = 8) -> None:
     """Models by the kind of their last line; those that are not proved exactly; of the others the texts with the most
     nodes."""
     rows = read(tables)
-    told = Counter(" ".join(row["line"].split()[:1 + row["line"].startswith("not ")]) for row in rows)
+    told = Counter(
+        " ".join(row["line"].split()[: 1 + row["line"].startswith("not ")]) for row in rows
+    )
     print(f"{len(rows)} models.\n")
     table(["last line", "models"], ((f"`{kind}`", n) for kind, n in sorted(told.items())))
     exact = [row for row in rows if row["line"].split()[0] in SETTLED]
     print()
-    shown([row for row in rows if row not in exact], ["model", "columns (whole)", "rows", "last line"])
+    shown(
+        [row for row in rows if row not in exact], ["model", "columns (whole)", "rows", "last line"]
+    )
     print()
     exact.sort(key=lambda row: -int(row["nodes"] or 0))
-    shown(exact[:count], ["model", "columns (whole)", "rows", "nodes", "bytes", "seconds", "last line"])
+    shown(
+        exact[:count],
+        ["model", "columns (whole)", "rows", "nodes", "bytes", "seconds", "last line"],
+    )
 
 
 def read(tables: list[str]) -> list[Row]:
-    words = [text.split("\t") for path in tables for text in Path(path).read_text("utf-8").split("\n")]
+    words = [
+        text.split("\t") for path in tables for text in Path(path).read_text("utf-8").split("\n")
+    ]
     return [dict(zip(HEAD, row)) for row in words if len(row) == len(HEAD) and row[0] != HEAD[0]]
 
 
@@ -189,13 +254,27 @@ def sizes(tables: list[str]) -> None:
 def seeds(tables: list[str]) -> None:
     """A line a family, whose models are named by a letter at the end; then all of them."""
     rows = read(tables)
-    found = {row["model"][:-1]: [r for r in rows if r["model"][:-1] == row["model"][:-1]] for row in rows}
+    found = {
+        row["model"][:-1]: [r for r in rows if r["model"][:-1] == row["model"][:-1]] for row in rows
+    }
     lines = []
     for name, group in [*found.items(), ("all", rows)]:
         left = [r for r in group if r["line"].split()[0] not in SETTLED]
-        nodes, size, seconds = (sum(float(r[head] or 0) for r in group) for head in ("nodes", "bytes", "seconds"))
+        nodes, size, seconds = (
+            sum(float(r[head] or 0) for r in group) for head in ("nodes", "bytes", "seconds")
+        )
         told = ", ".join(f"{r['model']} `{r['line']}`" for r in left) if name != "all" else ""
-        lines.append((name, len(group), len(group) - len(left), f"{nodes:.0f}", f"{size:.0f}", f"{seconds:.1f}", told))
+        lines.append(
+            (
+                name,
+                len(group),
+                len(group) - len(left),
+                f"{nodes:.0f}",
+                f"{size:.0f}",
+                f"{seconds:.1f}",
+                told,
+            )
+        )
     table(["family", "models", "proved", "nodes", "bytes", "seconds", "left"], lines)
 
 

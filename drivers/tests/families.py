@@ -22,13 +22,18 @@ from models import BINARY, nl, real, whole
 Row = Tuple[object, object, Dict[int, object]]
 
 
-def program(columns: List[tuple], rows: List[Row], costs: Dict[int, object], sense: str = "min") -> bytes:
+def program(
+    columns: List[tuple], rows: List[Row], costs: Dict[int, object], sense: str = "min"
+) -> bytes:
     """Columns in any order: a text has continuous ones first, then binary, then whole ones."""
     kinds = {"B": 1, "I": 2}
     order = sorted(range(len(columns)), key=lambda j: kinds.get(columns[j][0], 0))
     at = {j: k for k, j in enumerate(order)}
-    return nl([columns[j] for j in order], [(lo, hi, {at[j]: a for j, a in terms.items()}) for lo, hi, terms in rows],
-              [(sense, 0, {at[j]: a for j, a in costs.items()})])
+    return nl(
+        [columns[j] for j in order],
+        [(lo, hi, {at[j]: a for j, a in terms.items()}) for lo, hi, terms in rows],
+        [(sense, 0, {at[j]: a for j, a in costs.items()})],
+    )
 
 
 def cents(rnd: random.Random, low: float, high: float) -> str:
@@ -60,13 +65,16 @@ def grid(high: int, wide: int, start: int = 0) -> List[range]:
 def shipped(supply: Sequence[int], demand: Sequence[int]) -> List[Row]:
     """From places that have so much, to others that need it."""
     at = grid(len(supply), len(demand))
-    return [(None, side, ones(one)) for side, one in zip(supply, at)] + \
-        [(side, None, ones(one)) for side, one in zip(demand, zip(*at))]
+    return [(None, side, ones(one)) for side, one in zip(supply, at)] + [
+        (side, None, ones(one)) for side, one in zip(demand, zip(*at))
+    ]
 
 
 def distances(rnd: random.Random, places: int, clients: int) -> List[List[float]]:
     ends = [(rnd.random(), rnd.random()) for _ in range(places + clients)]
-    return [[((x - u) ** 2 + (y - v) ** 2) ** 0.5 for u, v in ends[places:]] for x, y in ends[:places]]
+    return [
+        [((x - u) ** 2 + (y - v) ** 2) ** 0.5 for u, v in ends[places:]] for x, y in ends[:places]
+    ]
 
 
 def transport(size: int, rnd: random.Random) -> bytes:
@@ -106,7 +114,9 @@ def network(size: int, rnd: random.Random, number: Callable[[float, float], obje
 
 def covering(size: int, rnd: random.Random) -> bytes:
     n = 3 * root(size)
-    rows = [(1, None, ones([j for j in range(n) if rnd.random() < 1 / 3] or [0])) for _ in range(n // 3)]
+    rows = [
+        (1, None, ones([j for j in range(n) if rnd.random() < 1 / 3] or [0])) for _ in range(n // 3)
+    ]
     return program([real(0, 1)] * n, rows, listed(drawn(rnd, n, 1, 20)))
 
 
@@ -119,6 +129,7 @@ def staircase(size: int, rnd: random.Random) -> bytes:
         columns.append(real(0, hi))
         costs[len(costs)] = cents(rnd, *cost)
         return len(costs) - 1
+
     use = [[cents(rnd, 0.5, 3) for _ in range(2)] for _ in range(things)]
     stock = [-1] * things
     for t in range(max(3, size // (things * 9))):
@@ -153,6 +164,7 @@ def uneven(size: int, rnd: random.Random) -> bytes:
 
     def scaled(value: float, power: int) -> str:
         return f"{value * 10.0 ** power:.{max(0, 4 - power)}f}"
+
     rows = []
     for i in range(m):
         inside = sorted({i, i + m, *rnd.sample(range(n), min(n, 2 + i % 3))})
@@ -182,7 +194,9 @@ def lots(size: int, rnd: random.Random) -> bytes:
     for t in range(size):
         terms = {t: 1, size + t: -1, **({size + t - 1: 1} if t else {})}
         rows += [(need[t], need[t], terms), (None, 0, {t: 1, 2 * size + t: -rnd.randint(60, 90)})]
-        costs.update({t: rnd.randint(1, 3), size + t: cents(rnd, 0.3, 2), 2 * size + t: rnd.randint(80, 160)})
+        costs.update(
+            {t: rnd.randint(1, 3), size + t: cents(rnd, 0.3, 2), 2 * size + t: rnd.randint(80, 160)}
+        )
     return program([real()] * (2 * size) + [BINARY] * size, rows, costs)
 
 
@@ -190,7 +204,12 @@ def pigeons(size: int, rnd: random.Random) -> bytes:
     """SIZE pigeons in one hole less, no two of them in one."""
     at = grid(size, size - 1)
     rows = [(1, None, ones(one)) for one in at]
-    rows += [(None, 1, {hole[i]: 1, hole[k]: 1}) for hole in zip(*at) for i in range(size) for k in range(i)]
+    rows += [
+        (None, 1, {hole[i]: 1, hole[k]: 1})
+        for hole in zip(*at)
+        for i in range(size)
+        for k in range(i)
+    ]
     return program([BINARY] * (size * (size - 1)), rows, {0: 1})
 
 
@@ -220,21 +239,32 @@ def split(size: int, rnd: random.Random) -> bytes:
     """Market split: SIZE equations over 10 (SIZE - 1) binary columns, without a point."""
     n = 10 * (size - 1)
     rows = [drawn(rnd, n, 0, 99) for _ in range(size)]
-    return program([BINARY] * n, [(sum(row) // 2, sum(row) // 2, listed(row)) for row in rows], {0: 1})
+    return program(
+        [BINARY] * n, [(sum(row) // 2, sum(row) // 2, listed(row)) for row in rows], {0: 1}
+    )
 
 
 def near_values(n: int, apart: int, rnd: random.Random) -> bytes:
     """A knapsack with values near weights; all by 100 above them where `apart` is 0."""
     weights = drawn(rnd, n, 10, 1000)
     values = [max(1, w + (rnd.randint(-apart, apart) if apart else 100)) for w in weights]
-    return program([BINARY] * n, [(None, sum(weights) // 2 + (not apart), listed(weights))], listed(values), "max")
+    return program(
+        [BINARY] * n,
+        [(None, sum(weights) // 2 + (not apart), listed(weights))],
+        listed(values),
+        "max",
+    )
 
 
-def knapsacks(n: int, rnd: random.Random, least: int = 1, most: int = 1000, above: int = 500) -> bytes:
+def knapsacks(
+    n: int, rnd: random.Random, least: int = 1, most: int = 1000, above: int = 500
+) -> bytes:
     """Five at once; values follow weights."""
     weights = [drawn(rnd, n, least, most) for _ in range(5)]
     values = [sum(column) // 5 + rnd.randint(0, above) for column in zip(*weights)]
-    return program([BINARY] * n, [(None, sum(row) // 2, listed(row)) for row in weights], listed(values), "max")
+    return program(
+        [BINARY] * n, [(None, sum(row) // 2, listed(row)) for row in weights], listed(values), "max"
+    )
 
 
 def location(places: int, clients: int, rnd: random.Random, has_room: bool = False) -> bytes:
@@ -247,9 +277,19 @@ def location(places: int, clients: int, rnd: random.Random, has_room: bool = Fal
     rows: List[Row] = [(1, 1, ones(one)) for one in zip(*at)]
     rows += [(None, 0, {**dict(zip(at[i], need)), i: -room[i]}) for i in range(places)]
     rows += [(None, 0, {j: 1, i: -1}) for i in range(places) for j in at[i] if has_room]
-    costs = [*drawn(rnd, places, 60, 160), *(round(1 + a * 20 * far if has_room else 100 * far)
-                                             for one in away for a, far in zip(need, one))]
-    return program([BINARY] * places + [real() if has_room else BINARY] * (places * clients), rows, listed(costs))
+    costs = [
+        *drawn(rnd, places, 60, 160),
+        *(
+            round(1 + a * 20 * far if has_room else 100 * far)
+            for one in away
+            for a, far in zip(need, one)
+        ),
+    ]
+    return program(
+        [BINARY] * places + [real() if has_room else BINARY] * (places * clients),
+        rows,
+        listed(costs),
+    )
 
 
 def assigned(machines: int, jobs: int, rnd: random.Random) -> bytes:
@@ -257,13 +297,18 @@ def assigned(machines: int, jobs: int, rnd: random.Random) -> bytes:
     take = [drawn(rnd, jobs, 5, 25) for _ in range(machines)]
     at = grid(machines, jobs)
     rows: List[Row] = [(1, 1, ones(one)) for one in zip(*at)]
-    rows += [(None, int(0.8 * sum(one) / machines), dict(zip(places, one))) for places, one in zip(at, take)]
+    rows += [
+        (None, int(0.8 * sum(one) / machines), dict(zip(places, one)))
+        for places, one in zip(at, take)
+    ]
     costs = listed(111 - a + rnd.randint(-10, 10) for one in take for a in one)
     return program([BINARY] * (machines * jobs), rows, costs)
 
 
 def covers(rows: int, columns: int, rnd: random.Random) -> bytes:
-    sides: List[Row] = [(1, None, ones(rnd.sample(range(columns), max(2, columns // 12)))) for _ in range(rows)]
+    sides: List[Row] = [
+        (1, None, ones(rnd.sample(range(columns), max(2, columns // 12)))) for _ in range(rows)
+    ]
     return program([BINARY] * columns, sides, listed(drawn(rnd, columns, 10, 60)))
 
 
@@ -276,8 +321,14 @@ def colouring(nodes: int, colours: int, rnd: random.Random) -> bytes:
     return program([BINARY] * (colours + nodes * colours), rows, ones(range(colours)))
 
 
-def cutting(sizes: int, rnd: random.Random, least: int = 15, needs: Tuple[int, int] = (2, 5),
-            most: int = 6, rolls: int = 0) -> bytes:
+def cutting(
+    sizes: int,
+    rnd: random.Random,
+    least: int = 15,
+    needs: Tuple[int, int] = (2, 5),
+    most: int = 6,
+    rolls: int = 0,
+) -> bytes:
     """Pieces of some lengths from the fewest rolls of 100."""
     lengths, need = rnd.sample(range(least, 70), sizes), drawn(rnd, sizes, *needs)
     rolls = rolls or -(-sum(a * b for a, b in zip(lengths, need)) // 75) + 1
@@ -306,11 +357,22 @@ def shared_lots(things: int, periods: int, rnd: random.Random) -> bytes:
     for k in range(size):
         need, t = rnd.randint(5, 30), k % periods
         total[t] += need
-        rows += [(need, need, {k: 1, size + k: -1, **({size + k - 1: 1} if t else {})}),
-                 (None, 0, {k: 1, 2 * size + k: -100})]
-    most = int(max(sum(total[:t + 1]) / (t + 1) for t in range(periods)) * 1.3)
-    rows += [(None, most, {**ones(range(t, size, periods)), **dict.fromkeys(range(2 * size + t, 3 * size, periods), 8)})
-             for t in range(periods)]
+        rows += [
+            (need, need, {k: 1, size + k: -1, **({size + k - 1: 1} if t else {})}),
+            (None, 0, {k: 1, 2 * size + k: -100}),
+        ]
+    most = int(max(sum(total[: t + 1]) / (t + 1) for t in range(periods)) * 1.3)
+    rows += [
+        (
+            None,
+            most,
+            {
+                **ones(range(t, size, periods)),
+                **dict.fromkeys(range(2 * size + t, 3 * size, periods), 8),
+            },
+        )
+        for t in range(periods)
+    ]
     return program([real()] * (2 * size) + [BINARY] * size, rows, listed(costs))
 
 
@@ -320,7 +382,10 @@ def charges(sources: int, sinks: int, rnd: random.Random) -> bytes:
     demand = [int(sum(supply) * 0.9 / sinks) + rnd.randint(-5, 0) for _ in range(sinks)]
     size = sources * sinks
     rows = shipped(supply, demand)
-    rows += [(None, 0, {k: 1, size + k: -min(supply[k // sinks], demand[k % sinks])}) for k in range(size)]
+    rows += [
+        (None, 0, {k: 1, size + k: -min(supply[k // sinks], demand[k % sinks])})
+        for k in range(size)
+    ]
     costs = listed([*drawn(rnd, size, 1, 9), *drawn(rnd, size, 20, 80)])
     return program([real()] * size + [BINARY] * size, rows, costs)
 
@@ -336,11 +401,16 @@ def one_machine(n: int, rnd: random.Random) -> bytes:
     return program(columns, rows, listed(weight))
 
 
-def one_first(columns: List[tuple], rows: List[Row], a: int, b: int, times: Tuple[int, int], most: int) -> None:
+def one_first(
+    columns: List[tuple], rows: List[Row], a: int, b: int, times: Tuple[int, int], most: int
+) -> None:
     """One starts after the other, where a new binary column is 0, or before it."""
     columns.append(BINARY)
     first = len(columns) - 1
-    rows += [(times[0], None, {a: 1, b: -1, first: most}), (times[1] - most, None, {b: 1, a: -1, first: -most})]
+    rows += [
+        (times[0], None, {a: 1, b: -1, first: most}),
+        (times[1] - most, None, {b: 1, a: -1, first: -most}),
+    ]
 
 
 def job_shop(jobs: int, machines: int, rnd: random.Random) -> bytes:
@@ -354,33 +424,70 @@ def job_shop(jobs: int, machines: int, rnd: random.Random) -> bytes:
     for k in range(machines):
         for j in range(jobs):
             for i in range(j):
-                one_first(columns, rows, j * machines + k, i * machines + k, (time[i][k], time[j][k]), most)
+                one_first(
+                    columns,
+                    rows,
+                    j * machines + k,
+                    i * machines + k,
+                    (time[i][k], time[j][k]),
+                    most,
+                )
     return program(columns, rows, {end: 1})
 
 
 FAMILIES: Dict[str, Callable[[int, random.Random], bytes]] = {
-    "transport": transport, "assignment": assignment,
-    "flow": lambda size, rnd: network(size, rnd, lambda low, high: rnd.randint(int(low), int(high))),
+    "transport": transport,
+    "assignment": assignment,
+    "flow": lambda size, rnd: network(
+        size, rnd, lambda low, high: rnd.randint(int(low), int(high))
+    ),
     "decimal_flow": lambda size, rnd: network(size, rnd, functools.partial(cents, rnd)),
-    "covering": covering, "staircase": staircase,
+    "covering": covering,
+    "staircase": staircase,
     "diet": lambda size, rnd: blend(root(size / 6.25), max(3, size // root(size / 6.25)), rnd),
-    "dense": lambda size, rnd: blend(root(size), root(size), rnd), "uneven": uneven, "parallel": parallel,
-    "knapsack": lambda size, rnd: knapsacks(size, rnd, 10, 90, 20), "lots": lots,
+    "dense": lambda size, rnd: blend(root(size), root(size), rnd),
+    "uneven": uneven,
+    "parallel": parallel,
+    "knapsack": lambda size, rnd: knapsacks(size, rnd, 10, 90, 20),
+    "lots": lots,
     "packing": lambda size, rnd: packed(size, rnd, (size + 1) // 2 + 1),
     "stock": lambda size, rnd: cutting(size, rnd, 20, (1, 3), 3, size + 1),
-    "pigeons": pigeons, "frobenius": frobenius, "split": split}
+    "pigeons": pigeons,
+    "frobenius": frobenius,
+    "split": split,
+}
 DEPOTS = functools.partial(location, has_room=True)
 SEEDED: Dict[str, tuple] = {
-    "gap-4-20": (assigned, 4, 20), "gap-5-30": (assigned, 5, 30), "knaps-50": (near_values, 50, 0),
-    "knaps-100": (near_values, 100, 0), "knap-50": (near_values, 50, 100), "knap-100": (near_values, 100, 100),
-    "knap-200": (near_values, 200, 100), "mknap-30": (knapsacks, 30), "mknap-50": (knapsacks, 50),
-    "sched-6": (one_machine, 6), "sched-8": (one_machine, 8), "col-12-6": (colouring, 12, 6),
-    "col-18-7": (colouring, 18, 7), "ufl-8-20": (location, 8, 20), "ufl-12-30": (location, 12, 30),
-    "cut-5": (cutting, 5), "cut-8": (cutting, 8),
-    "cov-60-120": (covers, 60, 120), "cov-100-200": (covers, 100, 200), "binp-12": (packed, 12),
-    "cfl-8-20": (DEPOTS, 8, 20), "cfl-15-30": (DEPOTS, 15, 30), "lot-3-10": (shared_lots, 3, 10),
-    "lot-5-12": (shared_lots, 5, 12), "fix-5-8": (charges, 5, 8), "fix-8-12": (charges, 8, 12),
-    "job-4-3": (job_shop, 4, 3), "job-5-4": (job_shop, 5, 4), "job-6-4": (job_shop, 6, 4)}
+    "gap-4-20": (assigned, 4, 20),
+    "gap-5-30": (assigned, 5, 30),
+    "knaps-50": (near_values, 50, 0),
+    "knaps-100": (near_values, 100, 0),
+    "knap-50": (near_values, 50, 100),
+    "knap-100": (near_values, 100, 100),
+    "knap-200": (near_values, 200, 100),
+    "mknap-30": (knapsacks, 30),
+    "mknap-50": (knapsacks, 50),
+    "sched-6": (one_machine, 6),
+    "sched-8": (one_machine, 8),
+    "col-12-6": (colouring, 12, 6),
+    "col-18-7": (colouring, 18, 7),
+    "ufl-8-20": (location, 8, 20),
+    "ufl-12-30": (location, 12, 30),
+    "cut-5": (cutting, 5),
+    "cut-8": (cutting, 8),
+    "cov-60-120": (covers, 60, 120),
+    "cov-100-200": (covers, 100, 200),
+    "binp-12": (packed, 12),
+    "cfl-8-20": (DEPOTS, 8, 20),
+    "cfl-15-30": (DEPOTS, 15, 30),
+    "lot-3-10": (shared_lots, 3, 10),
+    "lot-5-12": (shared_lots, 5, 12),
+    "fix-5-8": (charges, 5, 8),
+    "fix-8-12": (charges, 8, 12),
+    "job-4-3": (job_shop, 4, 3),
+    "job-5-4": (job_shop, 5, 4),
+    "job-6-4": (job_shop, 6, 4),
+}
 
 
 def made(name: str, size: int) -> bytes:
@@ -388,7 +495,10 @@ def made(name: str, size: int) -> bytes:
 
 
 def seeded(seed: str) -> Dict[str, bytes]:
-    return {name + seed: make(*sizes, random.Random(name + seed)) for name, (make, *sizes) in SEEDED.items()}
+    return {
+        name + seed: make(*sizes, random.Random(name + seed))
+        for name, (make, *sizes) in SEEDED.items()
+    }
 
 
 if __name__ == "__main__":

@@ -37,26 +37,40 @@ class Claims(unittest.TestCase):
     def test_which_says_as_much(self) -> None:
         """New, old, and whether the new one says all that the old one says, maximising."""
         for new, old, wanted in rows_of("kept", "covers"):
-            self.assertEqual(verdicts.covers(said(new), said(old), True), wanted == "yes", (new, old))
+            self.assertEqual(
+                verdicts.covers(said(new), said(old), True), wanted == "yes", (new, old)
+            )
         self.assertTrue(verdicts.covers(said("feasible 6"), said("feasible 7"), False))
 
     def test_lines(self) -> None:
-        self.assertEqual(verdicts.read("within 19 35/2 of objective 2"), Said("within", F(35, 2), F(19), 2))
-        self.assertEqual(verdicts.read("unbounded of objective 1"), Said("unbounded", None, None, 1))
+        self.assertEqual(
+            verdicts.read("within 19 35/2 of objective 2"), Said("within", F(35, 2), F(19), 2)
+        )
+        self.assertEqual(
+            verdicts.read("unbounded of objective 1"), Said("unbounded", None, None, 1)
+        )
         for line in ("leaf 0 gap 17", "optimal", "optimal x", "not proved: x", "feasible 1/0"):
             self.assertIsNone(verdicts.read(line))
 
     def test_words(self) -> None:
         for line, sense, words in rows_of("kept", "words"):
             self.assertEqual(verdicts.in_words(said(line), sense == "max", None), words)
-        self.assertEqual(verdicts.in_words(said("bound 1" + "0" * 400), True, None), "no point has more than 1e400")
-        self.assertRegex(verdicts.in_words(said("bound 12345678901234567/3"), True, None), r"about 4\.1152263e\+15$")
+        self.assertEqual(
+            verdicts.in_words(said("bound 1" + "0" * 400), True, None),
+            "no point has more than 1e400",
+        )
+        self.assertRegex(
+            verdicts.in_words(said("bound 12345678901234567/3"), True, None),
+            r"about 4\.1152263e\+15$",
+        )
 
     def test_a_bound_of_a_whole_objective(self) -> None:
         """It is rounded to a value that the objective can have."""
-        program = Program(b"NAME nl\nROWS\n N obj\n L c0\nCOLUMNS\n M0 'MARKER' 'INTORG'\n"
-                          b" x0 obj 0.5\n x1 obj 1.5\n M1 'MARKER' 'INTEND'\n x2 c0 1\nRHS\n"
-                          b" RHS obj -0.25\nBOUNDS\nENDATA\n")
+        program = Program(
+            b"NAME nl\nROWS\n N obj\n L c0\nCOLUMNS\n M0 'MARKER' 'INTORG'\n"
+            b" x0 obj 0.5\n x1 obj 1.5\n M1 'MARKER' 'INTEND'\n x2 c0 1\nRHS\n"
+            b" RHS obj -0.25\nBOUNDS\nENDATA\n"
+        )
         steps = verdicts.multiples(program)
         self.assertEqual(steps, verdicts.Multiples(F(1, 4), F(1, 2)))
         for line, sense, words in rows_of("kept", "steps"):
@@ -68,7 +82,9 @@ class Claims(unittest.TestCase):
 class Certificates(Case):
     """Over a `bridge` that says a line of each older certificate."""
 
-    def keep(self, line: str, says: "str | None", overwrite: bool = False, target: str = "") -> Kept:
+    def keep(
+        self, line: str, says: "str | None", overwrite: bool = False, target: str = ""
+    ) -> Kept:
         """Nothing is said in time where it says None."""
         bridge, source = Bridge([], lambda argv: None), Path(self.folder, "source")
         self.put(b"model")
@@ -76,7 +92,9 @@ class Certificates(Case):
         status = int(verdicts.read(says or "") is None)
         reply = Reply(status, f"{says}\n".encode(), "") if says is not None else Late("verify")
         with mock.patch.object(bridge, "call", side_effect=[reply]):
-            return keep(bridge, self.stub + ".nl", True, overwrite, str(source), line, target or self.target)
+            return keep(
+                bridge, self.stub + ".nl", True, overwrite, str(source), line, target or self.target
+            )
 
     @property
     def target(self) -> str:
@@ -88,28 +106,51 @@ class Certificates(Case):
             proves = kind == "proves"
             self.put(older, ".certificate")
             kept = self.keep(line, says)
-            self.assertEqual((self.bytes_of(".certificate") == older, kept.path, kept.failed),
-                             (True, self.target if proves else None, not proves), kept.line)
-            self.assertEqual(kept.line, f"{self.target} stays as it is: it proves `{says}`; overwrite=1 replaces it"
-                             if proves else f"the certificate is not kept: {self.target}: {STANDS}")
+            self.assertEqual(
+                (self.bytes_of(".certificate") == older, kept.path, kept.failed),
+                (True, self.target if proves else None, not proves),
+                kept.line,
+            )
+            self.assertEqual(
+                kept.line,
+                f"{self.target} stays as it is: it proves `{says}`; overwrite=1 replaces it"
+                if proves
+                else f"the certificate is not kept: {self.target}: {STANDS}",
+            )
             self.assertEqual(self.keep(line, says, True).path, self.target)
             self.assertEqual(self.bytes_of(".certificate"), OPTIMAL)
 
     def test_other_files(self) -> None:
         """What is no certificate, or cannot be judged in time, stays; an empty file does not."""
-        for there, says, stays in ((OLDER, "", True), (OPTIMAL + b"\n", None, True), (b"", "", False)):
+        for there, says, stays in (
+            (OLDER, "", True),
+            (OPTIMAL + b"\n", None, True),
+            (b"", "", False),
+        ):
             self.put(there, ".certificate")
             kept = self.keep("optimal 17", says)
-            self.assertEqual((kept.failed, self.bytes_of(".certificate")), (stays, there if stays else OPTIMAL))
-            self.assertIn(STANDS if stays else f"{self.target} is written: the certificate of "
-                          f"`optimal 17`, {len(OPTIMAL)} bytes", kept.line)
+            self.assertEqual(
+                (kept.failed, self.bytes_of(".certificate")), (stays, there if stays else OPTIMAL)
+            )
+            self.assertIn(
+                STANDS
+                if stays
+                else f"{self.target} is written: the certificate of "
+                f"`optimal 17`, {len(OPTIMAL)} bytes",
+                kept.line,
+            )
 
     def test_what_cannot_be_written(self) -> None:
         """No empty or partial file is left."""
-        for target, why in (("/nonexistent/x", "No such file or directory"), (self.folder, "Is a directory"),
-                            ("/dev/full", "No space left on device")):
-            self.assertEqual(self.keep("optimal 17", "", target=target),
-                             Kept(f"the certificate is not kept: {target}: {why}", None, True))
+        for target, why in (
+            ("/nonexistent/x", "No such file or directory"),
+            (self.folder, "Is a directory"),
+            ("/dev/full", "No space left on device"),
+        ):
+            self.assertEqual(
+                self.keep("optimal 17", "", target=target),
+                Kept(f"the certificate is not kept: {target}: {why}", None, True),
+            )
         self.put(OPTIMAL[:-8], ".certificate")
         os.chmod(self.target, 0o444)
         kept = self.keep("optimal 17", "", True)
@@ -119,11 +160,18 @@ class Certificates(Case):
 
     def test_standard_output(self) -> None:
         """Where it is a file, the certificate is added to it."""
-        code = ("import sys; from bridge_drivers.files import write; print('before'); "
-                "write('/dev/stdout', open(sys.argv[1], 'rb').read()); print('behind')")
+        code = (
+            "import sys; from bridge_drivers.files import write; print('before'); "
+            "write('/dev/stdout', open(sys.argv[1], 'rb').read()); print('behind')"
+        )
         self.put(OPTIMAL, ".certificate")
         with open(self.stub, "wb") as out:
-            ended([sys.executable, "-c", code, self.target], capture_output=False, stdout=out, cwd=DRIVERS)
+            ended(
+                [sys.executable, "-c", code, self.target],
+                capture_output=False,
+                stdout=out,
+                cwd=DRIVERS,
+            )
         self.assertEqual(self.bytes_of(), b"before\n" + OPTIMAL + b"behind\n")
 
     def test_links_and_modes(self) -> None:
@@ -143,7 +191,10 @@ class Certificates(Case):
         self.assertEqual(seen, [True])
 
     def test_faults_without_a_file(self) -> None:
-        for words, name in ((("the disk is full",), "the file"), (("the disk is full", "another"), "another")):
+        for words, name in (
+            (("the disk is full",), "the file"),
+            (("the disk is full", "another"), "another"),
+        ):
             with self.assertRaises(OSError) as caught, files.naming("the file"):
                 raise OSError(28, *words)
             self.assertEqual(caught.exception.filename, name)
@@ -160,8 +211,11 @@ class Rule(Case):
         os.symlink(self.place(".nl"), self.place(".link"))
         os.link(self.place(".nl"), self.place(".hard"))
         os.symlink(self.place(".none"), self.place(".dangling"))
-        for ends, stays, always in (((".nl", ".link", ".hard"), True, True), ((".other",), True, False),
-                                    ((".empty", ".same", ".new", ".dangling"), False, False)):
+        for ends, stays, always in (
+            ((".nl", ".link", ".hard"), True, True),
+            ((".other",), True, False),
+            ((".empty", ".same", ".new", ".dangling"), False, False),
+        ):
             for end, overwrite in ((end, overwrite) for end in ends for overwrite in (False, True)):
                 places = Places([self.place(".nl"), self.place(".gone")], overwrite)
                 wanted = always if overwrite else stays
@@ -179,7 +233,9 @@ class Rule(Case):
         """A name that a new file could have while it is written."""
         self.put(OLDER, f".sol.{os.getpid()}.part")
         Places([]).write(self.place(".sol"), b"new")
-        self.assertEqual((self.bytes_of(".sol"), self.bytes_of(f".sol.{os.getpid()}.part")), (b"new", OLDER))
+        self.assertEqual(
+            (self.bytes_of(".sol"), self.bytes_of(f".sol.{os.getpid()}.part")), (b"new", OLDER)
+        )
         self.assertEqual(len(os.listdir(self.folder)), 2)
 
     def test_folders(self) -> None:
@@ -192,13 +248,25 @@ class Rule(Case):
     @NEEDS_PROGRAM
     def test_kept_folders(self) -> None:
         """Also the folder of the model, with files of each name that a run writes."""
-        names = ("text.nl", "model.mps", "answer.txt", "bridge.sol", "solver.log", "certificate", "stub.mps")
+        names = (
+            "text.nl",
+            "model.mps",
+            "answer.txt",
+            "bridge.sol",
+            "solver.log",
+            "certificate",
+            "stub.mps",
+        )
         for driver in solvers.NAMES:
             with self.subTest(driver=driver):
                 self.put(MODELS["product"].text)
                 for name in names:
                     Path(self.folder, name).write_bytes(OLDER)
-                before = {path: path.read_bytes() for path in Path(self.folder).rglob("*") if path.is_file()}
+                before = {
+                    path: path.read_bytes()
+                    for path in Path(self.folder).rglob("*")
+                    if path.is_file()
+                }
                 with mock.patch("os.getcwd", lambda: self.folder):
                     done = self.replay(driver, "product", self.stub, "keep=" + self.folder)
                 self.assertEqual({path: path.read_bytes() for path in before}, before)

@@ -12,12 +12,12 @@ from typing import Iterator, List, Mapping, Optional, Sequence, Tuple, Union
 from models import nl
 
 Number = Union[int, str, F]
-Column = Tuple[str, Optional[Number], Optional[Number]]     # C or I, and its bounds
+Column = Tuple[str, Optional[Number], Optional[Number]]  # C or I, and its bounds
 Row = Tuple[Optional[Number], Optional[Number], Mapping[int, Number]]
-Half = Tuple[Sequence[F], F]                                # coefficients of columns, at most this
+Half = Tuple[Sequence[F], F]  # coefficients of columns, at most this
 
-ROUNDING = F(1, 10 ** 12)       # of the largest term of a row: what doubles may leave
-CLOSE = F(1, 10 ** 9)           # of the largest term of the objective
+ROUNDING = F(1, 10**12)  # of the largest term of a row: what doubles may leave
+CLOSE = F(1, 10**9)  # of the largest term of the objective
 
 
 @dataclass
@@ -35,7 +35,11 @@ class Misleading:
 
     @cached_property
     def best(self) -> F | None:
-        return best_of(self.columns, self.rows, self.sense, self.costs) if isinstance(self.known, str) else self.known
+        return (
+            best_of(self.columns, self.rows, self.sense, self.costs)
+            if isinstance(self.known, str)
+            else self.known
+        )
 
     def text(self) -> bytes:
         return nl(list(self.columns), list(self.rows), [(self.sense, 0, dict(self.costs))])
@@ -69,10 +73,14 @@ def misses(low: Number | None, high: Number | None, parts: Sequence[F], rounding
     lo, hi = (None if end is None else F(end) for end in (low, high))
     at = sum(parts, F(0))
     size = max(map(abs, [*parts, lo or F(0), hi or F(0)]))
-    return lo is not None and lo - at > rounding * size or hi is not None and at - hi > rounding * size
+    return (
+        lo is not None and lo - at > rounding * size or hi is not None and at - hi > rounding * size
+    )
 
 
-def best_of(columns: Sequence[Column], rows: Sequence[Row], sense: str, costs: Mapping[int, Number]) -> F | None:
+def best_of(
+    columns: Sequence[Column], rows: Sequence[Row], sense: str, costs: Mapping[int, Number]
+) -> F | None:
     """Over all points of the whole columns, each with the vertices of the continuous ones."""
     free = sum(kind == "C" for kind, _, _ in columns)
     boxes = [range(-(-F(lo) // 1), F(hi) // 1 + 1) for _, lo, hi in columns[free:]]
@@ -80,11 +88,15 @@ def best_of(columns: Sequence[Column], rows: Sequence[Row], sense: str, costs: M
     for whole in itertools.product(*boxes):
         halves = list(halves_of(columns, rows, free, whole))
         start = sum(c * v for c, v in zip(at[free:], whole))
-        values += [start + sum(c * v for c, v in zip(at, vertex)) for vertex in vertices(free, halves)]
+        values += [
+            start + sum(c * v for c, v in zip(at, vertex)) for vertex in vertices(free, halves)
+        ]
     return (max if sense == "max" else min)(values, default=None)
 
 
-def halves_of(columns: Sequence[Column], rows: Sequence[Row], free: int, whole: Sequence[int]) -> Iterator[Half]:
+def halves_of(
+    columns: Sequence[Column], rows: Sequence[Row], free: int, whole: Sequence[int]
+) -> Iterator[Half]:
     for low, high, terms in rows:
         rest = sum(F(a) * whole[j - free] for j, a in terms.items() if j >= free)
         part = [F(terms.get(j, 0)) for j in range(free)]
@@ -102,7 +114,9 @@ def vertices(free: int, halves: Sequence[Half]) -> Iterator[List[F]]:
     """Of what lies in all halves."""
     for chosen in itertools.combinations(halves, free):
         point = crossing(chosen)
-        if point is not None and all(sum(a * v for a, v in zip(part, point)) <= side for part, side in halves):
+        if point is not None and all(
+            sum(a * v for a, v in zip(part, point)) <= side for part, side in halves
+        ):
             yield point
 
 
@@ -115,5 +129,8 @@ def crossing(lines: Sequence[Half]) -> List[F] | None:
             return None
         rows[k], rows[at] = rows[at], rows[k]
         pivot = rows[k] = [a / rows[k][k] for a in rows[k]]
-        rows = [row if i == k else [a - row[k] * b for a, b in zip(row, pivot)] for i, row in enumerate(rows)]
+        rows = [
+            row if i == k else [a - row[k] * b for a, b in zip(row, pivot)]
+            for i, row in enumerate(rows)
+        ]
     return [row[-1] for row in rows]

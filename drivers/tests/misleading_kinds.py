@@ -8,14 +8,16 @@ from typing import Any, Iterator, List, Mapping, Sequence, Tuple
 
 from misleading import Column, Misleading, Number, crossing
 
-EACH = 28                       # models of each kind
-Made = Tuple[Any, ...]          # columns, rows, sense, costs; the best value where it is known, whether there is none
+EACH = 28  # models of each kind
+Made = Tuple[
+    Any, ...
+]  # columns, rows, sense, costs; the best value where it is known, whether there is none
 
 
 def decimal(value: F) -> str:
     """A decimal text of a fraction that has one."""
     places = 0
-    while (value * 10 ** places).denominator != 1:
+    while (value * 10**places).denominator != 1:
         places += 1
     return f"{int(value * 10 ** places)}e-{places}" if places else str(int(value))
 
@@ -96,9 +98,14 @@ def switches(rng: random.Random) -> Made:
     """A continuous column that a binary one switches, by a large factor."""
     factor = 10 ** rng.randint(5, 8)
     need = F(rng.randint(1, 50), 10 ** rng.randint(0, 2))
-    rows = [(None, 0, {0: 1, 2: -factor}), (None, 0, {1: 1, 3: -factor}),
-            (decimal(need), None, {0: 1, 1: rng.choice([1, "0.5"])})]
-    costs = [decimal(F(rng.randint(1, 9), 1000)) for _ in range(2)] + [rng.randint(5, 20) for _ in range(2)]
+    rows = [
+        (None, 0, {0: 1, 2: -factor}),
+        (None, 0, {1: 1, 3: -factor}),
+        (decimal(need), None, {0: 1, 1: rng.choice([1, "0.5"])}),
+    ]
+    costs = [decimal(F(rng.randint(1, 9), 1000)) for _ in range(2)] + [
+        rng.randint(5, 20) for _ in range(2)
+    ]
     return [("C", 0, 1000)] * 2 + [("I", 0, 1)] * 2, rows, "min", dict(enumerate(costs))
 
 
@@ -127,11 +134,22 @@ def small_costs(rng: random.Random) -> Made:
 def mixed_scales(rng: random.Random) -> Made:
     """Continuous columns in small units, beside whole ones."""
     small = sized(rng, 6, 9)
-    columns = [("C", 0, decimal(rng.randint(2, 9) * small)), ("C", 0, rng.randint(2, 9)), ("I", 0, rng.randint(2, 9))]
-    rows = [(None, 0, {0: 1, 2: decimal(-small)}),
-            (None, rng.randint(2, 12), {1: rng.randint(1, 3), 2: rng.randint(1, 3)}),
-            (decimal(abs(off(rng))), None, {1: 1})]
-    return columns, rows, "max", {0: decimal(rng.randint(1, 9) / small), 1: rng.randint(1, 9), 2: -rng.randint(1, 9)}
+    columns = [
+        ("C", 0, decimal(rng.randint(2, 9) * small)),
+        ("C", 0, rng.randint(2, 9)),
+        ("I", 0, rng.randint(2, 9)),
+    ]
+    rows = [
+        (None, 0, {0: 1, 2: decimal(-small)}),
+        (None, rng.randint(2, 12), {1: rng.randint(1, 3), 2: rng.randint(1, 3)}),
+        (decimal(abs(off(rng))), None, {1: 1}),
+    ]
+    return (
+        columns,
+        rows,
+        "max",
+        {0: decimal(rng.randint(1, 9) / small), 1: rng.randint(1, 9), 2: -rng.randint(1, 9)},
+    )
 
 
 def matrix(rng: random.Random, n: int) -> list[list[F]]:
@@ -155,7 +173,7 @@ def nearly_singular(rng: random.Random, kind: str = "C", most_columns: int = 7) 
     rows = matrix(rng, n)
     x = [F(rng.randint(0, 9)) for _ in range(n)]
     costs = [F(rng.randint(-9, 9)) for _ in range(n)]
-    columns = [(kind, 0, rng.choice([None, 10 ** 4]))] * n
+    columns = [(kind, 0, rng.choice([None, 10**4]))] * n
     made = [(*2 * [decimal(dot(row, x))], decimals(row)) for row in rows]
     return columns, made, sense(rng), decimals(costs), dot(costs, x)
 
@@ -192,7 +210,7 @@ def whole_rays(rng: random.Random) -> Made:
     a, b, gain = rng.randint(1, 5), rng.randint(1, 5), sized(rng, 5, 14)
     cost, end = F(rng.randint(0, 9)), rng.choice([None, None, 10 ** rng.randint(3, 7)])
     columns = [("I", 0, None if end is None else end * b), ("I", 0, None)]
-    rows = [(rng.choice([None, 0]), 0, {0: a, 1: -b})]       # at b and a times t
+    rows = [(rng.choice([None, 0]), 0, {0: a, 1: -b})]  # at b and a times t
     costs = [cost + gain, -cost * b / a] if a in (1, 2, 4, 5) else [gain]
     return columns, rows, "max", decimals(costs), gain * (end or 0) * b, end is None
 
@@ -215,19 +233,29 @@ def two_rows(rng: random.Random) -> Made:
 
 def far_ends(rng: random.Random) -> Made:
     """Ends and sides that are large, some of them none to a solver."""
-    columns = [("C", 0, f"{rng.randint(1, 9)}e{rng.choice([9, 15, 20, 26, 30, 31])}") for _ in range(2)]
-    rows = [(None, f"{rng.randint(1, 9)}e{rng.randint(5, 30)}", {0: rng.randint(1, 3), 1: rng.randint(0, 3)})
-            for _ in range(rng.randint(1, 2))]
+    columns = [
+        ("C", 0, f"{rng.randint(1, 9)}e{rng.choice([9, 15, 20, 26, 30, 31])}") for _ in range(2)
+    ]
+    rows = [
+        (
+            None,
+            f"{rng.randint(1, 9)}e{rng.randint(5, 30)}",
+            {0: rng.randint(1, 3), 1: rng.randint(0, 3)},
+        )
+        for _ in range(rng.randint(1, 2))
+    ]
     return columns, rows, "max", {0: rng.randint(1, 3), 1: rng.choice([-1, 0, 1])}
 
 
 def crossing_bounds(rng: random.Random) -> Made:
     """Whole columns and rows of them with little or no room for a whole number."""
+
     def ends(most: int) -> tuple[str, str]:
         at, by = rng.randint(0, most), sized(rng, 3, 8)
         if rng.random() < 0.5:
             return decimal(at + by), decimal(at + 1 - by)
         return decimal(at + by), decimal(at + 1 + rng.choice([F(0), by]))
+
     n = rng.randint(1, 3)
     columns: List[Column] = [("I", 0, 6)] * n
     rows = []
@@ -257,23 +285,49 @@ def drops(rng: random.Random) -> Made:
     small = sized(rng, 9, 14)
     large = F(rng.randint(1, 9)) / small
     columns = [("C", 0, decimal(large)), rng.choice([("C", 0, 100), ("I", 0, 9)])]
-    rows = [(rng.randint(1, 9), None, {0: decimal(small), 1: 1}),
-            (None, rng.randint(5, 99), {1: 1, 0: decimal(small * rng.randint(0, 3))})]
+    rows = [
+        (rng.randint(1, 9), None, {0: decimal(small), 1: 1}),
+        (None, rng.randint(5, 99), {1: 1, 0: decimal(small * rng.randint(0, 3))}),
+    ]
     return columns, rows, "min", {0: decimal(small * rng.randint(1, 9) / 10), 1: rng.randint(1, 9)}
 
 
 def beyond_doubles(rng: random.Random) -> Made:
     """Whole columns whose best value is no double."""
     a, side = rng.randint(1, 9), 2 ** rng.randint(53, 62) + 2 * rng.randint(0, 999) + 1
-    column = ("I", 0, 2 ** 64)
+    column = ("I", 0, 2**64)
     if rng.random() < 0.5:
-        return [column] * 2, [(None, side, {0: a}), (1, 1, {1: 1, 0: -1})], "max", {1: 1}, F(side // a + 1)
+        return (
+            [column] * 2,
+            [(None, side, {0: a}), (1, 1, {1: 1, 0: -1})],
+            "max",
+            {1: 1},
+            F(side // a + 1),
+        )
     return [column], [(None, side, {0: a})], "max", {0: 1}, F(side // a)
 
 
-KINDS = (equal_decimals, near_sides, tiny_rows, large_numbers, switches, contradictions, small_costs, mixed_scales,
-         nearly_singular, nearly_parallel, tiny_rays, beyond_doubles, far_ends, crossing_bounds, cut_offs, drops,
-         whole_singular, whole_rays, two_rows)
+KINDS = (
+    equal_decimals,
+    near_sides,
+    tiny_rows,
+    large_numbers,
+    switches,
+    contradictions,
+    small_costs,
+    mixed_scales,
+    nearly_singular,
+    nearly_parallel,
+    tiny_rays,
+    beyond_doubles,
+    far_ends,
+    crossing_bounds,
+    cut_offs,
+    drops,
+    whole_singular,
+    whole_rays,
+    two_rows,
+)
 
 
 def models(each: int = EACH) -> Iterator[Misleading]:

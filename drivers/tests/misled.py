@@ -26,13 +26,13 @@ from typing import Any, NamedTuple, TextIO
 sys.dont_write_bytecode = True
 sys.path[:0] = [os.path.dirname(os.path.abspath(__file__))]
 
-from misleading import Misleading               # noqa: E402
-from misleading_kinds import EACH, models       # noqa: E402
-from support import Sol                         # noqa: E402
-from bridge_drivers import certificates, solvers    # noqa: E402
-from bridge_drivers.codes import Code           # noqa: E402
-from bridge_drivers.driver import Driver        # noqa: E402
-from bridge_drivers.solving import Solving      # noqa: E402
+from misleading import Misleading  # noqa: E402
+from misleading_kinds import EACH, models  # noqa: E402
+from support import Sol  # noqa: E402
+from bridge_drivers import certificates, solvers  # noqa: E402
+from bridge_drivers.codes import Code  # noqa: E402
+from bridge_drivers.driver import Driver  # noqa: E402
+from bridge_drivers.solving import Solving  # noqa: E402
 
 OWN = {"second": "1", "each": str(EACH), "time": "10", "workers": "4", "log": os.devnull}
 
@@ -72,7 +72,9 @@ def judged(folder: str, driver: str, model: Misleading, options: list[str]) -> J
         return Judged(-1, f"it ended with {status}")
     sol = Sol(stub + ".sol")
     wrong, last = fault(model, sol), sol.message[-1]
-    return Judged(sol.code, f"{wrong} ({last})" if wrong else "", "" if wrong else lost(model, sol), last)
+    return Judged(
+        sol.code, f"{wrong} ({last})" if wrong else "", "" if wrong else lost(model, sol), last
+    )
 
 
 def fault(model: Misleading, sol: Sol) -> str:
@@ -95,8 +97,14 @@ def lost(model: Misleading, sol: Sol) -> str:
     own, last = Noting.own, sol.message[-1]
     if own is None:
         return ""
-    if own.code == Code.INFEASIBLE and model.best is None and sol.code != 200 \
-            or own.code == Code.UNBOUNDED and model.is_endless and sol.code != 300:
+    if (
+        own.code == Code.INFEASIBLE
+        and model.best is None
+        and sol.code != 200
+        or own.code == Code.UNBOUNDED
+        and model.is_endless
+        and sol.code != 300
+    ):
         return f"it said so ({last})"
     if own.code == Code.SOLVED and own.values is not None and sol.code != 0:
         point = [F(own.values[f"x{j}"]) for j in range(len(model.columns))]
@@ -117,28 +125,50 @@ def main() -> int:
     options = [f"timelim={own['time']}", *(f"{name}={value}" for name, value in given.items())]
     certificates.ONE_LEAF = float(own["second"])
     kinds = [w for w in words if w not in solvers.NAMES]
-    chosen = [m for m in models(int(own["each"])) if not kinds or m.name.rstrip("0123456789") in kinds]
-    print(f"{len(chosen)} models, {sum(m.best is None for m in chosen)} without a point, "
-          f"{sum(m.is_endless for m in chosen)} without an end", flush=True)
+    chosen = [
+        m for m in models(int(own["each"])) if not kinds or m.name.rstrip("0123456789") in kinds
+    ]
+    print(
+        f"{len(chosen)} models, {sum(m.best is None for m in chosen)} without a point, "
+        f"{sum(m.is_endless for m in chosen)} without an end",
+        flush=True,
+    )
     wrong = 0
     with open(own["log"], "a+", encoding="utf-8") as log:
         log.seek(0)
         known = {key: Judged(*found) for key, *found in map(json.loads, log)}
         for driver in [w for w in words if w in solvers.NAMES] or solvers.NAMES:
             for way in ways if solvers.load(driver).place() else ():
-                wrong += run(driver, [m for m in chosen if takes(driver, m)],
-                             [f"prove={way}", *options], int(own["workers"]), known, log)
+                wrong += run(
+                    driver,
+                    [m for m in chosen if takes(driver, m)],
+                    [f"prove={way}", *options],
+                    int(own["workers"]),
+                    known,
+                    log,
+                )
     print(f"{wrong} wrong")
     return int(wrong > 0)
 
 
-def run(driver: str, chosen: list[Misleading], options: list[str], workers: int,
-        known: dict[str, Judged], log: TextIO) -> int:
+def run(
+    driver: str,
+    chosen: list[Misleading],
+    options: list[str],
+    workers: int,
+    known: dict[str, Judged],
+    log: TextIO,
+) -> int:
     """How many are wrong."""
     start, key = time.monotonic(), f"{driver} {options[0]} {{}}".format
-    with tempfile.TemporaryDirectory(prefix="misled-") as folder, ProcessPoolExecutor(workers) as pool:
-        jobs = {pool.submit(judged, folder, driver, model, options): key(model.name)
-                for model in chosen if key(model.name) not in known}
+    with tempfile.TemporaryDirectory(prefix="misled-") as folder, ProcessPoolExecutor(
+        workers
+    ) as pool:
+        jobs = {
+            pool.submit(judged, folder, driver, model, options): key(model.name)
+            for model in chosen
+            if key(model.name) not in known
+        }
         for job in as_completed(jobs):
             known[jobs[job]] = job.result()
             print(json.dumps([jobs[job], *job.result()]), file=log, flush=True)
@@ -149,8 +179,13 @@ def run(driver: str, chosen: list[Misleading], options: list[str], workers: int,
                 print(f"{name}: code {found.code}, {word}: {text}", flush=True)
     codes = collections.Counter(found.code for found in every.values())
     shares = ", ".join(f"code {code}: {count}" for code, count in sorted(codes.items()))
-    wrong, gone = (sum(map(bool, part)) for part in zip(*((f.wrong, f.lost) for f in every.values())))
-    print(f"{key('all')}: {shares}; {wrong} wrong, {gone} lost; {time.monotonic() - start:.0f} s", flush=True)
+    wrong, gone = (
+        sum(map(bool, part)) for part in zip(*((f.wrong, f.lost) for f in every.values()))
+    )
+    print(
+        f"{key('all')}: {shares}; {wrong} wrong, {gone} lost; {time.monotonic() - start:.0f} s",
+        flush=True,
+    )
     return wrong
 
 

@@ -17,12 +17,15 @@ Text = Union[int, str]
 
 def rows_of(table: str, kind: str = "") -> list[list[str]]:
     """Of `tables/NAME.txt`: cells between ` | `, with remarks behind `# `. In a table of several kinds of rows the
-    first cell is the kind. Behind four blanks the line before goes on; `\\n`, `\\x1b` and two `\\` are as in Python."""
+    first cell is the kind. Behind four blanks the line before goes on; `\\n`, `\\x1b` and two `\\` are as in Python.
+    """
     lines = Path(FOLDER, table + ".txt").read_text(encoding="utf-8").split("\n")
     text = "\n".join(line for line in lines if line.strip() and not line.startswith("# "))
     text = re.sub(r" \|$", " | ", text.replace("\n    ", ""), flags=re.M)
-    rows = [ESCAPE.sub(lambda at: at[0].encode().decode("unicode_escape"), line).split(" | ")
-            for line in text.split("\n")]
+    rows = [
+        ESCAPE.sub(lambda at: at[0].encode().decode("unicode_escape"), line).split(" | ")
+        for line in text.split("\n")
+    ]
     return [row[1:] for row in rows if row[0] == kind] if kind else rows
 
 
@@ -35,7 +38,10 @@ def nl(variables, rows=(), objectives=(), trees: Mapping[int, Sequence[str]] = {
     for i in range(len(rows)):
         out += [f"C{i}", *trees.get(i, ["n0"])]
     for i, (sense, constant, _) in enumerate(objectives):
-        out += [f"O{i} {int(sense == 'max')}", *(constant if isinstance(constant, list) else [f"n{constant}"])]
+        out += [
+            f"O{i} {int(sense == 'max')}",
+            *(constant if isinstance(constant, list) else [f"n{constant}"]),
+        ]
     if rows:
         out += ["r", *(side(lo, hi) for lo, hi, _ in rows)]
     out += ["b", *(side(lo, hi) for _, lo, hi in variables)]
@@ -56,9 +62,17 @@ def counts(kinds, rows, objectives) -> list[str]:
     ranges = sum(lo is not None and hi is not None and lo != hi for lo, hi, _ in rows)
     equal = sum(lo is not None and lo == hi for lo, hi, _ in rows)
     terms, costs = (sum(len(item[2]) for item in items) for items in (rows, objectives))
-    return [f" {len(kinds)} {len(rows)} {len(objectives)} {ranges} {equal}", " 0 0", " 0 0",
-            " 0 0 0", " 0 0 0 1", f" {kinds.count('B')} {kinds.count('I')} 0 0 0",
-            f" {terms} {costs}", " 0 0", " 0 0 0 0 0"]
+    return [
+        f" {len(kinds)} {len(rows)} {len(objectives)} {ranges} {equal}",
+        " 0 0",
+        " 0 0",
+        " 0 0 0",
+        " 0 0 0 1",
+        f" {kinds.count('B')} {kinds.count('I')} 0 0 0",
+        f" {terms} {costs}",
+        " 0 0",
+        " 0 0 0 0 0",
+    ]
 
 
 def side(lo: Text | None, hi: Text | None) -> str:
@@ -99,7 +113,9 @@ def end(word: str) -> Text | None:
 
 
 def terms_of(words: str) -> dict[int, str]:
-    pairs = (word.split("*") if "*" in word else (str(j), word) for j, word in enumerate(words.split()))
+    pairs = (
+        word.split("*") if "*" in word else (str(j), word) for j, word in enumerate(words.split())
+    )
     return {int(j): a for j, a in pairs if a != "_"}
 
 
@@ -115,7 +131,9 @@ def text_of(cells: Iterable[str]) -> bytes:
                 columns += [(kind, end(lo), end(hi))] * int(times[0][1:] if times else 1)
         elif word in ("max", "min"):
             constant = before.split()[1:]
-            objectives.append((word, constant if len(constant) > 1 else constant[0], terms_of(terms)))
+            objectives.append(
+                (word, constant if len(constant) > 1 else constant[0], terms_of(terms))
+            )
         elif re.fullmatch(r"(\S+) (\S+) ", before):
             rows.append((end(word), end(words[0]), terms_of(terms)))
         elif re.fullmatch(r"C\d+", word):
@@ -128,10 +146,16 @@ def text_of(cells: Iterable[str]) -> bytes:
 def model_of(code: str, *cells: str) -> Model:
     said = dict(cell.partition(" ")[::2] for cell in cells)
     number, *objective = code.split()
-    return Model(text_of(cells), int(number), F(objective[0]) if objective else None,
-                 said["duals"].split() if "duals" in said else None,
-                 terms_of(said["costs"]) if "costs" in said else None,
-                 not {"B", "I"} & set(cells[0].split()), said.get("options", "").split(), said.get("word", ""))
+    return Model(
+        text_of(cells),
+        int(number),
+        F(objective[0]) if objective else None,
+        said["duals"].split() if "duals" in said else None,
+        terms_of(said["costs"]) if "costs" in said else None,
+        not {"B", "I"} & set(cells[0].split()),
+        said.get("options", "").split(),
+        said.get("word", ""),
+    )
 
 
 MODELS = {name: model_of(*cells) for name, *cells in rows_of("models")}
@@ -145,8 +169,10 @@ class Claimed(NamedTuple):
     value: F | None
 
 
-CLAIMED = {name: Claimed(text_of(cells), None if value == "-" else F(value))
-           for name, value, *cells in rows_of("claims")}
+CLAIMED = {
+    name: Claimed(text_of(cells), None if value == "-" else F(value))
+    for name, value, *cells in rows_of("claims")
+}
 FAR = {name: text_of(cells) for name, *cells in rows_of("far")}
 
 
@@ -167,6 +193,14 @@ class Mps(NamedTuple):
 FIXED = Path(FOLDER, "fixed.mps").read_text(encoding="ascii")
 BOTH = {name: FIXED.replace(old, new) for name, old, new in rows_of("mps", "fixed")}
 KNAP = {"ONE": F(1), "TWO": F(1), "THREE": F(0)}
-MPS = {**{name: Mps(text, "optimal -23/2", KNAP) for name, text in BOTH.items()},
-       **{name: Mps(text.replace(" / ", "\n") + "\n", line, {x: F(v) for x, v in (word.split("=") for word in said)})
-          for name, line, text, *said in rows_of("mps", "model")}}
+MPS = {
+    **{name: Mps(text, "optimal -23/2", KNAP) for name, text in BOTH.items()},
+    **{
+        name: Mps(
+            text.replace(" / ", "\n") + "\n",
+            line,
+            {x: F(v) for x, v in (word.split("=") for word in said)},
+        )
+        for name, line, text, *said in rows_of("mps", "model")
+    },
+}

@@ -25,14 +25,14 @@ FAULTY = "NAME t\nROWS\n N o\n L cap\nCOLUMNS\n x o 1\n x cap 2\nRHS\n RHS cap 9
 BLANK = FIXED.replace("    ONE       COST", "    MY ONE    COST")
 SEEDS = 150
 NEEDS_NUMPY = unittest.skipUnless(terms.numpy(), "no NumPy")
-WIDE = (3, 10 ** 6, 10 ** 40)
+WIDE = (3, 10**6, 10**40)
 
 
 class Texts(unittest.TestCase):
     """The written form in the words of `bridge export`."""
 
     def test_all_sections(self) -> None:
-        (written, exported), = rows_of("mps", "text")
+        ((written, exported),) = rows_of("mps", "text")
         own = program_of(written.encode())
         self.assertEqual(own.text.decode(), exported)
         assert own.names is not None
@@ -41,17 +41,21 @@ class Texts(unittest.TestCase):
 
     def test_notes(self) -> None:
         """On what other readers take otherwise, and on nothing else."""
-        (text, *notes), = rows_of("mps", "notes")
+        ((text, *notes),) = rows_of("mps", "notes")
         self.assertEqual(program_of(text.encode()).notes, notes)
 
     def test_nothing_but_an_objective(self) -> None:
         p = program_of(b"ROWS\n N o\nCOLUMNS\nRHS\n RHS o 0\nENDATA\n")
-        self.assertEqual((p.columns, p.constraints, p.objective_rhs, p.has_objective()), ([], [], "0", False))
+        self.assertEqual(
+            (p.columns, p.constraints, p.objective_rhs, p.has_objective()), ([], [], "0", False)
+        )
 
     def test_names_that_look_like_other_words(self) -> None:
         """A column 'MARKER', and names with spaces that are none to bridge."""
-        p = program_of("ROWS\n N 'MARKER'\n L a\u00a0b\nCOLUMNS\n 'MARKER' 'MARKER' 2\n"
-                       " 'MARKER' a\u00a0b 3\nRHS\nENDATA\n".encode())
+        p = program_of(
+            "ROWS\n N 'MARKER'\n L a\u00a0b\nCOLUMNS\n 'MARKER' 'MARKER' 2\n"
+            " 'MARKER' a\u00a0b 3\nRHS\nENDATA\n".encode()
+        )
         assert p.names is not None
         self.assertEqual((p.costs, p.names.row(0)), ({"x0": "2"}, "a\u00a0b"))
 
@@ -59,9 +63,11 @@ class Texts(unittest.TestCase):
 class Names(Case):
     def test_names_with_blanks(self) -> None:
         self.put(BLANK.encode(), ".mps")
-        line = BLANK[:BLANK.index("MY ONE")].count("\n") + 1
-        self.assertEqual([mps_file.has_blank_name(self.stub + ".mps", at) for at in (line, line + 1, 1000)],
-                         [True, False, False])
+        line = BLANK[: BLANK.index("MY ONE")].count("\n") + 1
+        self.assertEqual(
+            [mps_file.has_blank_name(self.stub + ".mps", at) for at in (line, line + 1, 1000)],
+            [True, False, False],
+        )
 
 
 @NEEDS_MPS
@@ -85,18 +91,23 @@ class Read(Case):
             else:
                 self.refused(model.text, "fixed")
         pair = "    RHS       COST              -5.5   CAP                 10"
-        for old, new, form in (         # no set's name, a number that is not looked at, a remark
-                ("    RHS       COST", "              COST", "free"),
-                (" BV BND       TWO", " FR BND       TWO                  3 ", "free"),
-                (pair, pair + "   a remark", "fixed")):
+        for old, new, form in (  # no set's name, a number that is not looked at, a remark
+            ("    RHS       COST", "              COST", "free"),
+            (" BV BND       TWO", " FR BND       TWO                  3 ", "free"),
+            (pair, pair + "   a remark", "fixed"),
+        ):
             read = self.read(FIXED.replace(old, new))
             self.assertEqual((read.form, read.notes), (form, []))
 
     def test_refusals(self) -> None:
         """The word that is at fault, and what helps with it alone."""
-        self.assertRegex(self.refused(BLANK), "^m.mps line 8: bad line of .*: names with blanks are not read$")
-        self.assertEqual(self.refused(FIXED.replace("ENDATA", "SOS")),
-                         "m.mps line 18: bad section `SOS`: special ordered sets are not read")
+        self.assertRegex(
+            self.refused(BLANK), "^m.mps line 8: bad line of .*: names with blanks are not read$"
+        )
+        self.assertEqual(
+            self.refused(FIXED.replace("ENDATA", "SOS")),
+            "m.mps line 18: bad section `SOS`: special ordered sets are not read",
+        )
         for old, new, line in rows_of("mps", "fault"):
             self.assertEqual(self.refused(FAULTY.replace(old, new)), f"m.mps line {line}")
 
@@ -107,7 +118,7 @@ class Read(Case):
             text = random_text(seed)
             self.put(text, ".mps")
             made = bridge().call("import", self.stub + ".mps")
-            if made.status:             # such as one with an empty interval
+            if made.status:  # such as one with an empty interval
                 continue
             self.put(made.out)
             own, names = Plain(program_of(text).text), program_of(text).names
@@ -117,10 +128,16 @@ class Read(Case):
             place = {f"x{k}": at[name.decode()] for k, name in enumerate(lists_of(text)[1])}
             for ours, theirs in ((own.bounds(), other.bounds()), (own.whole, other.whole)):
                 self.assertEqual({place[x]: told for x, told in theirs.items()}, ours, text)
-            self.assertEqual({(row, place[x]): a for (row, x), a in other.entries.items() if a},
-                             {key: a for key, a in own.entries.items() if a}, text)
-            self.assertEqual((other.maximise, other.sides(), other.rhs.get("obj", 0)),
-                             (own.maximise, own.sides(), own.rhs.get("obj", 0)), text)
+            self.assertEqual(
+                {(row, place[x]): a for (row, x), a in other.entries.items() if a},
+                {key: a for key, a in own.entries.items() if a},
+                text,
+            )
+            self.assertEqual(
+                (other.maximise, other.sides(), other.rhs.get("obj", 0)),
+                (own.maximise, own.sides(), own.rhs.get("obj", 0)),
+                text,
+            )
             taken += 1
         self.assertGreater(taken, 8)
 
@@ -143,13 +160,18 @@ class Read(Case):
 
     def test_one_that_judges_no_mps_files(self) -> None:
         """An older program is told by the command that it lacks."""
-        program = self.script("older", "case $1 in verify_*) echo 'bad words' >&2; exit 3;; esac\n"
-                              f"exec {PROGRAM[0]} \"$@\"")
+        program = self.script(
+            "older",
+            "case $1 in verify_*) echo 'bad words' >&2; exit 3;; esac\n" f'exec {PROGRAM[0]} "$@"',
+        )
         self.put(FIXED.encode(), ".mps")
         read = mps_file.reading(bridge([program]), self.stub + ".mps")
         with self.assertRaises(Refused) as caught:
             mps_file.judged(bridge([program]), self.stub + ".mps", self.stub + ".probe", read)
-        self.assertEqual(caught.exception.line(), "this bridge does not know the command `verify_mps` (bad words)")
+        self.assertEqual(
+            caught.exception.line(),
+            "this bridge does not know the command `verify_mps` (bad words)",
+        )
 
 
 def over(numbers, unit):
@@ -163,15 +185,26 @@ class Reading(Case):
         rows, columns = plain.constraints(), list(plain.ends)
         self.assertEqual([name.decode() for name in read.constraints], rows)
         self.assertEqual([name.decode() for name in read.columns], columns)
-        self.assertEqual((read.maximise, read.objective.decode(), read.whole),
-                         (plain.maximise, plain.objective(), list(plain.whole.values())))
+        self.assertEqual(
+            (read.maximise, read.objective.decode(), read.whole),
+            (plain.maximise, plain.objective(), list(plain.whole.values())),
+        )
         names = {i: row for i, row in enumerate([*rows, None, plain.objective()])}
-        found = {(names[i % (len(rows) + 2)], columns[j]): F(read.numbers[k].decode())
-                 for i, j, k in zip(*read.entries()) if i != mps_reader.OTHER}
-        kept = {(row, column): a for (row, column), a in plain.entries.items() if row in (*rows, plain.objective())}
+        found = {
+            (names[i % (len(rows) + 2)], columns[j]): F(read.numbers[k].decode())
+            for i, j, k in zip(*read.entries())
+            if i != mps_reader.OTHER
+        }
+        kept = {
+            (row, column): a
+            for (row, column), a in plain.entries.items()
+            if row in (*rows, plain.objective())
+        }
         self.assertEqual(found, kept)
         *sides, scale = read.sides()
-        self.assertEqual(list(zip(*(over(part, scale) for part in sides))), list(plain.sides().values()))
+        self.assertEqual(
+            list(zip(*(over(part, scale) for part in sides))), list(plain.sides().values())
+        )
         self.same_program(plain, Plain(own.text), {at: a for at, a in kept.items() if a})
         self.same_model(plain, Model(own, {}, len(rows)))
 
@@ -182,7 +215,9 @@ class Reading(Case):
         self.assertEqual({row[i]: pair for i, pair in own.sides().items()}, plain.sides())
         self.assertEqual({column[j]: pair for j, pair in own.bounds().items()}, plain.bounds())
         self.assertEqual({column[j]: whole for j, whole in own.whole.items()}, plain.whole)
-        found = {(row.get(i, plain.objective()), column[j]): a for (i, j), a in own.entries.items() if a}
+        found = {
+            (row.get(i, plain.objective()), column[j]): a for (i, j), a in own.entries.items() if a
+        }
         self.assertEqual(found, entries)
 
     def same_model(self, plain: Plain, p: Model) -> None:
@@ -190,10 +225,18 @@ class Reading(Case):
         costs = [plain.entries.get((plain.objective(), name), F(0)) for name in columns]
         self.assertEqual([sign * c for c in p.cost], costs)
         self.assertEqual(sign * p.constant, -plain.rhs.get(plain.objective(), 0))
-        rows = [{j: a for (i, j), a in plain.entries.items() if i == row and a} for row in plain.constraints()]
+        rows = [
+            {j: a for (i, j), a in plain.entries.items() if i == row and a}
+            for row in plain.constraints()
+        ]
         self.assertEqual([{columns[j]: F(a, p.scale) for j, a in row} for row in p.rows], rows)
-        self.assertEqual(list(zip(over(p.lo, p.unit), over(p.hi, p.unit))), list(plain.bounds().values()))
-        self.assertEqual(list(zip(over(p.side_lo, p.unit), over(p.side_hi, p.unit))), list(plain.sides().values()))
+        self.assertEqual(
+            list(zip(over(p.lo, p.unit), over(p.hi, p.unit))), list(plain.bounds().values())
+        )
+        self.assertEqual(
+            list(zip(over(p.side_lo, p.unit), over(p.side_hi, p.unit))),
+            list(plain.sides().values()),
+        )
 
     def test_random_ones(self) -> None:
         for seed in range(SEEDS):
@@ -217,19 +260,27 @@ class Reading(Case):
 
     def test_a_tied_objective(self) -> None:
         """3 (2 x0 - x1 + 5 - z) = 0."""
-        text = (b"NAME nl\n%sROWS\n N obj\n E c0\n E zdef\nCOLUMNS\n x0 zdef 6\n x1 zdef -3\n"
-                b" x1 c0 1\n z obj 1\n z zdef -3\nRHS\n RHS zdef -15\nBOUNDS\n FR BND x0\n"
-                b" FR BND x1\n FR BND z\nENDATA\n")
+        text = (
+            b"NAME nl\n%sROWS\n N obj\n E c0\n E zdef\nCOLUMNS\n x0 zdef 6\n x1 zdef -3\n"
+            b" x1 c0 1\n z obj 1\n z zdef -3\nRHS\n RHS zdef -15\nBOUNDS\n FR BND x0\n"
+            b" FR BND x1\n FR BND z\nENDATA\n"
+        )
         for sense, sign in ((b"", 1), (b"OBJSENSE\n MAX\n", -1)):
             p = Model(text % sense, {}, 1)
-            self.assertEqual((p.n, p.rows, p.cost, p.constant), (2, [[(1, 1)]], [2 * sign, -sign], 5 * sign))
+            self.assertEqual(
+                (p.n, p.rows, p.cost, p.constant), (2, [[(1, 1)]], [2 * sign, -sign], 5 * sign)
+            )
 
     def test_rows_times_factors(self) -> None:
-        text = (b"NAME nl\nROWS\n N obj\n L c1\n G c2\nCOLUMNS\n x0 c1 3\n x0 c2 0.5\n x1 c1 1\n"
-                b"RHS\n RHS c1 4\nENDATA\n")
+        text = (
+            b"NAME nl\nROWS\n N obj\n L c1\n G c2\nCOLUMNS\n x0 c1 3\n x0 c2 0.5\n x1 c1 1\n"
+            b"RHS\n RHS c1 4\nENDATA\n"
+        )
         p = Model(text, {1: 6}, 3)
-        self.assertEqual([[(j, F(a, p.scale)) for j, a in row] for row in p.rows],
-                         [[], [(0, F(1, 2)), (1, F(1, 6))], [(0, F(1, 2))]])
+        self.assertEqual(
+            [[(j, F(a, p.scale)) for j, a in row] for row in p.rows],
+            [[], [(0, F(1, 2)), (1, F(1, 6))], [(0, F(1, 2))]],
+        )
         self.assertEqual(over(p.side_hi, p.unit), [None, F(2, 3), None])
         self.assertEqual((p.scale, p.unit), (6, 3))
 
@@ -244,7 +295,9 @@ class Reading(Case):
                 places = [int(row[1:]) for row in plain.constraints()]
                 p = Model(reply.out, {}, max([-1, *places]) + 1)
                 p.terms = terms.Terms(p.n, [p.rows[i] for i in places])
-                p.side_lo, p.side_hi = ([part[i] for i in places] for part in (p.side_lo, p.side_hi))
+                p.side_lo, p.side_hi = (
+                    [part[i] for i in places] for part in (p.side_lo, p.side_hi)
+                )
                 self.same_model(plain, p)
 
 
@@ -254,8 +307,10 @@ class Arrays(unittest.TestCase):
 
     def both(self, seed: int, table: list) -> tuple[terms.Terms, terms.Terms]:
         chance, m, n = random.Random(seed), 1 + seed % 9, 1 + seed % 7
-        entries = sorted((chance.randrange(n), chance.randrange(-2, m),
-                          chance.randrange(len(table))) for _ in range(30))
+        entries = sorted(
+            (chance.randrange(n), chance.randrange(-2, m), chance.randrange(len(table)))
+            for _ in range(30)
+        )
         columns, rows, numbers = (terms.array("i", part) for part in zip(*entries))
         words = (m, n, (rows, columns, numbers), table, [*range(m), -1, -1])
         plain = terms.terms_of(*words)
@@ -273,8 +328,12 @@ class Arrays(unittest.TestCase):
                 y = {i: chance.randint(-size, size) for i in range(0, len(one.rows), 2)}
                 self.assertEqual(one.without(one.n * [7], y, 3), other.without(one.n * [7], y, 3))
             weights = [chance.randint(1, wide) for _ in range(one.n)]
-            self.assertEqual((one.lengths, one.sizes(weights)), (other.lengths, other.sizes(weights)))
-            self.assertEqual([sorted(column) for column in one.columns], [other.column(j) for j in range(one.n)])
+            self.assertEqual(
+                (one.lengths, one.sizes(weights)), (other.lengths, other.sizes(weights))
+            )
+            self.assertEqual(
+                [sorted(column) for column in one.columns], [other.column(j) for j in range(one.n)]
+            )
             rows, columns = range(0, len(one.rows), 2), range(0, one.n, 2)
             self.assertEqual(one.inside(rows, columns), other.inside(rows, columns))
 
@@ -294,4 +353,6 @@ class Arrays(unittest.TestCase):
             one = list(misses(program, values, program.whole))
             with mock.patch.object(terms, "MANY", 0):
                 self.assertEqual(list(misses(program, values, program.whole)), one)
-                self.assertEqual(miss(program, values), max([*misses(program, values, ()), (0.0, 0.0, "")]))
+                self.assertEqual(
+                    miss(program, values), max([*misses(program, values, ()), (0.0, 0.0, "")])
+                )

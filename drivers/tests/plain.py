@@ -48,9 +48,14 @@ class Plain:
     def bound(self, kind: str, column: str, value: str = "0") -> None:
         ends = self.ends[column]
         self.whole[column] |= kind in ("BV", "LI", "UI")
-        for at, kinds, end in ((0, ("LO", "LI", "FX"), F(value)), (1, ("UP", "UI", "FX"), F(value)),
-                               (0, ("MI", "FR"), -INFINITE), (1, ("PL", "FR"), INFINITE),
-                               (0, ("BV",), F(0)), (1, ("BV",), F(1))):
+        for at, kinds, end in (
+            (0, ("LO", "LI", "FX"), F(value)),
+            (1, ("UP", "UI", "FX"), F(value)),
+            (0, ("MI", "FR"), -INFINITE),
+            (1, ("PL", "FR"), INFINITE),
+            (0, ("BV",), F(0)),
+            (1, ("BV",), F(1)),
+        ):
             if kind in kinds:
                 ends[at] = end
 
@@ -60,7 +65,9 @@ class Plain:
         for column, (low, high) in self.ends.items():
             if low is None and (high is None or high >= 0):
                 low = F(0)
-            low, high = (None if end is None or abs(end) >= INFINITE else end for end in (low, high))
+            low, high = (
+                None if end is None or abs(end) >= INFINITE else end for end in (low, high)
+            )
             found[column] = low, high
         return found
 
@@ -83,9 +90,20 @@ class Plain:
 
 
 def number(chance: random.Random) -> str:
-    return chance.choice(["0", "1", "-1", str(chance.randint(-99, 99)), "0.000001", "1e30",
-                          f"{chance.uniform(-9, 9):.2f}", "-12345678901234567890.5",
-                          str(10 ** chance.randint(0, 25)), repr(chance.random())])
+    return chance.choice(
+        [
+            "0",
+            "1",
+            "-1",
+            str(chance.randint(-99, 99)),
+            "0.000001",
+            "1e30",
+            f"{chance.uniform(-9, 9):.2f}",
+            "-12345678901234567890.5",
+            str(10 ** chance.randint(0, 25)),
+            repr(chance.random()),
+        ]
+    )
 
 
 def random_text(seed: int, most: int = 8) -> bytes:
@@ -94,19 +112,29 @@ def random_text(seed: int, most: int = 8) -> bytes:
     rows = [(chance.choice("LGEN"), f"r{i}") for i in range(chance.randint(0, most))]
     rows.insert(chance.randint(0, len(rows)), ("N", "cost"))
     columns = [f"col{j}" for j in range(chance.randint(0, most))]
-    lines, marks = ["NAME p", *(["OBJSENSE", " MAX"] if chance.random() < .3 else [])], 0
+    lines, marks = ["NAME p", *(["OBJSENSE", " MAX"] if chance.random() < 0.3 else [])], 0
     lines += ["ROWS", *(f" {kind} {row}" for kind, row in rows), "COLUMNS"]
     for column in columns:
-        if chance.random() < .3:
+        if chance.random() < 0.3:
             lines.append(f" M{marks} 'MARKER' '{('INTORG', 'INTEND')[marks % 2]}'")
             marks += 1
-        lines += [f" {column} {row} {number(chance)}" for _, row in chance.sample(rows, chance.randint(1, len(rows)))]
+        lines += [
+            f" {column} {row} {number(chance)}"
+            for _, row in chance.sample(rows, chance.randint(1, len(rows)))
+        ]
     lines += [f" M{marks} 'MARKER' 'INTEND'"] if marks % 2 else []
-    lines += ["RHS", *(f" RHS {row} {number(chance)}" for _, row in rows if chance.random() < .6)]
-    ranges = [f" RNG {row} {number(chance)}" for kind, row in rows if kind != "N" and chance.random() < .3]
+    lines += ["RHS", *(f" RHS {row} {number(chance)}" for _, row in rows if chance.random() < 0.6)]
+    ranges = [
+        f" RNG {row} {number(chance)}"
+        for kind, row in rows
+        if kind != "N" and chance.random() < 0.3
+    ]
     lines += ["RANGES", *ranges] if ranges else []
-    bounds = [f" {kind} BND {column}" + (f" {number(chance)}" if kind in WITH_VALUE else "")
-              for column in columns for kind in chance.choice(TYPES).split()]
+    bounds = [
+        f" {kind} BND {column}" + (f" {number(chance)}" if kind in WITH_VALUE else "")
+        for column in columns
+        for kind in chance.choice(TYPES).split()
+    ]
     chance.shuffle(bounds)
     lines += ["BOUNDS", *bounds] if bounds else []
     return "\n".join([*lines, "ENDATA", ""]).encode()

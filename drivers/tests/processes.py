@@ -40,12 +40,18 @@ class Processes(Case):
         self.put(MODELS["knap"].text)
         self.mark = Path(self.folder, "started")
 
-    def started(self, solver: str, *words: str, command: str = "bridge-cbc") -> "subprocess.Popen[str]":
+    def started(
+        self, solver: str, *words: str, command: str = "bridge-cbc"
+    ) -> "subprocess.Popen[str]":
         """A command that goes on, whose solver has written its mark."""
         self.mark.unlink(missing_ok=True)
-        child = subprocess.Popen([sys.executable, os.path.join(BIN, command), self.stub, f"solver={solver}", *words],
-                                 stdout=subprocess.DEVNULL, stderr=subprocess.PIPE, text=True,
-                                 preexec_fn=lambda: signal.signal(signal.SIGINT, signal.SIG_DFL))
+        child = subprocess.Popen(
+            [sys.executable, os.path.join(BIN, command), self.stub, f"solver={solver}", *words],
+            stdout=subprocess.DEVNULL,
+            stderr=subprocess.PIPE,
+            text=True,
+            preexec_fn=lambda: signal.signal(signal.SIGINT, signal.SIG_DFL),
+        )
         for _ in range(1200):
             if self.mark.exists() and self.mark.stat().st_size:
                 break
@@ -57,13 +63,20 @@ class Processes(Case):
         slow = self.script("cbc", f"echo $$ >{self.mark}; exec sleep 60")
         self.put(b"older", ".certificate")
         for command, number, status, words in (
-                ("bridge-cbc", signal.SIGTERM, 143, ["-AMPL", "-e"]),
-                ("bridge-cbc", signal.SIGINT, 130, ["-AMPL", "-e"]), ("bridge-certify", signal.SIGINT, 130, [])):
+            ("bridge-cbc", signal.SIGTERM, 143, ["-AMPL", "-e"]),
+            ("bridge-cbc", signal.SIGINT, 130, ["-AMPL", "-e"]),
+            ("bridge-certify", signal.SIGINT, 130, []),
+        ):
             child = self.started(slow, *words, command=command)
             child.send_signal(number)
             _, err = child.communicate(timeout=60)
-            self.assertEqual((child.returncode, f"{command}: interrupted\n" in err), (status, True), err)
-            self.assertEqual((os.path.exists(self.stub + ".sol"), self.bytes_of(".certificate")), (False, b"older"))
+            self.assertEqual(
+                (child.returncode, f"{command}: interrupted\n" in err), (status, True), err
+            )
+            self.assertEqual(
+                (os.path.exists(self.stub + ".sol"), self.bytes_of(".certificate")),
+                (False, b"older"),
+            )
             self.assertRaises(ProcessLookupError, os.kill, int(self.mark.read_text()), 0)
 
     def test_an_interrupt_is_the_solvers_first(self) -> None:
@@ -88,17 +101,33 @@ class MiniZinc(Case):
         """A verdict only where it was not called with -v."""
         parent, path = (os.path.join(self.folder, name) for name in ("minizinc", "told"))
         os.symlink(os.path.realpath(sys.executable), parent)
-        for told, is_error, words in (("optimal 7", False, []), ("refused", True, []),
-                                      ("refused", True, ["-v"]), ("optimal 7", False, ["-v"])):
-            child = [sys.executable, "-c", f"from bridge_drivers import minizinc; minizinc.tell({told!r}, {is_error})"]
-            code = (f"import os, subprocess; os.write(2, b'before\\n'); subprocess.run({child!r}, "
-                    "stderr=subprocess.DEVNULL); os.write(2, b'%[NL DEBUG] SOLVED\\n')")
+        for told, is_error, words in (
+            ("optimal 7", False, []),
+            ("refused", True, []),
+            ("refused", True, ["-v"]),
+            ("optimal 7", False, ["-v"]),
+        ):
+            child = [
+                sys.executable,
+                "-c",
+                f"from bridge_drivers import minizinc; minizinc.tell({told!r}, {is_error})",
+            ]
+            code = (
+                f"import os, subprocess; os.write(2, b'before\\n'); subprocess.run({child!r}, "
+                "stderr=subprocess.DEVNULL); os.write(2, b'%[NL DEBUG] SOLVED\\n')"
+            )
             for mode in ("wb", "ab"):
                 Path(path).unlink(missing_ok=True)
                 with open(path, mode) as err:
-                    subprocess.run([parent, "-c", code, *words], stderr=err, check=True,
-                                   env={**os.environ, "PYTHONPATH": DRIVERS})
-                lines = [line.rstrip() for line in Path(path).read_text().split("\n") if line.strip()]
+                    subprocess.run(
+                        [parent, "-c", code, *words],
+                        stderr=err,
+                        check=True,
+                        env={**os.environ, "PYTHONPATH": DRIVERS},
+                    )
+                lines = [
+                    line.rstrip() for line in Path(path).read_text().split("\n") if line.strip()
+                ]
                 wanted = [f"% {told}"] if is_error or not words else []
                 self.assertEqual(sorted(lines), sorted(["before", "%[NL DEBUG] SOLVED", *wanted]))
 
@@ -110,8 +139,12 @@ class MiniZinc(Case):
         words = ["minizinc", "--solver", "bridge-cbc", "--nl-flags", "prove=1", str(source)]
         environment = {**os.environ, "MZN_SOLVER_PATH": os.path.join(DRIVERS, "minizinc")}
         with open(path, mode or "wb") as err:
-            done = subprocess.run(words, env=environment, stdout=subprocess.DEVNULL,
-                                  stderr=err if mode else subprocess.PIPE)
+            done = subprocess.run(
+                words,
+                env=environment,
+                stdout=subprocess.DEVNULL,
+                stderr=err if mode else subprocess.PIPE,
+            )
         lines = (done.stderr or path.read_bytes()).decode().split("\n")
         return done.returncode, [line for line in lines if "bridge-cbc: " in line]
 
@@ -120,8 +153,12 @@ class MiniZinc(Case):
     @unittest.skipUnless(shutil.which("minizinc"), "no minizinc")
     def test_lines(self) -> None:
         for mode in ("wb", "ab", ""):
-            told = self.told("var 0..7: x; var 0..5: y; constraint 3*x + 2*y <= 12; solve maximize x + y;", mode)
+            told = self.told(
+                "var 0..7: x; var 0..5: y; constraint 3*x + 2*y <= 12; solve maximize x + y;", mode
+            )
             self.assertEqual(told, (0, ["% bridge-cbc: optimal 5"]))
             status, lines = self.told("var 0.0..5.0: x; solve maximize x;", mode)
             self.assertEqual((status, len(lines)), (1, 1), lines)
-            self.assertRegex(lines[0], "^% bridge-cbc: .*: missing segment .*: add a constraint on two variables")
+            self.assertRegex(
+                lines[0], "^% bridge-cbc: .*: missing segment .*: add a constraint on two variables"
+            )

@@ -32,7 +32,9 @@ class Solves(Case):
     def command(self, solver: str, **words) -> "pulp_solver.BridgeCmd":
         return pulp_solver.BridgeCmd(os.path.join(BIN, "bridge-" + solver), msg=False, **words)
 
-    def solve(self, solver: str, problem: "pulp.LpProblem", status: str = "Optimal", **words) -> str:
+    def solve(
+        self, solver: str, problem: "pulp.LpProblem", status: str = "Optimal", **words
+    ) -> str:
         """The last line that is told."""
         command = self.command(solver, **words)
         command.tmpDir = self.folder
@@ -43,7 +45,9 @@ class Solves(Case):
     def test_linear(self) -> None:
         for solver in SOLVERS:
             x, y = pulp.LpVariable("x", 0), pulp.LpVariable("y", 0, 4)
-            problem = problem_of(3 * x + 2 * y + 5, (3 * x + y <= 10, "first"), (x + y <= 7, "second"), sense=-1)
+            problem = problem_of(
+                3 * x + 2 * y + 5, (3 * x + y <= 10, "first"), (x + y <= 7, "second"), sense=-1
+            )
             self.assertEqual(self.solve(solver, problem), "optimal 19")
             self.assertEqual((x.value(), y.value(), pulp.value(problem.objective)), (2, 4, 19))
             self.assertEqual([problem.constraints[n].pi for n in ("first", "second")], [1, 0])
@@ -73,11 +77,16 @@ class Solves(Case):
             problem += x + 2 * y <= 9, "room"
             self.solve(solver, problem)
             self.assertEqual([v.dj for v in (x, y)], [0.0, 0.0])
-            self.assertEqual({n: c.slack for n, c in problem.constraints.items()}, {"both": 0, "apart": 0, "room": 3.5})
+            self.assertEqual(
+                {n: c.slack for n, c in problem.constraints.items()},
+                {"both": 0, "apart": 0, "room": 3.5},
+            )
             problem += x <= 1
             self.solve(solver, problem, "Infeasible")
             self.assertEqual([(v.varValue, v.dj) for v in (x, y)], [(None, None)] * 2)
-            self.assertEqual({(c.slack, c.pi) for c in problem.constraints.values()}, {(None, None)})
+            self.assertEqual(
+                {(c.slack, c.pi) for c in problem.constraints.values()}, {(None, None)}
+            )
 
     def test_names_in_verdicts(self) -> None:
         """PuLP's own, also where the MPS file cannot have them."""
@@ -86,7 +95,9 @@ class Solves(Case):
             problem = problem_of(2 * x)
             problem.addConstraint(pulp.LpConstraint(2 * x, pulp.LpConstraintGE, name, 3))
             problem.constraints = {name: next(iter(problem.constraints.values()))}
-            self.assertEqual((self.solve(SOLVERS[0], problem, options=["outlev=0"]), x.value()), ("optimal 4", 2))
+            self.assertEqual(
+                (self.solve(SOLVERS[0], problem, options=["outlev=0"]), x.value()), ("optimal 4", 2)
+            )
             self.command(SOLVERS[0]).written(problem, self.stub)
             self.assertIn(f" G  {told}\n", Path(self.stub).read_text())
             os.unlink(self.stub)
@@ -95,8 +106,10 @@ class Solves(Case):
     def test_errors_in_words_of_pulp(self) -> None:
         x = pulp.LpVariable("x", 1, 5, pulp.LpInteger)
         problem = problem_of(2 * x)
-        with self.assertRaisesRegex(pulp.PulpSolverError, "takes no integer variables, and the "
-                                                          "model has 1; mip=False drops that"):
+        with self.assertRaisesRegex(
+            pulp.PulpSolverError,
+            "takes no integer variables, and the " "model has 1; mip=False drops that",
+        ):
             self.solve("clp", problem)
         self.assertEqual(self.solve("clp", problem, mip=False), "optimal 2")
         relaxed = problem_of(2 * x, (2 * x >= 3, "both"))
@@ -120,8 +133,10 @@ class Manners(unittest.TestCase):
     def test_completed(self) -> None:
         """The sense and the objective's constant are put back."""
         text = "*SENSE:Maximize\nNAME          MODEL\n{}ROWS\n N  OBJ\nCOLUMNS\nRHS\n{}BOUNDS\nENDATA\n".format
-        self.assertEqual(pulp_solver.completed(text("", ""), True, "OBJ", 2.5),
-                         text("OBJSENSE\n MAX\n", "    RHS       OBJ  -2.5\n"))
+        self.assertEqual(
+            pulp_solver.completed(text("", ""), True, "OBJ", 2.5),
+            text("OBJSENSE\n MAX\n", "    RHS       OBJ  -2.5\n"),
+        )
         self.assertEqual(pulp_solver.completed(text("", ""), False, "OBJ", 0), text("", ""))
 
     def test_empty_interval(self) -> None:
@@ -131,7 +146,10 @@ class Manners(unittest.TestCase):
             problem = problem_of(1 * pulp.LpVariable("x", low, high))
             problem.solve(command)
             self.assertEqual(pulp.LpStatus[problem.status], "Infeasible")
-            self.assertEqual(command.message, f"infeasible: x has the lower bound {low} and the upper bound {high}")
+            self.assertEqual(
+                command.message,
+                f"infeasible: x has the lower bound {low} and the upper bound {high}",
+            )
 
     def test_what_is_not_there(self) -> None:
         problem = problem_of(1 * pulp.LpVariable("x", 0, 1))
@@ -139,22 +157,55 @@ class Manners(unittest.TestCase):
             problem.solve(pulp_solver.BridgeCmd("/nonexistent", msg=False))
         self.assertFalse(pulp_solver.BridgeCmd("/nonexistent").available())
         for name in SOLVERS:
-            self.assertEqual(pulp_solver.BridgeCmd("/x/bridge-" + name).available(), shutil.which(name))
-        with self.assertRaisesRegex(pulp.PulpSolverError, "was not found: install it or give options=.'solver=PATH'."):
-            problem.solve(pulp_solver.BridgeCmd(msg=False, options=["solver=/no"], bridge="/bin/true"))
+            self.assertEqual(
+                pulp_solver.BridgeCmd("/x/bridge-" + name).available(), shutil.which(name)
+            )
+        with self.assertRaisesRegex(
+            pulp.PulpSolverError, "was not found: install it or give options=.'solver=PATH'."
+        ):
+            problem.solve(
+                pulp_solver.BridgeCmd(msg=False, options=["solver=/no"], bridge="/bin/true")
+            )
 
     def test_words(self) -> None:
-        command = pulp_solver.BridgeCmd("d", mip=False, timeLimit=2.5, gapRel=0.1, threads=3,
-                                        prove=True, options=["outlev=1"])
-        self.assertEqual(command.given(),
-                         {"format": "free", "prove": True, "relax": True, "timelim": 2.5,
-                          "mipgap": 0.1, "threads": 3, "outlev": "1"})
+        command = pulp_solver.BridgeCmd(
+            "d", mip=False, timeLimit=2.5, gapRel=0.1, threads=3, prove=True, options=["outlev=1"]
+        )
+        self.assertEqual(
+            command.given(),
+            {
+                "format": "free",
+                "prove": True,
+                "relax": True,
+                "timelim": 2.5,
+                "mipgap": 0.1,
+                "threads": 3,
+                "outlev": "1",
+            },
+        )
 
     def test_statuses(self) -> None:
         found, none = pulp.LpSolutionIntegerFeasible, pulp.LpSolutionNoSolutionFound
-        for last, solution in (("feasible 3", found), ("within 2 3", found), ("bound 3", none),
-                               ("not proved: time", none)):
+        for last, solution in (
+            ("feasible 3", found),
+            ("within 2 3", found),
+            ("bound 3", none),
+            ("not proved: time", none),
+        ):
             self.assertEqual(pulp_solver.statuses_of(100, last), (pulp.LpStatusNotSolved, solution))
-        told = {code: pulp.LpStatus[pulp_solver.statuses_of(code)[0]] for code in (0, 100, 200, 290, 300, 400, 450)}
-        self.assertEqual(told, {0: "Optimal", 100: "Not Solved", 200: "Infeasible",
-                                290: "Undefined", 300: "Unbounded", 400: "Not Solved", 450: "Not Solved"})
+        told = {
+            code: pulp.LpStatus[pulp_solver.statuses_of(code)[0]]
+            for code in (0, 100, 200, 290, 300, 400, 450)
+        }
+        self.assertEqual(
+            told,
+            {
+                0: "Optimal",
+                100: "Not Solved",
+                200: "Infeasible",
+                290: "Undefined",
+                300: "Unbounded",
+                400: "Not Solved",
+                450: "Not Solved",
+            },
+        )

@@ -14,8 +14,22 @@ from fractions import Fraction as F
 from pathlib import Path
 from typing import Any
 
-from support import DRIVERS, EXAMPLES, NEEDS_CLP, NEEDS_MPS, NEEDS_PROGRAM, PROGRAM, RULE, Case, bridge, content, \
-    ended, faults, needs, ran
+from support import (
+    DRIVERS,
+    EXAMPLES,
+    NEEDS_CLP,
+    NEEDS_MPS,
+    NEEDS_PROGRAM,
+    PROGRAM,
+    RULE,
+    Case,
+    bridge,
+    content,
+    ended,
+    faults,
+    needs,
+    ran,
+)
 from models import MODELS, rows_of, text_of as model_text
 
 import bridge_drivers
@@ -72,7 +86,9 @@ class Calls(Case):
             self.checked(explain("knap", "knap.certificate"))
             self.checked(figures("knap"))
         self.assertEqual((sorted(os.listdir(".")), out.getvalue()), (before, ""))
-        self.assertEqual((told.code, told.values, told.value), (0, {"a": "1", "b": "1", "z": "0"}, F(17)))
+        self.assertEqual(
+            (told.code, told.values, told.value), (0, {"a": "1", "b": "1", "z": "0"}, F(17))
+        )
         solve("knap", "cbc", wantsol=1)
         self.assertEqual(sorted(os.listdir(".")), sorted([*before, "knap.sol"]))
 
@@ -88,8 +104,10 @@ class Calls(Case):
         for call, kind, status, code in rows_of("python_calls"):
             name, *words = call.split()
             options = dict(word.split("=") for word in words if "=" in word)
-            with self.subTest(call=call), self.assertRaises(getattr(bridge_drivers, kind)) as caught:
-                getattr(bridge_drivers, name)(*words[:len(words) - len(options)], **options)
+            with self.subTest(call=call), self.assertRaises(
+                getattr(bridge_drivers, kind)
+            ) as caught:
+                getattr(bridge_drivers, name)(*words[: len(words) - len(options)], **options)
             fault = caught.exception
             self.assertEqual((str(fault.status), str(fault.code or "-")), (status, code), call)
             self.checked(fault.report)
@@ -97,6 +115,7 @@ class Calls(Case):
     def test_the_call_is_no_folder(self) -> None:
         """`certify` is a folder of modules, too, which must not take the call's place."""
         from bridge_drivers.certify import claims
+
         self.assertTrue(callable(bridge_drivers.certify) and claims)
         self.assertEqual(set(bridge_drivers.__all__) - set(dir(bridge_drivers)), set())
 
@@ -106,11 +125,21 @@ class Reports(unittest.TestCase):
         """The check itself finds what is wrong."""
         good = Report("c").object()
         self.assertEqual(faults(good, RULE), [])
-        for key, value in (("status", "0"), ("claim", "proved"), ("value", {"exact": "1"}),
-                           ("value", {"exact": "1.5", "double": 1.5}), ("lines", "x"),
-                           ("code", 600), ("sums", {}), ("other", 1), ("seconds", True)):
+        for key, value in (
+            ("status", "0"),
+            ("claim", "proved"),
+            ("value", {"exact": "1"}),
+            ("value", {"exact": "1.5", "double": 1.5}),
+            ("lines", "x"),
+            ("code", 600),
+            ("sums", {}),
+            ("other", 1),
+            ("seconds", True),
+        ):
             self.assertNotEqual(faults({**good, key: value}, RULE), [], key)
-        self.assertEqual(faults({k: v for k, v in good.items() if k != "bound"}, RULE), ["$ lacks bound"])
+        self.assertEqual(
+            faults({k: v for k, v in good.items() if k != "bound"}, RULE), ["$ lacks bound"]
+        )
 
     def test_numbers(self) -> None:
         self.assertEqual(interface.number(F(173, 4)), {"exact": "173/4", "double": 43.25})
@@ -120,10 +149,14 @@ class Reports(unittest.TestCase):
     def test_claims(self) -> None:
         told = Report("c")
         told.take_line("within 19 35/2 of objective 2")
-        self.assertEqual((told.claim, told.value, told.bound, told.objective), ("within", F(35, 2), F(19), 2))
+        self.assertEqual(
+            (told.claim, told.value, told.bound, told.objective), ("within", F(35, 2), F(19), 2)
+        )
         said = told.object()
-        self.assertEqual((said["claim"], said["objective"], said["value"]["exact"],
-                          said["bound"]["double"]), ("within", 2, "35/2", 19.0))
+        self.assertEqual(
+            (said["claim"], said["objective"], said["value"]["exact"], said["bound"]["double"]),
+            ("within", 2, "35/2", 19.0),
+        )
         self.assertEqual(faults(said, RULE), [])
 
 
@@ -136,24 +169,42 @@ class Objects(Case):
 
     def test_sums_and_the_program(self) -> None:
         shutil.copytree(EXAMPLES, self.folder, dirs_exist_ok=True)
-        model, certificate = (os.path.join(self.folder, "knap" + end) for end in (".nl", ".certificate"))
+        model, certificate = (
+            os.path.join(self.folder, "knap" + end) for end in (".nl", ".certificate")
+        )
         told = self.called("nl-bridge", "verify", model, certificate)
-        self.assertEqual((told["sums"]["program"], told["sums"]["certificate"]),
-                         (interface.sum_of(PROGRAM[0]), interface.sum_of(certificate)))
+        self.assertEqual(
+            (told["sums"]["program"], told["sums"]["certificate"]),
+            (interface.sum_of(PROGRAM[0]), interface.sum_of(certificate)),
+        )
         facts = built(PROGRAM[0])
         told = self.called("nl-bridge", "version")
-        self.assertEqual((told["program"], told["proved"]), (PROGRAM, facts["proved"] == "yes" if facts else None))
+        self.assertEqual(
+            (told["program"], told["proved"]),
+            (PROGRAM, facts["proved"] == "yes" if facts else None),
+        )
 
     @NEEDS_CLP
     def test_drivers(self) -> None:
         self.put(MODELS["knap"].text)
         self.put(b"a\nb\nz\n", ".col")
         for driver in ("cbc", "glpsol", "lp_solve"):
-            told = self.called("bridge-" + driver, self.stub, "-AMPL", "prove=1", "wantsol=2", "outlev=1",
-                               f"certificate={self.stub}.new", "overwrite=1")
+            told = self.called(
+                "bridge-" + driver,
+                self.stub,
+                "-AMPL",
+                "prove=1",
+                "wantsol=2",
+                "outlev=1",
+                f"certificate={self.stub}.new",
+                "overwrite=1",
+            )
             if told["code"] != 503:
                 self.assertEqual(told["values"], {"a": "1", "b": "1", "z": "0"})
-                self.assertEqual((told["code"], told["claim"], told["certificate"]), (0, "optimal", self.stub + ".new"))
+                self.assertEqual(
+                    (told["code"], told["claim"], told["certificate"]),
+                    (0, "optimal", self.stub + ".new"),
+                )
                 self.assertEqual(self.sol().message, told["lines"])
 
 
@@ -171,7 +222,7 @@ def certificate(words: str) -> bytes:
     if kind == "tree":
         depth, claim = rest.split(" ", 1)
         lines = ["duals 0"]
-        for level in reversed(range(int(depth))):       # all splits, with leaves without numbers
+        for level in reversed(range(int(depth))):  # all splits, with leaves without numbers
             lines = [f"split {level} 0", *lines, *lines]
         lines.insert(0, claim)
     return "\n".join(["certificate 1", *lines, ""]).encode()
@@ -179,13 +230,21 @@ def certificate(words: str) -> bytes:
 
 class Texts(Case):
     def test_reading(self) -> None:
-        (text, *nodes), = rows_of("explains", "nodes")
+        ((text, *nodes),) = rows_of("explains", "nodes")
         self.put(certificate(text), ".certificate")
         c = reading.read(self.stub + ".certificate")
         self.assertEqual((c.claim, c.objective, c.point, c.ray), ("optimal", 0, {1: F(1)}, None))
-        self.assertEqual([f"{n.kind} {n.line} {n.parent} {n.part} {n.depth} {n.leaf} {n.size} {n.leaves}"
-                          for n in c.nodes], nodes)
-        self.assertEqual((c.children(0), c.children(4), c.children(6), c.path(6)), ([1, 4], [5, 6], [], [0, 4, 6]))
+        self.assertEqual(
+            [
+                f"{n.kind} {n.line} {n.parent} {n.part} {n.depth} {n.leaf} {n.size} {n.leaves}"
+                for n in c.nodes
+            ],
+            nodes,
+        )
+        self.assertEqual(
+            (c.children(0), c.children(4), c.children(6), c.path(6)),
+            ([1, 4], [5, 6], [], [0, 4, 6]),
+        )
         self.assertEqual((c.nodes[5].pairs, c.place_of_leaf(3)), ([(0, ".5")], 6))
         self.put(certificate("bound 0 1 / split 0 0 / duals 0"), ".certificate")
         self.assertRaises(ValueError, reading.read, self.stub + ".certificate")
@@ -202,7 +261,12 @@ class Explained(Case):
         files = self.given(name, words)
         reply = bridge().call("verify", *files[:2])
         given = Source(files.model, files.model, self.stub)
-        return Explaining(Subject(bridge(), given, given.path), files, reply.out.decode().strip(), reply.status == 0)
+        return Explaining(
+            Subject(bridge(), given, given.path),
+            files,
+            reply.out.decode().strip(),
+            reply.status == 0,
+        )
 
     def test_lines(self) -> None:
         """Of each the model, names of variables, the certificate, the status, and lines in their order."""
@@ -229,10 +293,15 @@ class Explained(Case):
             if found is not None:
                 at = told.certificate.place_of_leaf(int(found[1]))
                 self.assertEqual(told.bounds.shown(at, told.bounds.part(at)), F(found[2]))
-            for one in page.sums(told.wording, [
-                    d.place for d in told.tree().drawn
-                    if told.certificate.nodes[d.place].is_leaf()]):
-                products = [F(line.split(")")[-1].split("=")[0].strip()) for line in one.lines if "\u00d7" in line]
+            for one in page.sums(
+                told.wording,
+                [d.place for d in told.tree().drawn if told.certificate.nodes[d.place].is_leaf()],
+            ):
+                products = [
+                    F(line.split(")")[-1].split("=")[0].strip())
+                    for line in one.lines
+                    if "\u00d7" in line
+                ]
                 total = told.bounds.shown(one.place, told.bounds.part(one.place))
                 self.assertEqual((sum(products), F(one.lines[-1].split("=")[0])), (total, total))
                 self.assertEqual(len({len(line) for line in one.lines}), 1)
@@ -240,8 +309,10 @@ class Explained(Case):
 
     def test_the_objective_by_its_name(self) -> None:
         """A plane on it, whatever it is multiplied by, and turned."""
-        for factor, low, high in ((1, "objective \u2264 16", "objective \u2265 17"),
-                                  (-1, "objective \u2265 -16", "objective \u2264 -17")):
+        for factor, low, high in (
+            (1, "objective \u2264 16", "objective \u2265 17"),
+            (-1, "objective \u2265 -16", "objective \u2264 -17"),
+        ):
             pairs = " / ".join(f"{j} {factor * a}" for j, a in enumerate((10, 7, 12)))
             told = self.object("knap", f"bound 0 17 / plane 3 16 / {pairs} / duals 0 / duals 0")
             parts = [part.part for part in told.tree().drawn]
@@ -251,12 +322,18 @@ class Explained(Case):
         told = self.object()
         root = xml.fromstring(told.picture())
         groups = root.findall(SVG + "g")
-        self.assertEqual([g.get("class") for g in groups],
-                         ["cut", "duals", "cut", "cut", "duals", "weights", "weights"])
-        self.assertEqual([[t.text for t in g.findall(SVG + "text")] for g in groups[:3]],
-                         [["6", "all points", "bound 17", "split x2"],
-                          ["7", "x2 \u2264 0", "bound 17", "closes by bounds alone"],
-                          ["8", "x2 \u2265 1", "bound 12", "split x0"]])
+        self.assertEqual(
+            [g.get("class") for g in groups],
+            ["cut", "duals", "cut", "cut", "duals", "weights", "weights"],
+        )
+        self.assertEqual(
+            [[t.text for t in g.findall(SVG + "text")] for g in groups[:3]],
+            [
+                ["6", "all points", "bound 17", "split x2"],
+                ["7", "x2 \u2264 0", "bound 17", "closes by bounds alone"],
+                ["8", "x2 \u2265 1", "bound 12", "split x0"],
+            ],
+        )
         self.assertEqual(len(root.findall(SVG + "path")), 6 + 1)
 
     def test_without_a_tree(self) -> None:
@@ -286,8 +363,14 @@ class Explained(Case):
     def test_all_that_do_not_close_are_marked(self) -> None:
         told = self.object("knap", "tree 3 bound 0 10")
         picture = Picture(told.wording, told.fails, told.holds)
-        self.assertEqual([picture.closes(at) for at, node in enumerate(told.certificate.nodes)
-                          if node.is_leaf()], [True, False, True, False, True, False, False, False])
+        self.assertEqual(
+            [
+                picture.closes(at)
+                for at, node in enumerate(told.certificate.nodes)
+                if node.is_leaf()
+            ],
+            [True, False, True, False, True, False, False, False],
+        )
 
     def test_names_are_escaped(self) -> None:
         self.put(b"<b>&\n\x1b[31mb\nz\n", ".col")
@@ -305,16 +388,30 @@ class Explained(Case):
         told = self.object("wide", "tree 9 bound 0 40")
         page = told.page()
         self.assertNotRegex(page, r"""(?i)<script|<link|<img|url\(|src=|href=""")
-        probe = ("<script>document.title = [document.documentElement.scrollWidth <= innerWidth, "
-                 "[...document.querySelectorAll('pre')].filter(it => it.scrollWidth <= it.clientWidth).length, "
-                 "document.querySelectorAll('svg rect').length, "
-                 "document.querySelector('.fails rect').getBoundingClientRect().width > 100, "
-                 "innerWidth].join(' ')</script></body>")
+        probe = (
+            "<script>document.title = [document.documentElement.scrollWidth <= innerWidth, "
+            "[...document.querySelectorAll('pre')].filter(it => it.scrollWidth <= it.clientWidth).length, "
+            "document.querySelectorAll('svg rect').length, "
+            "document.querySelector('.fails rect').getBoundingClientRect().width > 100, "
+            "innerWidth].join(' ')</script></body>"
+        )
         self.put(page.replace("</body>", probe).encode(), ".html")
         boxes, blocks = page.count("<rect "), page.count("<pre ")
         self.assertGreater(blocks, 1)
         for width in (1280, 500):
-            done = ended([BROWSER, "--headless=new", "--no-sandbox", "--disable-gpu", f"--window-size={width},900",
-                          f"--user-data-dir={self.folder}/profile", "--dump-dom", f"file://{self.stub}.html"],
-                         timeout=120)
-            self.assertIn(f"<title>true {blocks} {boxes} true {width}</title>", done.stdout, done.stderr)
+            done = ended(
+                [
+                    BROWSER,
+                    "--headless=new",
+                    "--no-sandbox",
+                    "--disable-gpu",
+                    f"--window-size={width},900",
+                    f"--user-data-dir={self.folder}/profile",
+                    "--dump-dom",
+                    f"file://{self.stub}.html",
+                ],
+                timeout=120,
+            )
+            self.assertIn(
+                f"<title>true {blocks} {boxes} true {width}</title>", done.stdout, done.stderr
+            )

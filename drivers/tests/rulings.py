@@ -15,8 +15,19 @@ STOPPED, EITHER = Code.LIMIT_WITH_POINT, Code.INFEASIBLE_OR_UNBOUNDED
 INFEASIBLE, UNBOUNDED = Code.INFEASIBLE, Code.UNBOUNDED
 SAID = (SOLVED, UNSURE, STOPPED, LIMIT, INFEASIBLE, EITHER, UNBOUNDED)
 CLAIMS = ("", "optimal", "within", "feasible", "bound", "infeasible", "unbounded")
-FLAGS = ("linear", "is_gap", "mended", "closes", "within_gap", "is_beyond", "contradicted",
-         "by_doubles", "is_open", "checked", "strict")
+FLAGS = (
+    "linear",
+    "is_gap",
+    "mended",
+    "closes",
+    "within_gap",
+    "is_beyond",
+    "contradicted",
+    "by_doubles",
+    "is_open",
+    "checked",
+    "strict",
+)
 
 
 def all_of_them() -> Iterator[Found]:
@@ -36,8 +47,10 @@ class Rules(unittest.TestCase):
             earned = got.code == SOLVED
             # what is proved is never lost, and nothing else has its code
             if f.claim in FINAL:
-                self.assertEqual(got.code, {"optimal": SOLVED, "infeasible": INFEASIBLE,
-                                            "unbounded": UNBOUNDED}[f.claim])
+                self.assertEqual(
+                    got.code,
+                    {"optimal": SOLVED, "infeasible": INFEASIBLE, "unbounded": UNBOUNDED}[f.claim],
+                )
             elif f.strict:
                 self.assertEqual(got.code, UNSURE)
             # code 0 of a linear program: a point and a bound stand together
@@ -65,30 +78,39 @@ class Rules(unittest.TestCase):
     def test_each(self) -> None:
         proved, own, away = At.PROVED, At.ANSWER, "the bound that is proved is away from it"
         for found, code, at, lacks in (
-                (Found(SOLVED, "within", True, closes=True), SOLVED, proved, ""),
-                (Found(SOLVED, "within", True), UNSURE, proved, away),
-                (Found(SOLVED, "feasible", True), UNSURE, proved, NO_BOUND),
-                (Found(SOLVED, "feasible", True, by_doubles=True), SOLVED, proved, ""),
-                (Found(SOLVED, "bound", True, closes=True), SOLVED, own, ""),
-                (Found(SOLVED, "bound", True), UNSURE, own, away),
-                (Found(SOLVED, "bound", True, closes=True, misses=Misses.LITTLE), UNSURE, own,
-                 "no exact point is near it"),
-                (Found(SOLVED, "", True, by_doubles=True), SOLVED, own, ""),
-                (Found(SOLVED, "", True), UNSURE, own, NO_BOUND),
-                (Found(SOLVED, "", True, checked=False), SOLVED, own, ""),
-                (Found(SOLVED, "feasible"), SOLVED, proved, ""),
-                (Found(SOLVED, "feasible", is_open=True), UNSURE, proved, NO_BOUND),
-                (Found(SOLVED, "within", is_open=True), SOLVED, proved, ""),
-                (Found(SOLVED, "feasible", kind="a better"), UNSURE, proved, ""),
-                (Found(SOLVED, "within", mended=True), UNSURE, proved,
-                 "its digits are not those of an exact point"),
-                (Found(SOLVED), UNSURE, own, "no exact point has its whole values"),
-                (Found(UNSURE, "within", is_gap=True, within_gap=True), SOLVED, proved, ""),
-                (Found(UNSURE, "within", is_gap=True), UNSURE, proved, "the gap is not proved"),
-                (Found(STOPPED, misses=Misses.MUCH), LIMIT, At.NONE, ""),
-                (Found(LIMIT, "feasible"), STOPPED, proved, ""),
-                (Found(UNBOUNDED, "bound"), LIMIT, At.NONE, ""),
-                (Found(INFEASIBLE, "feasible", kind="a"), UNSURE, proved, "")):
+            (Found(SOLVED, "within", True, closes=True), SOLVED, proved, ""),
+            (Found(SOLVED, "within", True), UNSURE, proved, away),
+            (Found(SOLVED, "feasible", True), UNSURE, proved, NO_BOUND),
+            (Found(SOLVED, "feasible", True, by_doubles=True), SOLVED, proved, ""),
+            (Found(SOLVED, "bound", True, closes=True), SOLVED, own, ""),
+            (Found(SOLVED, "bound", True), UNSURE, own, away),
+            (
+                Found(SOLVED, "bound", True, closes=True, misses=Misses.LITTLE),
+                UNSURE,
+                own,
+                "no exact point is near it",
+            ),
+            (Found(SOLVED, "", True, by_doubles=True), SOLVED, own, ""),
+            (Found(SOLVED, "", True), UNSURE, own, NO_BOUND),
+            (Found(SOLVED, "", True, checked=False), SOLVED, own, ""),
+            (Found(SOLVED, "feasible"), SOLVED, proved, ""),
+            (Found(SOLVED, "feasible", is_open=True), UNSURE, proved, NO_BOUND),
+            (Found(SOLVED, "within", is_open=True), SOLVED, proved, ""),
+            (Found(SOLVED, "feasible", kind="a better"), UNSURE, proved, ""),
+            (
+                Found(SOLVED, "within", mended=True),
+                UNSURE,
+                proved,
+                "its digits are not those of an exact point",
+            ),
+            (Found(SOLVED), UNSURE, own, "no exact point has its whole values"),
+            (Found(UNSURE, "within", is_gap=True, within_gap=True), SOLVED, proved, ""),
+            (Found(UNSURE, "within", is_gap=True), UNSURE, proved, "the gap is not proved"),
+            (Found(STOPPED, misses=Misses.MUCH), LIMIT, At.NONE, ""),
+            (Found(LIMIT, "feasible"), STOPPED, proved, ""),
+            (Found(UNBOUNDED, "bound"), LIMIT, At.NONE, ""),
+            (Found(INFEASIBLE, "feasible", kind="a"), UNSURE, proved, ""),
+        ):
             self.assertEqual(ruled(found), Ruling(code, at, lacks), found)
 
 

@@ -22,20 +22,42 @@ import unittest
 import zipfile
 from pathlib import Path
 
-from support import BIN, DRIVERS, EXAMPLES, NEEDS_CLP, NEEDS_MPS, NEEDS_PROGRAM, PROGRAM, TOP, Case, Ended, driven, \
-    ended, needs, paths_of
+from support import (
+    BIN,
+    DRIVERS,
+    EXAMPLES,
+    NEEDS_CLP,
+    NEEDS_MPS,
+    NEEDS_PROGRAM,
+    PROGRAM,
+    TOP,
+    Case,
+    Ended,
+    driven,
+    ended,
+    needs,
+    paths_of,
+)
 
 from bridge_drivers import VERSION, commands, front, solvers
 from bridge_drivers.certify.command import OPTIONS
 from bridge_drivers.codes import STATUSES, Status
 from bridge_drivers.options import COMMON
 
-DOCUMENTS = ("README.md", "drivers/README.md", "drivers/SYSTEMS.md", "drivers/REPORT.md",
-             "drivers/SEARCH.md", "docs/user/commands.md", "docs/user/formats.md", "docs/user/refusals.md")
+DOCUMENTS = (
+    "README.md",
+    "drivers/README.md",
+    "drivers/SYSTEMS.md",
+    "drivers/REPORT.md",
+    "drivers/SEARCH.md",
+    "docs/user/commands.md",
+    "docs/user/formats.md",
+    "docs/user/refusals.md",
+)
 BLOCK = re.compile(r"(?ms)^(?:<!-- not run: ([^\n]+) -->\n)?```(\w*)\n(.*?)^```$")
 VERDICT = re.compile(r"#\s+((?:optimal|within|feasible|bound) [\d/ -]+|infeasible|unbounded)$")
 STATUS = re.compile(r"# status (\d+)$")
-COMMANDS = ("bridge", "nl-bridge", "drivers/install")      # the words that ours begin with
+COMMANDS = ("bridge", "nl-bridge", "drivers/install")  # the words that ours begin with
 MINIZINC = os.path.join(DRIVERS, "minizinc")
 SCRIPTS = ("acceptance", "bench", "dev", "drivers", "packaging")
 IS_NEW = sys.version_info >= (3, 11)
@@ -68,7 +90,9 @@ class Tables(unittest.TestCase):
 
     def test_commands(self) -> None:
         cells = re.findall(r"(?m)^\| `[^|]*", text_of("docs/user/commands.md"))
-        self.assertEqual({c.word for c in front.COMMANDS}, set(re.findall(r"`([a-z_]+) [A-Z]", "".join(cells))))
+        self.assertEqual(
+            {c.word for c in front.COMMANDS}, set(re.findall(r"`([a-z_]+) [A-Z]", "".join(cells)))
+        )
 
     def test_names_of_commands(self) -> None:
         """Each has its file in bin/, and starts a function that is there; MiniZinc's configurations name some."""
@@ -85,7 +109,12 @@ class Tables(unittest.TestCase):
 
     def test_scripts(self) -> None:
         """What can be called in a clone tells what it is, on standard output."""
-        files = [path for folder in SCRIPTS for path in sorted(Path(TOP, folder).iterdir()) if path.is_file()]
+        files = [
+            path
+            for folder in SCRIPTS
+            for path in sorted(Path(TOP, folder).iterdir())
+            if path.is_file()
+        ]
         found = [path for path in files if path.read_bytes().startswith(b"#!")]
         self.assertEqual(found, [path for path in files if os.access(path, os.X_OK)])
         self.assertEqual({path.parent.name for path in found}, set(SCRIPTS))
@@ -111,8 +140,14 @@ class Commands(Case):
         shutil.copytree(EXAMPLES, self.folder, dirs_exist_ok=True)
         for name in ("drivers", "dev"):
             os.symlink(os.path.join(TOP, name), os.path.join(self.folder, name))
-        self.environment = {**os.environ, "HOME": self.folder, "BRIDGE": PROGRAM[0], "PYTHONPATH": DRIVERS,
-                            "MZN_SOLVER_PATH": MINIZINC, "PATH": BIN + os.pathsep + os.environ["PATH"]}
+        self.environment = {
+            **os.environ,
+            "HOME": self.folder,
+            "BRIDGE": PROGRAM[0],
+            "PYTHONPATH": DRIVERS,
+            "MZN_SOLVER_PATH": MINIZINC,
+            "PATH": BIN + os.pathsep + os.environ["PATH"],
+        }
 
     def called(self, command: str) -> Ended:
         return ended(["bash", "-c", command], cwd=self.folder, env=self.environment)
@@ -120,14 +155,20 @@ class Commands(Case):
     def lacks(self, command: str) -> bool:
         words = command.split()
         first = next((w for w in words if "=" not in w and w != "env"), "")
-        return first == "minizinc" and not shutil.which(first) or "menu.py" in words and \
-            self.called("python3 -c 'import pulp'").returncode != 0
+        return (
+            first == "minizinc"
+            and not shutil.which(first)
+            or "menu.py" in words
+            and self.called("python3 -c 'import pulp'").returncode != 0
+        )
 
     def transcript(self, name: str, text: str) -> None:
         for command, told in re.findall(r"(?m)^\$ (.*)\n((?:(?!\$ ).*\n)*)", text):
             if not self.lacks(command):
                 done = self.called(command)
-                self.assertEqual(plain(done.stdout + done.stderr), plain(told), f"{name}: {command}")
+                self.assertEqual(
+                    plain(done.stdout + done.stderr), plain(told), f"{name}: {command}"
+                )
 
     def shell(self, name: str, text: str) -> None:
         for line in filter(None, text.split("\n")):
@@ -135,7 +176,9 @@ class Commands(Case):
                 continue
             done = self.called(line)
             status, verdict = STATUS.search(line), VERDICT.search(line)
-            self.assertEqual(done.returncode, int(status[1]) if status else 0, f"{name}: {line}\n{done.stderr}")
+            self.assertEqual(
+                done.returncode, int(status[1]) if status else 0, f"{name}: {line}\n{done.stderr}"
+            )
             if verdict:
                 self.assertIn(verdict[1], done.stdout.rstrip("\n").split("\n"), f"{name}: {line}")
 
@@ -148,7 +191,11 @@ class Commands(Case):
             elif kind == "sh":
                 self.shell(name, text)
             else:
-                ours = [line for line in text.split("\n") if line.startswith(COMMANDS) and ":" not in line.split()[0]]
+                ours = [
+                    line
+                    for line in text.split("\n")
+                    if line.startswith(COMMANDS) and ":" not in line.split()[0]
+                ]
                 self.assertEqual(ours, [], f"{name}: neither run nor marked")
 
 
@@ -169,8 +216,18 @@ class Installing(Case):
             command, *words = json.loads(path.read_text())["executable"]
             self.assertTrue(os.access(command, os.X_OK), command)
             self.assertEqual(words, ["failexit=1", "shortest=1"])
-        done = driven("cbc", self.stub, "-AMPL", "solver=/bin/true", "outlev=2", place=str(prefix / "bin"), BRIDGE="")
-        self.assertIn(str(prefix / "lib" / "bridge-drivers" / "bin" / "bridge"), done.stdout.replace("'", ""))
+        done = driven(
+            "cbc",
+            self.stub,
+            "-AMPL",
+            "solver=/bin/true",
+            "outlev=2",
+            place=str(prefix / "bin"),
+            BRIDGE="",
+        )
+        self.assertIn(
+            str(prefix / "lib" / "bridge-drivers" / "bin" / "bridge"), done.stdout.replace("'", "")
+        )
 
 
 @unittest.skipUnless(CAN_BUILD, "no dpkg-deb, no program, or a Python before 3.11")
@@ -178,25 +235,46 @@ class Built(Case):
     def setUp(self) -> None:
         super().setUp()
         self.out = Path(self.folder, "out")
-        done = ended([sys.executable, os.path.join(TOP, "packaging", "build"), str(self.out), "--program", PROGRAM[0]])
+        done = ended(
+            [
+                sys.executable,
+                os.path.join(TOP, "packaging", "build"),
+                str(self.out),
+                "--program",
+                PROGRAM[0],
+            ]
+        )
         self.assertEqual(done.returncode, 0, done.stderr)
         self.deb, self.wheel = (str(self.out / name) for name in done.stdout.split()[:2])
 
     def test_contents(self) -> None:
         """Sums that pass, and tell that of the program; fields of both packages; no error of
         lintian, where it is there."""
-        self.assertEqual(ended(["sha256sum", "--quiet", "-c", "SHA256SUMS"], cwd=self.out), (0, "", ""))
+        self.assertEqual(
+            ended(["sha256sum", "--quiet", "-c", "SHA256SUMS"], cwd=self.out), (0, "", "")
+        )
         own = hashlib.sha256(Path(PROGRAM[0]).read_bytes()).hexdigest()
-        self.assertTrue((self.out / "SHA256SUMS").read_text().startswith(f"# {own}  bridge, the program in them\n"))
+        self.assertTrue(
+            (self.out / "SHA256SUMS")
+            .read_text()
+            .startswith(f"# {own}  bridge, the program in them\n")
+        )
         told = ended(["dpkg-deb", "-f", self.deb]).stdout
-        for pattern in (r"(?m)^Depends: .*\bcoinor-libclp1\b", "Description: UNPROVED bridge",
-                        "no gate has proved the program", r"(?m)^Recommends: .*\bcoinor-cbc\b",
-                        r"(?m)^Suggests: .*\bminizinc, python3-pulp\b"):
+        for pattern in (
+            r"(?m)^Depends: .*\bcoinor-libclp1\b",
+            "Description: UNPROVED bridge",
+            "no gate has proved the program",
+            r"(?m)^Recommends: .*\bcoinor-cbc\b",
+            r"(?m)^Suggests: .*\bminizinc, python3-pulp\b",
+        ):
             self.assertRegex(told, pattern)
         self.assertNotIn("is proved", told)
         with zipfile.ZipFile(self.wheel) as z:
             facts = next(name for name in z.namelist() if name.endswith(".dist-info/METADATA"))
-            self.assertIn("Provides-Extra: pulp\nRequires-Dist: pulp; extra == 'pulp'\n", z.read(facts).decode())
+            self.assertIn(
+                "Provides-Extra: pulp\nRequires-Dist: pulp; extra == 'pulp'\n",
+                z.read(facts).decode(),
+            )
         if shutil.which("lintian"):
             linted = ended(["lintian", "--allow-root", "--fail-on", "error,warning", self.deb])
             self.assertEqual((linted.returncode, linted.stdout), (0, ""))
@@ -221,7 +299,15 @@ class Links(unittest.TestCase):
     def test_dead_links(self) -> None:
         sys.path.append(os.path.join(TOP, "packaging"))
         from contents import File, dead_links
-        documents = [File("README.md", b"[a](docs/user/) [b](docs/user/x.md#part) [c](gone.md) "
-                                       b"[d](https://x.example/y)"),
-                     File("docs/user/x.md", b"[up](../../README.md) [e](#here) [f](../gone.md)")]
-        self.assertEqual(dead_links(documents), ["gone.md (README.md)", "../gone.md (docs/user/x.md)"])
+
+        documents = [
+            File(
+                "README.md",
+                b"[a](docs/user/) [b](docs/user/x.md#part) [c](gone.md) "
+                b"[d](https://x.example/y)",
+            ),
+            File("docs/user/x.md", b"[up](../../README.md) [e](#here) [f](../gone.md)"),
+        ]
+        self.assertEqual(
+            dead_links(documents), ["gone.md (README.md)", "../gone.md (docs/user/x.md)"]
+        )

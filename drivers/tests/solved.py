@@ -7,7 +7,19 @@ from fractions import Fraction as F
 from typing import Callable
 from unittest import mock
 
-from support import CHECKED, FIRST, HAS_CLP, LAST_LINE, NEEDS_PROGRAM, Case, Ended, Sol, driven, ended, needs
+from support import (
+    CHECKED,
+    FIRST,
+    HAS_CLP,
+    LAST_LINE,
+    NEEDS_PROGRAM,
+    Case,
+    Ended,
+    Sol,
+    driven,
+    ended,
+    needs,
+)
 from bridge_drivers import certificates, solvers
 from bridge_drivers.answer import Answer
 from bridge_drivers.certify.claims import Verdict
@@ -20,13 +32,20 @@ from models import FAR, FOLDER, MODELS, is_solved, rows_of
 import misled
 import stored
 
-LOOSE = ("lp_solve",)           # prints six digits
-CLOSE = F(1, 10 ** 6)
-EACH_MISLED = 1                 # models of a kind
-WHOLE = b"NAME nl\nOBJSENSE\n MAX\nROWS\n N obj\n L c0\nCOLUMNS\n M0 'MARKER' 'INTORG'\n" \
-        b" x0 obj 1\n x0 c0 1\n M1 'MARKER' 'INTEND'\nRHS\n RHS c0 9\nENDATA\n"
-PROGRAMS = {"whole": WHOLE, "small": WHOLE.replace(b"x0 obj 1", b"x0 obj 1e-9"),
-            "linear": WHOLE.replace(b" M0 'MARKER' 'INTORG'\n", b"").replace(b" M1 'MARKER' 'INTEND'\n", b"")}
+LOOSE = ("lp_solve",)  # prints six digits
+CLOSE = F(1, 10**6)
+EACH_MISLED = 1  # models of a kind
+WHOLE = (
+    b"NAME nl\nOBJSENSE\n MAX\nROWS\n N obj\n L c0\nCOLUMNS\n M0 'MARKER' 'INTORG'\n"
+    b" x0 obj 1\n x0 c0 1\n M1 'MARKER' 'INTEND'\nRHS\n RHS c0 9\nENDATA\n"
+)
+PROGRAMS = {
+    "whole": WHOLE,
+    "small": WHOLE.replace(b"x0 obj 1", b"x0 obj 1e-9"),
+    "linear": WHOLE.replace(b" M0 'MARKER' 'INTORG'\n", b"").replace(
+        b" M1 'MARKER' 'INTEND'\n", b""
+    ),
+}
 
 
 class Judging(Case):
@@ -56,14 +75,20 @@ class Judging(Case):
     def judge_numbers(self, driver: str, name: str, sol: Sol) -> None:
         model = MODELS[name]
         if model.objective is not None:
-            self.near([F(re.search(r"; objective (\S+)", sol.text).group(1))], [model.objective], sol,
-                      max(1, abs(model.objective)))
+            self.near(
+                [F(re.search(r"; objective (\S+)", sol.text).group(1))],
+                [model.objective],
+                sol,
+                max(1, abs(model.objective)),
+            )
         if model.duals is not None:
             self.near(sol.duals, model.duals, sol)
         if model.costs is not None and driver not in LOOSE:
             costs = sol.suffixes.get((0, "rc"), {})
             places = range(len(sol.values))
-            self.near([costs.get(j, F(0)) for j in places], [model.costs.get(j, 0) for j in places], sol)
+            self.near(
+                [costs.get(j, F(0)) for j in places], [model.costs.get(j, 0) for j in places], sol
+            )
 
     def near(self, got: list, wanted: list, sol: Sol, size: "int | F" = 1) -> None:
         self.assertEqual(len(got), len(wanted))
@@ -81,7 +106,7 @@ class Judging(Case):
         self.assertIn(word, ("optimal",) if model.linear else ("optimal", "feasible"), sol.text)
         self.assertEqual(F(value), model.objective or 0)
         if "no decimal" not in sol.text:
-            told = next(m for m in sol.message if m.startswith(CHECKED))[len(CHECKED):]
+            told = next(m for m in sol.message if m.startswith(CHECKED))[len(CHECKED) :]
             self.assertTrue(told.startswith("yes" if model.linear else "feasible"), sol.text)
 
 
@@ -90,9 +115,19 @@ class StoredRuns(Judging):
     def test_all(self) -> None:
         for driver in solvers.NAMES:
             runs = stored.runs(driver)
-            self.assertLessEqual({n for n in MODELS if is_solved(n) and MODELS[n].linear}, set(runs), driver)
-            for name in [*runs, *(n for n in MODELS if not is_solved(n) or not MODELS[n].linear
-                                  and not solvers.load(driver).integers)]:
+            self.assertLessEqual(
+                {n for n in MODELS if is_solved(n) and MODELS[n].linear}, set(runs), driver
+            )
+            for name in [
+                *runs,
+                *(
+                    n
+                    for n in MODELS
+                    if not is_solved(n)
+                    or not MODELS[n].linear
+                    and not solvers.load(driver).integers
+                ),
+            ]:
                 with self.subTest(driver=driver, model=name):
                     self.put(MODELS[name].text)
                     done = self.replay(driver, name, self.stub, "-AMPL", *MODELS[name].options)
@@ -101,7 +136,9 @@ class StoredRuns(Judging):
 
     def test_reduced_costs(self) -> None:
         """Those that duals of a certificate leave."""
-        program = Program(b"NAME nl\nROWS\n N obj\n L c0\nCOLUMNS\n x0 obj 2\n x0 c0 3\n x1 c0 -1\nENDATA\n")
+        program = Program(
+            b"NAME nl\nROWS\n N obj\n L c0\nCOLUMNS\n x0 obj 2\n x0 c0 3\n x1 c0 -1\nENDATA\n"
+        )
         answer = Answer(program, Outcome(Code.SOLVED, "", {"x0": 0, "x1": 0}), Options())
         moved = answer.at([0, 0], {"c0": F(1, 2)}, Code.SOLVED, False)
         self.assertEqual(moved.costs, {"x0": "0.5", "x1": "0.5"})
@@ -139,7 +176,7 @@ class EndToEnd(Judging):
         solver = solvers.load(driver)
         for name, text in FAR.items():
             self.driven(driver, text, "-AMPL", "-e")
-            size, sol = 10 ** 29 if name == "near" else 10 ** 30, self.sol()
+            size, sol = 10**29 if name == "near" else 10**30, self.sol()
             if sol.code != 505:
                 is_told = bool(solver.infinite) and float(solver.infinite) <= float(size)
                 self.assertEqual("may take for none" in sol.text, is_told, sol.text)
@@ -151,15 +188,18 @@ class EndToEnd(Judging):
             if not misled.takes(driver, model):
                 continue
             with self.subTest(model=model.name):
-                with mock.patch.object(certificates, "ONE_LEAF", 30.0):     # a busy machine
+                with mock.patch.object(certificates, "ONE_LEAF", 30.0):  # a busy machine
                     found = misled.judged(self.folder, driver, model, ["timelim=10"])
                 self.assertEqual((found.wrong, found.lost), ("", ""), found.code)
 
 
 def add(method: str, *words: str, wanted: tuple = ()) -> None:
     """A test of a driver, which is skipped where something is lacking."""
-    setattr(EndToEnd, "_".join(("test", method, *words)), needs("program", words[0], *wanted)(
-        lambda self: getattr(self, method)(*words)))
+    setattr(
+        EndToEnd,
+        "_".join(("test", method, *words)),
+        needs("program", words[0], *wanted)(lambda self: getattr(self, method)(*words)),
+    )
 
 
 for DRIVER in solvers.NAMES:
@@ -175,11 +215,17 @@ class Table(Case):
 
     def settled(self, program: str, code: str, value: str, gap: str, line: str) -> Settled:
         """The answer's value is `-` where it has none; the claim's is its last word, but of a bound."""
-        outcome = Outcome(Code[code], "told", None if value == "-" else {"x0": float(value)}, is_gap=bool(gap))
+        outcome = Outcome(
+            Code[code], "told", None if value == "-" else {"x0": float(value)}, is_gap=bool(gap)
+        )
         at = None if line.startswith(("bound", "not")) else F(line.split()[-1])
-        point = None if at is None else [at * 10 ** 9 if program == "small" else at]
+        point = None if at is None else [at * 10**9 if program == "small" else at]
         verdict = Verdict(line, point, None if line.startswith("not") else "kept", "", at)
-        return settled(Answer(Program(PROGRAMS[program]), outcome, Options()), verdict, Facts(gap=float(gap or 0)))
+        return settled(
+            Answer(Program(PROGRAMS[program]), outcome, Options()),
+            verdict,
+            Facts(gap=float(gap or 0)),
+        )
 
     def test_table(self) -> None:
         for row in rows_of("settled"):
@@ -187,18 +233,24 @@ class Table(Case):
             values, passed = found.answer.values, found.answer.outcome.code
             told = found.code.name, found.kind, found.text or "", found.lacks
             self.assertEqual(told, (code, kind, words, lacks), row)
-            self.assertEqual((passed.name, values), (code, None if value == "-" else {"x0": value}), row)
+            self.assertEqual(
+                (passed.name, values), (code, None if value == "-" else {"x0": value}), row
+            )
 
 
 class Calls(Case):
     """The rows of one kind of a table, the first of which is `needs`, are a test. It says what has to be there, and
-    behind that the drivers, where the rows are gone through for others than the first. A failing row is told."""
+    behind that the drivers, where the rows are gone through for others than the first. A failing row is told.
+    """
 
 
-def test_of(table: str, kind: str, wanted: str = "", drivers: str = FIRST) -> Callable[[Case], None]:
+def test_of(
+    table: str, kind: str, wanted: str = "", drivers: str = FIRST
+) -> Callable[[Case], None]:
     def test(self: Case) -> None:
         for driver in drivers.split() or [""]:
             self.calls(table, kind, driver)
+
     return needs(*wanted.split())(test)
 
 

@@ -24,10 +24,10 @@ from typing import NamedTuple, Sequence, Union
 HERE = os.path.dirname(os.path.abspath(__file__))
 sys.path[:0] = [os.path.join(HERE, ".."), HERE]
 
-from bridge_drivers import solvers                                      # noqa: E402
-from bridge_drivers.codes import Status                                 # noqa: E402
-from bridge_drivers.job import ANSWERS                                  # noqa: E402
-from families import BINARY, drawn, listed, program                     # noqa: E402
+from bridge_drivers import solvers  # noqa: E402
+from bridge_drivers.codes import Status  # noqa: E402
+from bridge_drivers.job import ANSWERS  # noqa: E402
+from families import BINARY, drawn, listed, program  # noqa: E402
 from models import MODELS, is_solved, real, rows_of  # noqa: E402
 
 FOLDER = Path(HERE, "stored")
@@ -56,9 +56,18 @@ class Stopped(NamedTuple):
         return program([kind] * columns, sides, listed(drawn(rnd, columns, 10, 99)), "max")
 
 
-STOPPED = {name: Stopped(name, driver, [*map(int, size.split())], list(filter(None, [options])),
-                         [*map(int, codes.split())], told, float(*seconds or ["0"]))
-           for name, driver, size, options, codes, told, *seconds in rows_of("statuses")}
+STOPPED = {
+    name: Stopped(
+        name,
+        driver,
+        [*map(int, size.split())],
+        list(filter(None, [options])),
+        [*map(int, codes.split())],
+        told,
+        float(*seconds or ["0"]),
+    )
+    for name, driver, size, options, codes, told, *seconds in rows_of("statuses")
+}
 
 
 def runs(driver: str) -> dict:
@@ -83,7 +92,11 @@ def put(files: dict[str, Content], folder: str, start: str = "") -> None:
     """Writes the files whose names begin with `start`."""
     for name, stored in files.items():
         if name.startswith(start):
-            data = base64.b64decode(stored) if isinstance(stored, str) else "\n".join(stored).encode("ascii")
+            data = (
+                base64.b64decode(stored)
+                if isinstance(stored, str)
+                else "\n".join(stored).encode("ascii")
+            )
             Path(folder, name).write_bytes(data)
 
 
@@ -93,34 +106,57 @@ def run(driver: str, text: bytes, options: Sequence[str], interrupt: float = 0.0
         stub, kept = os.path.join(folder, "stub"), Path(folder, "kept")
         Path(stub + ".nl").write_bytes(text)
         command = os.path.join(HERE, "..", "bin", "bridge-" + driver)
-        child = subprocess.Popen([sys.executable, command, stub, "-AMPL", "-e", f"keep={kept}", *options],
-                                 stdout=subprocess.DEVNULL)
+        child = subprocess.Popen(
+            [sys.executable, command, stub, "-AMPL", "-e", f"keep={kept}", *options],
+            stdout=subprocess.DEVNULL,
+        )
         if interrupt:
             time.sleep(interrupt)
             child.send_signal(signal.SIGINT)
         if child.wait() not in (0, Status.INTERRUPTED if interrupt else 0):
             sys.exit(f"{driver}: status {child.returncode}")
         data = {path.name: path.read_bytes() for path in sorted(kept.iterdir())}
-    logs = {name: log.decode("utf-8", "replace").split("\n") for name, log in data.items() if name.endswith(".log")}
-    files = {name: content(answer) for name, answer in data.items()
-             if name.startswith(ANSWERS) and not name.endswith((".mps", ".log"))}
-    return {"options": list(options), "logs": logs, "files": files, **({"interrupted": True} if interrupt else {})}
+    logs = {
+        name: log.decode("utf-8", "replace").split("\n")
+        for name, log in data.items()
+        if name.endswith(".log")
+    }
+    files = {
+        name: content(answer)
+        for name, answer in data.items()
+        if name.startswith(ANSWERS) and not name.endswith((".mps", ".log"))
+    }
+    return {
+        "options": list(options),
+        "logs": logs,
+        "files": files,
+        **({"interrupted": True} if interrupt else {}),
+    }
 
 
 def main() -> None:
     wanted = sys.argv[1:] or [*solvers.NAMES, "statuses"]
     if "statuses" in wanted:
         names = [name for name in STOPPED if name in wanted]
-        new = {name: run(one.driver, one.text(), one.options, one.interrupt)
-               for name, one in STOPPED.items() if name in (names or STOPPED)}
+        new = {
+            name: run(one.driver, one.text(), one.options, one.interrupt)
+            for name, one in STOPPED.items()
+            if name in (names or STOPPED)
+        }
         save("statuses", {**(runs("statuses") if names else {}), **new})
     for driver in (name for name in wanted if name in solvers.NAMES):
         solver = solvers.load(driver)
         if solver.place() is None:
             print(f"{driver}: not installed, its stored runs stay")
             continue
-        save(driver, {name: run(driver, model.text, model.options) for name, model in MODELS.items()
-                      if is_solved(name) and (model.linear or solver.integers)})
+        save(
+            driver,
+            {
+                name: run(driver, model.text, model.options)
+                for name, model in MODELS.items()
+                if is_solved(name) and (model.linear or solver.integers)
+            },
+        )
 
 
 if __name__ == "__main__":

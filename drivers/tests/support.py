@@ -29,27 +29,55 @@ TOP = os.path.join(DRIVERS, "..")
 EXAMPLES = os.path.join(TOP, "packaging", "examples")
 sys.path[:0] = [os.path.join(HERE, ".."), HERE]
 
-from bridge_drivers import VERSION, solvers             # noqa: E402
-from bridge_drivers.bridge import BESIDE, Bridge, Reply, find   # noqa: E402
-from bridge_drivers.certify import clp, simplex         # noqa: E402
-from bridge_drivers.driver import Driver                # noqa: E402
-from bridge_drivers.job import LOG, Job, Ran            # noqa: E402
-from bridge_drivers.solving import Solving              # noqa: E402
+from bridge_drivers import VERSION, solvers  # noqa: E402
+from bridge_drivers.bridge import BESIDE, Bridge, Reply, find  # noqa: E402
+from bridge_drivers.certify import clp, simplex  # noqa: E402
+from bridge_drivers.driver import Driver  # noqa: E402
+from bridge_drivers.job import LOG, Job, Ran  # noqa: E402
+from bridge_drivers.solving import Solving  # noqa: E402
 from models import MODELS, MPS, rows_of  # noqa: E402
-import stored                                           # noqa: E402
+import stored  # noqa: E402
 
-LAST_LINE = re.compile(r"(not proved: .|infeasible$|(unbounded|(optimal|feasible|bound) \S+"
-                       r"|within \S+ \S+)( of objective [1-9]\d*)?$)")
+LAST_LINE = re.compile(
+    r"(not proved: .|infeasible$|(unbounded|(optimal|feasible|bound) \S+"
+    r"|within \S+ \S+)( of objective [1-9]\d*)?$)"
+)
 # the codes that CODES.md lets stand above a last line, by its first word
-ALLOWED = {word: set(map(int, re.findall(r"\b(?:0|[1-4]\d0)\b", codes))) for word, codes in
-           re.findall(r"^\| `(\w+).* \| (.*) \|$", Path(DRIVERS, "CODES.md").read_text(), re.M)}
+ALLOWED = {
+    word: set(map(int, re.findall(r"\b(?:0|[1-4]\d0)\b", codes)))
+    for word, codes in re.findall(
+        r"^\| `(\w+).* \| (.*) \|$", Path(DRIVERS, "CODES.md").read_text(), re.M
+    )
+}
 CHECKED = "bridge check of the .sol: "
 PROGRAM = find("", BESIDE) if os.environ.get("BRIDGE") else []
 RULE: dict[str, Any] = json.loads(Path(DRIVERS, "report.schema.json").read_text(encoding="ascii"))
-TYPES = {"null": type(None), "string": str, "integer": int, "number": (int, float), "array": list,
-         "object": dict, "boolean": bool}
-KNOWN = {"type", "enum", "anyOf", "required", "additionalProperties", "properties", "items",
-         "minimum", "maximum", "minItems", "maxItems", "pattern", "description", "title", "$schema"}
+TYPES = {
+    "null": type(None),
+    "string": str,
+    "integer": int,
+    "number": (int, float),
+    "array": list,
+    "object": dict,
+    "boolean": bool,
+}
+KNOWN = {
+    "type",
+    "enum",
+    "anyOf",
+    "required",
+    "additionalProperties",
+    "properties",
+    "items",
+    "minimum",
+    "maximum",
+    "minItems",
+    "maxItems",
+    "pattern",
+    "description",
+    "title",
+    "$schema",
+}
 
 
 def bridge(program: Sequence[str] = PROGRAM) -> Bridge:
@@ -70,24 +98,32 @@ def called(run: Callable[[], int]) -> Ended:
 
 
 def ended(words: Sequence[str], **others: Any) -> Ended:
-    done = subprocess.run(words, **{"stdin": subprocess.DEVNULL, "capture_output": True, "text": True, **others})
+    done = subprocess.run(
+        words, **{"stdin": subprocess.DEVNULL, "capture_output": True, "text": True, **others}
+    )
     return Ended(done.returncode, done.stdout, done.stderr)
 
 
 def knows(command: str) -> bool:
     """Whether the program is there and knows the command: then it misses the files."""
     try:
-        return bool(PROGRAM) and ended([*PROGRAM, command, "/nonexistent", "/nonexistent"]).returncode == 4
+        return (
+            bool(PROGRAM)
+            and ended([*PROGRAM, command, "/nonexistent", "/nonexistent"]).returncode == 4
+        )
     except OSError:
         return False
 
 
 HAS_CLP = clp.library() is not None
 FIRST = next((name for name in solvers.NAMES if solvers.load(name).place()), "")
-LACKS = {"program": "" if knows("verify") else "no bridge that knows `verify`",
-         "mps": "" if knows("verify_mps") else "no bridge that knows `verify_mps`",
-         "clp": "" if HAS_CLP else "no library of CLP", "solver": "" if FIRST else "no solver",
-         **{name: "" if solvers.load(name).place() else f"no {name}" for name in solvers.NAMES}}
+LACKS = {
+    "program": "" if knows("verify") else "no bridge that knows `verify`",
+    "mps": "" if knows("verify_mps") else "no bridge that knows `verify_mps`",
+    "clp": "" if HAS_CLP else "no library of CLP",
+    "solver": "" if FIRST else "no solver",
+    **{name: "" if solvers.load(name).place() else f"no {name}" for name in solvers.NAMES},
+}
 
 
 def needs(*words: str) -> Callable[[Any], Any]:
@@ -98,21 +134,36 @@ def needs(*words: str) -> Callable[[Any], Any]:
 NEEDS_PROGRAM, NEEDS_MPS, NEEDS_CLP = needs("program"), needs("mps"), needs("clp")
 
 
-def ran(command: str, *words: str, place: str = BIN, given: str = os.devnull, folder: str = ".",
-        **environment: str) -> Ended:
+def ran(
+    command: str,
+    *words: str,
+    place: str = BIN,
+    given: str = os.devnull,
+    folder: str = ".",
+    **environment: str,
+) -> Ended:
     """How a command as a process of its own ended; a file is given to it."""
     with open(given, "rb") as stream:
-        return ended([sys.executable, os.path.join(place, command), *words], stdin=stream, cwd=folder,
-                     env={**os.environ, **environment})
+        return ended(
+            [sys.executable, os.path.join(place, command), *words],
+            stdin=stream,
+            cwd=folder,
+            env={**os.environ, **environment},
+        )
 
 
 def content(words: str, *changes: str) -> bytes:
     """Of a file of a table: a text, `model NAME`, `mps NAME`, `example NAME`, `file NAME`, packed, or cut; then what
     stands in it elsewise, `OLD => NEW`."""
     kind, _, name = words.partition(" ")
-    made = {"cut": lambda: content(name)[:60], "gzip": lambda: gzip.compress(content(name)),
-            "example": lambda: Path(EXAMPLES, name).read_bytes(), "file": lambda: Path(HERE, name).read_bytes(),
-            "mps": lambda: MPS[name].text.encode(), "model": lambda: MODELS[name].text}
+    made = {
+        "cut": lambda: content(name)[:60],
+        "gzip": lambda: gzip.compress(content(name)),
+        "example": lambda: Path(EXAMPLES, name).read_bytes(),
+        "file": lambda: Path(HERE, name).read_bytes(),
+        "mps": lambda: MPS[name].text.encode(),
+        "model": lambda: MODELS[name].text,
+    }
     text = made[kind]() if kind in made else words.encode("latin-1")
     for old, new in (change.encode().split(b" => ") for change in changes):
         text = text.replace(old, new)
@@ -147,12 +198,13 @@ class Sol:
 
     def __init__(self, path: str) -> None:
         lines = Path(path).read_text(encoding="utf-8", errors="surrogateescape").split("\n")
-        self.message = lines[:lines.index("")]
+        self.message = lines[: lines.index("")]
         self.text = "\n".join(self.message)
-        rest = iter(lines[len(self.message) + 1:])
+        rest = iter(lines[len(self.message) + 1 :])
 
         def take(count: "int | str") -> list[str]:
             return list(itertools.islice(rest, int(count)))
+
         assert next(rest) == "Options", lines
         take(next(rest))
         m, y, n, x = map(int, take(4))
@@ -224,14 +276,20 @@ def faults(value: Any, rule: dict[str, Any], place: str = "$") -> list[str]:
     assert set(rule) <= KNOWN, rule
     kinds = rule.get("type", list(TYPES))
     kinds = [kinds] if isinstance(kinds, str) else kinds
-    if not any(isinstance(value, TYPES[k]) and not (isinstance(value, bool) and k != "boolean") for k in kinds):
+    if not any(
+        isinstance(value, TYPES[k]) and not (isinstance(value, bool) and k != "boolean")
+        for k in kinds
+    ):
         return [f"{place} is {value!r}"]
     is_number = isinstance(value, (int, float)) and not isinstance(value, bool)
-    wrong = ["enum" in rule and value not in rule["enum"],
-             "anyOf" in rule and all(faults(value, one, place) for one in rule["anyOf"]),
-             isinstance(value, str) and not re.search(rule.get("pattern", ""), value),
-             is_number and not rule.get("minimum", value) <= value <= rule.get("maximum", value),
-             isinstance(value, list) and not rule.get("minItems", 0) <= len(value) <= rule.get("maxItems", len(value))]
+    wrong = [
+        "enum" in rule and value not in rule["enum"],
+        "anyOf" in rule and all(faults(value, one, place) for one in rule["anyOf"]),
+        isinstance(value, str) and not re.search(rule.get("pattern", ""), value),
+        is_number and not rule.get("minimum", value) <= value <= rule.get("maximum", value),
+        isinstance(value, list)
+        and not rule.get("minItems", 0) <= len(value) <= rule.get("maxItems", len(value)),
+    ]
     told = [f"{place} is {value!r}"] if any(wrong) else []
     if isinstance(value, list):
         for k, one in enumerate(value):
@@ -240,7 +298,9 @@ def faults(value: Any, rule: dict[str, Any], place: str = "$") -> list[str]:
         told += [f"{place} lacks {key}" for key in rule.get("required", ()) if key not in value]
         for key, one in value.items():
             known = rule.get("properties", {}).get(key, rule.get("additionalProperties", {}))
-            told += [f"{place} has {key}"] if known is False else faults(one, known, f"{place}.{key}")
+            told += (
+                [f"{place} has {key}"] if known is False else faults(one, known, f"{place}.{key}")
+            )
     return told
 
 
@@ -271,8 +331,14 @@ class Case(unittest.TestCase):
         self.assertTrue(sol.is_allowed(), sol.text)
         return sol
 
-    def replay(self, driver: str, name: str, *words: str, run: dict | None = None,
-               environment: dict[str, str] | None = None) -> Ended:
+    def replay(
+        self,
+        driver: str,
+        name: str,
+        *words: str,
+        run: dict | None = None,
+        environment: dict[str, str] | None = None,
+    ) -> Ended:
         """A driver in this process, whose solver answers as it did for the named model. The environment may say:
         `answer`, what stands elsewise in the answer (`changed`); `says`, a command of `bridge` with the status and text
         that it ends with; `without`, what is not there: clp, or both searches."""
@@ -280,20 +346,32 @@ class Case(unittest.TestCase):
         run = run or stored.runs(driver).get(name, {"files": {}, "logs": {}})
         Replay.run_of = changed(run, told.pop("answer")) if "answer" in told else run
         command, status, text = [*told.pop("says", " 0 ").split(" ", 2)]
-        reply = Reply(int(status), text.encode() + b"\n", "") if int(status) < 2 else Reply(int(status), b"", text)
+        reply = (
+            Reply(int(status), text.encode() + b"\n", "")
+            if int(status) < 2
+            else Reply(int(status), b"", text)
+        )
         without = told.pop("without", "")
         is_small = (lambda p: False) if without == "search" else simplex.is_small
-        with mock.patch("shutil.which", lambda name, **_: "/stored/" + name), mock.patch.dict(os.environ, told), \
-                mock.patch.dict(Injected.says, {command: lambda text: reply} if command else {}), \
-                mock.patch.object(clp, "LOADED", [None] if without else clp.LOADED), \
-                mock.patch.object(simplex, "is_small", is_small):
+        with mock.patch("shutil.which", lambda name, **_: "/stored/" + name), mock.patch.dict(
+            os.environ, told
+        ), mock.patch.dict(
+            Injected.says, {command: lambda text: reply} if command else {}
+        ), mock.patch.object(
+            clp, "LOADED", [None] if without else clp.LOADED
+        ), mock.patch.object(
+            simplex, "is_small", is_small
+        ):
             return called(lambda: OfflineDriver(driver).main(list(words)))
 
     def calls(self, table: str, kind: str, driver: str = FIRST) -> None:
         """The rows of a table behind `needs`: `put` with a file and its content, `link` with two files, `remove`, or a
-        call with its status and what comes of it. DIR is the folder of the test, `m` a model in it, DRIVER a driver."""
+        call with its status and what comes of it. DIR is the folder of the test, `m` a model in it, DRIVER a driver.
+        """
         for row in rows_of(table, kind)[1:]:
-            first, second, *rest = (cell.replace("DRIVER", driver).replace("VERSION", VERSION) for cell in row)
+            first, second, *rest = (
+                cell.replace("DRIVER", driver).replace("VERSION", VERSION) for cell in row
+            )
             path = Path(self.spelled(second))
             if first == "remove":
                 path.unlink()
@@ -332,16 +410,25 @@ class Case(unittest.TestCase):
             return self.replay(*words[1:], environment=environment)
         if words[0] == "sh":
             path = os.pathsep.join([BIN, os.path.dirname(sys.executable), os.environ["PATH"]])
-            return ended(["bash", "-c", words[1]], cwd=self.folder, env={**os.environ, "PATH": path, **environment})
-        if "/" in words[0]:             # of a clone
+            return ended(
+                ["bash", "-c", words[1]],
+                cwd=self.folder,
+                env={**os.environ, "PATH": path, **environment},
+            )
+        if "/" in words[0]:  # of a clone
             words[0] = os.path.join("..", "..", words[0])
         given = words.pop() if "<" in words else os.devnull
-        return ran(*(word for word in words if word != "<"), given=given, folder=self.folder, **environment)
+        return ran(
+            *(word for word in words if word != "<"), given=given, folder=self.folder, **environment
+        )
 
     def is_report(self, ended: Ended, command: str) -> dict:
         """What is printed, which is as its schema wants it; a refusal stands on standard error, too."""
         found: dict = self.as_schema(json.loads(ended.stdout))
-        self.assertEqual((found["status"], found["command"], found["version"]), (ended.returncode, command, VERSION))
+        self.assertEqual(
+            (found["status"], found["command"], found["version"]),
+            (ended.returncode, command, VERSION),
+        )
         if ended.returncode in (2, 3, 4):
             self.assertTrue(ended.stderr.rstrip().endswith(found["text"]), ended.stderr)
         return found
@@ -359,20 +446,27 @@ class Case(unittest.TestCase):
         kind, _, rest = told.partition(": ")
         path, _, wanted = rest.partition(" ")
         file = Path(self.spelled(path))
-        holds = {"code": lambda: self.sol().code == int(rest), "last": lambda: self.sol().message[-1] == rest,
-                 "line": lambda: rest in self.sol().message, "like": lambda: re.search(rest, self.sol().text),
-                 "unlike": lambda: not re.search(rest, self.sol().text),
-                 "values": lambda: [str(float(x)) for x in self.sol().values] == rest.split(),
-                 "duals": lambda: [str(float(y)) for y in self.sol().duals] == rest.split(),
-                 "no": lambda: not file.exists(), "there": file.exists,
-                 "file": lambda: file.read_bytes() == content(wanted),
-                 "in": lambda: self.spelled(wanted) in file.read_text(),
-                 "lacks": lambda: self.spelled(wanted) not in file.read_text(),
-                 "called": lambda: rest in " ".join(Replay.argv).replace(self.folder, "DIR"),
-                 "same": lambda: file.read_bytes() == Path(self.spelled(wanted)).read_bytes(),
-                 "tree": lambda: paths_of(self.folder) == set(rest.split()), "all": lambda: text == rest,
-                 "ends": lambda: text.endswith(rest), "not": lambda: rest not in text,
-                 "prints": lambda: re.search(rest, text)}
+        holds = {
+            "code": lambda: self.sol().code == int(rest),
+            "last": lambda: self.sol().message[-1] == rest,
+            "line": lambda: rest in self.sol().message,
+            "like": lambda: re.search(rest, self.sol().text),
+            "unlike": lambda: not re.search(rest, self.sol().text),
+            "values": lambda: [str(float(x)) for x in self.sol().values] == rest.split(),
+            "duals": lambda: [str(float(y)) for y in self.sol().duals] == rest.split(),
+            "no": lambda: not file.exists(),
+            "there": file.exists,
+            "file": lambda: file.read_bytes() == content(wanted),
+            "in": lambda: self.spelled(wanted) in file.read_text(),
+            "lacks": lambda: self.spelled(wanted) not in file.read_text(),
+            "called": lambda: rest in " ".join(Replay.argv).replace(self.folder, "DIR"),
+            "same": lambda: file.read_bytes() == Path(self.spelled(wanted)).read_bytes(),
+            "tree": lambda: paths_of(self.folder) == set(rest.split()),
+            "all": lambda: text == rest,
+            "ends": lambda: text.endswith(rest),
+            "not": lambda: rest not in text,
+            "prints": lambda: re.search(rest, text),
+        }
         if not holds.get(kind, lambda: told in text)():
             sol = Path(self.stub + ".sol")
             self.fail(f"{told}\n{text}" + (sol.read_text(errors="replace") if sol.exists() else ""))

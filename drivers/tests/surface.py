@@ -32,9 +32,11 @@ _nl_bridge 2>/dev/null
 printf '%s\\n' "${{COMPREPLY[@]}}"
 """
 HEAD = b"g3 1 1 0\n 3 1 1 0 0\n" + b" 0 0\n" * 8
-PRODUCT = HEAD + (b"C0\no54\n3\no2\nn5\nv1\no2\nv0\no0\nv1\nn3\nv2\nO0 0\nn0\nr\n1 4\nb\n0 0 1\n0 0 1\n0 0 1\n")
+PRODUCT = HEAD + (
+    b"C0\no54\n3\no2\nn5\nv1\no2\nv0\no0\nv1\nn3\nv2\nO0 0\nn0\nr\n1 4\nb\n0 0 1\n0 0 1\n0 0 1\n"
+)
 NONLINEAR = "line 17: nonlinear"
-WORKED = ("refusals", "export")     # the second has what is wide
+WORKED = ("refusals", "export")  # the second has what is wide
 
 
 class Help(unittest.TestCase):
@@ -48,23 +50,38 @@ class Help(unittest.TestCase):
     def test_of_each_word(self) -> None:
         """In three ways the same, with an example that is a call of it."""
         for word in set(commands.WORDS) - {"help"}:
-            out = self.same(*(called(lambda: front.command(call)) for call in (
-                ["help", word], [word, "--help"], [word, "-h"], [word, "x", "json=1", "-h"])))
+            out = self.same(
+                *(
+                    called(lambda: front.command(call))
+                    for call in (
+                        ["help", word],
+                        [word, "--help"],
+                        [word, "-h"],
+                        [word, "x", "json=1", "-h"],
+                    )
+                )
+            )
             self.assertTrue(out.startswith("usage: nl-bridge "), out)
             for line in re.findall(r"(?m)^example: nl-bridge (.*)$", out):
                 self.assertEqual(line.split()[0], word)
                 front.read(line.split())
             self.assertLessEqual(max(map(len, out.split("\n"))), 100)
-        ways = (called(lambda: front.command([word])) for word in ("help", "-h", "-?", "--help", "-="))
+        ways = (
+            called(lambda: front.command([word])) for word in ("help", "-h", "-?", "--help", "-=")
+        )
         self.assertEqual(self.same(*ways), commands.usage())
         self.assertEqual(called(lambda: front.command([])), (3, "", commands.usage()))
 
     def test_of_each_driver(self) -> None:
         for name in (*solvers.NAMES, "certify"):
             driver = Command("cbc") if name == "certify" else Driver(name)
-            out = self.same(*(called(lambda: driver.main(call)) for call in (
-                ["-h"], ["--help"], ["help"], ["knap", "timelim=9", "-?"])),
-                called(lambda: front.command(["help", "bridge-" + name])))
+            out = self.same(
+                *(
+                    called(lambda: driver.main(call))
+                    for call in (["-h"], ["--help"], ["help"], ["knap", "timelim=9", "-?"])
+                ),
+                called(lambda: front.command(["help", "bridge-" + name])),
+            )
             example = out.rstrip("\n").split("\n")[-1]
             self.assertTrue(example.startswith(f"example: bridge-{name} "), example)
             driver.options.take(example.split()[3:])
@@ -94,7 +111,11 @@ class Words(unittest.TestCase):
 
     def test_options_of_each_driver(self) -> None:
         """bridge-certify takes them, too; a default is in its range, and what is not is told with what is."""
-        every = [(name, option) for name in solvers.NAMES for option in Driver(name).options.known.values()]
+        every = [
+            (name, option)
+            for name in solvers.NAMES
+            for option in Driver(name).options.known.values()
+        ]
         for name, option in every:
             Command(name).options.find(option.name)
             if option.default != "":
@@ -107,26 +128,43 @@ class Words(unittest.TestCase):
         self.assertEqual(str(Option("x", 0, int, "").kind), "a whole number from 0 on")
 
     def test_any_order(self) -> None:
-        for call in ("knap -AMPL prove=1 timelim 3 -e", "prove=1 knap -AMPL timelim 3 -e",
-                     "-AMPL -e prove=1 timelim=3 -- knap", "prove = 1 timelim= 3 -e -AMPL knap",
-                     "-prove 1 -AMPL --timelim =3 -e knap"):
+        for call in (
+            "knap -AMPL prove=1 timelim 3 -e",
+            "prove=1 knap -AMPL timelim 3 -e",
+            "-AMPL -e prove=1 timelim=3 -- knap",
+            "prove = 1 timelim= 3 -e -AMPL knap",
+            "-prove 1 -AMPL --timelim =3 -e knap",
+        ):
             found, options = words_of(call.split()), Options()
             options.take(found.options)
-            self.assertEqual((found.stub, found.ampl, found.echo, found.save, options.prove,
-                              options.timelim), ("knap", True, False, False, 1, 3.0), call)
+            self.assertEqual(
+                (found.stub, found.ampl, found.echo, found.save, options.prove, options.timelim),
+                ("knap", True, False, False, 1, 3.0),
+                call,
+            )
         for call, stub in (("-- -x=1", "-x=1"), ("-", "-"), ("./a=b", "./a=b")):
             self.assertEqual(words_of(call.split()).stub, stub)
 
     def test_any_order_of_the_front(self) -> None:
         wanted = front.Call("explain", ["m", "c"], False, True, {"svg": "s"})
-        for call in ("explain m c --svg s json=1", "json=1 --svg=s explain m c", "explain json=1 m --svg s -- c"):
+        for call in (
+            "explain m c --svg s json=1",
+            "json=1 --svg=s explain m c",
+            "explain json=1 m --svg s -- c",
+        ):
             self.assertEqual(front.read(call.split()), wanted)
         self.assertEqual(front.read(["export", "--", "-x"]).rest, ["-x"])
         self.assertEqual(front.read(["export", "-"]).rest, ["-"])
         found = front.read("--svg=s explain m --html h -- -c".split())
         self.assertEqual((found.rest, found.pages), (["m", "-c"], {"html": "h", "svg": "s"}))
-        for bad in ("export m -x", "export m json=1", "stats m --html=h", "explain m c --pdf x",
-                    "explain m c --html", "verify m c --html x"):
+        for bad in (
+            "export m -x",
+            "export m json=1",
+            "stats m --html=h",
+            "explain m c --pdf x",
+            "explain m c --html",
+            "verify m c --html x",
+        ):
             self.assertRaises(front.BadWords, front.read, bad.split())
         for bad in ("explain", "explain m c d"):
             self.assertRaises(front.BadWords, front.done, front.read(bad.split()))
@@ -162,9 +200,14 @@ class Completion(Case):
 
     def test_fish(self) -> None:
         rows = rows_of("completions", "fish")
-        code = f"source {self.path}; " + "; ".join(f"complete -C '{call}'; echo END" for call, _ in rows)
-        status, out, err = ended(["fish", "--no-config", "-c", code], cwd=self.folder,
-                                 env={**os.environ, "HOME": self.folder})
+        code = f"source {self.path}; " + "; ".join(
+            f"complete -C '{call}'; echo END" for call, _ in rows
+        )
+        status, out, err = ended(
+            ["fish", "--no-config", "-c", code],
+            cwd=self.folder,
+            env={**os.environ, "HOME": self.folder},
+        )
         answers = [re.findall(r"(?m)^[^\t\n]+", part) for part in out.split("END\n")[:-1]]
         self.assertEqual((answers, err), ([wanted.split() for _, wanted in rows], ""))
 
@@ -174,8 +217,11 @@ class Completion(Case):
         if child == 0:
             os.execvpe("zsh", ["zsh", "-f", "-i"], {**os.environ, "TERM": "dumb"})
         try:
-            os.write(terminal, f"PS1='> '; fpath=({self.folder} $fpath); autoload -Uz compinit; "
-                               f"compinit -u -d {self.folder}/dump; print rea''dy\n".encode())
+            os.write(
+                terminal,
+                f"PS1='> '; fpath=({self.folder} $fpath); autoload -Uz compinit; "
+                f"compinit -u -d {self.folder}/dump; print rea''dy\n".encode(),
+            )
             seen(terminal, "ready")
             for typed, answer in rows_of("completions", "zsh"):
                 os.write(terminal, f"{typed}\t".encode())
@@ -210,7 +256,9 @@ class Expressions(Case):
         for text, words, *more in rows_of("refusals", "expression"):
             columns, mark = (int(more[k]) if k < len(more) else -k for k in (0, 1))
             self.assertEqual(in_words(text, Names("", columns) if columns else None, mark), words)
-        self.assertEqual(in_words("o54 1000 " + " ".join(terms)), "(x0 + x1 + x2 + x3 + x4 + x5 + ..)")
+        self.assertEqual(
+            in_words("o54 1000 " + " ".join(terms)), "(x0 + x1 + x2 + x3 + x4 + x5 + ..)"
+        )
         self.assertIn(" + >>(x7 * x8)<< + ..", in_words("o54 1000 " + " ".join(marked), mark=502))
         lines = [b"f0 2\t#gamma\n", b"v0 # speed of sound\n", b"h3:abc\n"]
         self.assertEqual(expression(lines, Names("")), "gamma(speed of sound, 'abc')")
@@ -232,34 +280,52 @@ class Refusals(Case):
         self.nl = self.stub + ".nl"
 
     def line(self, told: str, *words: str, shown: str = "m.nl") -> str:
-        return explaining.in_words(words or ("export", self.nl), "refused " + told, {self.nl: shown})
+        return explaining.in_words(
+            words or ("export", self.nl), "refused " + told, {self.nl: shown}
+        )
 
     def test_lines(self) -> None:
         """Expressions, places, and the files of the words, among which a fault is counted."""
         for words, told, line in rows_of("refusals", "line"):
             self.assertEqual(self.line(told, *words.replace("NL", self.nl).split()), line)
-        for number, place in ((2, "header"), (23, "objective 0"), (26, "constraint 0"),
-                              (25, "sides of constraints"), (29, "variable 1"), (27, "bounds")):
+        for number, place in (
+            (2, "header"),
+            (23, "objective 0"),
+            (26, "constraint 0"),
+            (25, "sides of constraints"),
+            (29, "variable 1"),
+            (27, "bounds"),
+        ):
             self.assertIn(f"m.nl line {number}: {place}: ", self.line(f"line {number}: x"))
         self.put(PRODUCT.replace(b"o2\nv0", b"o6\nv0"))
-        self.assertEqual(self.line("line 17: refused opcode 6"),
-                         "m.nl line 17: constraint 0: less(x0, (x1 + 3)) is not linear (refused opcode 6)")
+        self.assertEqual(
+            self.line("line 17: refused opcode 6"),
+            "m.nl line 17: constraint 0: less(x0, (x1 + 3)) is not linear (refused opcode 6)",
+        )
         self.put(b"NAME\nROWS\n")
-        self.assertEqual(self.line("line 1: bad first line"),
-                         "m.nl line 1: bad first line: it is an MPS file: `bridge-certify m.nl` "
-                         "and the drivers take it, `nl-bridge import m.nl m-2.nl` makes m-2.nl of it")
+        self.assertEqual(
+            self.line("line 1: bad first line"),
+            "m.nl line 1: bad first line: it is an MPS file: `bridge-certify m.nl` "
+            "and the drivers take it, `nl-bridge import m.nl m-2.nl` makes m-2.nl of it",
+        )
 
     def test_names_beside_the_model(self) -> None:
         self.put(b"Cap\nProfit\n", ".row")
         self.put(b"a\nb\n\nz\n", ".col")
-        self.assertEqual(self.line(NONLINEAR, shown=self.nl),
-                         self.nl + " line 17: constraint 0 (Cap): (a * (b + 3)) is nonlinear")
-        self.assertIn(".nl: objective 0 (Profit): objective too wide (",
-                      self.line("objective 0: objective too wide", shown=self.nl))
+        self.assertEqual(
+            self.line(NONLINEAR, shown=self.nl),
+            self.nl + " line 17: constraint 0 (Cap): (a * (b + 3)) is nonlinear",
+        )
+        self.assertIn(
+            ".nl: objective 0 (Profit): objective too wide (",
+            self.line("objective 0: objective too wide", shown=self.nl),
+        )
 
     def test_input_faults(self) -> None:
         missing = os.path.join(self.folder, "missing.sol")
-        fault = Refused("check", Reply(4, b"", "input fault"), ["check", self.nl, missing], {missing: "x.sol"})
+        fault = Refused(
+            "check", Reply(4, b"", "input fault"), ["check", self.nl, missing], {missing: "x.sol"}
+        )
         self.assertEqual(fault.line(), "x.sol: input fault (No such file or directory)")
 
     def test_controls_of_a_terminal(self) -> None:
@@ -268,10 +334,15 @@ class Refusals(Case):
         self.put(b"Cap\x1b]0;title\x07\n", ".row")
         self.put("a\x1b[31m\x9b1m\nb\rc\nz\n".encode(), ".col")
         line = self.line(NONLINEAR, shown=self.nl)
-        self.assertEqual(line, self.nl + " line 17: constraint 0 (Cap\\x1b]0;title\\x07): "
-                               "(a\\x1b[31m\\x9b1m * (b\\x0dc + 3)) is nonlinear")
-        self.assertEqual(self.line(NONLINEAR, shown="m\x1b[1m.nl"),
-                         "m\\x1b[1m.nl line 17: constraint 0: (\\x1b[2Jspeed * (x1 + 3)) is nonlinear")
+        self.assertEqual(
+            line,
+            self.nl + " line 17: constraint 0 (Cap\\x1b]0;title\\x07): "
+            "(a\\x1b[31m\\x9b1m * (b\\x0dc + 3)) is nonlinear",
+        )
+        self.assertEqual(
+            self.line(NONLINEAR, shown="m\x1b[1m.nl"),
+            "m\\x1b[1m.nl line 17: constraint 0: (\\x1b[2Jspeed * (x1 + 3)) is nonlinear",
+        )
         more = "\n".join(explaining.Refusal(["export", self.nl], "refused " + NONLINEAR, {}).more())
         self.assertIn("\\x1b[2Jspeed", more)
         self.assertNotRegex(line + more, "[\x00-\x08\x0b-\x1f\x7f-\x9f]")
@@ -287,6 +358,7 @@ class Refusals(Case):
         """Those of the worked texts, in `nl-bridge help refusals`."""
         sys.path.append(os.path.join(TOP, "acceptance"))
         import texts
+
         for case in (case for name in WORKED for case in texts.cases(name)):
             if case.told.startswith("refused "):
                 told = explaining.parsed(case.told.rstrip("\n"))

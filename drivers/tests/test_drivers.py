@@ -17,14 +17,16 @@ import sys
 import unittest
 
 sys.dont_write_bytecode = True
-os.environ["PYTHONDONTWRITEBYTECODE"] = "1"         # also where drivers are processes
+os.environ["PYTHONDONTWRITEBYTECODE"] = "1"  # also where drivers are processes
 HERE = os.path.dirname(os.path.abspath(__file__))
 sys.path[:0] = [HERE]
 
 
 def main() -> int:
     loader = unittest.TestLoader()
-    suite = loader.loadTestsFromNames(sys.argv[1:]) if sys.argv[1:] else loader.discover(HERE, "*.py")
+    suite = (
+        loader.loadTestsFromNames(sys.argv[1:]) if sys.argv[1:] else loader.discover(HERE, "*.py")
+    )
     stream = io.StringIO()
     result = unittest.TextTestRunner(stream=stream, verbosity=0).run(suite)
     bad = len(result.failures) + len(result.errors)

@@ -31,17 +31,36 @@ from stored import STOPPED
 import stored
 
 LIBRARIES = "/usr/lib/x86_64-linux-gnu/"
-TABLES = {"cbc": statuses.COIN, "clp": statuses.COIN, "lp_solve": statuses.LP_SOLVE,
-          "glpsol": statuses.GLPK, "highs": statuses.HIGHS, "esolver": statuses.ESOLVER}
+TABLES = {
+    "cbc": statuses.COIN,
+    "clp": statuses.COIN,
+    "lp_solve": statuses.LP_SOLVE,
+    "glpsol": statuses.GLPK,
+    "highs": statuses.HIGHS,
+    "esolver": statuses.ESOLVER,
+}
 VALUES = "Actual values of the variables:"
-REPORTS = {                             # sentences of GLPK that say no status of an answer
-    "OPTIMAL LP SOLUTION FOUND", "OPTIMAL SOLUTION FOUND", "INTEGER OPTIMAL SOLUTION FOUND",
-    "INTEGER OPTIMAL SOLUTION FOUND BY MIP PREPROCESSOR", "OPTIMAL SOLUTION FOUND BY LP PREPROCESSOR"}
+REPORTS = {  # sentences of GLPK that say no status of an answer
+    "OPTIMAL LP SOLUTION FOUND",
+    "OPTIMAL SOLUTION FOUND",
+    "INTEGER OPTIMAL SOLUTION FOUND",
+    "INTEGER OPTIMAL SOLUTION FOUND BY MIP PREPROCESSOR",
+    "OPTIMAL SOLUTION FOUND BY LP PREPROCESSOR",
+}
 PLANS = "bridge_drivers.certify.plans."
 SECONDS = 1.5
-DIGITS = F(1, 10 ** 9)          # ten digits are told
-FAMILIES = (("knapsack", 30), ("knapsack", 45), ("lots", 14), ("lots", 20), ("packing", 8),
-            ("packing", 11), ("stock", 4), ("split", 3), ("pigeons", 8))
+DIGITS = F(1, 10**9)  # ten digits are told
+FAMILIES = (
+    ("knapsack", 30),
+    ("knapsack", 45),
+    ("lots", 14),
+    ("lots", 20),
+    ("packing", 8),
+    ("packing", 11),
+    ("stock", 4),
+    ("split", 3),
+    ("pigeons", 8),
+)
 NUMBER = re.compile(r"\b(incumbent|bound) (\S+?)(?:,|$)")
 
 
@@ -57,13 +76,20 @@ class Strings(unittest.TestCase):
         found = [path for pattern in patterns for path in sorted(glob.glob(pattern))[:1]]
         if not found:
             self.skipTest("a solver's library is not there")
-        return [text.decode("ascii").strip() for path in found for text in re.findall(
-            rb"[\x20-\x7e\n]{2,}(?=\x00)", open(path, "rb").read())]
+        return [
+            text.decode("ascii").strip()
+            for path in found
+            for text in re.findall(rb"[\x20-\x7e\n]{2,}(?=\x00)", open(path, "rb").read())
+        ]
 
     def between(self, path: str, first: str, last: str) -> set[str]:
         texts = self.strings(path)
         start = texts.index(first)
-        return {text for text in texts[start:texts.index(last, start) + 1] if text[0].isalpha() or text[0] == "("}
+        return {
+            text
+            for text in texts[start : texts.index(last, start) + 1]
+            if text[0].isalpha() or text[0] == "("
+        }
 
     def test_coin(self) -> None:
         """One block of texts, from the first status to the last."""
@@ -80,26 +106,39 @@ class Strings(unittest.TestCase):
 
     def test_glpk(self) -> None:
         pattern = r"[A-Z][A-Z ;]+(SOLUTION|TERMINATED|APPLICATION|FOUND|PREPROCESSOR)"
-        texts = {text for text in self.strings(LIBRARIES + "libglpk.so.*") if re.fullmatch(pattern, text)}
+        texts = {
+            text for text in self.strings(LIBRARIES + "libglpk.so.*") if re.fullmatch(pattern, text)
+        }
         self.assertEqual(texts - REPORTS, words_of(statuses.GLPK))
 
     def test_highs(self) -> None:
-        code = ("import json, scipy.optimize._highs._highs_constants as c; print(json.dumps({k: "
-                "int(getattr(c, k)) for k in dir(c) if k.startswith('MODEL_STATUS')}))")
+        code = (
+            "import json, scipy.optimize._highs._highs_constants as c; print(json.dumps({k: "
+            "int(getattr(c, k)) for k in dir(c) if k.startswith('MODEL_STATUS')}))"
+        )
         done = ended(["/usr/bin/python3", "-c", code])
         if done.returncode:
             self.skipTest("no SciPy that tells HiGHS's statuses")
-        codes = {"INFEASIBLE": Code.INFEASIBLE, "OPTIMAL": Code.SOLVED,
-                 "UNBOUNDED": Code.UNBOUNDED, "REACHED_TIME_LIMIT": Code.LIMIT,
-                 "UNBOUNDED_OR_INFEASIBLE": Code.INFEASIBLE_OR_UNBOUNDED, "REACHED_ITERATION_LIMIT": Code.LIMIT}
+        codes = {
+            "INFEASIBLE": Code.INFEASIBLE,
+            "OPTIMAL": Code.SOLVED,
+            "UNBOUNDED": Code.UNBOUNDED,
+            "REACHED_TIME_LIMIT": Code.LIMIT,
+            "UNBOUNDED_OR_INFEASIBLE": Code.INFEASIBLE_OR_UNBOUNDED,
+            "REACHED_ITERATION_LIMIT": Code.LIMIT,
+        }
         for name, number in json.loads(done.stdout).items():
             row = statuses.row_of(statuses.HIGHS, str(number))
             self.assertIsNotNone(row, name)
-            self.assertEqual(row.code, codes.get(name.removeprefix("MODEL_STATUS_"), row.code), name)
+            self.assertEqual(
+                row.code, codes.get(name.removeprefix("MODEL_STATUS_"), row.code), name
+            )
 
     def test_esolver(self) -> None:
-        found = [re.fullmatch(r"status =? ?([A-Z_]+)|([A-Z_]+) \(ending now\)", text)
-                 for text in self.strings("/usr/bin/esolver", LIBRARIES + "libqsopt_ex.so.*")]
+        found = [
+            re.fullmatch(r"status =? ?([A-Z_]+)|([A-Z_]+) \(ending now\)", text)
+            for text in self.strings("/usr/bin/esolver", LIBRARIES + "libqsopt_ex.so.*")
+        ]
         self.assertEqual({at[1] or at[2] for at in found if at}, words_of(statuses.ESOLVER))
 
 
@@ -111,7 +150,11 @@ def changed(driver: str, run: dict, row: Says, has_point: bool) -> dict:
         end = "" if has_point else " " + statuses.NO_POINT
         files["answer.txt"][0] = f"{row.words}{end} - objective value 17.0"
     elif driver == "lp_solve":
-        run["logs"]["solver.log"] = ["", row.words, *(log if has_point else log[:log.index(VALUES) - 1])]
+        run["logs"]["solver.log"] = [
+            "",
+            row.words,
+            *(log if has_point else log[: log.index(VALUES) - 1]),
+        ]
     elif driver == "highs":
         answer = json.loads(files["answer.json"][0])
         answer["status"], answer["message"] = 4, f"told (HiGHS Status {row.words}: told)"
@@ -127,7 +170,9 @@ def changed(driver: str, run: dict, row: Says, has_point: bool) -> dict:
 
 def lettered(files: dict, old: str, new: str) -> None:
     """The status line of GLPK's answer with other letters."""
-    files["answer.txt"] = [line.replace(old, new) if line.startswith("s ") else line for line in files["answer.txt"]]
+    files["answer.txt"] = [
+        line.replace(old, new) if line.startswith("s ") else line for line in files["answer.txt"]
+    ]
 
 
 @NEEDS_PROGRAM
@@ -147,7 +192,9 @@ class Each(Case):
             for row in table:
                 for has_point in (True, False):
                     with self.subTest(driver=driver, status=row.words, point=has_point):
-                        code, line = self.code_of(driver, model, changed(driver, run, row, has_point))
+                        code, line = self.code_of(
+                            driver, model, changed(driver, run, row, has_point)
+                        )
                         self.assertEqual(code, self.wanted(driver, row, has_point), line)
 
     @staticmethod
@@ -193,7 +240,9 @@ class Each(Case):
         for name, real in STOPPED.items():
             with self.subTest(run=name):
                 self.put(real.text())
-                done = self.replay(real.driver, "", self.stub, "-AMPL", "-e", *real.options, run=runs[name])
+                done = self.replay(
+                    real.driver, "", self.stub, "-AMPL", "-e", *real.options, run=runs[name]
+                )
                 if not real.codes:
                     self.assertEqual(done.returncode, Status.INTERRUPTED)
                     self.assertIn(real.told, done.stderr)
@@ -227,7 +276,10 @@ class Claims(Case):
     def test_a_ray_that_there_was_no_time_for(self) -> None:
         """A point alone earns no code 0 where the objective may have no end."""
         open_end = text_of(["I 0 - x3", "max 0 : 10 7 12", "- 18 : 10 7 -12"])
-        for text, wanted in ((MODELS["knap"].text, (0, "optimal 17")), (open_end, (100, "feasible 17"))):
+        for text, wanted in (
+            (MODELS["knap"].text, (0, "optimal 17")),
+            (open_end, (100, "feasible 17")),
+        ):
             self.put(text)
             with mock.patch("bridge_drivers.certify.points.ray", side_effect=Over("time")):
                 self.replay("cbc", "knap", self.stub, "-AMPL")
@@ -238,15 +290,22 @@ class Claims(Case):
 
     def test_seconds(self) -> None:
         """A certificate has not more than `timelim`, also without prove=1."""
-        for words, seconds in (((), 1.0), (("timelim=0.25",), 0.25), (("timelim=9",), 1.0),
-                               (("prove=1",), 60.0), (("prove=1", "timelim=7"), 7.0)):
+        for words, seconds in (
+            ((), 1.0),
+            (("timelim=0.25",), 0.25),
+            (("timelim=9",), 1.0),
+            (("prove=1",), 60.0),
+            (("prove=1", "timelim=7"), 7.0),
+        ):
             with mock.patch("bridge_drivers.certificates.Watch", wraps=Watch) as made:
                 self.last("cbc", "product", *words)
             self.assertEqual(made.call_args.args[0], seconds, words)
 
     def test_a_large_answer_as_it_stands(self) -> None:
         """Where the time of its certificate is over: where it is none itself, that is told."""
-        late = mock.patch("bridge_drivers.certificates.certified", lambda *_: Verdict("not proved: time"))
+        late = mock.patch(
+            "bridge_drivers.certificates.certified", lambda *_: Verdict("not proved: time")
+        )
         with mock.patch("bridge_drivers.certificates.LARGE", 1), late:
             self.assertEqual(self.last("lp_solve", "diet"), "optimal 22/5")
             self.of_words(["answer=x0 4 => x0 3", "solves", "lp_solve", "diet"])
@@ -254,21 +313,27 @@ class Claims(Case):
 
     def test_duals_that_do_not_fit(self) -> None:
         """They are left out, which a line tells; the values are checked without them."""
+
         def refuses(text: str) -> "Reply | None":
             wide = "\nrow c0 1\n" in text and "\ncol " in text
             return Reply(2, b"", "refused row 0: dual too wide") if wide else None
+
         with mock.patch.dict(Injected.says, {"return": refuses}):
             line = self.last("clp", "product")
         sol = self.sol()
         self.assertRegex(sol.message[1], "^duals are left out: .*dual too wide")
-        self.assertEqual((line, len(sol.values), sol.duals, sol.suffixes), ("optimal 19", 2, [], {}))
+        self.assertEqual(
+            (line, len(sol.values), sol.duals, sol.suffixes), ("optimal 19", 2, [], {})
+        )
 
     def test_a_screen(self) -> None:
         """Without asking, at most a screen of values."""
         self.put(MODELS["thirds"].text)
         ended = self.replay("esolver", "thirds", self.stub, "wantsol=14", "-e")
-        self.assertEqual([line.split()[0] for line in ended.stdout.splitlines()],
-                         ["x0", "x1", "duals", "c0", "c1"])     # z and zdef are not the model's
+        self.assertEqual(
+            [line.split()[0] for line in ended.stdout.splitlines()],
+            ["x0", "x1", "duals", "c0", "c1"],
+        )  # z and zdef are not the model's
         told = list(sol.screen([(f"x{j}", str(j % 2)) for j in range(100)]))
         self.assertEqual((len(told), told[0]), (sol.SCREEN + 1, "x1 1"))
         self.assertIn("(80 values more: wantsol=2 prints all", told[-1])
@@ -278,7 +343,11 @@ class Claims(Case):
         for file, code, status, text, call in rows_of("manners", "failure"):
             self.put(content(file))
             driver, name, *words = call.split()
-            for more, wanted in (["-AMPL"], 0), ([], int(status)), (["-AMPL", "failexit=1"], int(status)):
+            for more, wanted in (
+                (["-AMPL"], 0),
+                ([], int(status)),
+                (["-AMPL", "failexit=1"], int(status)),
+            ):
                 with self.subTest(call=call, more=more):
                     self.put(b"an older answer", ".sol")
                     ended = self.replay(driver, name, self.stub, *more, *words)
@@ -290,7 +359,9 @@ class Claims(Case):
                         self.assertIn(text, sol.text)
                         self.assertNotIn("proved", sol.text)
                     elif more:
-                        self.assertFalse(os.path.exists(self.stub + ".sol"), "an older answer stays")
+                        self.assertFalse(
+                            os.path.exists(self.stub + ".sol"), "an older answer stays"
+                        )
 
 
 class Noting(Progress):
@@ -314,8 +385,16 @@ class Told(Case):
         self.put(made(name, size))
         program = Program(bridge().text("export", self.stub + ".nl"))
         noting = Noting(program.maximise)
-        work = Certifying(bridge(), self.stub + ".nl", self.folder, program, 0,
-                          Watch(SECONDS, noting), proves, bounds=True)
+        work = Certifying(
+            bridge(),
+            self.stub + ".nl",
+            self.folder,
+            program,
+            0,
+            Watch(SECONDS, noting),
+            proves,
+            bounds=True,
+        )
         with mock.patch("bridge_drivers.certify.watch.EVERY", 0.01):
             return noting, certified(work, "nothing").line
 
@@ -340,9 +419,13 @@ class Told(Case):
             if plans.folder not in searched:
                 searched.append(plans.folder)
                 whole(plans)
+
         for name, size in FAMILIES:
-            for way, patch in (("", contextlib.nullcontext()), ("no time", mock.patch(PLANS + "RESERVE", 1.0)),
-                               ("over", mock.patch(PLANS + "Plans.try_all", once))):
+            for way, patch in (
+                ("", contextlib.nullcontext()),
+                ("no time", mock.patch(PLANS + "RESERVE", 1.0)),
+                ("over", mock.patch(PLANS + "Plans.try_all", once)),
+            ):
                 searched: list[str] = []
                 with self.subTest(family=name, size=size, way=way), patch:
                     count += self.judge(name, size)

@@ -40,17 +40,23 @@ class Decimals(Case):
             if is_exact and isinstance(value, F):
                 self.assertEqual(F(got), value)
             else:
-                self.assertLessEqual(abs(F(got) - F(value)), max(abs(F(value)) / 10 ** 16, F(1, 10 ** 380)))
+                self.assertLessEqual(
+                    abs(F(got) - F(value)), max(abs(F(value)) / 10**16, F(1, 10**380))
+                )
         self.assertEqual(values.text_of(3), ("3", True))
-        for bad in (float("inf"), float("nan"), F(10 ** 400, 7)):
+        for bad in (float("inf"), float("nan"), F(10**400, 7)):
             self.assertRaises(values.BadValue, values.text_of, bad)
 
 
 class Texts(Case):
     def test_program(self) -> None:
         p = Program(TEXTS["program"])
-        self.assertEqual((p.rows, p.columns, p.whole), (["obj", "c0"], ["x0", "x1", "x2", "z"], {"x1", "x2"}))
-        self.assertEqual((p.maximise, p.costs, p.objective_rhs), (True, {"x0": "2", "x2": "5"}, "-3"))
+        self.assertEqual(
+            (p.rows, p.columns, p.whole), (["obj", "c0"], ["x0", "x1", "x2", "z"], {"x1", "x2"})
+        )
+        self.assertEqual(
+            (p.maximise, p.costs, p.objective_rhs), (True, {"x0": "2", "x2": "5"}, "-3")
+        )
         self.assertEqual(p.at([1, 9, 0.5, 9]).value, 7.5)
         self.assertTrue(solvers.load("cbc").text(p).startswith(b"NAME nl FREE\nOBJSENSE"))
         self.assertNotIn(b"OBJSENSE", solvers.load("glpsol").text(p))
@@ -69,7 +75,9 @@ class Texts(Case):
         self.put(MODELS["knap"].text)
         text = sol.bare(self.stub + ".nl", 501, 2, ["bridge-cbc: no"])
         self.assertEqual(text, b"bridge-cbc: no\n\nOptions\n3\n1\n1\n0\n1\n0\n3\n0\nobjno 2 501\n")
-        self.assertEqual(sol.with_message(text, ["a", "b"]), text.replace(b"bridge-cbc: no", b"a\nb"))
+        self.assertEqual(
+            sol.with_message(text, ["a", "b"]), text.replace(b"bridge-cbc: no", b"a\nb")
+        )
         for broken in (b"", b"g3 1 1", b"g3 1 1 0\nx y\n", b"gx\n1 1\n"):
             self.put(broken)
             self.assertRaises((ValueError, IndexError), sol.bare, self.stub + ".nl", 501, 0, [""])
@@ -91,15 +99,23 @@ class Figures(Case):
         self.assertTrue(lines[1].startswith("columns       1: 1 continuous"))
 
     def test_what_doubles_hold(self) -> None:
-        self.assertEqual([text for text in ("0.1", "0.5", "1e400", str(2 ** 100), str(2 ** 100 + 1), "1e-400", "0")
-                          if not stats.is_held(F(text))], ["1e400", str(2 ** 100 + 1), "1e-400"])
+        self.assertEqual(
+            [
+                text
+                for text in ("0.1", "0.5", "1e400", str(2**100), str(2**100 + 1), "1e-400", "0")
+                if not stats.is_held(F(text))
+            ],
+            ["1e400", str(2**100 + 1), "1e-400"],
+        )
 
     def test_factors(self) -> None:
         """They are what `return` makes of duals of 1."""
+
         class Returning(Bridge):
             def call(self, *words: str) -> Reply:
                 assert Path(words[2]).read_text() == "answer 1\nobjno 0\nrow c0 1\nrow c2 1\n"
                 return Reply(0, b"\nOptions\n3\n1\n1\n0\n3\n3\n1\n0\n6\n0\n7\nobjno 0 0\n", "")
+
         factors = sol.factors_of(Returning([], lambda argv: None), "m.nl", ["c0", "c2"])
         self.assertEqual(factors, {"c0": "6", "c2": "7"})
 
@@ -107,22 +123,29 @@ class Figures(Case):
 class Importing(Case):
     def test_order(self) -> None:
         """Continuous, binary, integer, each in the order of the columns; constraints, then the objective."""
-        self.assertEqual(mps_file.lists_of(TEXTS["kinds"]), (
-            [b"both", b"cap", b"cost"], [b"c", b"'MARKER'", b"b", b"v", b"i", b"low"]))
+        self.assertEqual(
+            mps_file.lists_of(TEXTS["kinds"]),
+            ([b"both", b"cap", b"cost"], [b"c", b"'MARKER'", b"b", b"v", b"i", b"low"]),
+        )
 
     @NEEDS_PROGRAM
     def test_against_the_program(self) -> None:
         """The kinds of the .nl are those of the names, and so are the bounds."""
         self.put(TEXTS["kinds"], ".mps")
         line = mps_file.imported(program(), self.stub + ".mps", self.stub + ".nl")
-        self.assertEqual(line, f"{self.stub}.nl is written, with the names of 2 constraints and 6 "
-                               f"variables in {self.stub}.row and {self.stub}.col")
+        self.assertEqual(
+            line,
+            f"{self.stub}.nl is written, with the names of 2 constraints and 6 "
+            f"variables in {self.stub}.row and {self.stub}.col",
+        )
         lines = self.bytes_of(".nl").decode().split("\n")
         self.assertEqual(lines[6].split()[:2], ["2", "2"])
         at = lines.index("b") + 1
-        self.assertEqual(lines[at:at + 6], ["2 0", "2 0", "0 0 1", "0 0 1", "0 0 9", "1 -1"])
+        self.assertEqual(lines[at : at + 6], ["2 0", "2 0", "0 0 1", "0 0 1", "0 0 9", "1 -1"])
         names = Names(self.stub)
-        self.assertEqual([names.column(j) for j in range(6)], ["c", "'MARKER'", "b", "v", "i", "low"])
+        self.assertEqual(
+            [names.column(j) for j in range(6)], ["c", "'MARKER'", "b", "v", "i", "low"]
+        )
 
 
 class Files(Case):
@@ -133,7 +156,11 @@ class Files(Case):
         for path in names:
             got = nl.prepared(str(path), target, False)
             self.assertIn("not proved", got[1][0])
-            self.assertEqual(Path(got[0]).read_bytes(), Path(str(path).replace(".bin.", ".text.")).read_bytes(), path)
+            self.assertEqual(
+                Path(got[0]).read_bytes(),
+                Path(str(path).replace(".bin.", ".text.")).read_bytes(),
+                path,
+            )
             data = path.read_bytes()
             for bad in (data[:-3], data[:100], data + b"?", b"b"):
                 cut.write_bytes(bad)
@@ -141,23 +168,43 @@ class Files(Case):
 
     def test_big_endian(self) -> None:
         """The other byte order, and an S segment."""
-        head = b"b3 1 1 0\n 1 0 0 0 0\n 0 0\n 0 0\n 0 0 0\n 0 0 2 1\n" + b" 0 0 0 0 0\n 0 0\n 0 0\n 0 0 0 0 0\n"
-        body = b"b0" + struct.pack(">dd", 0.5, 0.1 + 0.2) + \
-            b"S" + struct.pack(">iii", 4, 1, 4) + b"rc\0\0" + struct.pack(">id", 0, 2.0)
-        self.assertEqual(nl.Binary(head + body).text().decode().split("\n")[10:],
-                         ["b", "0 0.5 0.30000000000000004", "S4 1 rc", "0 2", ""])
+        head = (
+            b"b3 1 1 0\n 1 0 0 0 0\n 0 0\n 0 0\n 0 0 0\n 0 0 2 1\n"
+            + b" 0 0 0 0 0\n 0 0\n 0 0\n 0 0 0 0 0\n"
+        )
+        body = (
+            b"b0"
+            + struct.pack(">dd", 0.5, 0.1 + 0.2)
+            + b"S"
+            + struct.pack(">iii", 4, 1, 4)
+            + b"rc\0\0"
+            + struct.pack(">id", 0, 2.0)
+        )
+        self.assertEqual(
+            nl.Binary(head + body).text().decode().split("\n")[10:],
+            ["b", "0 0.5 0.30000000000000004", "S4 1 rc", "0 2", ""],
+        )
 
     def test_is_ours(self) -> None:
         """iproute2's `bridge` is passed over on the PATH."""
-        for name, script in (("first", "echo bad words >&2; exit 255"), ("other", "echo usage >&2; exit 3"),
-                             ("ours", "echo bad words >&2; exit 3")):
+        for name, script in (
+            ("first", "echo bad words >&2; exit 255"),
+            ("other", "echo usage >&2; exit 3"),
+            ("ours", "echo bad words >&2; exit 3"),
+        ):
             os.mkdir(os.path.join(self.folder, name))
             self.script(name + "/bridge", script)
-        first, other, ours = (os.path.join(self.folder, name) for name in ("first", "other", "ours"))
-        with mock.patch.dict(os.environ, {"PATH": os.pathsep.join([first, other, ours]), "BRIDGE": ""}):
+        first, other, ours = (
+            os.path.join(self.folder, name) for name in ("first", "other", "ours")
+        )
+        with mock.patch.dict(
+            os.environ, {"PATH": os.pathsep.join([first, other, ours]), "BRIDGE": ""}
+        ):
             self.assertEqual(bridge.find("", []), [os.path.join(ours, "bridge")])
             self.assertEqual(bridge.find("a 'b c'", []), ["a", "b c"])
-            self.assertEqual(bridge.find("", [os.path.join(other, "bridge")]), [os.path.join(other, "bridge")])
+            self.assertEqual(
+                bridge.find("", [os.path.join(other, "bridge")]), [os.path.join(other, "bridge")]
+            )
         with mock.patch.dict(os.environ, {"PATH": other, "BRIDGE": ""}):
             self.assertRaisesRegex(Failure, "is another program", bridge.find, "", [])
         self.assertRaises(Failure, program(["/nonexistent/bridge"]).call, "export", "x")
@@ -172,10 +219,16 @@ class Shown(Case):
     def test_line(self) -> None:
         shown = progress.Progress("bridge-cbc")
         shown.begin("cbc", 60)
-        shown.tell(progress.detailed({"incumbent": 45.0, "bound": 50.0, "nodes": 100.0, "open": 12.0}))
-        self.assertEqual(shown.line(), "bridge-cbc: cbc, 0 of 60 s, incumbent 45, bound 50, "
-                                       "gap 10 %, 100 nodes, 12 open")
-        self.assertEqual(progress.detailed({"incumbent": 4.0, "bound": float("-inf")}), "incumbent 4")
+        shown.tell(
+            progress.detailed({"incumbent": 45.0, "bound": 50.0, "nodes": 100.0, "open": 12.0})
+        )
+        self.assertEqual(
+            shown.line(),
+            "bridge-cbc: cbc, 0 of 60 s, incumbent 45, bound 50, " "gap 10 %, 100 nodes, 12 open",
+        )
+        self.assertEqual(
+            progress.detailed({"incumbent": 4.0, "bound": float("-inf")}), "incumbent 4"
+        )
         shown.begin("certificate")
         self.assertEqual(shown.line(), "bridge-cbc: certificate, 0 s")
         self.assertEqual([progress.gap(*pair) for pair in ((0, 0), (0, 3), (-4, -5))], [0, 100, 20])
@@ -193,7 +246,9 @@ class Shown(Case):
             text = stream.getvalue()
             if in_place and stream.isatty():
                 self.assertNotIn("\n", text)
-                self.assertTrue(text.startswith(progress.CLEAR) and text.endswith(progress.CLEAR), text)
+                self.assertTrue(
+                    text.startswith(progress.CLEAR) and text.endswith(progress.CLEAR), text
+                )
             else:
                 self.assertEqual(set(text.split("\n")), {"bridge-cbc: cbc, 0 s", ""})
             shown.stop()
@@ -237,12 +292,19 @@ class Colours(Case):
 
     def on_a_terminal(self, *words: str, **environment: str) -> tuple[int, bytes]:
         ours, theirs = pty.openpty()
-        done = subprocess.run([sys.executable, os.path.join(BIN, words[0]), *words[1:]], cwd=EXAMPLES,
-                              stdin=subprocess.DEVNULL, stdout=theirs, stderr=subprocess.PIPE,
-                              env={**os.environ, "NO_COLOR": "", "TERM": "xterm", **environment})
+        done = subprocess.run(
+            [sys.executable, os.path.join(BIN, words[0]), *words[1:]],
+            cwd=EXAMPLES,
+            stdin=subprocess.DEVNULL,
+            stdout=theirs,
+            stderr=subprocess.PIPE,
+            env={**os.environ, "NO_COLOR": "", "TERM": "xterm", **environment},
+        )
         os.close(theirs)
         told = b""
-        with open(ours, "rb", buffering=0) as stream, contextlib.suppress(OSError):     # its end, after what it holds
+        with open(ours, "rb", buffering=0) as stream, contextlib.suppress(
+            OSError
+        ):  # its end, after what it holds
             for piece in iter(lambda: stream.read(65536), b""):
                 told += piece
         return done.returncode, told.replace(b"\r\n", b"\n")
@@ -253,8 +315,10 @@ class Colours(Case):
         self.assertEqual(self.on_a_terminal(*words), (0, b"\x1b[32moptimal 17\x1b[0m\n"))
         self.assertEqual(self.on_a_terminal(*words, NO_COLOR="1"), (0, b"optimal 17\n"))
         status, told = self.on_a_terminal("nl-bridge", "explain", *words[2:])
-        self.assertEqual((status, told.split(b"\n")[0]), (0, b"\x1b[32mknap.certificate holds of "
-                                                             b"knap.nl: optimal 17\x1b[0m"))
+        self.assertEqual(
+            (status, told.split(b"\n")[0]),
+            (0, b"\x1b[32mknap.certificate holds of " b"knap.nl: optimal 17\x1b[0m"),
+        )
 
 
 class Interrupts(Case):
@@ -274,8 +338,13 @@ class Interrupts(Case):
             started.append(start(*words, **others))
             signal.raise_signal(signal.SIGTERM)
             return started[0]
-        with mock.patch.object(subprocess, "Popen", interrupted), self.assertRaises(Interrupted) as caught:
-            with_child(lambda child: self.fail("it is not used"), ["sleep", "60"], start_new_session=True)
+
+        with mock.patch.object(subprocess, "Popen", interrupted), self.assertRaises(
+            Interrupted
+        ) as caught:
+            with_child(
+                lambda child: self.fail("it is not used"), ["sleep", "60"], start_new_session=True
+            )
         self.assertEqual((caught.exception.status(), started[0].returncode), (143, -9))
 
     def test_the_first_interrupt_of_a_block(self) -> None:
@@ -290,11 +359,13 @@ class Interrupts(Case):
 
     def test_while_a_process_runs_and_ends(self) -> None:
         """A second signal does not break off what the first one ends."""
+
         def used(child: subprocess.Popen) -> None:
             with SIGNALS.kept(True):
                 signal.raise_signal(signal.SIGTERM)
                 seen.append(child)
             self.fail("what waited was lost")
+
         seen: list[subprocess.Popen] = []
         with self.assertRaises(Interrupted):
             try:

@@ -14,18 +14,18 @@ from .points import Placed, place
 from .sparse import NoSolution, Solution, Square, tools
 from ..exact.dual_bound import MultiplierKind, Multipliers
 
-BY_HAND = 300                   # unknowns of a system that is eliminated without SciPy
-WORK = 4_000_000                # digits of all unknowns that are made at most
-MOST_DIGITS = 40_000            # digits of an unknown at most
-LEAST_DIGITS = 320              # digits that tell each fraction of 127 bits
+BY_HAND = 300  # unknowns of a system that is eliminated without SciPy
+WORK = 4_000_000  # digits of all unknowns that are made at most
+MOST_DIGITS = 40_000  # digits of an unknown at most
+LEAST_DIGITS = 320  # digits that tell each fraction of 127 bits
 ROUNDS = 5
-BITS = 400                      # binary places of the point and the duals
-LEAST = 2.0 ** -900             # of a miss that counts
-STEP = 30                       # binary digits by which a miss is made greater at most, a round
-FAR = 1e20                      # sides that are so far away after that are none
-STEEP = 1e12                    # costs are not greater after that
-FREE = 1e-5                     # how far from its end a column may go on
-Near = Tuple[Basis, List[float]]        # with values of columns
+BITS = 400  # binary places of the point and the duals
+LEAST = 2.0**-900  # of a miss that counts
+STEP = 30  # binary digits by which a miss is made greater at most, a round
+FAR = 1e20  # sides that are so far away after that are none
+STEEP = 1e12  # costs are not greater after that
+FREE = 1e-5  # how far from its end a column may go on
+Near = Tuple[Basis, List[float]]  # with values of columns
 
 
 def can_be_large() -> bool:
@@ -50,8 +50,9 @@ def optimum(p: Model, basis: Basis, x: Sequence[float]) -> tuple[Point, Multipli
         raise NoSolution(f"row {i} is broken")
     check_duals(p, full, den, y, duals.den, placed)
     shared = {v: Fraction(v, den * p.unit) for v in set(full)}
-    return [shared[v] for v in full], Multipliers({i: v * p.scale for i, v in y.items()},
-                                                  duals.den * p.cost_scale, MultiplierKind.DUAL)
+    return [shared[v] for v in full], Multipliers(
+        {i: v * p.scale for i, v in y.items()}, duals.den * p.cost_scale, MultiplierKind.DUAL
+    )
 
 
 def systems(p: Model, placed: Placed) -> tuple[Solution, Solution]:
@@ -81,7 +82,9 @@ def by_hand(system: list[dict[int, int]], sides: Sequence[int]) -> Solution:
     return Solution(*over_one([values.get(k, Fraction(0)) for k in range(len(system))]))
 
 
-def check_duals(p: Model, full: Sequence[int], den: int, y: dict[int, int], dual_den: int, placed: Placed) -> None:
+def check_duals(
+    p: Model, full: Sequence[int], den: int, y: dict[int, int], dual_den: int, placed: Placed
+) -> None:
     """That each dual and each reduced cost has the sign of the end that its row or column stands at."""
     for i, v in y.items():
         if (p.side_lo[i] if v > 0 else p.side_hi[i]) != placed.side[i]:
@@ -95,7 +98,8 @@ def check_duals(p: Model, full: Sequence[int], den: int, y: dict[int, int], dual
 
 class Refining:
     """`x` and `y` are whole, over 2^BITS; `up` and `dual_up` are the binary digits by which misses of the last round
-    were made greater. Rows that are no equations get a column that has their value, whose cost is their dual."""
+    were made greater. Rows that are no equations get a column that has their value, whose cost is their dual.
+    """
 
     def __init__(self, p: Model, clp: Clp, seconds: float) -> None:
         self.p, self.seconds = p, seconds
@@ -139,31 +143,48 @@ class Refining:
         p, one = self.p, 1 << BITS
         lo = [less(end, v * p.unit, p.unit) for end, v in zip(p.lo, self.x)]
         hi = [less(end, v * p.unit, p.unit) for end, v in zip(p.hi, self.x)]
-        sides = [(less(a, at * p.unit, p.unit, p.scale), less(b, at * p.unit, p.unit, p.scale))
-                 for at, a, b in zip(p.terms.sums(self.x), p.side_lo, p.side_hi)]
-        reduced = p.terms.without([c * p.scale * one for c in p.costs], dict(enumerate(self.y)), p.cost_scale)
+        sides = [
+            (less(a, at * p.unit, p.unit, p.scale), less(b, at * p.unit, p.unit, p.scale))
+            for at, a, b in zip(p.terms.sums(self.x), p.side_lo, p.side_hi)
+        ]
+        reduced = p.terms.without(
+            [c * p.scale * one for c in p.costs], dict(enumerate(self.y)), p.cost_scale
+        )
         cost = [r / (p.scale * p.cost_scale << BITS) for r in reduced]
         cost += [self.y[i] / one for i in self.open]
         lo += [sides[i][0] for i in self.open]
         hi += [sides[i][1] for i in self.open]
         columns = p.columns.with_units((i, -1.0) for i in self.open)
-        missed = max([0.0, *filter(None, lo), *(-v for v in filter(None, hi)),
-                      *(abs(a) for a, b in sides if a is not None and a == b)])
+        missed = max(
+            [
+                0.0,
+                *filter(None, lo),
+                *(-v for v in filter(None, hi)),
+                *(abs(a) for a, b in sides if a is not None and a == b),
+            ]
+        )
         for i in self.open:
             sides[i] = (0.0, 0.0)
         return Linear(lo, hi, cost, sides, columns), missed, dual_missed(lo, hi, cost)
 
     def enlarged(self, linear: Linear) -> Linear:
-        up, dual_up = 2.0 ** self.up, 2.0 ** self.dual_up
+        up, dual_up = 2.0**self.up, 2.0**self.dual_up
 
         def far(end: float | None) -> float | None:
             return None if end is None or abs(end) > FAR / up else end * up
-        return Linear([far(v) for v in linear.lo], [far(v) for v in linear.hi],
-                      [max(-STEEP, min(c * dual_up, STEEP)) for c in linear.cost],
-                      [(far(a), far(b)) for a, b in linear.sides], linear.columns)
+
+        return Linear(
+            [far(v) for v in linear.lo],
+            [far(v) for v in linear.hi],
+            [max(-STEEP, min(c * dual_up, STEEP)) for c in linear.cost],
+            [(far(a), far(b)) for a, b in linear.sides],
+            linear.columns,
+        )
 
 
-def dual_missed(lo: Sequence[float | None], hi: Sequence[float | None], cost: Sequence[float]) -> float:
+def dual_missed(
+    lo: Sequence[float | None], hi: Sequence[float | None], cost: Sequence[float]
+) -> float:
     """The greatest cost of a column that could go on in the direction that it wants."""
     found = 0.0
     for r, a, b in zip(cost, lo, hi):

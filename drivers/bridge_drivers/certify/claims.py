@@ -24,12 +24,12 @@ from ..exact.dual_bound import DOUBLES_NOTE, MultiplierKind, fits_certificate, i
 from ..exact.leaf_proofs import LeafProof, LeafProver, basis_duals
 
 __all__ = ["WITHOUT", "Certifying", "Given", "Verdict", "certified"]
-LARGE = 3000                    # coefficients: bases come first, where SciPy is there
-MOST_REFINED = 200_000          # coefficients of a program whose bases are bettered
+LARGE = 3000  # coefficients: bases come first, where SciPy is there
+MOST_REFINED = 200_000  # coefficients of a program whose bases are bettered
 NO_EXACT = "no exact point has the answer's whole variables"
-ZERO, ROUNDING = Fraction(0), Fraction(1, 10 ** 12)     # of the largest term of a row
-MOST_BETTER = 100               # points that a search may find
-MOST_MENDED = 200               # nodes of a search beside an answer
+ZERO, ROUNDING = Fraction(0), Fraction(1, 10**12)  # of the largest term of a row
+MOST_BETTER = 100  # points that a search may find
+MOST_MENDED = 200  # nodes of a search beside an answer
 
 
 class Certifying(Contradicting):
@@ -41,8 +41,12 @@ class Certifying(Contradicting):
     def claimed_of(self, claim: str, given: Given) -> Verdict:
         """Of `point`, `infeasible`, `unbounded`, `either` or `nothing`."""
         calls: dict[str, Callable[[], Verdict]] = {
-            "point": self.of_point, "infeasible": lambda: self.best(self.infeasible()), "nothing": self.of_nothing,
-            "unbounded": self.of_unbounded, "either": self.of_either}
+            "point": self.of_point,
+            "infeasible": lambda: self.best(self.infeasible()),
+            "nothing": self.of_nothing,
+            "unbounded": self.of_unbounded,
+            "either": self.of_either,
+        }
         self.given = given
         self.load()
         return calls[claim]()
@@ -58,7 +62,9 @@ class Certifying(Contradicting):
         point = self.exact(x)
         if point is None:
             by = points.broken(self.model, x)
-            self.contradicted = by > ROUNDING or points.is_contradicted(self.model, x, self.clp_seconds())
+            self.contradicted = by > ROUNDING or points.is_contradicted(
+                self.model, x, self.clp_seconds()
+            )
             if by > ROUNDING:
                 point = self.mended(x)
         return self.without_exact(x, by) if point is None else self.best(self.whole_optimum(point))
@@ -67,8 +73,13 @@ class Certifying(Contradicting):
         """Where the solver has no point: of an integer program a plane, with `proves` a contradiction or a point where
         a search finds it; else a bound."""
         is_whole = not self.linear and not self.relaxed
-        return self.best(itertools.chain(self.planes() if is_whole else (),
-                                         self.infeasible() if is_whole and self.proves else (), self.bounds()))
+        return self.best(
+            itertools.chain(
+                self.planes() if is_whole else (),
+                self.infeasible() if is_whole and self.proves else (),
+                self.bounds(),
+            )
+        )
 
     def of_unbounded(self) -> Verdict:
         """A point and a ray; else what is optimal, or a bound."""
@@ -109,7 +120,9 @@ class Certifying(Contradicting):
         if clp is not None:
             yield from self.by_bases(self.bases(clp))
         if not self.note and simplex.is_small(p):
-            yield from self.by_simplex(given if clp is None else Given(clp.values(), None, clp.basis()))
+            yield from self.by_simplex(
+                given if clp is None else Given(clp.values(), None, clp.basis())
+            )
         self.note = self.note or "no basis was found that is exactly optimal"
         if clp is not None:
             self.know_leaves(short.short_duals(p, clp, self.clp_seconds()))
@@ -170,7 +183,9 @@ class Certifying(Contradicting):
         p, note, bound, refused = self.model, self.note, self.shown, ""
         far: list[tuple[Fraction, Point]] = []
         for by_rows in (False, True) if p.terms.count() <= MOST_REFINED else (False,):
-            for made in short.Rounding(p, clp.keep(), clp.values(), self.clp_seconds(), by_rows).points():
+            for made in short.Rounding(
+                p, clp.keep(), clp.values(), self.clp_seconds(), by_rows
+            ).points():
                 self.know_point(made.point)
                 if bound is None:
                     continue
@@ -199,13 +214,16 @@ class Certifying(Contradicting):
             return prover.prove_from_doubles({}, dual, box)
         self.watch.progress.tell("exact duals")
         if clp is not None:
-            proof = prover.prove_from_doubles(dict(enumerate(clp.duals())), dual, box) or \
-                prover.prove_from_fractions(basis_duals(p, *clp.basis()), dual, box)
+            proof = prover.prove_from_doubles(
+                dict(enumerate(clp.duals())), dual, box
+            ) or prover.prove_from_fractions(basis_duals(p, *clp.basis()), dual, box)
         if proof is None and given.duals is not None:
             y = self.minimised(given.duals)
             proof = prover.prove_from_doubles({i: float(v) for i, v in y.items()}, dual, box)
             if proof is None and all(isinstance(v, Fraction) for v in y.values()):
-                proof = prover.prove_from_fractions({i: Fraction(v) for i, v in y.items()}, dual, box)
+                proof = prover.prove_from_fractions(
+                    {i: Fraction(v) for i, v in y.items()}, dual, box
+                )
         return proof
 
     def know_leaves(self, found: Iterable[short.ShortDuals]) -> None:
@@ -239,13 +257,24 @@ class Certifying(Contradicting):
         `proves` more is tried, and no worse point takes its place."""
         p, verdict = self.model, Verdict(WITHOUT + NO_EXACT)
         if 0 < by <= ROUNDING:
-            verdict = Verdict(f"{WITHOUT}rows of whole variables are missed by {float(by):.2g} of "
-                              "their largest term, which is rounding")
+            verdict = Verdict(
+                f"{WITHOUT}rows of whole variables are missed by {float(by):.2g} of "
+                "their largest term, which is rounding"
+            )
         is_asked, are_whole = self.proves or self.contradicted or not by, p.scale == p.unit == 1
-        found = self.best(self.infeasible() if is_asked else itertools.chain(
-            self.planes() if are_whole else (), (end for end in self.in_the_end() if end.claim() == "optimal")))
-        is_worse = found.point is not None and found.claim() != "optimal" and \
-            p.value(found.point) > p.value([Fraction(v) for v in x])
+        found = self.best(
+            self.infeasible()
+            if is_asked
+            else itertools.chain(
+                self.planes() if are_whole else (),
+                (end for end in self.in_the_end() if end.claim() == "optimal"),
+            )
+        )
+        is_worse = (
+            found.point is not None
+            and found.claim() != "optimal"
+            and p.value(found.point) > p.value([Fraction(v) for v in x])
+        )
         if found.is_proved() and (self.contradicted or not is_worse):
             return found
         return verdict._replace(contradicted=self.contradicted)
@@ -255,7 +284,7 @@ class Certifying(Contradicting):
         p = self.model
         self.know_point(point)
         yield from self.endless()
-        if short.trivial(p) == p.value(point):      # bounds of columns alone say it
+        if short.trivial(p) == p.value(point):  # bounds of columns alone say it
             yield self.one_leaf(short.NOTHING, "optimal", point)._replace(duals={})
         plans = self.planned(point)
         point = self.point or point
@@ -309,7 +338,9 @@ class Certifying(Contradicting):
             return
         self.know_leaves(short.short_duals(p, clp, self.clp_seconds()))
         duals = basis_duals(p, *clp.basis())
-        proof = LeafProver(p, None).prove_from_fractions(duals, MultiplierKind.DUAL, Box(p.lo, p.hi))
+        proof = LeafProver(p, None).prove_from_fractions(
+            duals, MultiplierKind.DUAL, Box(p.lo, p.hi)
+        )
         if proof is not None:
             self.know_leaf(proof.multipliers, True)
 
@@ -349,8 +380,13 @@ class Certifying(Contradicting):
     def by_doubles(self, verdict: Verdict) -> Verdict:
         """With what the answer's own duals say, where the time of a run without `proves` is over."""
         is_told = self.given.values is not None and self.given.duals is not None
-        if self.proves or not is_told or not (self.linear or self.relaxed) or verdict.claim() == "optimal" \
-                or not is_optimal_in_doubles(self.model, self.given.doubles(), self.own_duals()):
+        if (
+            self.proves
+            or not is_told
+            or not (self.linear or self.relaxed)
+            or verdict.claim() == "optimal"
+            or not is_optimal_in_doubles(self.model, self.given.doubles(), self.own_duals())
+        ):
             return verdict
         return verdict._replace(by_doubles=True, note=DOUBLES_NOTE)
 

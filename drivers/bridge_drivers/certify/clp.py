@@ -13,13 +13,13 @@ from typing import Any, Iterable, List, NamedTuple, Optional, Sequence, Tuple
 
 from ..terms import Arrays, Terms, numpy
 
-INFINITE = 1.7976931348623157e308       # COIN's own
+INFINITE = 1.7976931348623157e308  # COIN's own
 STATUS_BITS = 7
-STOPPED = 3                             # by time or iterations
+STOPPED = 3  # by time or iterations
 STATUS_FREE, STATUS_BASIC, STATUS_UPPER, STATUS_LOWER = 0, 1, 2, 3
-SMALL = 1e-3                            # numbers that are made greater
-ITERATIONS = 100_000                    # of one relaxation
-PORTION = 1.0                           # seconds of the processor, which is what CLP counts
+SMALL = 1e-3  # numbers that are made greater
+ITERATIONS = 100_000  # of one relaxation
+PORTION = 1.0  # seconds of the processor, which is what CLP counts
 NAMES = ("libClp.so.1", "libClp.so", "libClp.1.dylib", "libClp.dylib")
 End = Optional[float]
 
@@ -30,7 +30,7 @@ CALLS = """newModel:P deleteModel:-P setLogLevel:-PI loadProblem:-PIIPPPPPPPP se
     numberIterations:IP setNumberIterations:-PI setMaximumIterations:-PI setMaximumSeconds:-PD setPrimalTolerance:-PD
     dual:IPI primal:IPI status:IP objectiveValue:DP primalColumnSolution:PP dualRowSolution:PP
     infeasibilityRay:PP freeRay:-PP statusArray:PP copyinStatus:-PP"""
-LOADED: list[ctypes.CDLL | None] = []           # once loaded, or once missed
+LOADED: list[ctypes.CDLL | None] = []  # once loaded, or once missed
 
 
 class NoClp(Exception):
@@ -59,7 +59,11 @@ class Columns(NamedTuple):
 
     def with_units(self, units: Iterable[Tuple[int, float]]) -> Columns:
         """With one column more for each row and coefficient."""
-        starts, index, value = array("i", self.starts), array("i", self.index), array("d", self.value)
+        starts, index, value = (
+            array("i", self.starts),
+            array("i", self.index),
+            array("d", self.value),
+        )
         for i, a in units:
             index.append(i)
             value.append(a)
@@ -147,7 +151,8 @@ def read(place: int, count: int) -> list[float]:
 class Clp:
     """A relaxation whose bounds and sides change. What it answers is of the last `solve`. Each has so many `seconds`,
     and none of any goes on after `until`, a time of the monotonic clock. Tolerances are of fixed size, and hide what
-    small numbers say: columns are made greater by `by`, and costs by `cost`; rows CLP scales itself."""
+    small numbers say: columns are made greater by `by`, and costs by `cost`; rows CLP scales itself.
+    """
 
     until = math.inf
     seconds = math.inf
@@ -163,8 +168,10 @@ class Clp:
             raise NoClp()
         self.lib, self.model = lib, lib.Clp_newModel()
         self.n, self.m = len(linear.cost), len(linear.sides)
-        self.by = [1.0 if None in pair else enlarging(max((abs(end) for end in pair if end), default=1.0))
-                   for pair in zip(linear.lo, linear.hi)]
+        self.by = [
+            1.0 if None in pair else enlarging(max((abs(end) for end in pair if end), default=1.0))
+            for pair in zip(linear.lo, linear.hi)
+        ]
         costs = [c / by for c, by in zip(linear.cost, self.by)]
         self.cost = enlarging(max((abs(c) for c in costs), default=0.0))
         columns = linear.columns.over(self.by)
@@ -172,12 +179,24 @@ class Clp:
         self.hi = ends((v and v * by for v, by in zip(linear.hi, self.by)), INFINITE)
         self.side_lo = ends((a for a, _ in linear.sides), -INFINITE)
         self.side_hi = ends((b for _, b in linear.sides), INFINITE)
-        given = [buffer(ctypes.c_int, columns.starts), buffer(ctypes.c_int, columns.index),
-                 buffer(ctypes.c_double, columns.value)]
+        given = [
+            buffer(ctypes.c_int, columns.starts),
+            buffer(ctypes.c_int, columns.index),
+            buffer(ctypes.c_double, columns.value),
+        ]
         lib.Clp_setLogLevel(self.model, 0)
         lib.Clp_setSmallElementValue(self.model, 0.0)
-        lib.Clp_loadProblem(self.model, self.n, self.m, *given, self.lo, self.hi,
-                            doubles([c * self.cost for c in costs]), self.side_lo, self.side_hi)
+        lib.Clp_loadProblem(
+            self.model,
+            self.n,
+            self.m,
+            *given,
+            self.lo,
+            self.hi,
+            doubles([c * self.cost for c in costs]),
+            self.side_lo,
+            self.side_hi,
+        )
 
     def __del__(self) -> None:
         if getattr(self, "model", None):
@@ -231,7 +250,10 @@ class Clp:
         return float(self.lib.Clp_objectiveValue(self.model)) / self.cost
 
     def values(self) -> list[float]:
-        return [x / by for x, by in zip(read(self.lib.Clp_primalColumnSolution(self.model), self.n), self.by)]
+        return [
+            x / by
+            for x, by in zip(read(self.lib.Clp_primalColumnSolution(self.model), self.n), self.by)
+        ]
 
     def duals(self) -> list[float]:
         return [y / self.cost for y in read(self.lib.Clp_dualRowSolution(self.model), self.m)]
@@ -275,7 +297,10 @@ class Clp:
 
     def basis(self) -> Basis:
         basic = [status & STATUS_BITS == STATUS_BASIC for status in self.keep()]
-        return Basis([j for j in range(self.n) if basic[j]], [i for i in range(self.m) if not basic[self.n + i]])
+        return Basis(
+            [j for j in range(self.n) if basic[j]],
+            [i for i in range(self.m) if not basic[self.n + i]],
+        )
 
 
 def standing(lo: float, hi: float, value: float) -> int:

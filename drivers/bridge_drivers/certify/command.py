@@ -17,11 +17,22 @@ from ..solving import Result
 
 NAME = "bridge-certify"
 OPTIONS = (
-    Option("certificate", "", FILE, "where the certificate is written; - is standard output (MODEL.certificate)"),
+    Option(
+        "certificate",
+        "",
+        FILE,
+        "where the certificate is written; - is standard output (MODEL.certificate)",
+    ),
     Option("driver", "cbc", Text(known=solvers.NAMES), "the driver that finds a point"),
     Option("prove", 1, SWITCH, "0: as a driver without prove=1"),
     Option("stats", 0, SWITCH, "1: a line of figures"),
-    Option("timelim", 60.0, AMOUNT, "seconds for the driver, and again for the certificate; 0: no limit"))
+    Option(
+        "timelim",
+        60.0,
+        AMOUNT,
+        "seconds for the driver, and again for the certificate; 0: no limit",
+    ),
+)
 USAGE = """usage: {name} MODEL [option=value ..]
 
   finds what is true of MODEL by a solver and a search, writes a certificate of it, and tells the
@@ -53,7 +64,9 @@ class Finding(Run):
     def deliver(self, result: Result) -> Status:
         """Where nothing is proved, nothing is done."""
         status = super().deliver(result)
-        is_vain = status in (Status.DONE, Status.NOT_SETTLED) and result.lines[-1].startswith("not pr")
+        is_vain = status in (Status.DONE, Status.NOT_SETTLED) and result.lines[-1].startswith(
+            "not pr"
+        )
         return Status.FAILED if is_vain else status
 
 
@@ -81,8 +94,10 @@ class Command(Finding, Driver):
     def deliver(self, result: Result) -> Status:
         status = super().deliver(result)
         if self.options.own["stats"] and result.figures:
-            print(f"{result.figures}; {time.process_time():.2f} s of the search",
-                  file=sys.stderr if self.is_quiet else sys.stdout)
+            print(
+                f"{result.figures}; {time.process_time():.2f} s of the search",
+                file=sys.stderr if self.is_quiet else sys.stdout,
+            )
         if self.is_quiet and os.path.exists(self.options.certificate):
             with open(self.options.certificate, encoding="ascii") as f:
                 shutil.copyfileobj(f, sys.stdout)

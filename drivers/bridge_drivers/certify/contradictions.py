@@ -39,8 +39,10 @@ class Contradicting(Judging):
     def planes(self) -> Iterator[Verdict]:
         """A whole column or row of whole columns without a whole number between its ends, or equations without a whole
         solution: one plane, asked in each run."""
-        for found, what in ((hollow, "no whole number between two ends"),
-                            (parity, "equations without a whole solution")):
+        for found, what in (
+            (hollow, "no whole number between two ends"),
+            (parity, "equations without a whole solution"),
+        ):
             odd = found(self.model)
             if odd is not None:
                 self.figures = what
@@ -61,7 +63,9 @@ class Contradicting(Judging):
         """Of a small integer program whose search ends without a tree, in the time that is left: what its relaxation
         has in fractions."""
         if not self.linear and simplex.is_small(self.model):
-            yield from (verdict._replace(duals={}) for verdict in self.by_simplex() if verdict.is_proved())
+            yield from (
+                verdict._replace(duals={}) for verdict in self.by_simplex() if verdict.is_proved()
+            )
 
     def by_simplex(self, given: Given = Given()) -> Iterator[Verdict]:
         """What is true of a small linear program, from the basis that is given; of an integer one where the point is
@@ -107,7 +111,9 @@ class Contradicting(Judging):
 
     def without_end(self, point: Point, direction: Point | None) -> Verdict:
         self.figures = "a point and a ray"
-        return self.judged(text.head("unbounded", self.objective, None, point, direction), None, point)
+        return self.judged(
+            text.head("unbounded", self.objective, None, point, direction), None, point
+        )
 
     def ray(self) -> Point | None:
         """Whatever its gain is. Of a small program by the simplex method in fractions."""
@@ -122,7 +128,12 @@ class Contradicting(Judging):
 
     def is_open(self) -> bool:
         """Whether there may be a ray: there is no bound, and none was looked for to the end."""
-        return not (self.has_looked or self.shown is not None or hasattr(self, "model") and short_of_rays(self.model))
+        return not (
+            self.has_looked
+            or self.shown is not None
+            or hasattr(self, "model")
+            and short_of_rays(self.model)
+        )
 
     def some_point(self) -> Point | None:
         """A feasible point, whatever its objective."""
@@ -131,7 +142,9 @@ class Contradicting(Judging):
             clp = p.relaxation()
             found = None
             if clp.solve() is State.OPTIMAL:
-                found = next(points.near(p, clp.values()), None) or points.vertex(p, clp.basis(), clp.values())
+                found = next(points.near(p, clp.values()), None) or points.vertex(
+                    p, clp.basis(), clp.values()
+                )
             return self.ended(p).point if found is None and simplex.is_small(p) else found
         try:
             self.shared(p).resume(self.watch.spent() + self.watch.left())

@@ -21,12 +21,12 @@ from .pool import Failed, Outcome, Pool, Portion, Problem
 from .search import MOST_NODES, Exact, Goal
 from .watch import Paused, Stopped, Watch
 
-AT_HOME = 100                   # nodes that this process works first
-RESERVE = 2                     # portions that wait, for each process
-LEAST, MOST, SHARE = 0.2, 5.0, 0.1      # seconds of a portion, and their share of all so far
-TURN = 0.2                      # seconds between looks at the watch
-MOST_FAULTS = 3                 # of processes with one strand, before this one goes on alone
-GRACE = 1.0                     # seconds more for what is worked when the time is over
+AT_HOME = 100  # nodes that this process works first
+RESERVE = 2  # portions that wait, for each process
+LEAST, MOST, SHARE = 0.2, 5.0, 0.1  # seconds of a portion, and their share of all so far
+TURN = 0.2  # seconds between looks at the watch
+MOST_FAULTS = 3  # of processes with one strand, before this one goes on alone
+GRACE = 1.0  # seconds more for what is worked when the time is over
 
 
 @dataclass(eq=False)
@@ -51,10 +51,12 @@ class Crowd:
     path, the parts of splits from the root that lead to it ("" for all): `steps` are the splits, `closed` what is done.
     `tells`: the progress."""
 
-    def __init__(self, problem: Problem, exact: Exact, watch: Watch, pool: Pool | None = None) -> None:
+    def __init__(
+        self, problem: Problem, exact: Exact, watch: Watch, pool: Pool | None = None
+    ) -> None:
         self.problem, self.watch, self.pool = problem, watch, pool or Pool(0)
         self.search = problem.search(watch, exact)
-        crowd: Crowd = weakref.proxy(self)      # the memory of CLP is free as soon as nobody uses this
+        crowd: Crowd = weakref.proxy(self)  # the memory of CLP is free as soon as nobody uses this
         self.search.tell, self.tells = lambda: crowd.tell(), True
         self.running: dict[Future[Outcome], Strand] = {}
         self.waiting = [Strand("", [])]
@@ -98,14 +100,20 @@ class Crowd:
 
     def above(self, strand: Strand) -> list[Step]:
         path = strand.path
-        return [self.steps[path[:depth]]._replace(part=int(part)) for depth, part in enumerate(path)]
+        return [
+            self.steps[path[:depth]]._replace(part=int(part)) for depth, part in enumerate(path)
+        ]
 
     def divide(self, strand: Strand) -> bool:
         """Makes its widest part that nobody is in a strand; whether there is one."""
         while strand.opened:
             (step, other), path = strand.opened[0], strand.path
             self.steps[path], beside = step, f"{path}{1 - step.part}"
-            strand.path, strand.base, strand.opened = f"{path}{step.part}", step.base, strand.opened[1:]
+            strand.path, strand.base, strand.opened = (
+                f"{path}{step.part}",
+                step.base,
+                strand.opened[1:],
+            )
             if other is None:
                 self.waiting.append(Strand(beside, [], step.base))
                 return True
@@ -154,8 +162,10 @@ class Crowd:
 
     def tell(self) -> None:
         if self.tells:
-            known = {"nodes": float(self.search.nodes),
-                     "open": float(sum(1 + len(strand.opened) for strand in self.strands()))}
+            known = {
+                "nodes": float(self.search.nodes),
+                "open": float(sum(1 + len(strand.opened) for strand in self.strands())),
+            }
             if self.search.aim.target is not None:
                 known["bound"] = self.search.model.sign * self.bound()
             self.watch.tell(**known)
@@ -170,8 +180,10 @@ class Crowd:
 
     def fill(self, until: float) -> None:
         """Each process has a portion, and some wait: the worst bounds first, then what is widest."""
+
         def rank(strand: Strand) -> tuple[float, int]:
             return strand.bound(), len(strand.path)
+
         wanted = self.pool.workers * (1 + RESERVE) - len(self.running)
         divisible = sorted(self.waiting, key=rank)
         while len(self.waiting) < wanted and divisible:
@@ -185,8 +197,12 @@ class Crowd:
     def portion(self, strand: Strand, until: float) -> Portion:
         seconds = min(max(SHARE * (time.monotonic() - self.began), LEAST), MOST)
         seconds = min(max(seconds, strand.seconds), max(until - self.watch.spent(), 0.0))
-        opened = [one._replace(other=one.other and one.other._replace(tree=[Held(k, count(one.other.tree))]))
-                  for k, one in enumerate(strand.opened)]
+        opened = [
+            one._replace(
+                other=one.other and one.other._replace(tree=[Held(k, count(one.other.tree))])
+            )
+            for k, one in enumerate(strand.opened)
+        ]
         return Portion(self.packed, self.above(strand), opened, self.search.choice.gains, seconds)
 
     def take(self, seconds: float) -> None:
@@ -205,16 +221,19 @@ class Crowd:
             found = future.result()
         except (Stopped, Better):
             raise
-        except Exception as fault:      # whatever a process elsewhere ends by
+        except Exception as fault:  # whatever a process elsewhere ends by
             strand.faults += 1
             if strand.faults > MOST_FAULTS:
-                raise Failed(f"processes of the search fail ({fault or type(fault).__name__})") from None
+                raise Failed(
+                    f"processes of the search fail ({fault or type(fault).__name__})"
+                ) from None
             return
         self.search.nodes, self.search.choice.gains = self.search.nodes + found.nodes, found.learnt
         held = {k: one.other.tree for k, one in enumerate(strand.opened) if one.other is not None}
 
         def whole(done: Done) -> Done:
             return done._replace(tree=rebuilt(done.tree, held))
+
         strand.opened = [one._replace(other=one.other and whole(one.other)) for one in found.opened]
         strand.seconds = 0.0 if found.nodes else 2 * max(strand.seconds, LEAST)
         strand.faults = 0
@@ -233,9 +252,11 @@ class Crowd:
 
     def best_bound(self) -> float:
         """As that of a search, which can go on."""
+
         def of(strand: Strand) -> float:
             self.search.begin(self.above(strand), strand.opened)
             return self.search.best_bound()
+
         return min(map(of, self.waiting), default=math.inf)
 
     def ended_at(self, goal: Goal) -> Tree | None:
@@ -247,6 +268,11 @@ class Crowd:
 
     def share(self) -> float:
         """That of the tree which is closed, where both parts of a split count alike."""
-        open_ones = ((len(strand.path) + k, one) for strand in self.strands() for k, one in enumerate(strand.opened, 1))
+        open_ones = (
+            (len(strand.path) + k, one)
+            for strand in self.strands()
+            for k, one in enumerate(strand.opened, 1)
+        )
         return sum(0.5 ** len(path) for path in self.closed) + sum(
-            0.5 ** depth for depth, one in open_ones if one.other is not None)
+            0.5**depth for depth, one in open_ones if one.other is not None
+        )

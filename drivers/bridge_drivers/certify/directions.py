@@ -12,17 +12,19 @@ from .model import Model
 
 MOST_COLUMNS = 45
 MOST_FORMS = 10
-BIG = 10 ** 4                   # how much wider than its coefficients a row may count
-OPEN_WIDTH = Fraction(10 ** 5)  # of a column without a bound
-PRECISION = 10 ** 6
+BIG = 10**4  # how much wider than its coefficients a row may count
+OPEN_WIDTH = Fraction(10**5)  # of a column without a bound
+PRECISION = 10**6
 MOST_STEPS = 200_000
 LOVASZ = (99, 100)
-MOST_COEFFICIENT = 2 ** 31
-MOST_ROUNDS = 20                # of taking equations away from a form
+MOST_COEFFICIENT = 2**31
+MOST_ROUNDS = 20  # of taking equations away from a form
 
 Form = Dict[int, int]
 Matrix = List[List[int]]
-Thin = Tuple[Mapping[int, Fraction], Fraction]  # a form of wide columns, which count from 0, and its width
+Thin = Tuple[
+    Mapping[int, Fraction], Fraction
+]  # a form of wide columns, which count from 0, and its width
 
 
 class Reduction:
@@ -63,10 +65,10 @@ class Reduction:
         d, lam = self.d, self.lam
         for matrix in (self.rows, self.back):
             matrix[k], matrix[k - 1] = matrix[k - 1], matrix[k]
-        lam[k][:k - 1], lam[k - 1][:k - 1] = lam[k - 1][:k - 1], lam[k][:k - 1]
+        lam[k][: k - 1], lam[k - 1][: k - 1] = lam[k - 1][: k - 1], lam[k][: k - 1]
         share = lam[k][k - 1]
         b = (d[k - 1] * d[k + 1] + share * share) // d[k]
-        for row in lam[k + 1:]:
+        for row in lam[k + 1 :]:
             t = row[k]
             row[k] = (d[k + 1] * row[k - 1] - share * t) // d[k]
             row[k - 1] = (b * t + share * row[k]) // d[k + 1]
@@ -94,17 +96,24 @@ class Reduction:
 
 def thin_columns(p: Model, wide: Sequence[int]) -> list[Thin]:
     ends = [(p.lo[j], p.hi[j]) for j in wide]
-    widths = (OPEN_WIDTH if lo is None or hi is None else Fraction(hi - lo, p.unit) for lo, hi in ends)
+    widths = (
+        OPEN_WIDTH if lo is None or hi is None else Fraction(hi - lo, p.unit) for lo, hi in ends
+    )
     return [({k: Fraction(1)}, max(width, Fraction(1, 2))) for k, width in enumerate(widths)]
 
 
 def thin_row(p: Model, i: int, place: Mapping[int, int]) -> Thin | None:
     """A row over wide columns alone, a missing side of which comes from bounds."""
     row, sides = p.rows[i], (p.side_lo[i], p.side_hi[i])
-    if sides == (None, None) or any(j not in place and (p.lo[j] is None or p.lo[j] != p.hi[j]) for j, _ in row):
+    if sides == (None, None) or any(
+        j not in place and (p.lo[j] is None or p.lo[j] != p.hi[j]) for j, _ in row
+    ):
         return None
     terms = {place[j]: Fraction(a, p.scale) for j, a in row if j in place}
-    lo, hi = (end_of(p, i, upper) if side is None else Fraction(side, p.unit) for upper, side in enumerate(sides))
+    lo, hi = (
+        end_of(p, i, upper) if side is None else Fraction(side, p.unit)
+        for upper, side in enumerate(sides)
+    )
     return None if not terms or lo is None or hi is None else sized(terms, hi - lo)
 
 
@@ -119,17 +128,26 @@ def sized(terms: Mapping[int, Fraction], width: Fraction) -> Thin:
     return terms, max(width, max(abs(a) for a in terms.values()) / BIG)
 
 
-def directions(p: Model, objective: Mapping[int, int] = {}, width: Fraction = Fraction(0)) -> list[Form]:
+def directions(
+    p: Model, objective: Mapping[int, int] = {}, width: Fraction = Fraction(0)
+) -> list[Form]:
     """Forms of a small range, thinnest first. The objective's form has that width, where it has terms."""
     wide = [j for j, w in enumerate(p.whole) if w and (p.lo[j] is None or p.lo[j] != p.hi[j])]
     if not 2 <= len(wide) <= MOST_COLUMNS:
         return []
     place = {j: k for k, j in enumerate(wide)}
     terms = {place[j]: Fraction(a) for j, a in objective.items() if j in place}
-    thin = [*thin_columns(p, wide), *filter(None, (thin_row(p, i, place) for i in range(p.m))),
-            *([sized(terms, width)] if terms else [])]
-    reduction = Reduction([[int(terms[k] * PRECISION / width) if k in terms else 0 for terms, width in thin]
-                           for k in range(len(wide))])
+    thin = [
+        *thin_columns(p, wide),
+        *filter(None, (thin_row(p, i, place) for i in range(p.m))),
+        *([sized(terms, width)] if terms else []),
+    ]
+    reduction = Reduction(
+        [
+            [int(terms[k] * PRECISION / width) if k in terms else 0 for terms, width in thin]
+            for k in range(len(wide))
+        ]
+    )
     if not reduction.run():
         return []
     d, found, equations = reduction.d, list[Form](), whole_equations(p, place)
@@ -143,8 +161,11 @@ def directions(p: Model, objective: Mapping[int, int] = {}, width: Fraction = Fr
 
 def whole_equations(p: Model, place: Mapping[int, int]) -> list[Form]:
     """Equations over wide columns in whole numbers without a common factor."""
-    rows = [row for row, lo, hi in zip(p.rows, p.side_lo, p.side_hi)
-            if lo is not None and lo == hi and row and all(j in place for j, _ in row)]
+    rows = [
+        row
+        for row, lo, hi in zip(p.rows, p.side_lo, p.side_hi)
+        if lo is not None and lo == hi and row and all(j in place for j, _ in row)
+    ]
     return [{j: a // gcd(*(a for _, a in row)) for j, a in row} for row in rows]
 
 
@@ -153,9 +174,15 @@ def without(form: Form, equations: Sequence[Form]) -> Form:
     for _ in range(MOST_ROUNDS):
         before = dict(form)
         for terms in equations:
-            product, size = sum(a * form.get(j, 0) for j, a in terms.items()), sum(a * a for a in terms.values())
+            product, size = sum(a * form.get(j, 0) for j, a in terms.items()), sum(
+                a * a for a in terms.values()
+            )
             q = (2 * product + size) // (2 * size)
-            form = {j: v for j in {**form, **terms} if (v := form.get(j, 0) - q * terms.get(j, 0))} if q else form
+            form = (
+                {j: v for j in {**form, **terms} if (v := form.get(j, 0) - q * terms.get(j, 0))}
+                if q
+                else form
+            )
         if form == before:
             break
     return form

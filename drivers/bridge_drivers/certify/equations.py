@@ -11,8 +11,8 @@ from typing import Dict, Iterator, List, NamedTuple, Tuple
 from .model import Model
 
 MOST_ROWS = 120
-MOST_NUMBER = 10 ** 60
-End = Tuple[Fraction, Dict[int, Fraction]]      # with the multipliers that show it
+MOST_NUMBER = 10**60
+End = Tuple[Fraction, Dict[int, Fraction]]  # with the multipliers that show it
 
 
 class Parity(NamedTuple):
@@ -52,7 +52,11 @@ def alike(p: Model) -> Iterator[int]:
     counts = Counter(kinds)
     for i, row in enumerate(p.rows):
         is_alone = len(row) > 1 and counts[kinds[i]] == 1
-        if row and not (is_alone and None in (p.side_lo[i], p.side_hi[i])) and all(p.whole[j] for j, _ in row):
+        if (
+            row
+            and not (is_alone and None in (p.side_lo[i], p.side_hi[i]))
+            and all(p.whole[j] for j, _ in row)
+        ):
             yield i
 
 
@@ -69,14 +73,22 @@ def ends(p: Model, i: int, u: Fraction) -> Iterator[Tuple[bool, End]]:
 
 def parity(p: Model) -> Parity | None:
     """By multipliers of equations over whole columns, under which the terms are whole and the side is not."""
-    rows = [i for i, side in enumerate(p.side_lo) if side is not None and side == p.side_hi[i]
-            and p.rows[i] and all(p.whole[j] for j, _ in p.rows[i])]
+    rows = [
+        i
+        for i, side in enumerate(p.side_lo)
+        if side is not None
+        and side == p.side_hi[i]
+        and p.rows[i]
+        and all(p.whole[j] for j, _ in p.rows[i])
+    ]
     if not rows or len(rows) > MOST_ROWS:
         return None
     by = [p.scale // gcd(p.scale, *(a for _, a in p.rows[i])) for i in rows]
     terms = [{j: a * k // p.scale for j, a in p.rows[i]} for i, k in zip(rows, by)]
     sides = [Fraction((p.side_lo[i] or 0) * k, p.unit) for i, k in zip(rows, by)]
-    found = broken([[row.get(j, 0) for row in terms] for j in sorted({j for row in terms for j in row})], sides)
+    found = broken(
+        [[row.get(j, 0) for row in terms] for j in sorted({j for row in terms for j in row})], sides
+    )
     if found is None:
         return None
     form: Dict[int, Fraction] = {}
@@ -91,9 +103,10 @@ def parity(p: Model) -> Parity | None:
 
 def broken(columns: List[List[int]], sides: List[Fraction]) -> Dict[int, Fraction] | None:
     """Multipliers by row for the first unknown that is not whole, of columns that whole operations make a lower
-    triangle, row by row; None where there is none, or where the equations contradict each other as they stand."""
-    rows: List[int] = []            # of the diagonal
-    values: List[Fraction] = []     # of its unknowns
+    triangle, row by row; None where there is none, or where the equations contradict each other as they stand.
+    """
+    rows: List[int] = []  # of the diagonal
+    values: List[Fraction] = []  # of its unknowns
     for i, side in enumerate(sides):
         start = len(rows)
         if not cleared(columns, i, start):

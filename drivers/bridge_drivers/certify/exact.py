@@ -9,11 +9,11 @@ from math import gcd, lcm
 from typing import Dict, Iterable, Mapping, Tuple, Union
 
 Rational = Union[int, Fraction]
-Equation = Tuple[Mapping[int, Rational], Rational]      # coefficients of unknowns, right side
-Line = Dict[int, int]           # an equation with 0 on its right
-SIDE = -1                       # the unknown of a line that is -1: its coefficient is the right side
-WORK = 2_000_000                # numbers that are touched at most
-LOOKED_AT = 9                   # equations of the least length, for a pivot
+Equation = Tuple[Mapping[int, Rational], Rational]  # coefficients of unknowns, right side
+Line = Dict[int, int]  # an equation with 0 on its right
+SIDE = -1  # the unknown of a line that is -1: its coefficient is the right side
+WORK = 2_000_000  # numbers that are touched at most
+LOOKED_AT = 9  # equations of the least length, for a pivot
 
 
 class TooLong(Exception):
@@ -120,7 +120,9 @@ def solved(system: Iterable[Equation], most: int = WORK) -> dict[int, Fraction] 
         return None
     values = {SIDE: Fraction(-1)}
     for unknown, line in reversed(done):
-        total = sum((a * values[k] for k, a in line.items() if k != unknown and values.get(k)), Fraction(0))
+        total = sum(
+            (a * values[k] for k, a in line.items() if k != unknown and values.get(k)), Fraction(0)
+        )
         values[unknown] = -total / line[unknown]
     del values[SIDE]
     return values

@@ -25,12 +25,12 @@ from ..program import Program
 
 WITHOUT = "not proved: "
 NO_POINT = WITHOUT + "no exact point was found near the answer"
-ONE_LEAF = 1.0                  # seconds for it
+ONE_LEAF = 1.0  # seconds for it
 MOST_CLP_SECONDS = 30.0
-TREE = 0.75                     # of the seconds that are left, to judge a tree
-MOST_POINTS = 4                 # that are known at a time
-MOST_DIGITS = 15                # of a bound that is told as it is
-WIDTH = 127                     # bits of numbers in a certificate
+TREE = 0.75  # of the seconds that are left, to judge a tree
+MOST_POINTS = 4  # that are known at a time
+MOST_DIGITS = 15  # of a bound that is told as it is
+WIDTH = 127  # bits of numbers in a certificate
 
 
 class Given(NamedTuple):
@@ -90,19 +90,30 @@ class Judging:
     model: Model
     factors: Mapping[int, int]
 
-    def __init__(self, bridge: Bridge, nl: str, folder: str, program: Program, objective: int,
-                 watch: Watch, proves: bool = True, relaxed: bool = False,
-                 bounds: bool = False, shortens: bool = False, pool: Pool | None = None) -> None:
+    def __init__(
+        self,
+        bridge: Bridge,
+        nl: str,
+        folder: str,
+        program: Program,
+        objective: int,
+        watch: Watch,
+        proves: bool = True,
+        relaxed: bool = False,
+        bounds: bool = False,
+        shortens: bool = False,
+        pool: Pool | None = None,
+    ) -> None:
         self.bridge, self.nl, self.folder, self.objective = bridge, nl, folder, objective
         self.watch, self.proves, self.relaxed, self.bounded = watch, proves, relaxed, bounds
         self.program, self.figures, self.shortens, self.pool = program, "", shortens, pool
-        self.point: Point | None = None         # the best that is known
-        self.points: list[Point] = []           # all of them, the best first
-        self.shown: Bound | None = None         # the closest bound that is known
-        self.note = ""                          # why they are apart
+        self.point: Point | None = None  # the best that is known
+        self.points: list[Point] = []  # all of them, the best first
+        self.shown: Bound | None = None  # the closest bound that is known
+        self.note = ""  # why they are apart
         self.plans: Plans | None = None
-        self.contradicted = False               # the answer's whole variables are
-        self.has_looked = False                 # for a ray
+        self.contradicted = False  # the answer's whole variables are
+        self.has_looked = False  # for a ray
         self.linear = False
         self.path = os.path.join(folder, "certificate")
 
@@ -121,14 +132,18 @@ class Judging:
                 self.watch.restart()
                 Clp.restrict(self.watch.until_over())
 
-    def judged(self, lines: Iterator[str], tree: str | None = None, point: Point | None = None) -> Verdict:
+    def judged(
+        self, lines: Iterator[str], tree: str | None = None, point: Point | None = None
+    ) -> Verdict:
         """By `bridge verify`; where numbers are too wide for it, others go on."""
         try:
             return self.verified(lines, tree, point)
         except Refused as fault:
             return Verdict(WITHOUT + fault.line())
 
-    def verified(self, lines: Iterator[str], tree: str | None = None, point: Point | None = None) -> Verdict:
+    def verified(
+        self, lines: Iterator[str], tree: str | None = None, point: Point | None = None
+    ) -> Verdict:
         """Writes the lines, and a tree from its file; asks `bridge verify`."""
         written(self.path, lines)
         if tree is not None:
@@ -192,7 +207,9 @@ class Judging:
             yield self.claimed("bound", bound)
         for point in self.points:
             self.figures = "a point"
-            yield self.judged(text.head("feasible", self.objective, None, point), None, point)._replace(note=self.note)
+            yield self.judged(
+                text.head("feasible", self.objective, None, point), None, point
+            )._replace(note=self.note)
 
     def claimed(self, claim: str, bound: Bound, point: Point | None = None) -> Verdict:
         """One claim by a bound."""
@@ -201,13 +218,19 @@ class Judging:
         self.figures = bound.figures
         lines = itertools.chain(text.head(claim, objective, value, point), bound.lines())
         return self.judged(lines, bound.path, point)._replace(
-            duals=bound.duals, note="" if claim == "optimal" else self.note)
+            duals=bound.duals, note="" if claim == "optimal" else self.note
+        )
 
     def by_tree(self, shaped: Shaped, point: Point | None = None) -> Verdict:
         """`optimal`, and without a point `infeasible`."""
-        self.figures = f"{shaped.name} plan, {shaped.nodes} nodes, " \
-                       f"{shaped.rows} rows, {shaped.size} bytes"
-        head = text.head("infeasible", None) if point is None else text.head("optimal", self.objective, None, point)
+        self.figures = (
+            f"{shaped.name} plan, {shaped.nodes} nodes, " f"{shaped.rows} rows, {shaped.size} bytes"
+        )
+        head = (
+            text.head("infeasible", None)
+            if point is None
+            else text.head("optimal", self.objective, None, point)
+        )
         return self.judged(head, shaped.path, point)
 
     def minimised(self, duals: Mapping[int, float | Fraction]) -> dict[int, float | Fraction]:
@@ -218,9 +241,17 @@ class Judging:
         """Its duals are those of exported rows."""
         sign, numbers = self.model.sign, leaf.numerators
         y = dict.fromkeys(range(self.model.m), Fraction(0))
-        y.update((i, Fraction(sign * v, leaf.denominator * self.factors.get(i, 1))) for i, v in numbers.items())
-        return Bound(value, lambda: text.leaf_lines(leaf, Naming({}, 0, sign), {}), None,
-                     f"one leaf, {len(numbers)} duals", y)
+        y.update(
+            (i, Fraction(sign * v, leaf.denominator * self.factors.get(i, 1)))
+            for i, v in numbers.items()
+        )
+        return Bound(
+            value,
+            lambda: text.leaf_lines(leaf, Naming({}, 0, sign), {}),
+            None,
+            f"one leaf, {len(numbers)} duals",
+            y,
+        )
 
     def one_leaf(self, leaf: Multipliers, claim: str, point: Point | None) -> Verdict:
         """`optimal`, or `infeasible`."""
@@ -228,7 +259,9 @@ class Judging:
 
     def at_optimum(self, point: Point, leaf: Multipliers) -> Iterator[Verdict]:
         """Both are exact; where they do not fit, the note says so."""
-        bits = bit_width([*point, *(Fraction(y, leaf.denominator) for y in leaf.numerators.values())])
+        bits = bit_width(
+            [*point, *(Fraction(y, leaf.denominator) for y in leaf.numerators.values())]
+        )
         self.note = wide_note(f"{bits} bits")
         if bits <= WIDTH:
             verdict = self.one_leaf(leaf, "optimal", point)

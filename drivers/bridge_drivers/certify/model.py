@@ -23,7 +23,7 @@ Sides = List[Optional[int]]
 Point = List[Fraction]
 
 
-TIGHT = 1e-9                    # tolerance of a program whose value near 0 counts
+TIGHT = 1e-9  # tolerance of a program whose value near 0 counts
 
 
 class Unfit(Exception):
@@ -54,9 +54,12 @@ class Step(NamedTuple):
 
 class Model:
     """n columns and m rows by position. Coefficients in `rows` and `by_column` are whole, over `scale`; costs and
-    `start` (the constant) over `cost_scale`; sides and bounds over `unit`. Rows from `n_con` on were added."""
+    `start` (the constant) over `cost_scale`; sides and bounds over `unit`. Rows from `n_con` on were added.
+    """
 
-    def __init__(self, given: Program | bytes, factors: Mapping[int, int], constraints: int) -> None:
+    def __init__(
+        self, given: Program | bytes, factors: Mapping[int, int], constraints: int
+    ) -> None:
         """`factors` are what `export` multiplied rows by, where that is not 1, `constraints` how
         many the file has: those without sides are not exported, and have no terms here."""
         program = Program(given) if isinstance(given, bytes) else given
@@ -65,9 +68,9 @@ class Model:
         self.sign = -1 if program.maximise else 1
         self.n, self.m = len(program.columns) - is_tied, constraints
         self.n_con = self.m
-        if program.columns[:self.n] != [f"x{j}" for j in range(self.n)]:
+        if program.columns[: self.n] != [f"x{j}" for j in range(self.n)]:
             raise Unfit("the exported program has other columns than the file")
-        self.whole = program.read.whole[:self.n]
+        self.whole = program.read.whole[: self.n]
         places = [-1 if name == TIED_ROW else int(name[1:]) for name in program.constraints]
         self.set_cost(program, places.index(-1) if is_tied else OBJECTIVE)
         self.set_terms(program.read, places, factors)
@@ -82,7 +85,7 @@ class Model:
         over = dict(zip(used, known[1:]))
         numbers = [known[0], *map(over.__getitem__, entries.numbers)]
         if row != OBJECTIVE:
-            factor = -numbers.pop()             # of z, the last column
+            factor = -numbers.pop()  # of z, the last column
         sign = self.sign if factor > 0 else -self.sign
         numbers, self.cost_scale = reduced([sign * v for v in numbers], abs(factor))
         self.start, self.costs = -numbers[0], [0] * self.n
@@ -90,12 +93,17 @@ class Model:
             self.costs[j] = v
 
     def set_terms(self, read: Text, places: Sequence[int], factors: Mapping[int, int]) -> None:
-        number, to = read.number, [*places, -1, -1]         # rows that are N stand last
+        number, to = read.number, [*places, -1, -1]  # rows that are N stand last
         used = sorted({k for i, k in zip(read.row, number) if to[i] >= 0})
         by = [factors.get(i, 1) for i in to]
         pairs: dict[tuple[int, int], int] = {}
         if factors:
-            pairs = {pair: k for k, pair in enumerate(dict.fromkeys((k, by[i]) for i, k in zip(read.row, number)))}
+            pairs = {
+                pair: k
+                for k, pair in enumerate(
+                    dict.fromkeys((k, by[i]) for i, k in zip(read.row, number))
+                )
+            }
             number = array("i", [pairs[k, by[i]] for i, k in zip(read.row, number)])
         whole, scale = wholes_of([read.numbers[k] for k in used])
         table = [0] * len(read.numbers)
@@ -108,20 +116,29 @@ class Model:
         self.terms = terms_of(self.m, self.n, (read.row, read.column, number), table, to)
 
     def set_sides(self, read: Text, places: Sequence[int], factors: Mapping[int, int]) -> None:
-        low, high = (texts[:self.n] for texts in read.bounds())
+        low, high = (texts[: self.n] for texts in read.bounds())
         texts = list({*low, *high} - {b""})
         ends, scale = wholes_of(texts)
         *sides, side_scale = read.sides()
         least = lcm(1, *factors.values())
         unit = lcm(scale, side_scale * least)
         by = [unit // (side_scale * factors.get(i, 1)) for i in places]
-        made = [{i: side * u for i, side, u in zip(places, part, by) if i >= 0 and side is not None} for part in sides]
-        common = gcd(unit, *(v * (unit // scale) for v in ends), *made[0].values(), *made[1].values())
+        made = [
+            {i: side * u for i, side, u in zip(places, part, by) if i >= 0 and side is not None}
+            for part in sides
+        ]
+        common = gcd(
+            unit, *(v * (unit // scale) for v in ends), *made[0].values(), *made[1].values()
+        )
         self.unit = unit // common
-        over: dict[bytes, Side] = {text: v * (unit // scale) // common for text, v in zip(texts, ends)}
+        over: dict[bytes, Side] = {
+            text: v * (unit // scale) // common for text, v in zip(texts, ends)
+        }
         over[b""] = None
         self.lo, self.hi = list(map(over.__getitem__, low)), list(map(over.__getitem__, high))
-        whole: list[Sides] = [[part[i] // common if i in part else None for i in range(self.m)] for part in made]
+        whole: list[Sides] = [
+            [part[i] // common if i in part else None for i in range(self.m)] for part in made
+        ]
         self.side_lo, self.side_hi = whole
 
     @cached_property
@@ -189,10 +206,19 @@ class Model:
 
     def cone(self) -> Model:
         """The directions in which the program has no end, each column at most 1 in size, and the greatest cost 1."""
+
         def zero(ends: Sides) -> Sides:
             return [None if end is None else 0 for end in ends]
-        new = self.with_bounds([-1 if v is None else 0 for v in self.lo], [1 if v is None else 0 for v in self.hi])
-        new.side_lo, new.side_hi, new.unit, new.whole = zero(self.side_lo), zero(self.side_hi), 1, [False] * self.n
+
+        new = self.with_bounds(
+            [-1 if v is None else 0 for v in self.lo], [1 if v is None else 0 for v in self.hi]
+        )
+        new.side_lo, new.side_hi, new.unit, new.whole = (
+            zero(self.side_lo),
+            zero(self.side_hi),
+            1,
+            [False] * self.n,
+        )
         most = max((abs(c) for c in self.cost), default=Fraction(0)) or Fraction(1)
         return new.with_costs([c / most for c in self.cost])
 
@@ -201,9 +227,13 @@ class Model:
 
     def linear(self, has_cost: bool = True) -> Linear:
         """The relaxation, without the constant."""
-        return Linear([self.double(v) for v in self.lo], [self.double(v) for v in self.hi],
-                      [c / self.cost_scale if has_cost else 0.0 for c in self.costs],
-                      [(self.double(a), self.double(b)) for a, b in zip(self.side_lo, self.side_hi)], self.columns)
+        return Linear(
+            [self.double(v) for v in self.lo],
+            [self.double(v) for v in self.hi],
+            [c / self.cost_scale if has_cost else 0.0 for c in self.costs],
+            [(self.double(a), self.double(b)) for a, b in zip(self.side_lo, self.side_hi)],
+            self.columns,
+        )
 
     def relaxation(self, has_cost: bool = True) -> Clp:
         return Clp(self.linear(has_cost))
@@ -212,8 +242,15 @@ class Model:
         """Minimises by how much rows are missed, each in its own unit: two more columns a row take that up."""
         linear, m = self.linear(False), self.m
         missing = [(i, float(one * self.row_unit(i))) for one in (1, -1) for i in range(m)]
-        clp = Clp(Linear(linear.lo + [0.0] * (2 * m), linear.hi + [None] * (2 * m),
-                         [0.0] * self.n + [1.0] * (2 * m), linear.sides, linear.columns.with_units(missing)))
+        clp = Clp(
+            Linear(
+                linear.lo + [0.0] * (2 * m),
+                linear.hi + [None] * (2 * m),
+                [0.0] * self.n + [1.0] * (2 * m),
+                linear.sides,
+                linear.columns.with_units(missing),
+            )
+        )
         clp.tighten(TIGHT)
         return clp
 
@@ -255,7 +292,9 @@ class Model:
         size = gcd(*self.costs)
         if not size or any(c and not whole for c, whole in zip(self.costs, self.whole)):
             return None
-        return Step(Fraction(size, self.cost_scale), {j: c // size for j, c in enumerate(self.costs) if c})
+        return Step(
+            Fraction(size, self.cost_scale), {j: c // size for j, c in enumerate(self.costs) if c}
+        )
 
 
 def over_one(x: Sequence[Fraction]) -> tuple[list[int], int]:
@@ -282,7 +321,9 @@ def model_of(bridge: Bridge, nl: str, program: Program) -> tuple[Model, dict[int
     names = [name for name in program.constraints if name != TIED_ROW]
     if not program.is_exported:
         return Model(program, {}, len(names)), {}
-    known = {int(row[1:]): Fraction(factor) for row, factor in factors_of(bridge, nl, names).items()}
+    known = {
+        int(row[1:]): Fraction(factor) for row, factor in factors_of(bridge, nl, names).items()
+    }
     if any(factor.denominator != 1 or factor < 0 for factor in known.values()):
         raise Unfit("a row's factor is not whole")
     factors = {i: int(factor) for i, factor in known.items() if factor > 1}

@@ -8,7 +8,18 @@ from __future__ import annotations
 
 import contextlib
 from fractions import Fraction
-from typing import FrozenSet, Iterable, Iterator, List, Mapping, NamedTuple, Optional, Sequence, Tuple, Union
+from typing import (
+    FrozenSet,
+    Iterable,
+    Iterator,
+    List,
+    Mapping,
+    NamedTuple,
+    Optional,
+    Sequence,
+    Tuple,
+    Union,
+)
 
 from .clp import Clp
 from .model import Box, Model, Point, Side
@@ -52,8 +63,10 @@ class Held(NamedTuple):
     nodes: int
 
 
-Tree = List[Union[Leaf, Empty, Split, Held]]    # in the order of the text: a split before what closes its two parts
-Needs = FrozenSet[int]          # depths of splits
+Tree = List[
+    Union[Leaf, Empty, Split, Held]
+]  # in the order of the text: a split before what closes its two parts
+Needs = FrozenSet[int]  # depths of splits
 
 
 def leaf(given: Multipliers, added: Iterable[int]) -> Leaf:
@@ -126,10 +139,14 @@ class Parts:
         self.model, self.clp = model, clp
         self.forms = range(model.n + model.m - forms, model.n + model.m)
         self.box = Box([*model.lo, *model.side_lo], [*model.hi, *model.side_hi])
-        self.owners: tuple[list[int | None], ...] = tuple([None] * (model.n + model.m) for _ in self.box)
-        self.above: list[Step] = []             # of a part: what stands above it
+        self.owners: tuple[list[int | None], ...] = tuple(
+            [None] * (model.n + model.m) for _ in self.box
+        )
+        self.above: list[Step] = []  # of a part: what stands above it
         self.open: list[Opened] = []
-        self.before: list[tuple[int, int, Side, int | None]] = []   # of each of them, what it moved: an end, its owner
+        self.before: list[
+            tuple[int, int, Side, int | None]
+        ] = []  # of each of them, what it moved: an end, its owner
         self.nodes = 0
 
     def terms(self, column: int) -> Sequence[tuple[int, int]]:
@@ -187,4 +204,6 @@ class Parts:
 def joined(step: Step, depth: int, done: Done, other: Done) -> Done:
     """A split at that depth, of whose parts this one is done, and the other one."""
     low, high = (done, other) if step.part == 0 else (other, done)
-    return Done([Split(step.column, step.at), *low.tree, *high.tree], (done.needs | other.needs) - {depth})
+    return Done(
+        [Split(step.column, step.at), *low.tree, *high.tree], (done.needs | other.needs) - {depth}
+    )

@@ -25,24 +25,24 @@ from .spine import Maker, Row, Spined, Value
 from .watch import Paused, Stopped, Watch
 from ..files import naming
 
-SLICE, SPARE = 0.1, 1.0         # seconds of a search at a time; those that are left for its bound
-RESERVE = 0.93                  # of the time, for plans; the rest is for a bound
-MOST_THIN = 45                  # whole columns
-DIGITS = 3                      # of the gap, that a bound has
+SLICE, SPARE = 0.1, 1.0  # seconds of a search at a time; those that are left for its bound
+RESERVE = 0.93  # of the time, for plans; the rest is for a bound
+MOST_THIN = 45  # whole columns
+DIGITS = 3  # of the gap, that a bound has
 LOOSER = (0.0, 1e-9, 1e-7, 1e-5, 1e-3)  # of a bound, by which it is lowered until it closes
-FIRST_NODES = 100               # of the plain search, before all else
-OTHERS = 0.1                    # of the time of all, for what is not the first plan
-FARTHEST = 2.0                  # of the time so far, that a forecast counts for this
-LEAST_SLICE = 0.05              # seconds that rows are made
-LEAST_MAKING = 0.5              # seconds that they may be made at once
-LEAST_TURN = 0.25               # seconds that a plan goes on
-LATE = 2.0                      # seconds, before which no lattice is reduced
-LEAST_GAIN = 0.01               # of the gap, that rows close
-TINY = 1e-9                     # seconds
-MOST_VAIN = 10                  # times that rows are made in vain
-AGAIN, LEAST_AGAIN = 4.0, 2.0   # of the time of the first tree, and seconds, for a shorter one
-SHORT = 40                      # nodes of a tree that needs no shorter one
-WORTH = 2.0                     # of the share of a gap that is left: that of the time
+FIRST_NODES = 100  # of the plain search, before all else
+OTHERS = 0.1  # of the time of all, for what is not the first plan
+FARTHEST = 2.0  # of the time so far, that a forecast counts for this
+LEAST_SLICE = 0.05  # seconds that rows are made
+LEAST_MAKING = 0.5  # seconds that they may be made at once
+LEAST_TURN = 0.25  # seconds that a plan goes on
+LATE = 2.0  # seconds, before which no lattice is reduced
+LEAST_GAIN = 0.01  # of the gap, that rows close
+TINY = 1e-9  # seconds
+MOST_VAIN = 10  # times that rows are made in vain
+AGAIN, LEAST_AGAIN = 4.0, 2.0  # of the time of the first tree, and seconds, for a shorter one
+SHORT = 40  # nodes of a tree that needs no shorter one
+WORTH = 2.0  # of the share of a gap that is left: that of the time
 KINDS = {"lemma": ("row",), "clique": ("row", "clique")}
 
 
@@ -64,9 +64,9 @@ class Plan:
     rows: Sequence[Row]
     search: Crowd
     spent: float = 0.0
-    guessed: float = math.inf       # seconds that it takes, before it says so itself
-    factor: float = 1.0             # by which forecasts were too low
-    told: str = ""                  # why it was stopped last
+    guessed: float = math.inf  # seconds that it takes, before it says so itself
+    factor: float = 1.0  # by which forecasts were too low
+    told: str = ""  # why it was stopped last
     is_dead: bool = False
 
     def expected(self) -> float:
@@ -86,8 +86,16 @@ class Plans:
     """Trees for one value, or that there is no point: the first one, where `shortens` is not said. Files go to
     `folder`; `going` are those that were begun."""
 
-    def __init__(self, model: Model, value: Fraction | None, exact: Exact, folder: str,
-                 watch: Watch, shortens: bool = False, pool: Pool | None = None) -> None:
+    def __init__(
+        self,
+        model: Model,
+        value: Fraction | None,
+        exact: Exact,
+        folder: str,
+        watch: Watch,
+        shortens: bool = False,
+        pool: Pool | None = None,
+    ) -> None:
         self.model, self.exact, self.folder, self.watch = model, exact, folder, watch
         self.shortens, self.pool = shortens, pool
         self.step = model.step()
@@ -97,9 +105,14 @@ class Plans:
         self.going: list[Plan] = []
         self.started, self.end = watch.spent(), math.inf
         self.is_blind = value is None
-        self.makings = ["thin", "clique"] if self.is_blind else [*KINDS, "thin"]    # what is made as there is time
-        self.made: Sequence[Row] = ()           # of the first of them
-        self.gain, self.vain = 0.0, 0           # what they close of the gap; times that they were made without more
+        self.makings = (
+            ["thin", "clique"] if self.is_blind else [*KINDS, "thin"]
+        )  # what is made as there is time
+        self.made: Sequence[Row] = ()  # of the first of them
+        self.gain, self.vain = (
+            0.0,
+            0,
+        )  # what they close of the gap; times that they were made without more
 
     def left(self) -> float:
         return self.watch.left() - (1 - RESERVE) * self.watch.seconds
@@ -107,8 +120,13 @@ class Plans:
     def until(self, seconds: float) -> float:
         return self.watch.spent() + max(0.0, min(seconds, self.left()))
 
-    def begun(self, name: str, rows: Sequence[Row] = (), forms: Sequence[dict[int, int]] = ()) -> Plan:
-        above = [*(Added(added.terms) for added in self.value.added), *(row.added() for row in rows)]
+    def begun(
+        self, name: str, rows: Sequence[Row] = (), forms: Sequence[dict[int, int]] = ()
+    ) -> Plan:
+        above = [
+            *(Added(added.terms) for added in self.value.added),
+            *(row.added() for row in rows),
+        ]
         problem = Problem(self.model, above, forms, self.value.goal)
         self.going.append(Plan(name, rows, Crowd(problem, self.exact, self.watch, self.pool)))
         return self.going[-1]
@@ -136,7 +154,9 @@ class Plans:
     def shaped(self, plan: Plan, value: Value, tree: Tree, name: str) -> Shaped:
         spined = Spined(self.model, plan.search.search.model, value, plan.rows, tree)
         path = os.path.join(self.folder, name + ".tree")
-        return Shaped(path, written(path, spined.lines()), spined.nodes(), len(spined.kept), plan.name)
+        return Shaped(
+            path, written(path, spined.lines()), spined.nodes(), len(spined.kept), plan.name
+        )
 
     def told(self) -> list[str]:
         return [plan.told for plan in self.going if plan.told]
@@ -146,8 +166,17 @@ class Plans:
         self.goes(self.begun("plain"), self.left(), FIRST_NODES)
         while self.goes_on():
             live = [plan for plan in self.going if not plan.is_dead]
-            first = min((plan for plan in live if self.end == math.inf or not plan.spent
-                         or plan.expected() < self.end - self.total()), key=lambda plan: plan.expected(), default=None)
+            first = min(
+                (
+                    plan
+                    for plan in live
+                    if self.end == math.inf
+                    or not plan.spent
+                    or plan.expected() < self.end - self.total()
+                ),
+                key=lambda plan: plan.expected(),
+                default=None,
+            )
             room = self.room(first)
             if self.is_due(room):
                 self.make(self.makings[0], room)
@@ -202,7 +231,11 @@ class Plans:
         if not maker.is_over(until) or self.vain > MOST_VAIN or WORTH * (1 - gain) <= 1:
             self.makings.remove(name)
             if self.made and (gain >= LEAST_GAIN or self.is_blind):
-                rest = min(self.going[0].expected(), FARTHEST * self.total()) * WORTH * max(1 - gain, 0.0)
+                rest = (
+                    min(self.going[0].expected(), FARTHEST * self.total())
+                    * WORTH
+                    * max(1 - gain, 0.0)
+                )
                 self.begun(name, self.made).guessed = guessed if self.is_blind else rest
             self.made, self.gain, self.vain = (), 0.0, 0
 
@@ -232,7 +265,11 @@ class Plans:
         if self.step is None:
             return [] if any(p.costs) else directions(p)
         units = (base - float(p.constant)) / float(self.step.size)
-        return [] if math.isinf(base) else directions(p, self.step.form, Fraction(max(self.value.at - units, 0.5)))
+        return (
+            []
+            if math.isinf(base)
+            else directions(p, self.step.form, Fraction(max(self.value.at - units, 0.5)))
+        )
 
     def stands_at(self) -> float:
         """What a search that is stopped has told: no point is better."""

@@ -13,16 +13,17 @@ from .model import Model, Point, Side
 from ..exact.dual_bound import fits_certificate
 from ..terms import Pairs
 
-NEAR_WHOLE = 1e-3               # how far from whole numbers a point may be
-NEAR = Fraction(1, 10 ** 9)     # of a bound: the bound itself
-APART = Fraction(1, 10 ** 5)    # how far from x they may be
-DENOMINATORS = (1, 2, 12, 100, 1000, 10 ** 6)
+NEAR_WHOLE = 1e-3  # how far from whole numbers a point may be
+NEAR = Fraction(1, 10**9)  # of a bound: the bound itself
+APART = Fraction(1, 10**5)  # how far from x they may be
+DENOMINATORS = (1, 2, 12, 100, 1000, 10**6)
 ZERO, ONE = Fraction(0), Fraction(1)
 
 
 class Placed(NamedTuple):
     """A basis with the ends that its columns and rows stand at: `at` by column (0 where it is basic), over `unit`;
-    `side` by tight row. `inside` are these rows in basic columns, by place, and `rest` what is left for them."""
+    `side` by tight row. `inside` are these rows in basic columns, by place, and `rest` what is left for them.
+    """
 
     columns: list[int]
     rows: list[int]
@@ -37,15 +38,33 @@ def place(p: Model, basis: Basis, x: Sequence[float]) -> Placed:
     is_basic = [False] * p.n
     for j in basis.columns:
         is_basic[j] = True
-    at = [0 if basic else end_near(lo, hi, v * p.unit) or 0 for basic, lo, hi, v in zip(is_basic, p.lo, p.hi, x)]
-    ranged = [i for i in basis.rows if p.side_lo[i] is not None and p.side_hi[i] is not None
-              and p.side_lo[i] != p.side_hi[i]]
-    bodies = {i: sum([a * x[j] for j, a in row])
-              for i, row in zip(ranged, p.terms.inside(ranged, range(p.n)) if ranged else ())}
-    ends = ((i, end_near(p.side_lo[i], p.side_hi[i], bodies.get(i, 0.0) / p.scale * p.unit)) for i in basis.rows)
+    at = [
+        0 if basic else end_near(lo, hi, v * p.unit) or 0
+        for basic, lo, hi, v in zip(is_basic, p.lo, p.hi, x)
+    ]
+    ranged = [
+        i
+        for i in basis.rows
+        if p.side_lo[i] is not None and p.side_hi[i] is not None and p.side_lo[i] != p.side_hi[i]
+    ]
+    bodies = {
+        i: sum([a * x[j] for j, a in row])
+        for i, row in zip(ranged, p.terms.inside(ranged, range(p.n)) if ranged else ())
+    }
+    ends = (
+        (i, end_near(p.side_lo[i], p.side_hi[i], bodies.get(i, 0.0) / p.scale * p.unit))
+        for i in basis.rows
+    )
     side = {i: end for i, end in ends if end is not None}
     taken, columns, rows = p.terms.sums(at), list(basis.columns), list(side)
-    return Placed(columns, rows, at, side, p.terms.inside(rows, columns), [side[i] * p.scale - taken[i] for i in rows])
+    return Placed(
+        columns,
+        rows,
+        at,
+        side,
+        p.terms.inside(rows, columns),
+        [side[i] * p.scale - taken[i] for i in rows],
+    )
 
 
 def end_near(lo: Side, hi: Side, value: float) -> Side:
@@ -126,16 +145,25 @@ def whole_columns(model: Model, x: Sequence[float | Fraction]) -> dict[int, Frac
 
 def with_fixed(p: Model, fixed: Mapping[int, Fraction]) -> Model:
     """Under values of columns."""
-    return p.with_bounds(*([int(fixed[j] * p.unit) if j in fixed else v for j, v in enumerate(ends)]
-                           for ends in (p.lo, p.hi)))
+    return p.with_bounds(
+        *(
+            [int(fixed[j] * p.unit) if j in fixed else v for j, v in enumerate(ends)]
+            for ends in (p.lo, p.hi)
+        )
+    )
 
 
 def loosened(model: Model, x: Sequence[float | Fraction], frees: bool) -> Model:
     """The program around an answer: its whole columns as they are, but for those of more digits
     than solvers print, and with `frees` those that have a cost and stand in an equation."""
     p, fixed = model, whole_columns(model, x)
-    given = {j for row, lo, hi in zip(p.rows, p.side_lo, p.side_hi) if lo is not None and lo == hi
-             for j, _ in row if frees and p.cost[j]}
+    given = {
+        j
+        for row, lo, hi in zip(p.rows, p.side_lo, p.side_hi)
+        if lo is not None and lo == hi
+        for j, _ in row
+        if frees and p.cost[j]
+    }
     los, his = list(p.lo), list(p.hi)
     for j, v in fixed.items():
         if j in given:
@@ -161,7 +189,10 @@ def broken(model: Model, x: Sequence[float | Fraction]) -> Fraction:
     """By what share of its largest term a row of whole columns, or a bound of one, is missed most
     at the whole columns of x."""
     p, fixed = model, whole_columns(model, x)
-    most = max((miss(v * p.unit, p.lo[j], p.hi[j], Fraction(p.unit)) for j, v in fixed.items()), default=ZERO)
+    most = max(
+        (miss(v * p.unit, p.lo[j], p.hi[j], Fraction(p.unit)) for j, v in fixed.items()),
+        default=ZERO,
+    )
     share = Fraction(p.unit, p.scale)
     for row, lo, hi in zip(p.rows, p.side_lo, p.side_hi):
         if all(p.whole[j] for j, _ in row):

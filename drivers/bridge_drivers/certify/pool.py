@@ -28,11 +28,11 @@ from .watch import Paused, Stopped, Watch
 from .. import VERSION
 from ..interrupts import NUMBERS, SIGNALS
 
-START = "fork" if sys.platform == "linux" else None     # 3 ms each; `spawn` has 100 to 300
-GRACE = 1.0                     # seconds that a portion has to end
-CONNECT = 10.0                  # seconds for a scheduler to answer
-EXACT_SECONDS = 30.0            # for an exact point
-MOST_KEPT = 2                   # programs of a process
+START = "fork" if sys.platform == "linux" else None  # 3 ms each; `spawn` has 100 to 300
+GRACE = 1.0  # seconds that a portion has to end
+CONNECT = 10.0  # seconds for a scheduler to answer
+EXACT_SECONDS = 30.0  # for an exact point
+MOST_KEPT = 2  # programs of a process
 
 
 class Problem(NamedTuple):
@@ -45,8 +45,13 @@ class Problem(NamedTuple):
 
     def search(self, watch: Watch, exact: Exact | None = None) -> Search:
         searched = self.model.with_rows([*self.rows, *map(Added, self.forms)])
-        return Search(searched, self.goal, watch,
-                      exact or (lambda x: points.whole_point(self.model, x, EXACT_SECONDS)), len(self.forms))
+        return Search(
+            searched,
+            self.goal,
+            watch,
+            exact or (lambda x: points.whole_point(self.model, x, EXACT_SECONDS)),
+            len(self.forms),
+        )
 
 
 class Portion(NamedTuple):
@@ -125,7 +130,7 @@ class Processes(Pool):
     """Of this machine: they are started as there is work, and end with this one."""
 
     started: ProcessPoolExecutor | None
-    line: Any                       # what is sent there ends all of them
+    line: Any  # what is sent there ends all of them
 
     def executor(self) -> Executor:
         if self.started is None:
@@ -135,7 +140,7 @@ class Processes(Pool):
         return self.started
 
     def submit(self, given: Portion) -> Future[Outcome]:
-        with unsignalled():             # a process begins without them
+        with unsignalled():  # a process begins without them
             try:
                 return super().submit(given)
             except (ImportError, NotImplementedError, OSError) as fault:
@@ -160,15 +165,19 @@ class Cluster(Pool):
             distributed: Any = importlib.import_module("distributed")
             self.client = distributed.Client(address, timeout=CONNECT)
         except ImportError:
-            raise Failed("cluster= needs Dask's package distributed (Debian: apt install "
-                         "python3-distributed)") from None
+            raise Failed(
+                "cluster= needs Dask's package distributed (Debian: apt install "
+                "python3-distributed)"
+            ) from None
         except (OSError, ValueError) as fault:
             raise Failed(f"no scheduler of Dask at {address} ({fault})") from None
         asked = self.client.run(ready, on_error="return")
         fit = [worker for worker, said in asked.items() if said == VERSION]
         super().__init__(sum(self.client.nthreads(fit).values()) if fit else 0)
         lacks = f"workers of the cluster lack bridge_drivers {VERSION} or CLP's library"
-        self.note = f"{len(asked) - len(fit)} of {len(asked)} {lacks}" if len(fit) < len(asked) else ""
+        self.note = (
+            f"{len(asked) - len(fit)} of {len(asked)} {lacks}" if len(fit) < len(asked) else ""
+        )
         if not fit:
             self.client.close()
             raise Failed(self.note or f"the scheduler of Dask at {address} has no workers")
@@ -190,7 +199,7 @@ def pool_of(jobs: int, address: str) -> Pool | None:
             return Cluster(address)
         except Failed as fault:
             return Pool(0, str(fault))
-    has_set = hasattr(os, "sched_getaffinity")      # of processors that this process may use
+    has_set = hasattr(os, "sched_getaffinity")  # of processors that this process may use
     jobs = jobs or (len(os.sched_getaffinity(0)) if has_set else os.cpu_count() or 1)
     return Processes(jobs) if jobs > 1 else None
 
@@ -207,7 +216,11 @@ def unsignalled() -> Iterator[None]:
 
 def masked(how: str, numbers: Iterable[int]) -> Iterable[int]:
     """Those that waited before; none where a system has no masks."""
-    return signal.pthread_sigmask(getattr(signal, how), numbers) if hasattr(signal, "pthread_sigmask") else ()
+    return (
+        signal.pthread_sigmask(getattr(signal, how), numbers)
+        if hasattr(signal, "pthread_sigmask")
+        else ()
+    )
 
 
 def begin(end: connection.Connection) -> None:

@@ -18,24 +18,26 @@ from .watch import Paused, Stopped, Watch
 from ..exact.dual_bound import MultiplierKind, Multipliers
 from ..exact.leaf_proofs import LeafProof, LeafProver, basis_duals, phase_one_duals
 
-NEAR, TINY = 1e-6, Fraction(1, 10 ** 9)     # of a whole number: not split first; it is this
-LARGE = 2.0 ** 53               # from here on doubles do not hold each whole number
-CLOSE = 1e-7                    # of the goal: a leaf is tried
-FEASIBLE = 1e-9                 # by how much rows may be missed
-LEAST = 1e-14                   # the same where nothing else is left to try
-MOST_LOOKED_AT = 10 ** 6        # rows times columns
-MOST_NODES = 2 ** 22            # of `bridge verify`
+NEAR, TINY = 1e-6, Fraction(1, 10**9)  # of a whole number: not split first; it is this
+LARGE = 2.0**53  # from here on doubles do not hold each whole number
+CLOSE = 1e-7  # of the goal: a leaf is tried
+FEASIBLE = 1e-9  # by how much rows may be missed
+LEAST = 1e-14  # the same where nothing else is left to try
+MOST_LOOKED_AT = 10**6  # rows times columns
+MOST_NODES = 2**22  # of `bridge verify`
 MOST_DEPTH = 3000
 STRONG = 16
-LEAST_SECONDS = 0.1             # of a relaxation
-MORE = 30                       # nodes that a search may have to end for a bound
-RELIABLE = 8                # splits of a column after which it is not tried
+LEAST_SECONDS = 0.1  # of a relaxation
+MORE = 30  # nodes that a search may have to end for a bound
+RELIABLE = 8  # splits of a column after which it is not tried
 TRIED_ITERATIONS = 60
 LEAST_SHARE = 1e-6
-SLOW = 2                    # columns that are tried where trying took half of the time
+SLOW = 2  # columns that are tried where trying took half of the time
 
-Gains = Dict[int, Tuple[float, int]]    # what the relaxation gained per unit, by column: the sum, and of how many
-Learnt = Tuple[Gains, Gains]    # downwards and upwards
+Gains = Dict[
+    int, Tuple[float, int]
+]  # what the relaxation gained per unit, by column: the sum, and of how many
+Learnt = Tuple[Gains, Gains]  # downwards and upwards
 Exact = Callable[[Sequence[float]], "Point | None"]
 
 
@@ -65,33 +67,58 @@ class Choice:
         means = [total / count for total, count in self.gains[part].values()]
         return sum(means) / len(means) if means else 1.0
 
-    def column(self, search: Search, x: Mapping[int, float], fractional: Sequence[int],
-               base: float) -> tuple[int, int]:
+    def column(
+        self, search: Search, x: Mapping[int, float], fractional: Sequence[int], base: float
+    ) -> tuple[int, int]:
         """The column and the part that comes first."""
         now = time.monotonic()
         room = max(search.goal - base, 1e-9)
         is_slow = self.spent > 1.0 + 0.5 * (now - self.began)
-        best = self.best(search, x, self.ranked(search, x, fractional, room), base, room,
-                         SLOW if is_slow else self.strong)
+        best = self.best(
+            search,
+            x,
+            self.ranked(search, x, fractional, room),
+            base,
+            room,
+            SLOW if is_slow else self.strong,
+        )
         self.spent += time.monotonic() - now
         return best.column, 0 if best.down >= best.up else 1
 
-    def ranked(self, search: Search, x: Mapping[int, float], fractional: Sequence[int], room: float) -> list[Candidate]:
+    def ranked(
+        self, search: Search, x: Mapping[int, float], fractional: Sequence[int], room: float
+    ) -> list[Candidate]:
         means, found = ((self.mean(0), 1), (self.mean(1), 1)), []
         for j in fractional:
             f = x[j] - math.floor(x[j])
-            (down, of_down), (up, of_up) = (gains.get(j, mean) for gains, mean in zip(self.gains, means))
+            (down, of_down), (up, of_up) = (
+                gains.get(j, mean) for gains, mean in zip(self.gains, means)
+            )
             down, up = down / of_down * f, up / of_up * (1 - f)
-            found.append(Candidate(worth(down, up, room), min(f, 1 - f) * (1 + len(search.terms(j))), j, down, up))
+            found.append(
+                Candidate(
+                    worth(down, up, room), min(f, 1 - f) * (1 + len(search.terms(j))), j, down, up
+                )
+            )
         return sorted(found, reverse=True)
 
-    def best(self, search: Search, x: Mapping[int, float], ranked: list[Candidate], base: float,
-             room: float, left: int) -> Candidate:
+    def best(
+        self,
+        search: Search,
+        x: Mapping[int, float],
+        ranked: list[Candidate],
+        base: float,
+        room: float,
+        left: int,
+    ) -> Candidate:
         """The first of the ranked ones, some of which are tried."""
         best: Candidate | None = None
         for candidate in ranked:
             j = candidate.column
-            if room == math.inf or min(gains.get(j, (0.0, 0))[1] for gains in self.gains) < RELIABLE:
+            if (
+                room == math.inf
+                or min(gains.get(j, (0.0, 0))[1] for gains in self.gains) < RELIABLE
+            ):
                 if not left:
                     continue
                 left -= 1
@@ -133,10 +160,18 @@ class Goal(NamedTuple):
 
 class Search(Parts):
     """`exact` makes an exact point of a relaxation's values, where one is to be seen. It goes on `until` so many
-    seconds of the watch, and has at `most` so many nodes; at each one that is due `tell` tells the progress."""
+    seconds of the watch, and has at `most` so many nodes; at each one that is due `tell` tells the progress.
+    """
 
-    def __init__(self, model: Model, goal: Goal, watch: Watch, exact: Exact = lambda x: None, forms: int = 0,
-                 strong: int = STRONG) -> None:
+    def __init__(
+        self,
+        model: Model,
+        goal: Goal,
+        watch: Watch,
+        exact: Exact = lambda x: None,
+        forms: int = 0,
+        strong: int = STRONG,
+    ) -> None:
         has_cost = goal.target is not None
         super().__init__(model, model.relaxation(has_cost), forms)
         self.watch, self.exact = watch, exact
@@ -196,9 +231,11 @@ class Search(Parts):
             if state is State.OPTIMAL:
                 break
         if state is State.INFEASIBLE:
-            return self.branched([self.nearest_zero(j) for j in range(self.model.n)], self.goal, state)
+            return self.branched(
+                [self.nearest_zero(j) for j in range(self.model.n)], self.goal, state
+            )
         if state is not State.OPTIMAL:
-            self.watch.look(self.nodes, self.until)     # CLP stops where the time is over
+            self.watch.look(self.nodes, self.until)  # CLP stops where the time is over
             raise Stopped(f"a relaxation is {state.name.lower()}")
         base = self.clp.objective() + self.constant
         if born is not None:
@@ -213,7 +250,13 @@ class Search(Parts):
         p, (lows, highs) = self.model, self.box
         for j in columns:
             lo, hi = lows[j], highs[j]
-            if j < p.n and p.whole[j] and lo is not None and hi is not None and -(-lo // p.unit) > hi // p.unit:
+            if (
+                j < p.n
+                and p.whole[j]
+                and lo is not None
+                and hi is not None
+                and -(-lo // p.unit) > hi // p.unit
+            ):
                 return j
         return None
 
@@ -267,9 +310,11 @@ class Search(Parts):
         exact ones of the basis."""
         p = self.model
         if state is State.OPTIMAL and any(w and abs(v) >= LARGE for v, w in zip(x, p.whole)):
-            part = p.with_bounds(self.box.lo[:p.n], self.box.hi[:p.n]).with_whole([False] * p.n)
-            near: list[Any] = [next((end for end in part.ends(j) if float(end) == v), v) for j, v in enumerate(x)]
-            x = vertex(part, self.clp.basis(), x) or near       # type: ignore[assignment]
+            part = p.with_bounds(self.box.lo[: p.n], self.box.hi[: p.n]).with_whole([False] * p.n)
+            near: list[Any] = [
+                next((end for end in part.ends(j) if float(end) == v), v) for j, v in enumerate(x)
+            ]
+            x = vertex(part, self.clp.basis(), x) or near  # type: ignore[assignment]
         values = dict(enumerate(x))
         values.update((j, sum(a // p.scale * x[k] for k, a in self.terms(j))) for j in self.forms)
         apart = {j: abs(v - round(v)) for j, v in values.items() if j >= p.n or p.whole[j]}
@@ -279,11 +324,11 @@ class Search(Parts):
             return self.branch(column, values[column], first, base)
         if state is State.OPTIMAL:
             self.compare(x)
-        done = self.by_missing()        # CLP's tolerances may hide a contradiction
+        done = self.by_missing()  # CLP's tolerances may hide a contradiction
         unfixed = self.unfixed(apart) if done is None else None
         if unfixed is not None:
             return self.branch(unfixed, x[unfixed], 0, base)
-        if done is None and state is not State.OPTIMAL:     # nor is what CLP calls infeasible
+        if done is None and state is not State.OPTIMAL:  # nor is what CLP calls infeasible
             self.compare(x)
         done = done or self.by_row() or self.by_missing(LEAST)
         if done is None:
@@ -302,10 +347,20 @@ class Search(Parts):
     def unfixed(self, apart: dict[int, float]) -> int | None:
         """A whole column that is not fixed: the least whole, else one with a cost and the widest. The others are
         rounded by it."""
+
         def rank(j: int) -> tuple[float, bool, float]:
             lo, hi = self.box.lo[j], self.box.hi[j]
-            return apart[j], bool(self.model.cost[j]), -math.inf if lo is None or hi is None else -float(hi - lo)
-        found = [j for j in apart if j < self.model.n and (self.box.lo[j] is None or self.box.lo[j] != self.box.hi[j])]
+            return (
+                apart[j],
+                bool(self.model.cost[j]),
+                -math.inf if lo is None or hi is None else -float(hi - lo),
+            )
+
+        found = [
+            j
+            for j in apart
+            if j < self.model.n and (self.box.lo[j] is None or self.box.lo[j] != self.box.hi[j])
+        ]
         return max(found, key=rank) if found else None
 
     def branch(self, column: int, value: float, first: int, base: float) -> Step:
@@ -330,12 +385,16 @@ class Search(Parts):
     def by_duals(self) -> Done | None:
         return self.fathomed(self.proved_leaf(self.clp, MultiplierKind.DUAL, basis_duals))
 
-    def proved_leaf(self, clp: Clp, kind: MultiplierKind, exact_duals: Callable[..., Any]) -> LeafProof | None:
+    def proved_leaf(
+        self, clp: Clp, kind: MultiplierKind, exact_duals: Callable[..., Any]
+    ) -> LeafProof | None:
         """By CLP's duals, else by the exact ones of its basis."""
         proof = self.prover.prove_from_doubles(dict(enumerate(clp.duals())), kind, self.box)
         if proof is not None:
             return proof
-        return self.prover.prove_from_fractions(exact_duals(self.model, *clp.basis()), kind, self.box)
+        return self.prover.prove_from_fractions(
+            exact_duals(self.model, *clp.basis()), kind, self.box
+        )
 
     def by_contradiction(self) -> Done | None:
         """With weights, from a ray of CLP or from phase one."""
@@ -372,7 +431,8 @@ class Search(Parts):
 
     def fathomed(self, proof: LeafProof | None) -> Done | None:
         """The part with its leaf. What the bound has over the target is spent on the file's own bounds in place of
-        those of splits, the deepest first; then the leaf loses multipliers that it does not need."""
+        those of splits, the deepest first; then the leaf loses multipliers that it does not need.
+        """
         if proof is None:
             return None
         p, used, slack = self.model, self.ends_used(proof), proof.surplus
@@ -383,12 +443,16 @@ class Search(Parts):
             if own is not None and bound is not None and r * (bound - own) <= slack:
                 slack -= r * (bound - own)
                 needed.discard(owner)
-        ends = ([end if owner in needed else own for end, owner, own in zip(*part)]
-                for part in zip(self.box, self.owners, (p.lo, p.hi)))
+        ends = (
+            [end if owner in needed else own for end, owner, own in zip(*part)]
+            for part in zip(self.box, self.owners, (p.lo, p.hi))
+        )
         proof = self.prover.sparsified(proof._replace(surplus=slack), Box(*ends))
         self.nodes += 1
-        return Done([leaf(proof.multipliers, (i for i in proof.multipliers.numerators if i >= p.n_con))],
-                    frozenset(needed.intersection(owner for owner, _, _ in self.ends_used(proof))))
+        return Done(
+            [leaf(proof.multipliers, (i for i in proof.multipliers.numerators if i >= p.n_con))],
+            frozenset(needed.intersection(owner for owner, _, _ in self.ends_used(proof))),
+        )
 
     def ends_used(self, proof: LeafProof) -> list[tuple[int, int, int]]:
         """The splits that gave the ends which a leaf uses, with the columns, and their reduced costs or multipliers."""

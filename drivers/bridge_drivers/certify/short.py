@@ -15,26 +15,33 @@ from typing import Iterator, Mapping, NamedTuple, Sequence, Tuple
 from .clp import Clp, Linear, State
 from .exact import solved
 from .model import Box, Model, Point, over_one
-from ..exact.dual_bound import DualBound, MultiplierKind, Multipliers, dual_bound, fits_certificate, has_needed_bound
+from ..exact.dual_bound import (
+    DualBound,
+    MultiplierKind,
+    Multipliers,
+    dual_bound,
+    fits_certificate,
+    has_needed_bound,
+)
 from ..exact.leaf_proofs import repaired_bound, rounded
 from ..printable import counted
 
-PLACES = (9, 8, 7, 6, 5)         # decimals of a point
-MOST_PLACES = 14                # digits of its largest value
-MOVED = 1e-6                    # of the greatest dual, from which on others move
-SHARES = (0.0, 1e-9, 1e-7, 1e-5)        # room of costs, of the largest one
-NEAR = 1e-6                     # of the objective: a bound that is good enough
-DUAL_PLACES = (8, 10, 12)       # beyond the first of the greatest dual
-DIGITS = 9                      # of a bound
-FREE = 1e3                      # rooms that a column of a basis of equations has
-ROUNDS = 12                     # of giving room to rows
-TOLERANCE = 1e-7                # CLP's own
-MOST_EXTRA = 6                  # decimals that a row's rest needs beyond those of its columns
-MOST_MORE = 12                  # decimals that a column has beyond others
-APART = 20                      # rooms between the ends of what is tightened
+PLACES = (9, 8, 7, 6, 5)  # decimals of a point
+MOST_PLACES = 14  # digits of its largest value
+MOVED = 1e-6  # of the greatest dual, from which on others move
+SHARES = (0.0, 1e-9, 1e-7, 1e-5)  # room of costs, of the largest one
+NEAR = 1e-6  # of the objective: a bound that is good enough
+DUAL_PLACES = (8, 10, 12)  # beyond the first of the greatest dual
+DIGITS = 9  # of a bound
+FREE = 1e3  # rooms that a column of a basis of equations has
+ROUNDS = 12  # of giving room to rows
+TOLERANCE = 1e-7  # CLP's own
+MOST_EXTRA = 6  # decimals that a row's rest needs beyond those of its columns
+MOST_MORE = 12  # decimals that a column has beyond others
+APART = 20  # rooms between the ends of what is tightened
 ZERO = Fraction(0)
-NOTHING = Multipliers({}, 1, MultiplierKind.DUAL)     # the leaf of bounds alone
-Pairs = Sequence[Tuple[int, int]]       # columns of a row, with their coefficients
+NOTHING = Multipliers({}, 1, MultiplierKind.DUAL)  # the leaf of bounds alone
+Pairs = Sequence[Tuple[int, int]]  # columns of a row, with their coefficients
 
 
 class ShortPoint(NamedTuple):
@@ -60,12 +67,17 @@ class Rounding:
     that get room, None for all of them. `more` are the decimals that a column has beyond all others, or fewer of, where
     each is rounded by the size of its rows."""
 
-    def __init__(self, p: Model, kept: bytes, x: Sequence[float], seconds: float, by_rows: bool = False) -> None:
+    def __init__(
+        self, p: Model, kept: bytes, x: Sequence[float], seconds: float, by_rows: bool = False
+    ) -> None:
         self.p, self.kept, self.seconds = p, kept, seconds
         self.size = max([abs(v) for v in x], default=0.0)
         self.alone = alone(p)
-        self.equations = {i: side for i, side in enumerate(p.side_lo) if side is not None
-                          and side == p.side_hi[i] and i not in self.alone}
+        self.equations = {
+            i: side
+            for i, side in enumerate(p.side_lo)
+            if side is not None and side == p.side_hi[i] and i not in self.alone
+        }
         self.exact = dict(self.equations)
         self.tight: set[int] | None = None
         self.in_pairs = False
@@ -75,7 +87,11 @@ class Rounding:
     def points(self) -> Iterator[ShortPoint]:
         """Those that fit, of many decimals first; then with room where rounding breaks rows alone."""
         left = MOST_PLACES - max(0, math.ceil(math.log10(max(self.size, 1.0))))
-        wanted = list(dict.fromkeys(min(places, left) for places in PLACES)) if not any(self.more) else list(PLACES)
+        wanted = (
+            list(dict.fromkeys(min(places, left) for places in PLACES))
+            if not any(self.more)
+            else list(PLACES)
+        )
         for self.in_pairs in (False, True):
             for places in wanted:
                 found = self.solved(places)
@@ -92,7 +108,7 @@ class Rounding:
 
     def solved(self, places: int) -> ShortPoint | None:
         """The program with room, its point rounded; None where it has none."""
-        x = self.relaxed(10.0 ** -places)
+        x = self.relaxed(10.0**-places)
         return None if x is None else self.point(x, places)
 
     def relaxed(self, room: float) -> list[float] | None:
@@ -106,11 +122,14 @@ class Rounding:
         """Rows that rounding breaks get room; where the program has no point then, they are met
         exactly. No column is alone."""
         last: dict[int, int] = {}
-        self.equations.update((i, side) for i, side in enumerate(self.p.side_lo)
-                              if side is not None and i in self.alone)
+        self.equations.update(
+            (i, side)
+            for i, side in enumerate(self.p.side_lo)
+            if side is not None and i in self.alone
+        )
         self.tight, self.exact, self.alone = set(), dict(self.equations), {}
         for _ in range(ROUNDS):
-            x = self.relaxed(10.0 ** -places)
+            x = self.relaxed(10.0**-places)
             if x is None:
                 if not last:
                     return None
@@ -133,7 +152,7 @@ class Rounding:
         """With room for rounding to `unit` in rows, and in the bounds of what takes up the rest."""
         p, linear = self.p, self.p.linear()
         sides, lo, hi = linear.sides, linear.lo, linear.hi
-        weights, least = [10 ** (self.most - by) for by in self.more], unit * 10.0 ** -self.most
+        weights, least = [10 ** (self.most - by) for by in self.more], unit * 10.0**-self.most
         rooms = [(size / p.scale + 1) * least for size in p.terms.sizes(weights)]
         for i, room in enumerate(rooms):
             if self.tight is None or i in self.tight:
@@ -153,7 +172,10 @@ class Rounding:
             return None
         den = ten * p.unit
         shared = {v: Fraction(v, den) for v in set(over)}
-        return ShortPoint([(v + moved[j]) / den if j in moved else shared[v] for j, v in enumerate(over)], self.way())
+        return ShortPoint(
+            [(v + moved[j]) / den if j in moved else shared[v] for j, v in enumerate(over)],
+            self.way(),
+        )
 
     def way(self) -> str:
         rows, ways = len(self.exact) - len(self.equations), []
@@ -167,18 +189,24 @@ class Rounding:
             ways.append(counted(rows, "row"))
         return "rounding is taken up by " + " and ".join(ways) if ways else ""
 
-    def rest(self, i: int, over: Sequence[int], ten: int, moved: Mapping[int, Fraction] = {}) -> Fraction:
+    def rest(
+        self, i: int, over: Sequence[int], ten: int, moved: Mapping[int, Fraction] = {}
+    ) -> Fraction:
         """What a row lacks of its side, over 10^places times `unit` and `scale`."""
         p, side = self.p, self.exact.get(i, self.p.side_lo[i])
         assert side is not None
         left = Fraction(side * p.scale * ten - sum([a * over[j] for j, a in p.rows[i]]))
-        return left - sum((a * moved[j] for j, a in p.rows[i] if j in moved), ZERO) if moved else left
+        return (
+            left - sum((a * moved[j] for j, a in p.rows[i] if j in moved), ZERO) if moved else left
+        )
 
     def by_basis(self, over: Sequence[int], ten: int) -> dict[int, Fraction] | None:
         """By how much columns move that stand far enough from their bounds: those that the elimination leaves free
         stay, and columns that are alone move last. None where others would have to."""
         p, free = self.p, self.free(over, ten) if self.exact else []
-        found = solved(({j: a for j, a in p.rows[i] if free[j]}, self.rest(i, over, ten)) for i in self.exact)
+        found = solved(
+            ({j: a for j, a in p.rows[i] if free[j]}, self.rest(i, over, ten)) for i in self.exact
+        )
         if found is None:
             return None
         moved = {j: v for j, v in found.items() if v}
@@ -189,8 +217,10 @@ class Rounding:
     def free(self, over: Sequence[int], ten: int) -> list[bool]:
         """Columns that stand far enough from their bounds."""
         p, far = self.p, [FREE * self.p.unit * 10 ** (self.most - by) for by in self.more]
-        return [(lo is None or v - lo * ten > room) and (hi is None or hi * ten - v > room)
-                for v, lo, hi, room in zip(over, p.lo, p.hi, far)]
+        return [
+            (lo is None or v - lo * ten > room) and (hi is None or hi * ten - v > room)
+            for v, lo, hi, room in zip(over, p.lo, p.hi, far)
+        ]
 
     def by_pairs(self, over: Sequence[int], ten: int) -> dict[int, Fraction] | None:
         """By how much pairs of columns move so that both are decimals: fractions of many rows make
@@ -210,20 +240,26 @@ class Rounding:
         return moved
 
 
-def pair(firsts: Pairs, seconds: Pairs, rest: Fraction, is_high: Sequence[bool]) -> dict[int, Fraction] | None:
+def pair(
+    firsts: Pairs, seconds: Pairs, rest: Fraction, is_high: Sequence[bool]
+) -> dict[int, Fraction] | None:
     """Decimals by which two columns of a row, or one, take up its rest; the second moves least,
     by less than 1, downwards where it is high."""
-    pairs = sorted((abs(a) // math.gcd(a, b), j, a, k, b) for j, a in firsts
-                   for k, b in ((j, 0), *seconds) if k != j or not b)
+    pairs = sorted(
+        (abs(a) // math.gcd(a, b), j, a, k, b)
+        for j, a in firsts
+        for k, b in ((j, 0), *seconds)
+        if k != j or not b
+    )
     for by, j, a, k, b in pairs:
         g = math.gcd(a, b)
         for places in range(len(str(by)), len(str(by)) + MOST_EXTRA):
-            wanted = rest * 10 ** places / g
+            wanted = rest * 10**places / g
             if wanted.denominator == 1:
                 y = int(wanted) * pow(b // g, -1, by) % by if by > 1 else 0
                 y -= by if y and is_high[k] else 0
-                x = Fraction(int(wanted) * g - b * y, a * 10 ** places)
-                return {j: x, k: Fraction(y, 10 ** places)} if b else {j: x}
+                x = Fraction(int(wanted) * g - b * y, a * 10**places)
+                return {j: x, k: Fraction(y, 10**places)} if b else {j: x}
     return None
 
 
@@ -251,10 +287,14 @@ def decimals_by_rows(p: Model, x: Sequence[float]) -> list[int]:
 def alone(p: Model) -> dict[int, tuple[int, int]]:
     """By equation a column that stands in it and nowhere else, with its coefficient: 1 where there is such a one."""
     starts = p.columns.starts
-    single = [j for j in range(p.n) if starts[j + 1] - starts[j] == 1 and (p.lo[j] is None or p.lo[j] != p.hi[j])]
+    single = [
+        j
+        for j in range(p.n)
+        if starts[j + 1] - starts[j] == 1 and (p.lo[j] is None or p.lo[j] != p.hi[j])
+    ]
     found: dict[int, tuple[int, int]] = {}
     for j in single:
-        (i, a), = p.terms.column(j)
+        ((i, a),) = p.terms.column(j)
         if p.side_lo[i] is not None and p.side_lo[i] == p.side_hi[i]:
             if i not in found or abs(a) == p.scale != abs(found[i][1]):
                 found[i] = j, a
@@ -322,10 +362,15 @@ def met_exactly(p: Model, leaf: Multipliers, judged: DualBound) -> ShortDuals | 
     columns, base = set(judged.unbounded_columns), judged.reduced_costs
     box = Box(p.lo, p.hi)
     far = max((abs(v) for v in leaf.numerators.values()), default=0) * MOVED
-    free = [lo is not None and lo == hi or abs(leaf.numerators.get(i, 0)) > far
-            for i, (lo, hi) in enumerate(zip(p.side_lo, p.side_hi))]
+    free = [
+        lo is not None and lo == hi or abs(leaf.numerators.get(i, 0)) > far
+        for i, (lo, hi) in enumerate(zip(p.side_lo, p.side_hi))
+    ]
     for _ in range(ROUNDS):
-        system = [({i: a * p.cost_scale for i, a in p.terms.column(j) if free[i]}, base[j]) for j in columns]
+        system = [
+            ({i: a * p.cost_scale for i, a in p.terms.column(j) if free[i]}, base[j])
+            for j in columns
+        ]
         moves = solved(system)
         if moves is None:
             return None
@@ -335,7 +380,9 @@ def met_exactly(p: Model, leaf: Multipliers, judged: DualBound) -> ShortDuals | 
             numbers[i] = numbers.get(i, 0) + int(v * over)
         if any(not has_needed_bound(p, i, v) for i, v in numbers.items()):
             return None
-        made = Multipliers({i: v for i, v in numbers.items() if v}, leaf.denominator * over, MultiplierKind.DUAL)
+        made = Multipliers(
+            {i: v for i, v in numbers.items() if v}, leaf.denominator * over, MultiplierKind.DUAL
+        )
         found = dual_bound(p, made, box)
         if found.is_finite:
             return ShortDuals(made, found) if made.fits_certificate() else None

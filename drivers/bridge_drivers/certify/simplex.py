@@ -15,8 +15,8 @@ from .model import Model, Point, Side, scaled
 from .points import end_near
 
 MOST_ROWS = 250
-MOST_NUMBERS = 6000             # coefficients of a program that is small
-STALLED = 30                    # steps without a gain, from which on the first column enters
+MOST_NUMBERS = 6000  # coefficients of a program that is small
+STALLED = 30  # steps without a gain, from which on the first column enters
 ZERO = Fraction(0)
 
 
@@ -106,7 +106,9 @@ class Simplex(Lines):
 
     def entering(self, slopes: Dict[int, Fraction]) -> Optional[int]:
         """One that improves: the steepest, and after steps without a gain the first."""
-        fit = [k for k, s in slopes.items() if s and self.x[k] != (self.hi[k] if s < 0 else self.lo[k])]
+        fit = [
+            k for k, s in slopes.items() if s and self.x[k] != (self.hi[k] if s < 0 else self.lo[k])
+        ]
         if self.stalled > STALLED:
             return min(fit, default=None)
         return max(fit, key=lambda k: (abs(slopes[k]), -k)) if fit else None
@@ -121,7 +123,12 @@ class Simplex(Lines):
             if end is None:
                 continue
             size = (end - self.x[b]) / rate
-            if best is None or size < best.size or size == best.size and (best.leaves is None or b < best.leaves):
+            if (
+                best is None
+                or size < best.size
+                or size == best.size
+                and (best.leaves is None or b < best.leaves)
+            ):
                 best = Step(size, b, end)
         return best
 

@@ -14,11 +14,11 @@ from typing import Any, List, NamedTuple, Sequence
 from ..interrupts import SIGNALS
 from ..terms import numpy
 
-STEP, LEAST_STEP = 48, 3        # digits of a step at most, and at least
-FIRST = 192                     # digits before the first try for fractions
-MORE = 1.7                      # times as many before the next one
-FITS = 2 ** 62                  # numbers of 64 bits
-DOUBLE = 2 ** 53
+STEP, LEAST_STEP = 48, 3  # digits of a step at most, and at least
+FIRST = 192  # digits before the first try for fractions
+MORE = 1.7  # times as many before the next one
+FITS = 2**62  # numbers of 64 bits
+DOUBLE = 2**53
 PIVOT = 0.1
 
 
@@ -70,8 +70,11 @@ class Square:
         doubles = tools().diags(self.by_row) @ doubles
         self.by_column = powers(abs(doubles).max(axis=0))
         try:
-            self.lu = tools().linalg.splu((doubles @ tools().diags(self.by_column)).tocsc(),
-                                          diag_pivot_thresh=PIVOT, permc_spec="COLAMD")
+            self.lu = tools().linalg.splu(
+                (doubles @ tools().diags(self.by_column)).tocsc(),
+                diag_pivot_thresh=PIVOT,
+                permc_spec="COLAMD",
+            )
         except RuntimeError:
             raise NoSolution("the basis is singular in doubles") from None
 
@@ -119,7 +122,10 @@ class Steps:
         self.first = max(float(np.abs(self.x).max()), 1.0)
         if not self.first < float(FITS):
             raise NoSolution("the basis is singular in doubles")
-        self.size, self.bits = int(min(60 - np.ceil(np.log2(self.sum)) - np.ceil(np.log2(self.first)), STEP)), 0
+        self.size, self.bits = (
+            int(min(60 - np.ceil(np.log2(self.sum)) - np.ceil(np.log2(self.first)), STEP)),
+            0,
+        )
         self.numbers = [0] * square.n
 
     def next(self) -> bool:
@@ -140,7 +146,7 @@ class Steps:
         most = float(np.abs(step).max())
         moved = np.ldexp(self.rest.astype(float), size)
         left = float(np.abs(moved - self.doubles @ step).max())
-        lost = 2.0 ** -46 * (float(np.abs(moved).max()) + self.sum * most)
+        lost = 2.0**-46 * (float(np.abs(moved).max()) + self.sum * most)
         if most * self.sum >= FITS or not left + lost <= FITS:
             return None
         step = step.astype(np.int64)
@@ -155,7 +161,9 @@ class Steps:
 
     def fractions(self) -> Solution | None:
         """Fractions near the digits that solve the system exactly."""
-        found = near(self.numbers, self.bits, int(max(float(self.np.abs(self.x).max()), 1.0) * 2) + 2)
+        found = near(
+            self.numbers, self.bits, int(max(float(self.np.abs(self.x).max()), 1.0) * 2) + 2
+        )
         if found is None:
             return None
         starts, index, data = self.a.indptr.tolist(), self.a.indices.tolist(), self.a.data.tolist()
@@ -176,7 +184,11 @@ def near(values: Sequence[int], bits: int, error: int) -> Solution | None:
         p, q = (at + half) >> bits, 1
         if abs(at - (p << bits)) > room:
             # of such denominators no two fractions are so near
-            p, q = Fraction(at, 1 << bits).limit_denominator(max(isqrt(half // room), 1)).as_integer_ratio()
+            p, q = (
+                Fraction(at, 1 << bits)
+                .limit_denominator(max(isqrt(half // room), 1))
+                .as_integer_ratio()
+            )
             if abs(at * q - (p << bits)) > room * q:
                 return None
             den *= q

@@ -23,19 +23,19 @@ from ..exact.mir import MIRCut, MIRProof, prove_mir_cut
 from ..exact.mir_separation import MIRSeparator
 
 ROUNDS = 30
-EACH = 20                       # cuts of one round
+EACH = 20  # cuts of one round
 EACH_LEMMA = 40
-STALLED = 10                    # rounds without gain
-GAIN = 1e-3                     # of the gap, in one round
+STALLED = 10  # rounds without gain
+GAIN = 1e-3  # of the gap, in one round
 LEAST_DEPTH = 1e-3
-PARALLEL = 0.81                 # the squared cosine of cuts that are too much alike
+PARALLEL = 0.81  # the squared cosine of cuts that are too much alike
 BEYOND_NODES = 12
 BEYOND_SECONDS = 2.0
-MOST_IN_ROW = 100               # terms of a row whose conflicts are looked for
+MOST_IN_ROW = 100  # terms of a row whose conflicts are looked for
 MOST_CLIQUES = 200
-LONGEST = 40                    # literals of a clique, each of which takes a row from 3 on
-Literal = Tuple[int, int]       # a binary column, and 1, or -1 for its complement
-Items = Sequence[Tuple[int, Literal]]   # what literals weigh
+LONGEST = 40  # literals of a clique, each of which takes a row from 3 on
+Literal = Tuple[int, int]  # a binary column, and 1, or -1 for its complement
+Items = Sequence[Tuple[int, Literal]]  # what literals weigh
 
 
 class CliqueCut(NamedTuple):
@@ -54,10 +54,17 @@ def knapsacks(m: Model) -> Iterator[tuple[Items, Fraction]]:
         for sign, side in ((1, hi), (-1, lo)) if len(row) <= MOST_IN_ROW else ():
             ends = [(m.lo if sign * a > 0 else m.hi)[j] for j, a in row]
             finite = [sign * a * end for (_, a), end in zip(row, ends) if end is not None]
-            rest = -1 if side is None or len(finite) < len(row) else sign * side * m.scale - sum(finite)
+            rest = (
+                -1
+                if side is None or len(finite) < len(row)
+                else sign * side * m.scale - sum(finite)
+            )
             if rest >= 0:
-                yield [(abs(a), (j, 1 if sign * a > 0 else -1)) for j, a in row
-                       if m.whole[j] and m.lo[j] == 0 and m.hi[j] == m.unit], Fraction(rest, m.unit)
+                yield [
+                    (abs(a), (j, 1 if sign * a > 0 else -1))
+                    for j, a in row
+                    if m.whole[j] and m.lo[j] == 0 and m.hi[j] == m.unit
+                ], Fraction(rest, m.unit)
 
 
 def conflicts(m: Model) -> Dict[Literal, set[Literal]]:
@@ -80,6 +87,7 @@ def cliques(m: Model, x: Sequence[float]) -> Iterator[CliqueCut]:
 
     def rank(literal: Literal) -> tuple[float, Literal]:
         return -value[literal], literal
+
     for first in sorted(near, key=rank)[:MOST_CLIQUES]:
         taken, left = [first], near[first]
         while left and len(taken) < LONGEST:
@@ -92,8 +100,11 @@ def cliques(m: Model, x: Sequence[float]) -> Iterator[CliqueCut]:
 
 
 def clique(literals: Sequence[Literal], value: Mapping[Literal, float]) -> CliqueCut:
-    return CliqueCut(sum(value[t] for t in literals) - 1, {j: sign for j, sign in literals},
-                    1 - sum(sign < 0 for _, sign in literals))
+    return CliqueCut(
+        sum(value[t] for t in literals) - 1,
+        {j: sign for j, sign in literals},
+        1 - sum(sign < 0 for _, sign in literals),
+    )
 
 
 class Row(NamedTuple):
@@ -107,12 +118,17 @@ class Row(NamedTuple):
         return Added(self.terms, None, self.at)
 
     def parts(self) -> Sequence[Tree]:
-        return ([self.proof.low], [self.proof.high]) if isinstance(self.proof, MIRProof) else (self.proof,)
+        return (
+            ([self.proof.low], [self.proof.high])
+            if isinstance(self.proof, MIRProof)
+            else (self.proof,)
+        )
 
 
 class Value:
     """A value of the objective, minimised, that no point is to be better than; None: there is to be no point. Where
-    there is a step, `at` is the greatest value of its form that would be better; `added` is the plane of that."""
+    there is a step, `at` is the greatest value of its form that would be better; `added` is the plane of that.
+    """
 
     def __init__(self, model: Model, value: Fraction | None, step: Step | None) -> None:
         self.value, self.step, self.at = value, step, 0
@@ -129,13 +145,15 @@ class Maker:
     def __init__(self, model: Model, value: Value, watch: Watch) -> None:
         self.model, self.value, self.watch = model, value, watch
         self.goal = math.inf if value.goal.target is None else float(value.goal.target)
-        self.base = -math.inf           # of the last relaxation
+        self.base = -math.inf  # of the last relaxation
         self.stalled = STALLED if any(model.costs) else ROUNDS
 
     def relaxed(self, rows: Sequence[Row]) -> tuple[Model, Clp] | None:
         """The relaxation under the rows; the plane on the objective is there without its side, so that the bound is
         seen."""
-        m = self.model.with_rows([*(Added(added.terms) for added in self.value.added), *(row.added() for row in rows)])
+        m = self.model.with_rows(
+            [*(Added(added.terms) for added in self.value.added), *(row.added() for row in rows)]
+        )
         clp = m.relaxation()
         if clp.solve() is not State.OPTIMAL:
             return None
@@ -165,19 +183,27 @@ class Maker:
                 if key(cut.coefficients, cut.rhs) in seen:
                     continue
                 seen.add(key(cut.coefficients, cut.rhs))
-                if not any(is_parallel(cut.coefficients, other) for other in used) \
-                        and self.is_proved(cut, rows, relaxed[0]):
+                if not any(
+                    is_parallel(cut.coefficients, other) for other in used
+                ) and self.is_proved(cut, rows, relaxed[0]):
                     used.append(cut.coefficients)
             if len(rows) == size or self.is_over(until):
                 break
         return rows
 
-    def proposed(self, m: Model, clp: Clp, kinds: Sequence[str], used: Sequence[object],
-                 until: float) -> Iterator[CliqueCut | MIRCut]:
+    def proposed(
+        self, m: Model, clp: Clp, kinds: Sequence[str], used: Sequence[object], until: float
+    ) -> Iterator[CliqueCut | MIRCut]:
         """Cliques and lemmas, of each the deepest first, as long as fewer than there may be in one round are used."""
         x = clp.values()
-        found = [cut for cut in cliques(m, x) if cut.violation > LEAST_DEPTH] if "clique" in kinds else []
-        for clique_cut in sorted(found, key=lambda cut: -cut.violation / math.hypot(*cut.coefficients.values())):
+        found = (
+            [cut for cut in cliques(m, x) if cut.violation > LEAST_DEPTH]
+            if "clique" in kinds
+            else []
+        )
+        for clique_cut in sorted(
+            found, key=lambda cut: -cut.violation / math.hypot(*cut.coefficients.values())
+        ):
             if len(used) >= EACH:
                 break
             yield clique_cut
@@ -195,7 +221,9 @@ class Maker:
             rows += [] if proof is None else [Row(cut.coefficients, cut.rhs, proof)]
             return proof is not None
         for one in (*cut.before, cut):
-            if one is cut or all(row.terms != one.coefficients or row.at != one.rhs for row in rows):
+            if one is cut or all(
+                row.terms != one.coefficients or row.at != one.rhs for row in rows
+            ):
                 tree = self.beyond(one, rows)
                 if tree is None:
                     return False
@@ -204,7 +232,11 @@ class Maker:
 
     def beyond(self, cut: CliqueCut, rows: Sequence[Row]) -> Tree | None:
         """The tree of the part beyond a cut, under the plane on the objective."""
-        added = [*self.value.added, *(row.added() for row in rows), Added(cut.coefficients, cut.rhs + 1)]
+        added = [
+            *self.value.added,
+            *(row.added() for row in rows),
+            Added(cut.coefficients, cut.rhs + 1),
+        ]
         search = Search(self.model.with_rows(added), Goal(None), self.watch, strong=4)
         search.until, search.most = self.watch.spent() + BEYOND_SECONDS, BEYOND_NODES
         try:
@@ -219,14 +251,17 @@ def key(terms: Mapping[int, int], at: int) -> object:
 
 def is_parallel(a: Mapping[int, int], b: Mapping[int, int]) -> bool:
     product = sum(v * b.get(j, 0) for j, v in a.items())
-    return product ** 2 > PARALLEL * sum(v * v for v in a.values()) * sum(v * v for v in b.values())
+    return product**2 > PARALLEL * sum(v * v for v in a.values()) * sum(v * v for v in b.values())
 
 
 class Spined:
     """The text of a tree below a spine: `model` is the file's program, `searched` the one of the tree, with all rows.
-    Rows of the spine that nothing uses are left out: `place` has the numbers of the others, `kept` them."""
+    Rows of the spine that nothing uses are left out: `place` has the numbers of the others, `kept` them.
+    """
 
-    def __init__(self, model: Model, searched: Model, value: Value, rows: Sequence[Row], tree: Tree) -> None:
+    def __init__(
+        self, model: Model, searched: Model, value: Value, rows: Sequence[Row], tree: Tree
+    ) -> None:
         self.model, self.searched, self.value, self.tree = model, searched, value, tree
         start, used = model.m + len(value.added), rows_used(tree)
         for k in range(len(rows) - 1, -1, -1):
@@ -238,7 +273,10 @@ class Spined:
         self.end = start + len(kept)
 
     def nodes(self) -> int:
-        proofs = sum(1 + (3 if isinstance(row.proof, MIRProof) else count(row.proof)) for row in self.kept.values())
+        proofs = sum(
+            1 + (3 if isinstance(row.proof, MIRProof) else count(row.proof))
+            for row in self.kept.values()
+        )
         return count(self.tree) + 2 * len(self.value.added) + proofs
 
     def lines(self) -> Iterator[str]:
@@ -260,5 +298,9 @@ class Spined:
         if step is not None:
             yield from text.multiplier_lines({row: sign * step.size}, MultiplierKind.DUAL)
 
-    def tree_lines(self, tree: Tree, first: int, plane: tuple[int, Fraction] | None = None) -> Iterator[str]:
-        return text.tree_lines(self.searched, tree, Naming(self.place, first, self.model.sign, plane))
+    def tree_lines(
+        self, tree: Tree, first: int, plane: tuple[int, Fraction] | None = None
+    ) -> Iterator[str]:
+        return text.tree_lines(
+            self.searched, tree, Naming(self.place, first, self.model.sign, plane)
+        )

@@ -13,8 +13,8 @@ from ..exact.mir import MIRProof
 from ..values import exact_decimal
 
 FIRST = "certificate 1"
-MOST_ZEROS = 3                  # that stand at the end of a whole number
-Names = Dict[int, Tuple[int, int]]      # of a form: the numbers of its planes `at least`, `at most`
+MOST_ZEROS = 3  # that stand at the end of a whole number
+Names = Dict[int, Tuple[int, int]]  # of a form: the numbers of its planes `at least`, `at most`
 
 
 class Naming(NamedTuple):
@@ -61,8 +61,12 @@ def leaf_lines(leaf: Multipliers, naming: Naming, names: Names) -> Iterator[str]
     """`names` are those of forms in this part."""
     kind = leaf.kind
     sign = 1 if leaf.is_farkas or naming.plane is not None else naming.sign
-    values = {names[i][0 if y > 0 else 1] if i in names else naming.place.get(i, i):
-              Fraction(sign * y, leaf.denominator) for i, y in leaf.numerators.items()}
+    values = {
+        names[i][0 if y > 0 else 1]
+        if i in names
+        else naming.place.get(i, i): Fraction(sign * y, leaf.denominator)
+        for i, y in leaf.numerators.items()
+    }
     if naming.plane is not None and not leaf.is_farkas:
         values[naming.plane[0]] = -naming.plane[1]
         kind = MultiplierKind.FARKAS
@@ -70,13 +74,19 @@ def leaf_lines(leaf: Multipliers, naming: Naming, names: Names) -> Iterator[str]
 
 
 def tree_lines(model: Model, tree: Tree, naming: Naming) -> Iterator[str]:
-    parts: list[tuple[Names, int]] = [({}, naming.first)]       # that are still to come
+    parts: list[tuple[Names, int]] = [({}, naming.first)]  # that are still to come
     for node in tree:
         names, row = parts.pop()
         if isinstance(node, Leaf):
             yield from leaf_lines(node.multipliers(), naming, names)
-        elif isinstance(node, Empty):       # both parts of a plane on it contradict one of its bounds
-            yield from (*plane_lines({node.column: 1}, node.at), "weights 1", f"{row} -1", "weights 1", f"{row} 1")
+        elif isinstance(node, Empty):  # both parts of a plane on it contradict one of its bounds
+            yield from (
+                *plane_lines({node.column: 1}, node.at),
+                "weights 1",
+                f"{row} -1",
+                "weights 1",
+                f"{row} 1",
+            )
         elif isinstance(node, Split) and node.column < model.n:
             yield f"split {node.column} {written(node.at)}"
             parts += [(names, row)] * 2
@@ -84,10 +94,15 @@ def tree_lines(model: Model, tree: Tree, naming: Naming) -> Iterator[str]:
             form = node.column - model.n
             yield from plane_lines({j: a // model.scale for j, a in model.rows[form]}, node.at)
             least, most = names.get(form, (-1, -1))
-            parts += [({**names, form: (row, most)}, row + 1), ({**names, form: (least, row)}, row + 1)]
+            parts += [
+                ({**names, form: (row, most)}, row + 1),
+                ({**names, form: (least, row)}, row + 1),
+            ]
 
 
-def lemma_lines(terms: Mapping[int, int], at: int, proof: MIRProof, place: Mapping[int, int]) -> Iterator[str]:
+def lemma_lines(
+    terms: Mapping[int, int], at: int, proof: MIRProof, place: Mapping[int, int]
+) -> Iterator[str]:
     """The lemma and its proof, whose plane takes the number that the lemma gets below."""
     yield from plane_lines(terms, at, "lemma")
     yield from plane_lines(*proof.split)
@@ -95,8 +110,13 @@ def lemma_lines(terms: Mapping[int, int], at: int, proof: MIRProof, place: Mappi
         yield from leaf_lines(leaf.multipliers(), Naming(place, 0, -1), {})
 
 
-def head(claim: str, objective: int | None, value: Fraction | None = None,
-         point: Point | None = None, ray: Point | None = None) -> Iterator[str]:
+def head(
+    claim: str,
+    objective: int | None,
+    value: Fraction | None = None,
+    point: Point | None = None,
+    ray: Point | None = None,
+) -> Iterator[str]:
     """The first lines, with the point and the ray."""
     words = [claim] + ([] if objective is None else [str(objective)])
     yield FIRST

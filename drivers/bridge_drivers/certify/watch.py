@@ -11,11 +11,11 @@ from typing import Callable, ContextManager, Iterator
 from ..interrupts import SIGNALS
 from ..progress import Progress, detailed
 
-EVERY = 0.5                 # seconds between what is told of the progress
-GRACE = 5.0                 # seconds past the limit and a tenth of it, when all has ended
-KEPT = 2.5                  # seconds of them, for what is known when the limit comes
-LEAST = 0.1                 # seconds that a call of `bridge verify` has
-AGAIN = 1.0                 # seconds after which a step that goes on is told once more
+EVERY = 0.5  # seconds between what is told of the progress
+GRACE = 5.0  # seconds past the limit and a tenth of it, when all has ended
+KEPT = 2.5  # seconds of them, for what is known when the limit comes
+LEAST = 0.1  # seconds that a call of `bridge verify` has
+AGAIN = 1.0  # seconds after which a step that goes on is told once more
 
 
 class Stopped(Exception):
@@ -32,11 +32,14 @@ class Over(Exception):
 
 class Watch:
     """Of one certificate: `seconds` is the limit of all its searches, 0 for none, `of_processor`: in processor time, so
-    that a busy machine does not end a short one. All has ended a tenth and 5 s after the limit, from the start."""
+    that a busy machine does not end a short one. All has ended a tenth and 5 s after the limit, from the start.
+    """
 
-    is_ending = False           # of a process: what it works is paused
+    is_ending = False  # of a process: what it works is paused
 
-    def __init__(self, seconds: float, progress: Progress | None = None, of_processor: bool = False) -> None:
+    def __init__(
+        self, seconds: float, progress: Progress | None = None, of_processor: bool = False
+    ) -> None:
         self.seconds, self.progress = seconds, progress or Progress("bridge-certify")
         self.incumbent: float | None = None
         self.of_processor = of_processor
@@ -59,7 +62,11 @@ class Watch:
 
     def to_end(self) -> float:
         """Seconds until all must have ended."""
-        return self.started + self.seconds * 1.1 + GRACE - time.monotonic() if self.seconds else float("inf")
+        return (
+            self.started + self.seconds * 1.1 + GRACE - time.monotonic()
+            if self.seconds
+            else float("inf")
+        )
 
     def for_verdict(self, share: float = 1.0) -> float | None:
         """Seconds for `bridge verify`, a share of what is left."""
@@ -91,7 +98,9 @@ class Watch:
 
     def tell(self, **known: float) -> None:
         """Of a search: nodes, open ones, cuts, the best bound."""
-        self.progress.tell(detailed(known if self.incumbent is None else {"incumbent": self.incumbent, **known}))
+        self.progress.tell(
+            detailed(known if self.incumbent is None else {"incumbent": self.incumbent, **known})
+        )
 
     @contextlib.contextmanager
     def alarmed(self, seconds: float) -> Iterator[None]:
@@ -137,8 +146,9 @@ class Watch:
 
         def stop(number: int, frame: object) -> None:
             self.is_stopped = True
-            if self.is_armed:           # a step without nodes ends too
+            if self.is_armed:  # a step without nodes ends too
                 self.arm(AGAIN)
+
         return handled(signal.SIGINT, stop)
 
 

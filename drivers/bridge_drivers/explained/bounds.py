@@ -54,7 +54,11 @@ class Bounds:
     def __init__(self, model: Model, certificate: Certificate) -> None:
         self.model, self.certificate = model, certificate
         costs = {j: model.sign * c for j, c in enumerate(model.cost) if c}
-        constant, point, numbers = model.sign * model.constant, certificate.point, certificate.numbers
+        constant, point, numbers = (
+            model.sign * model.constant,
+            certificate.point,
+            certificate.numbers,
+        )
         self.value = None if point is None else constant + total(costs.items(), point)
         self.goal = Goal(costs, constant, model.maximise, numbers[0] if numbers else self.value)
 

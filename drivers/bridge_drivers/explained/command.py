@@ -27,7 +27,7 @@ class Files(NamedTuple):
     html: str = ""
     svg: str = ""
     overwrite: bool = False
-    copy: str = ""           # of the certificate, where it is read from one
+    copy: str = ""  # of the certificate, where it is read from one
 
     def judged(self) -> str:
         return self.copy or self.certificate
@@ -45,7 +45,9 @@ class Explaining:
         self.bounds = self.exact(model)
         self.wording = Wording(self.certificate, model.names(), self.bounds, model.constraints())
         self.fails = None if holds else self.wording.failing_leaf(verdict)
-        self.claim = claim_words(self.certificate, verdicts.read(verdict) if holds else None, self.bounds)
+        self.claim = claim_words(
+            self.certificate, verdicts.read(verdict) if holds else None, self.bounds
+        )
 
     def exact(self, given: Subject) -> Bounds | None:
         """The program in exact numbers; None, with a note, where it is not to be had."""
@@ -63,7 +65,10 @@ class Explaining:
 
     def lines(self) -> list[str]:
         word = "holds of" if self.holds else "does not hold of"
-        told = [f"{self.files.certificate} {word} {self.shown}: {self.verdict}", f"claim     {self.said()}"]
+        told = [
+            f"{self.files.certificate} {word} {self.shown}: {self.verdict}",
+            f"claim     {self.said()}",
+        ]
         if not self.holds:
             told += self.wording.failure(self.verdict)
         told += self.wording.lines()
@@ -77,13 +82,21 @@ class Explaining:
         """The same for programs."""
         c, wording = self.certificate, self.wording
         node = None if self.fails is None else c.nodes[self.fails]
-        points = {name: None if of is None else {wording.column(j): str(value) for j, value in of.items()}
-                  for name, of in (("point", c.point), ("ray", c.ray))}
-        return {"holds": self.holds, "claim": self.claim, **points, "tree": wording.tally if c.nodes else None,
-                "uses": {wording.row(i): times for i, times in sorted(wording.used)},
-                "failure": None if self.holds else self.failure(),
-                "leaf": None if node is None else node.leaf, "line": None if node is None else node.line,
-                "path": [] if self.fails is None else wording.path(self.fails)}
+        points = {
+            name: None if of is None else {wording.column(j): str(value) for j, value in of.items()}
+            for name, of in (("point", c.point), ("ray", c.ray))
+        }
+        return {
+            "holds": self.holds,
+            "claim": self.claim,
+            **points,
+            "tree": wording.tally if c.nodes else None,
+            "uses": {wording.row(i): times for i, times in sorted(wording.used)},
+            "failure": None if self.holds else self.failure(),
+            "leaf": None if node is None else node.leaf,
+            "line": None if node is None else node.line,
+            "path": [] if self.fails is None else wording.path(self.fails),
+        }
 
     def tree(self) -> Picture | None:
         """None where the certificate has none."""

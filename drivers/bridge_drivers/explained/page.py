@@ -19,11 +19,11 @@ if TYPE_CHECKING:
     from .command import Explaining
     from .picture import Picture
 
-LETTER = 0.62                   # the width of one in fixed width, in its height, and a little more
-AROUND = 60                     # what a page has beside the picture, in its units
-MOST_USED = 200                 # rows on a page
-MOST_TERMS = 60                 # lines of one sum
-SECONDS = 5.0                   # for all sums
+LETTER = 0.62  # the width of one in fixed width, in its height, and a little more
+AROUND = 60  # what a page has beside the picture, in its units
+MOST_USED = 200  # rows on a page
+MOST_TERMS = 60  # lines of one sum
+SECONDS = 5.0  # for all sums
 LEMMAS_FORM = "lemma's form"
 PARTS = {name: Template(text) for name, text in texts.parts("page.html").items()}
 
@@ -34,9 +34,14 @@ class Html(str):
 
 def filled(piece: str, /, **words: object) -> Html:
     """A piece of texts/page.html with its words."""
-    return Html(PARTS[piece].substitute({
-        name: word if isinstance(word, Html) else escape(str(word))
-        for name, word in words.items()}))
+    return Html(
+        PARTS[piece].substitute(
+            {
+                name: word if isinstance(word, Html) else escape(str(word))
+                for name, word in words.items()
+            }
+        )
+    )
 
 
 def section(piece: str, row: str, rows: Iterable[Mapping[str, object]], **words: object) -> Html:
@@ -52,15 +57,26 @@ def text_of(told: Explaining) -> str:
     facts = [(head, text.strip()) for head, _, text in lines if head != "uses"]
     files = {"model's sum": told.path, "certificate's sum": told.files.judged()}
     facts += [(head, f"SHA-256 {sum_of(path)}") for head, path in files.items()]
-    point = [(told.wording.column(j), both(value)) for j, value in (told.certificate.point or {}).items()]
+    point = [
+        (told.wording.column(j), both(value)) for j, value in (told.certificate.point or {}).items()
+    ]
     drawn = told.tree()
     return filled(
-        "page", style=Html(texts.text("page.css")), mark=mark, word=word, verdict=told.verdict,
-        model=os.path.basename(told.shown), certificate=os.path.basename(told.files.certificate),
-        claim=sentence(told.said()), failure=failure_of(told),
+        "page",
+        style=Html(texts.text("page.css")),
+        mark=mark,
+        word=word,
+        verdict=told.verdict,
+        model=os.path.basename(told.shown),
+        certificate=os.path.basename(told.files.certificate),
+        claim=sentence(told.said()),
+        failure=failure_of(told),
         facts=section("facts", "fact", ({"head": head, "text": text} for head, text in facts)),
         point=section("point", "value", ({"name": name, "value": value} for name, value in point)),
-        tree=tree_of(drawn) if drawn else "", sums=sums_of(told, drawn) if drawn else "", used=used_of(told))
+        tree=tree_of(drawn) if drawn else "",
+        sums=sums_of(told, drawn) if drawn else "",
+        used=used_of(told),
+    )
 
 
 def sentence(text: str) -> str:
@@ -70,7 +86,9 @@ def sentence(text: str) -> str:
 def tree_of(drawn: Picture) -> Html:
     """The picture, its colours, and each part that is drawn, in full."""
     rows = ({**it._asdict(), "indent": 0.5 + min(it.depth, 12)} for it in drawn.drawn)
-    return section("tree", "part", rows, width=drawn.size()[0] + AROUND, picture=Html(drawn.svg(False)))
+    return section(
+        "tree", "part", rows, width=drawn.size()[0] + AROUND, picture=Html(drawn.svg(False))
+    )
 
 
 def sums_of(told: Explaining, drawn: Picture) -> Html:
@@ -78,10 +96,20 @@ def sums_of(told: Explaining, drawn: Picture) -> Html:
     nodes, wording = told.certificate.nodes, told.wording
     found = list(sums(wording, [it.place for it in drawn.drawn if nodes[it.place].is_leaf()]))
     widest = max((len(line) for it in found for line in (*it.lines, it.shows)), default=1)
-    return section("sums", "sum", (
-        {"line": nodes[it.place].line, "leaf": nodes[it.place].leaf, "lines": "\n".join([*it.lines, it.shows]),
-         "part": ", ".join(wording.path(it.place, False)) or "all points",
-         "size": f"clamp(.5rem, calc((100vw - 4.5rem) / {LETTER * widest:.1f}), .875rem)"} for it in found))
+    return section(
+        "sums",
+        "sum",
+        (
+            {
+                "line": nodes[it.place].line,
+                "leaf": nodes[it.place].leaf,
+                "lines": "\n".join([*it.lines, it.shows]),
+                "part": ", ".join(wording.path(it.place, False)) or "all points",
+                "size": f"clamp(.5rem, calc((100vw - 4.5rem) / {LETTER * widest:.1f}), .875rem)",
+            }
+            for it in found
+        ),
+    )
 
 
 def failure_of(told: Explaining) -> Html:
@@ -96,8 +124,14 @@ def used_of(told: Explaining) -> Html:
     """The rows of the model, and in how many leaves they are used."""
     used, leaves = told.wording.used, max(told.wording.tally["leaves"], 1)
     more = filled("more", count=len(used) - MOST_USED) if len(used) > MOST_USED else ""
-    rows = ({"row": told.wording.row(number), "times": times, "width": min(max(1, round(100 * times / leaves)), 100)}
-            for number, times in used[:MOST_USED])
+    rows = (
+        {
+            "row": told.wording.row(number),
+            "times": times,
+            "width": min(max(1, round(100 * times / leaves)), 100),
+        }
+        for number, times in used[:MOST_USED]
+    )
     return section("used", "use", rows, more=more)
 
 
@@ -115,16 +149,25 @@ def sum_at(bounds: Bounds, wording: Wording, place: int) -> Sum | None:
     total = bounds.shown(place, part)
     if total is None:
         return None
-    terms = [(it.number, f"{wording.row(it.place, place) if it.kind == 'row' else wording.column(it.place)} "
-                         f"{chr(0x2265) if it.is_lower else chr(0x2264)} {it.side}", it.number * it.side)
-             for it in bounds.terms(place, part) if it.side is not None]
+    terms = [
+        (
+            it.number,
+            f"{wording.row(it.place, place) if it.kind == 'row' else wording.column(it.place)} "
+            f"{chr(0x2265) if it.is_lower else chr(0x2264)} {it.side}",
+            it.number * it.side,
+        )
+        for it in bounds.terms(place, part)
+        if it.side is not None
+    ]
     goal, is_weights = part.goal, bounds.certificate.nodes[place].kind == WEIGHTS
     if goal.constant and not is_weights:
         terms.append((Fraction(1), "constant of the objective", goal.constant))
     rest = [product for _, _, product in terms[MOST_TERMS:]]
     if rest:
         terms[MOST_TERMS:] = [(Fraction(1), f"{len(rest)} products more", sum(rest, Fraction(0)))]
-    what, sign = LEMMAS_FORM if goal.lemma else "objective", chr(0x2264) if goal.maximise else chr(0x2265)
+    what, sign = LEMMAS_FORM if goal.lemma else "objective", chr(0x2264) if goal.maximise else chr(
+        0x2265
+    )
     shows = f"{what} {sign} {both(total)}"
     if is_weights:
         shows = f"0 \u2265 {both(total)}: " + ("no point" if total > 0 else "true")
@@ -136,8 +179,10 @@ def lines_of(terms: Sequence[tuple[Fraction, str, Fraction]], total: Fraction) -
     rows = [(both(number), what, both(product)) for number, what, product in terms]
     left, middle, right = (max(map(len, texts)) for texts in zip(*rows, ("", "", both(total))))
     width = left + middle + right + 7
-    lines = [f"{number:>{left}} \u00d7 ({what}){' ' * (middle - len(what))}  {product:>{right}}"
-             for number, what, product in rows]
+    lines = [
+        f"{number:>{left}} \u00d7 ({what}){' ' * (middle - len(what))}  {product:>{right}}"
+        for number, what, product in rows
+    ]
     return [*lines, "\u2500" * width, f"{both(total):>{width}}"]
 
 

@@ -14,12 +14,12 @@ from .bounds import Bounds
 from .reading import DUALS, LEMMA, ROOT, WEIGHTS
 from .words import Wording, short
 
-MOST_SHOWN = 64                 # nodes before a tree is folded
+MOST_SHOWN = 64  # nodes before a tree is folded
 MOST_DEPTH = 8
-MOST_PATH = 40                  # levels down to a leaf that fails, which are shown unfolded
-SECONDS = 5.0                   # in which bounds are worked out
+MOST_PATH = 40  # levels down to a leaf that fails, which are shown unfolded
+SECONDS = 5.0  # in which bounds are worked out
 WIDTH, HEIGHT, ACROSS, DOWN, MARGIN = 204, 58, 240, 70, 12
-MOST_TEXT, MOST_PART = 27, 21   # characters of a line in a node, of its first, which is bold
+MOST_TEXT, MOST_PART = 27, 21  # characters of a line in a node, of its first, which is bold
 
 
 class Drawn(NamedTuple):
@@ -39,7 +39,7 @@ class Drawn(NamedTuple):
 
 
 def cut(text: str, most: int = MOST_TEXT) -> str:
-    return text if len(text) <= most else text[:most - 1] + "\u2026"
+    return text if len(text) <= most else text[: most - 1] + "\u2026"
 
 
 class Picture:
@@ -102,7 +102,11 @@ class Picture:
         """Whether a leaf does; None where that is not known. The verdict is of the first one that
         does not, so that those before it do."""
         node = self.certificate.nodes[place]
-        if self.holds or self.fails is not None and node.leaf < self.certificate.nodes[self.fails].leaf:
+        if (
+            self.holds
+            or self.fails is not None
+            and node.leaf < self.certificate.nodes[self.fails].leaf
+        ):
             return True
         if place == self.fails:
             return False
@@ -120,8 +124,13 @@ class Picture:
         node = self.certificate.nodes[place]
         if node.is_leaf():
             if not closes:
-                return f"leaf {node.leaf} " + ("is not judged" if closes is None else "does not close")
-            count, how = len(node.pairs), "rows contradict" if node.kind == WEIGHTS else "closes by duals"
+                return f"leaf {node.leaf} " + (
+                    "is not judged" if closes is None else "does not close"
+                )
+            count, how = (
+                len(node.pairs),
+                "rows contradict" if node.kind == WEIGHTS else "closes by duals",
+            )
             return f"{how} ({count})" if count else "closes by bounds alone"
         if self.is_folded(place):
             return f"+ {node.size - 1} nodes, {node.leaves} leaves"
@@ -129,14 +138,31 @@ class Picture:
 
     def drawn_at(self, place: int, y: int) -> Drawn:
         node, closes = self.certificate.nodes[place], self.closes(place)
-        kind, value = "folded" if self.is_folded(place) else "cut", self.values.get(place, Fraction(0))
+        kind, value = "folded" if self.is_folded(place) else "cut", self.values.get(
+            place, Fraction(0)
+        )
         if node.is_leaf() and closes is not None:
             kind = node.kind if closes else "fails"
-        bound = "" if place not in self.values else "no point" if value is None else f"bound {short(value)}"
+        bound = (
+            ""
+            if place not in self.values
+            else "no point"
+            if value is None
+            else f"bound {short(value)}"
+        )
         if node.kind == WEIGHTS:
             bound = "no point" if closes else ""
-        return Drawn(place, MARGIN + ACROSS * node.depth, y, node.line, node.depth, *self.part_texts(place), bound,
-                     self.way_text(place, closes), kind)
+        return Drawn(
+            place,
+            MARGIN + ACROSS * node.depth,
+            y,
+            node.line,
+            node.depth,
+            *self.part_texts(place),
+            bound,
+            self.way_text(place, closes),
+            kind,
+        )
 
     def size(self) -> tuple[int, int]:
         across = max((d.x for d in self.drawn), default=MARGIN) + WIDTH + MARGIN
@@ -147,15 +173,25 @@ class Picture:
         width, height = self.size()
         nodes = self.certificate.nodes
         style = "".join(map(text_of, ("tree.css",) if alone else ("tree.css", "tree-dark.css")))
-        said = f"the tree of the certificate: {len(nodes)} nodes, {nodes[0].leaves} leaves" \
-            if nodes else "the certificate has no tree"
-        return "\n".join([
-            f'<svg xmlns="http://www.w3.org/2000/svg" class="tree" width="{width}" '
-            f'height="{height}" viewBox="0 0 {width} {height}" role="img" aria-label="{said}">',
-            f"<title>{said}</title>", f"<style>\n{style}</style>",
-            *[f'<path d="M0 0H{width}V{height}H0Z" style="fill: #fff; stroke: none"/>'] * alone,
-            *self.lines(), *self.boxes(), *[f'<text x="{MARGIN}" y="{HEIGHT // 2}">{said}</text>'] * (not nodes),
-            "</svg>", ""])
+        said = (
+            f"the tree of the certificate: {len(nodes)} nodes, {nodes[0].leaves} leaves"
+            if nodes
+            else "the certificate has no tree"
+        )
+        return "\n".join(
+            [
+                f'<svg xmlns="http://www.w3.org/2000/svg" class="tree" width="{width}" '
+                f'height="{height}" viewBox="0 0 {width} {height}" role="img" aria-label="{said}">',
+                f"<title>{said}</title>",
+                f"<style>\n{style}</style>",
+                *[f'<path d="M0 0H{width}V{height}H0Z" style="fill: #fff; stroke: none"/>'] * alone,
+                *self.lines(),
+                *self.boxes(),
+                *[f'<text x="{MARGIN}" y="{HEIGHT // 2}">{said}</text>'] * (not nodes),
+                "</svg>",
+                "",
+            ]
+        )
 
     def lines(self) -> Iterator[str]:
         at = {d.place: d for d in self.drawn}
@@ -172,12 +208,16 @@ class Picture:
         for d in self.drawn:
             texts = list(filter(None, (d.bound, d.way)))
             whole = escape("\n".join([d.part, *texts, f"line {d.line}"]))
-            yield (f'<g class="{d.kind}"><title>{whole}</title>'
-                   f'<rect x="{d.x}" y="{d.y}" width="{WIDTH}" height="{HEIGHT}" rx="6"/>')
+            yield (
+                f'<g class="{d.kind}"><title>{whole}</title>'
+                f'<rect x="{d.x}" y="{d.y}" width="{WIDTH}" height="{HEIGHT}" rx="6"/>'
+            )
             yield f'<text class="line" x="{d.x + WIDTH - 8}" y="{d.y + 18}">{d.line}</text>'
             for k, text in enumerate([d.head, *texts]):
                 mark = ' class="part"' if k == 0 else ""
-                yield (f'<text{mark} x="{d.x + 8}" y="{d.y + 18 + 16 * k}">{escape(cut(text))}</text>')
+                yield (
+                    f'<text{mark} x="{d.x + 8}" y="{d.y + 18 + 16 * k}">{escape(cut(text))}</text>'
+                )
             yield "</g>"
 
 
@@ -197,9 +237,13 @@ def bounds_of(bounds: Bounds) -> dict[int, Fraction | None]:
             if shown is not None:
                 values[place] = shown
         else:
-            below = certificate.children(place)[1 if node.kind == LEMMA else 0:]
+            below = certificate.children(place)[1 if node.kind == LEMMA else 0 :]
             if all(child in values for child in below):
-                in_proof = any(above.kind == LEMMA and part == 0 for above, part in certificate.steps(place))
+                in_proof = any(
+                    above.kind == LEMMA and part == 0 for above, part in certificate.steps(place)
+                )
                 worse = max if in_proof or bounds.goal.maximise else min
-                values[place] = worse((value for child in below if (value := values[child]) is not None), default=None)
+                values[place] = worse(
+                    (value for child in below if (value := values[child]) is not None), default=None
+                )
     return values

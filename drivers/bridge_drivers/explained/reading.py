@@ -9,7 +9,7 @@ from typing import Iterator, List, NamedTuple, Tuple
 SPLIT, PLANE, LEMMA, DUALS, WEIGHTS = "split", "plane", "lemma", "duals", "weights"
 POINTED = ("optimal", "within", "feasible", "unbounded")
 WITH_TREE = ("optimal", "within", "bound", "infeasible")
-ROOT = -1                       # the parent of the first node
+ROOT = -1  # the parent of the first node
 
 
 class Node:
@@ -17,7 +17,19 @@ class Node:
     most` and for the proof of a lemma, 1 for the other one; `pairs` are its lines, `leaf` its
     number among the leaves; `size` and `leaves` count what is below it, itself among it."""
 
-    __slots__ = ("kind", "line", "parent", "part", "depth", "column", "at", "pairs", "leaf", "size", "leaves")
+    __slots__ = (
+        "kind",
+        "line",
+        "parent",
+        "part",
+        "depth",
+        "column",
+        "at",
+        "pairs",
+        "leaf",
+        "size",
+        "leaves",
+    )
 
     def __init__(self, kind: str, line: int, parent: int, part: int, depth: int) -> None:
         self.kind, self.line, self.parent, self.part, self.depth = kind, line, parent, part, depth
@@ -63,7 +75,7 @@ class Certificate(NamedTuple):
         return next(p for p, node in enumerate(self.nodes) if node.leaf == number)
 
 
-Lines = Iterator[Tuple[int, List[str]]]         # those with words, each with its number from 1
+Lines = Iterator[Tuple[int, List[str]]]  # those with words, each with its number from 1
 
 
 def pairs_from(lines: Lines, count: int) -> list[tuple[int, str]]:
@@ -78,7 +90,9 @@ def listed(lines: Lines) -> dict[int, Fraction]:
 
 def read(path: str) -> Certificate:
     with open(path, encoding="ascii") as f:
-        return read_from((number, words) for number, line in enumerate(f, 1) if (words := line.split()))
+        return read_from(
+            (number, words) for number, line in enumerate(f, 1) if (words := line.split())
+        )
 
 
 def read_from(lines: Lines) -> Certificate:
@@ -97,7 +111,7 @@ def read_from(lines: Lines) -> Certificate:
 
 def tree_from(lines: Lines) -> list[Node]:
     nodes: list[Node] = []
-    wanted = [(ROOT, 0)]            # parts that are to come: their parents, and which they are
+    wanted = [(ROOT, 0)]  # parts that are to come: their parents, and which they are
     leaves = 0
     while wanted:
         parent, part = wanted.pop()

@@ -15,8 +15,8 @@ from ..verdicts import Said, decimal, share
 from .bounds import Bounds, Term, total
 from .reading import LEMMA, PLANE, SPLIT, WEIGHTS, Certificate, Node
 
-MOST_TERMS = 6                  # of a form that is told
-MOST_LISTED = 12                # values of a point, rows
+MOST_TERMS = 6  # of a form that is told
+MOST_LISTED = 12  # values of a point, rows
 FAULT = re.compile(r"leaf (\d+) (?:gap (\S+)|(too wide)|(row|bound) (\d+) has no side)")
 POINT_FAULT = re.compile(r"(ray )?(row|bound|variable) (\d+) (broken|not whole)")
 WIDE = re.compile(r"too wide at (ray )?(?:(row|bound) (\d+)|objective)")
@@ -44,16 +44,27 @@ class Wording:
     could not be read in exact numbers. `tally` says what its tree is made of (`added`: how often
     rows that were added are used), `used` in how many leaves each constraint is, the most first."""
 
-    def __init__(self, certificate: Certificate, names: Names, bounds: Bounds | None, constraints: int) -> None:
+    def __init__(
+        self, certificate: Certificate, names: Names, bounds: Bounds | None, constraints: int
+    ) -> None:
         self.certificate, self.names, self.bounds = certificate, names, bounds
         self.constraints, nodes = constraints, certificate.nodes
         kinds = Counter(node.kind for node in nodes)
         rows = Counter(number for node in nodes if node.is_leaf() for number, _ in node.pairs)
-        self.used = sorted(((i, times) for i, times in rows.items() if i < constraints), key=lambda it: (-it[1], it[0]))
-        self.tally = {"nodes": len(nodes), "splits": kinds[SPLIT], "planes": kinds[PLANE], "lemmas": kinds[LEMMA],
-                      "leaves": nodes[0].leaves if nodes else 0, "weights": kinds[WEIGHTS],
-                      "depth": max((node.depth for node in nodes), default=0),
-                      "added": sum(rows.values()) - sum(times for _, times in self.used)}
+        self.used = sorted(
+            ((i, times) for i, times in rows.items() if i < constraints),
+            key=lambda it: (-it[1], it[0]),
+        )
+        self.tally = {
+            "nodes": len(nodes),
+            "splits": kinds[SPLIT],
+            "planes": kinds[PLANE],
+            "lemmas": kinds[LEMMA],
+            "leaves": nodes[0].leaves if nodes else 0,
+            "weights": kinds[WEIGHTS],
+            "depth": max((node.depth for node in nodes), default=0),
+            "added": sum(rows.values()) - sum(times for _, times in self.used),
+        }
 
     def column(self, number: int) -> str:
         return self.names.column(number) or f"x{number}"
@@ -62,8 +73,11 @@ class Wording:
         """A constraint, or a row that was added above the node."""
         if number < self.constraints:
             return self.names.constraint(number)
-        added = [node for node, part in self.certificate.steps(place)
-                 if node.kind == PLANE or node.kind == LEMMA and part == 1]
+        added = [
+            node
+            for node, part in self.certificate.steps(place)
+            if node.kind == PLANE or node.kind == LEMMA and part == 1
+        ]
         if number - self.constraints < len(added):
             node = added[number - self.constraints]
             return f"the {node.kind} of line {node.line}"
@@ -116,8 +130,10 @@ class Wording:
 
     def path(self, place: int, with_lines: bool = True) -> list[str]:
         """The cuts from the root to a node, each with its line."""
-        return [self.cut(node, part) + (f" (line {node.line})" if with_lines else "")
-                for node, part in self.certificate.steps(place)]
+        return [
+            self.cut(node, part) + (f" (line {node.line})" if with_lines else "")
+            for node, part in self.certificate.steps(place)
+        ]
 
     def values(self, point: Mapping[int, Fraction]) -> str:
         texts = [f"{self.column(j)} {value}" for j, value in point.items()]
@@ -126,19 +142,30 @@ class Wording:
     def lines(self) -> list[str]:
         """What the certificate is made of, and which rows its leaves use, and how often."""
         c, t = self.certificate, self.tally
-        told = [f"{name:10}{self.values(of)}" for name, of in (("point", c.point), ("ray", c.ray)) if of is not None]
+        told = [
+            f"{name:10}{self.values(of)}"
+            for name, of in (("point", c.point), ("ray", c.ray))
+            if of is not None
+        ]
         if not c.nodes:
             return told
         parts = ", ".join(counted(t[name], name[:-1]) for name in ("splits", "planes", "lemmas"))
         leaves = f"{t['leaves']} {'leaf' if t['leaves'] == 1 else 'leaves'}"
-        told.append(f"tree      {counted(t['nodes'], 'node')}: {parts}, {leaves} ({t['weights']} by weights); "
-                    f"depth {t['depth']}")
-        uses = [f"{self.row(i)} in {times} of {t['leaves']} leaves" for i, times in self.used[:MOST_LISTED]]
+        told.append(
+            f"tree      {counted(t['nodes'], 'node')}: {parts}, {leaves} ({t['weights']} by weights); "
+            f"depth {t['depth']}"
+        )
+        uses = [
+            f"{self.row(i)} in {times} of {t['leaves']} leaves"
+            for i, times in self.used[:MOST_LISTED]
+        ]
         if len(self.used) > MOST_LISTED:
             uses.append(f"{len(self.used) - MOST_LISTED} more constraints")
         if t["added"]:
             uses.append(f"planes and lemmas {counted(t['added'], 'time')}")
-        return told + [f"uses      {use}" for use in uses or ["no row: the bounds of variables alone"]]
+        return told + [
+            f"uses      {use}" for use in uses or ["no row: the bounds of variables alone"]
+        ]
 
     # what does not hold --------------------------------------------------------------
 
@@ -152,10 +179,18 @@ class Wording:
         if place is None or found is None:
             return ["fails     " + self.at_point(verdict)]
         node, (_, value, wide, kind, number) = self.certificate.nodes[place], found.groups()
-        why = "a sum passes 128 bits: numbers with fewer digits are wanted" if wide else \
-            self.gap(place, Fraction(value)) if value else self.no_side(place, kind, int(number))
+        why = (
+            "a sum passes 128 bits: numbers with fewer digits are wanted"
+            if wide
+            else self.gap(place, Fraction(value))
+            if value
+            else self.no_side(place, kind, int(number))
+        )
         cuts = [f"path      {k}. {text}" for k, text in enumerate(self.path(place), 1)]
-        return [f"fails     leaf {node.leaf} (line {node.line}): {why}", *(cuts or ["path      it is the whole tree"])]
+        return [
+            f"fails     leaf {node.leaf} (line {node.line}): {why}",
+            *(cuts or ["path      it is the whole tree"]),
+        ]
 
     def at_point(self, verdict: str) -> str:
         """What is wrong at the point, or along the ray."""
@@ -174,14 +209,18 @@ class Wording:
 
     def gap(self, place: int, value: Fraction) -> str:
         if self.certificate.nodes[place].kind == WEIGHTS:
-            return (f"its weights show {value}, and contradict each other only above 0: {decimal(-value)} too little")
+            return f"its weights show {value}, and contradict each other only above 0: {decimal(-value)} too little"
         goal = None if self.bounds is None else self.bounds.part(place).goal
         if goal is None or goal.target is None:
-            return f"its duals show that no point is better than {value}, which is not what is claimed"
+            return (
+                f"its duals show that no point is better than {value}, which is not what is claimed"
+            )
         who = f"the lemma of line {goal.lemma} needs" if goal.lemma else "the claim needs"
         away = abs(value - goal.target)
-        return (f"its duals show that no point of this part is better than {value}, and {who} "
-                f"{goal.target}: {decimal(away)}{share(away, goal.target)} too {'high' if goal.maximise else 'low'}")
+        return (
+            f"its duals show that no point of this part is better than {value}, and {who} "
+            f"{goal.target}: {decimal(away)}{share(away, goal.target)} too {'high' if goal.maximise else 'low'}"
+        )
 
     def no_side(self, place: int, kind: str, number: int) -> str:
         what, bounds = self.thing(kind, number, place), self.bounds
@@ -189,13 +228,19 @@ class Wording:
             return f"a number asks for a side that {what} has not"
         terms = {(it.kind, it.place): it for it in bounds.terms(place, bounds.part(place))}
         term = terms.get((kind, number)) or Term(Fraction(0), kind, number, False, None)
-        said, thing = (f"the number {term.number} of {what} asks for its", "side") if kind == "row" else \
-            (f"the numbers leave {what} the cost {term.number}, which asks for its", "bound")
+        said, thing = (
+            (f"the number {term.number} of {what} asks for its", "side")
+            if kind == "row"
+            else (f"the numbers leave {what} the cost {term.number}, which asks for its", "bound")
+        )
         return f"{said} {'lower' if term.is_lower else 'upper'} {thing}, and there is none"
 
     def point_fault(self, bounds: Bounds, ray: str | None, kind: str, text: str, how: str) -> str:
         number = int(text)
-        what, point = self.thing(kind, number), (self.certificate.ray if ray else self.certificate.point) or {}
+        what, point = (
+            self.thing(kind, number),
+            (self.certificate.ray if ray else self.certificate.point) or {},
+        )
         if kind == "row":
             terms, low, high = bounds.row(number)
             value = total(terms, point)
@@ -208,14 +253,20 @@ class Wording:
         is_below = low is not None and value < low
         end = low if is_below else high
         assert end is not None
-        return f"{what} is {value} at the point, and at {'least' if is_below else 'most'} {end}: " \
-               f"{decimal(abs(value - end))} too {'little' if is_below else 'much'}"
+        return (
+            f"{what} is {value} at the point, and at {'least' if is_below else 'most'} {end}: "
+            f"{decimal(abs(value - end))} too {'little' if is_below else 'much'}"
+        )
 
 
 def claim_words(certificate: Certificate, said: Said | None, bounds: Bounds | None) -> str:
     """The claim, where it holds or not."""
     said = said or claimed(certificate, bounds)
-    return certificate.claim if said is None else verdicts.in_words(said, bounds is not None and bounds.model.maximise)
+    return (
+        certificate.claim
+        if said is None
+        else verdicts.in_words(said, bounds is not None and bounds.model.maximise)
+    )
 
 
 def claimed(certificate: Certificate, bounds: Bounds | None) -> Said | None:
@@ -227,4 +278,8 @@ def claimed(certificate: Certificate, bounds: Bounds | None) -> Said | None:
         return Said(claim, None, numbers[0])
     if bounds is None or bounds.value is None:
         return None
-    return Said(claim, bounds.value, {"optimal": bounds.value, "within": numbers[0] if numbers else None}.get(claim))
+    return Said(
+        claim,
+        bounds.value,
+        {"optimal": bounds.value, "within": numbers[0] if numbers else None}.get(claim),
+    )

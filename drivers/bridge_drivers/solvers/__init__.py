@@ -11,5 +11,7 @@ MODULES = {"cbc": "coin", "clp": "coin"}
 
 
 def load(name: str) -> Solver:
-    found: tuple[Solver, ...] = importlib.import_module(f"{__name__}.{MODULES.get(name, name)}").SOLVERS
+    found: tuple[Solver, ...] = importlib.import_module(
+        f"{__name__}.{MODULES.get(name, name)}"
+    ).SOLVERS
     return next(solver for solver in found if solver.name == name)

@@ -18,10 +18,10 @@ if TYPE_CHECKING:
     from ..job import Job, Ran
     from ..program import Program
 
-BASIC, SUPERBASIC, LOWER, UPPER, EQUAL = 1, 2, 3, 4, 5      # AMPL's statuses of the basis
+BASIC, SUPERBASIC, LOWER, UPPER, EQUAL = 1, 2, 3, 4, 5  # AMPL's statuses of the basis
 GAP = Option("mipgap", 0.0, SHARE, "relative gap at which the search stops")
-LONGEST = 200                           # of a line of a log that is told
-NONE_YET = 1e40                         # what stands for an incumbent where there is none
+LONGEST = 200  # of a line of a log that is told
+NONE_YET = 1e40  # what stands for an incumbent where there is none
 
 
 class Unclear(Exception):
@@ -32,7 +32,8 @@ class Unclear(Exception):
 class Outcome:
     """What a solver answered, its values by name of column or row. The code is what its status says by itself, `text`
     says it in words, `is_gap` that the search stopped at a gap that was asked for. `duals` and `costs` are rates of
-    change of the objective, for both senses, as AMPL wants them. The basis is in AMPL's statuses, for all of both."""
+    change of the objective, for both senses, as AMPL wants them. The basis is in AMPL's statuses, for all of both.
+    """
 
     code: Code
     text: str
@@ -52,17 +53,17 @@ class Outcome:
 class Solver:
     """A solver. `solve` writes the model as it reads it, runs it, and reads its answer."""
 
-    name = ""                           # of the driver, without bridge-
-    program = ""                        # the executable
-    package = ""                        # Debian's, that has it
-    title = ""                          # in messages
-    integers = True                     # takes integer columns
-    again = ""                          # how it is asked where an answer is not good
-    options: Sequence[Option] = ()      # its own
-    flags: Mapping[str, str] = {}       # its words for what is asked for
-    version = ""                        # a pattern whose one group is the version in the log
-    lines: Sequence[str] = ()           # patterns of its log, with groups as `detailed` names them
-    infinite = ""                       # the size from which sides and bounds are none to it
+    name = ""  # of the driver, without bridge-
+    program = ""  # the executable
+    package = ""  # Debian's, that has it
+    title = ""  # in messages
+    integers = True  # takes integer columns
+    again = ""  # how it is asked where an answer is not good
+    options: Sequence[Option] = ()  # its own
+    flags: Mapping[str, str] = {}  # its words for what is asked for
+    version = ""  # a pattern whose one group is the version in the log
+    lines: Sequence[str] = ()  # patterns of its log, with groups as `detailed` names them
+    infinite = ""  # the size from which sides and bounds are none to it
 
     def named(self, log: str) -> str:
         """The title, with the version where the log has it."""
@@ -73,8 +74,14 @@ class Solver:
         """A line where the program has sides or bounds that are none to this solver."""
         count = program.far(float(self.infinite)) if self.infinite else 0
         ends = "side or bound" if count == 1 else "sides or bounds"
-        return [f"the model has {count} {ends} from {self.infinite} on, which {self.title} may "
-                "take for none"] if count else []
+        return (
+            [
+                f"the model has {count} {ends} from {self.infinite} on, which {self.title} may "
+                "take for none"
+            ]
+            if count
+            else []
+        )
 
     def solve(self, job: Job) -> Outcome:
         raise NotImplementedError
@@ -82,8 +89,13 @@ class Solver:
     def asked(self, job: Job) -> list[str]:
         """Its words for all that is asked for, and the user's. `seconds` are those of `timelim` as a whole number."""
         o = job.options
-        said: dict[str, object] = {**o.own, "timelim": o.timelim, "seconds": math.ceil(o.timelim),
-                                   "relax": o.relax, "again": job.again}
+        said: dict[str, object] = {
+            **o.own,
+            "timelim": o.timelim,
+            "seconds": math.ceil(o.timelim),
+            "relax": o.relax,
+            "again": job.again,
+        }
         words = [form.format(said[name]) for name, form in self.flags.items() if said[name]]
         return [*" ".join(words).split(), *job.extra]
 
@@ -92,7 +104,7 @@ class Solver:
         known: dict[str, float] = {}
         found = next(filter(None, (re.search(pattern, line) for pattern in self.lines)), None)
         for name, text in found.groupdict().items() if found else ():
-            with contextlib.suppress(ValueError):               # it is no number
+            with contextlib.suppress(ValueError):  # it is no number
                 known[name] = float(text)
         return {name: value for name, value in known.items() if abs(value) < NONE_YET}
 
@@ -113,8 +125,10 @@ class Solver:
 
 
 def stopped(why: str, has_point: bool = False) -> Outcome:
-    return Outcome(Code.LIMIT_WITH_POINT if has_point else Code.LIMIT,
-                   f"stopped at {why} {'with' if has_point else 'without'} a feasible solution")
+    return Outcome(
+        Code.LIMIT_WITH_POINT if has_point else Code.LIMIT,
+        f"stopped at {why} {'with' if has_point else 'without'} a feasible solution",
+    )
 
 
 def without_answer(ran: Ran, pattern: str) -> Outcome:
@@ -123,7 +137,11 @@ def without_answer(ran: Ran, pattern: str) -> Outcome:
         return stopped(TIME)
     lines = [line.strip() for line in ran.log.splitlines() if line.strip()]
     last = f"; its last words: {lines[-1][:LONGEST]}" if lines else ""
-    raise Unclear(next((line for line in lines if re.search(pattern, line, re.I)), "it wrote no answer" + last))
+    raise Unclear(
+        next(
+            (line for line in lines if re.search(pattern, line, re.I)), "it wrote no answer" + last
+        )
+    )
 
 
 def outcome(says: Says | None, status: str, has_point: bool) -> Outcome:

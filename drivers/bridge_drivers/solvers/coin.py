@@ -12,7 +12,19 @@ from typing import TYPE_CHECKING
 from ..codes import Code
 from ..options import Option
 from ..values import Named
-from .base import BASIC, EQUAL, GAP, LOWER, UPPER, Outcome, Solver, Unclear, outcome, read_lines, without_answer
+from .base import (
+    BASIC,
+    EQUAL,
+    GAP,
+    LOWER,
+    UPPER,
+    Outcome,
+    Solver,
+    Unclear,
+    outcome,
+    read_lines,
+    without_answer,
+)
 from .statuses import COIN, NO_POINT, row_of
 
 if TYPE_CHECKING:
@@ -21,36 +33,57 @@ if TYPE_CHECKING:
 
 LEAST_LONG = 23
 LONG = re.compile(rb"(?<= )[-+]?[\d.]{%d,}(?:[eE]\S+)?$" % LEAST_LONG, re.M)
-ZEROS = bytes.maketrans(b".123456789", b"0" * 10)       # all that stand in such numbers
+ZEROS = bytes.maketrans(b".123456789", b"0" * 10)  # all that stand in such numbers
 COMPLAINT = r"Bad image|No match|Unknown|Unable to open|errors? on input|infeasible bound"
 
 
 class Coin(Solver):
-    infinite = "1e25"                   # of upper bounds; of others 1e30
-    lines = (r"Cbc0010I After (?P<nodes>\d+) nodes, (?P<open>\d+) on tree, (?P<incumbent>\S+) best "
-             r"solution, best possible (?P<bound>\S+)", r"Cbc0012I Integer solution of (?P<incumbent>\S+) found",
-             r"Cbc0004I Integer solution of (?P<incumbent>\S+) found",
-             r"Clp0006I +(?P<iterations>\d+) +Obj (?P<objective>\S+)")
+    infinite = "1e25"  # of upper bounds; of others 1e30
+    lines = (
+        r"Cbc0010I After (?P<nodes>\d+) nodes, (?P<open>\d+) on tree, (?P<incumbent>\S+) best "
+        r"solution, best possible (?P<bound>\S+)",
+        r"Cbc0012I Integer solution of (?P<incumbent>\S+) found",
+        r"Cbc0004I Integer solution of (?P<incumbent>\S+) found",
+        r"Clp0006I +(?P<iterations>\d+) +Obj (?P<objective>\S+)",
+    )
 
     def said(self, line: str, program: Program) -> dict[str, float]:
         """CBC minimises, and tells of what it minimises."""
         known = super().said(line, program)
         sign = -1.0 if program.maximise and "Cbc00" in line else 1.0
-        return {name: sign * value if name in ("incumbent", "bound") else value for name, value in known.items()}
+        return {
+            name: sign * value if name in ("incumbent", "bound") else value
+            for name, value in known.items()
+        }
 
     def solve(self, job: Job) -> Outcome:
         """CoinUtils ignores OBJSENSE."""
         path, relaxed = job.write("coin.mps", self.text(job.given)), job.options.relax
         solves = "-initialSolve" if relaxed and self.integers else "-solve"
         basis = [] if job.program.whole and not relaxed else ["-basisOut", job.path("answer.bas")]
-        return self.answer(job, job.run([
-            job.solver, path, *(["-max"] if job.program.maximise else []), *self.asked(job), solves, "-solution",
-            job.path("answer.txt"), "-saveSolution", job.path("answer.bin"), *basis, "-quit"]))
+        return self.answer(
+            job,
+            job.run(
+                [
+                    job.solver,
+                    path,
+                    *(["-max"] if job.program.maximise else []),
+                    *self.asked(job),
+                    solves,
+                    "-solution",
+                    job.path("answer.txt"),
+                    "-saveSolution",
+                    job.path("answer.bin"),
+                    *basis,
+                    "-quit",
+                ]
+            ),
+        )
 
     def text(self, program: Program) -> bytes:
         """To CoinUtils a `NAME nl` line means fixed columns, and it does not take all numbers of more than 22 digits:
         they are doubles here."""
-        text = b"NAME nl FREE\n" + program.text[len(b"NAME nl\n"):]
+        text = b"NAME nl FREE\n" + program.text[len(b"NAME nl\n") :]
         if b"0" * LEAST_LONG not in text.translate(ZEROS):
             return text
         return LONG.sub(lambda found: repr(float(found.group())).encode(), text)
@@ -68,11 +101,17 @@ class Coin(Solver):
         except FileNotFoundError:
             raise Unclear("no saved answer") from None
         rows, columns = len(program.constraints), len(program.columns)
-        if len(data) != 16 + 16 * (rows + columns) or struct.unpack("=ii", data[:8]) != (rows, columns):
+        if len(data) != 16 + 16 * (rows + columns) or struct.unpack("=ii", data[:8]) != (
+            rows,
+            columns,
+        ):
             raise Unclear("the saved answer is of another model")
         doubles, at = array("d", data[8:]), 1 + 2 * rows
-        return (Named(program.columns, doubles[at:at + columns]), Named(program.constraints, doubles[1 + rows:at]),
-                Named(program.columns, doubles[at + columns:]))
+        return (
+            Named(program.columns, doubles[at : at + columns]),
+            Named(program.constraints, doubles[1 + rows : at]),
+            Named(program.columns, doubles[at + columns :]),
+        )
 
     def answer(self, job: Job, ran: Ran) -> Outcome:
         """The outcome, whose status is the first line of -solution."""
@@ -83,8 +122,11 @@ class Coin(Solver):
         has_point = NO_POINT not in status and os.path.exists(job.path("answer.bin"))
         status = status.replace(NO_POINT, "").strip()
         found = outcome(row_of(COIN, status), status, has_point)
-        if status.lower() == "integer infeasible" and "infeasible or unbounded" in ran.log \
-                and "Continuous objective value is" not in ran.log:
+        if (
+            status.lower() == "integer infeasible"
+            and "infeasible or unbounded" in ran.log
+            and "Continuous objective value is" not in ran.log
+        ):
             return Outcome(Code.INFEASIBLE_OR_UNBOUNDED, "infeasible or unbounded")
         if found.has_point():
             found.values, duals, costs = self.saved(job.program, job.path("answer.bin"))
@@ -100,8 +142,12 @@ class Cbc(Coin):
     again = "without preprocessing"
     version = r"Version: (\S+)"
     options = (GAP, Option("threads", 0, int, "threads of the search"))
-    flags = {"timelim": "-timeMode elapsed -sec {:g}", "mipgap": "-ratio {:g}",
-             "threads": "-threads {}", "again": "-preprocess off -presolve off"}
+    flags = {
+        "timelim": "-timeMode elapsed -sec {:g}",
+        "mipgap": "-ratio {:g}",
+        "threads": "-threads {}",
+        "again": "-preprocess off -presolve off",
+    }
 
 
 class Clp(Coin):
@@ -125,8 +171,10 @@ def basis(program: Program, path: str) -> tuple[Named[int] | None, Named[int] | 
             moved[words[2]] = {"E": EQUAL, "L": UPPER}.get(program.kinds.get(words[2], ""), side)
         elif words[0] in ("BS", "UL"):
             moved[words[1]] = BASIC if words[0] == "BS" else UPPER
-    return (Named(program.columns, [moved.get(name, LOWER) for name in program.columns]),
-            Named(program.constraints, [moved.get(name, BASIC) for name in program.constraints]))
+    return (
+        Named(program.columns, [moved.get(name, LOWER) for name in program.columns]),
+        Named(program.constraints, [moved.get(name, BASIC) for name in program.constraints]),
+    )
 
 
 SOLVERS = (Cbc(), Clp())

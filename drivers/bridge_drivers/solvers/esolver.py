@@ -30,14 +30,25 @@ class Esolver(Solver):
         lines = read_lines(out)
         if lines is None:
             return stopped(TIME) if row_in(ESOLVER, ran.log) else without_answer(ran, "error")
-        says = row_of(ESOLVER, "".join("".join(lines[:1]).split()[-1:]))        # of `status OPTIMAL`
+        says = row_of(ESOLVER, "".join("".join(lines[:1]).split()[-1:]))  # of `status OPTIMAL`
         if says is None or says.code != Code.SOLVED:
-            if (ran.killed or job.options.timelim) and (says is None or says.code == Code.NO_ANSWER):
+            if (ran.killed or job.options.timelim) and (
+                says is None or says.code == Code.NO_ANSWER
+            ):
                 return stopped("a limit")
             return outcome(says, "".join(lines[:1]), False)
         value, values, costs, duals = parsed(p, lines)
         columns, rows = basis(p, basis_file)
-        return Outcome(Code.SOLVED, OPTIMAL, values, duals, costs, columns, rows, value - Fraction(p.objective_rhs))
+        return Outcome(
+            Code.SOLVED,
+            OPTIMAL,
+            values,
+            duals,
+            costs,
+            columns,
+            rows,
+            value - Fraction(p.objective_rhs),
+        )
 
     def text(self, program: Program) -> bytes:
         """With a row and a column where there are none: without them it is a `Data Error`."""
@@ -61,8 +72,12 @@ def parsed(program: Program, lines: list[str]) -> tuple[Fraction, Numbers, Numbe
             value = Fraction(figure)
         elif part is not None:
             part[word] = Fraction(figure)
-    values, costs, duals = (Named(names, [part.get(name, zero) for name in names]) for names, part in
-                            zip((program.columns, program.columns, program.constraints), parts.values()))
+    values, costs, duals = (
+        Named(names, [part.get(name, zero) for name in names])
+        for names, part in zip(
+            (program.columns, program.columns, program.constraints), parts.values()
+        )
+    )
     return value, values, costs, duals
 
 

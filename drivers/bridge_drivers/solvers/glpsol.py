@@ -6,8 +6,20 @@ from ..codes import Code
 from ..job import Job, Ran
 from ..options import SWITCH, Option
 from ..program import Program
-from .base import (BASIC, EQUAL, GAP, LOWER, SUPERBASIC, UPPER, Outcome, Solver, Unclear, outcome, read_lines,
-                   without_answer)
+from .base import (
+    BASIC,
+    EQUAL,
+    GAP,
+    LOWER,
+    SUPERBASIC,
+    UPPER,
+    Outcome,
+    Solver,
+    Unclear,
+    outcome,
+    read_lines,
+    without_answer,
+)
 from .statuses import GLPK, GLPK_FILE, OPTIMAL, row_in, row_of
 
 LETTERS = {"b": BASIC, "l": LOWER, "u": UPPER, "f": SUPERBASIC, "s": EQUAL}
@@ -16,18 +28,31 @@ LETTERS = {"b": BASIC, "l": LOWER, "u": UPPER, "f": SUPERBASIC, "s": EQUAL}
 class Glpsol(Solver):
     name, program, title, package = "glpsol", "glpsol", "GLPK", "glpk-utils"
     again = "without its presolve, its basis checked exactly"
-    lines = (r"^\+ *(?P<iterations>\d+): (?:mip =|>>>>>) +(?P<incumbent>\S+) +[<>]= +(?P<bound>\S+) .*\((?P<open>\d+);",
-             r"^\+ *(?P<iterations>\d+): mip = +not found yet +[<>]= +(?P<bound>\S+) .*\((?P<open>\d+);",
-             r"^[ *#] *(?P<iterations>\d+): obj = +(?P<objective>\S+)")
+    lines = (
+        r"^\+ *(?P<iterations>\d+): (?:mip =|>>>>>) +(?P<incumbent>\S+) +[<>]= +(?P<bound>\S+) .*\((?P<open>\d+);",
+        r"^\+ *(?P<iterations>\d+): mip = +not found yet +[<>]= +(?P<bound>\S+) .*\((?P<open>\d+);",
+        r"^[ *#] *(?P<iterations>\d+): obj = +(?P<objective>\S+)",
+    )
     version = r"GLPSOL.*?Solver,? v?(\S+)"
-    flags = {"relax": "--nomip", "seconds": "--tmlim {}", "mipgap": "--mipgap {:g}",
-             "xcheck": "--xcheck", "again": "--nopresol"}
-    options = (GAP, Option("xcheck", 0, SWITCH, "1: glpsol checks its final basis in exact arithmetic"))
+    flags = {
+        "relax": "--nomip",
+        "seconds": "--tmlim {}",
+        "mipgap": "--mipgap {:g}",
+        "xcheck": "--xcheck",
+        "again": "--nopresol",
+    }
+    options = (
+        GAP,
+        Option("xcheck", 0, SWITCH, "1: glpsol checks its final basis in exact arithmetic"),
+    )
 
     def solve(self, job: Job) -> Outcome:
         words = self.reading(job.program, job.write("glpsol.mps", self.text(job.given)))
         checks = ["--xcheck"] if job.again and not job.options.own["xcheck"] else []
-        return answer(job, job.run([job.solver, *words, "-w", job.path("answer.txt"), *checks, *self.asked(job)]))
+        return answer(
+            job,
+            job.run([job.solver, *words, "-w", job.path("answer.txt"), *checks, *self.asked(job)]),
+        )
 
     def text(self, program: Program) -> bytes:
         """Without OBJSENSE, an error to glpsol, and with minus the RHS of the objective row, which it adds."""
@@ -51,7 +76,7 @@ def answer(job: Job, ran: Ran) -> Outcome:
     if head is None:
         raise Unclear("no status line")
     is_whole = head[1] == "mip"
-    status = head[4] if is_whole else head[4] + head[5]     # mip: one letter; bas: primal and dual
+    status = head[4] if is_whole else head[4] + head[5]  # mip: one letter; bas: primal and dual
     of_file = row_of(GLPK_FILE, status)
     has_point = of_file is None or of_file.code in (Code.SOLVED, Code.UNSURE, Code.LIMIT)
     if of_file is None or of_file.code != Code.SOLVED:
@@ -61,18 +86,34 @@ def answer(job: Job, ran: Ran) -> Outcome:
         return basic_answer(job.program, words, float(head[-1]))
     if found.has_point():
         found.objective = float(head[-1])
-        found.values = {job.program.columns[int(w[1]) - 1]: float(w[-1 if is_whole else 3])
-                        for w in words if w[:1] == ["j"]}
+        found.values = {
+            job.program.columns[int(w[1]) - 1]: float(w[-1 if is_whole else 3])
+            for w in words
+            if w[:1] == ["j"]
+        }
     return found
 
 
 def basic_answer(program: Program, words: list[list[str]], objective: float) -> Outcome:
     """Lines `i ROW letter activity dual` and `j COLUMN letter value cost`."""
-    rows, columns = ([(names[int(w[1]) - 1], LETTERS[w[2]], float(w[3]), float(w[4])) for w in words if w[:1] == [kind]]
-                     for kind, names in (("i", program.constraints), ("j", program.columns)))
-    return Outcome(Code.SOLVED, OPTIMAL, {name: at for name, _, at, _ in columns}, {name: y for name, _, _, y in rows},
-                   {name: cost for name, _, _, cost in columns}, {name: side for name, side, *_ in columns},
-                   {name: side for name, side, *_ in rows}, objective)
+    rows, columns = (
+        [
+            (names[int(w[1]) - 1], LETTERS[w[2]], float(w[3]), float(w[4]))
+            for w in words
+            if w[:1] == [kind]
+        ]
+        for kind, names in (("i", program.constraints), ("j", program.columns))
+    )
+    return Outcome(
+        Code.SOLVED,
+        OPTIMAL,
+        {name: at for name, _, at, _ in columns},
+        {name: y for name, _, _, y in rows},
+        {name: cost for name, _, _, cost in columns},
+        {name: side for name, side, *_ in columns},
+        {name: side for name, side, *_ in rows},
+        objective,
+    )
 
 
 SOLVERS = (Glpsol(),)

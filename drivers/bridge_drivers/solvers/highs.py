@@ -17,8 +17,8 @@ from .statuses import HIGHS, row_of
 
 PLACES = ("/usr/bin/python3", "python3")
 SCRIPT = os.path.join(os.path.dirname(os.path.abspath(__file__)), "highs_script.py")
-SCIPY = {0: "7", 1: "13", 2: "8", 3: "10"}      # its statuses, as HiGHS's
-CLOSED = 1e-9                   # a gap that is none
+SCIPY = {0: "7", 1: "13", 2: "8", 3: "10"}  # its statuses, as HiGHS's
+CLOSED = 1e-9  # a gap that is none
 LOOKS = "import importlib.util as u, sys; sys.exit(u.find_spec('scipy') is None)"
 
 
@@ -44,12 +44,21 @@ class Highs(Solver):
         options, p = job.options, job.program
         if not p.columns:
             raise Unclear("it takes no program without columns")
-        words = json.dumps({"mipgap": options.own["mipgap"], "seconds": options.timelim,
-                            "relax": bool(options.relax), "presolve": not job.again, "disp": bool(options.outlev)})
+        words = json.dumps(
+            {
+                "mipgap": options.own["mipgap"],
+                "seconds": options.timelim,
+                "relax": bool(options.relax),
+                "presolve": not job.again,
+                "disp": bool(options.outlev),
+            }
+        )
         path, target = job.write("highs.mps", self.text(job.given)), job.path("answer.json")
         ran = job.run([job.solver, SCRIPT, path, target, words])
         lines = read_lines(target)
-        return without_answer(ran, "Error") if lines is None else answered(job, json.loads(lines[0]))
+        return (
+            without_answer(ran, "Error") if lines is None else answered(job, json.loads(lines[0]))
+        )
 
 
 def has_scipy(path: str) -> bool:
@@ -71,7 +80,11 @@ def answered(job: Job, answer: dict[str, Any]) -> Outcome:
     found.values, duals, costs = values, answer.get("duals"), answer.get("costs")
     found.duals = duals and dict(zip(p.constraints, duals))
     found.costs = costs and dict(zip(p.columns, costs))
-    if found.code == Code.SOLVED and job.options.own["mipgap"] and (answer.get("gap") or 0.0) > CLOSED:
+    if (
+        found.code == Code.SOLVED
+        and job.options.own["mipgap"]
+        and (answer.get("gap") or 0.0) > CLOSED
+    ):
         found.code, found.text, found.is_gap = Code.UNSURE, "solution within the gap", True
     return found
 

@@ -19,7 +19,7 @@ from scipy.sparse import csr_matrix, vstack
 
 sys.dont_write_bytecode = True
 sys.path[0] = os.path.join(os.path.dirname(os.path.abspath(__file__)), "..", "..")
-from bridge_drivers.program import Program      # noqa: E402
+from bridge_drivers.program import Program  # noqa: E402
 
 INFINITE = float("inf")
 USUAL = {"mipgap": 0.0, "seconds": 0.0, "relax": False, "presolve": True, "disp": False}
@@ -37,7 +37,9 @@ class Arrays:
         for j, k in zip(*program.objective):
             self.cost[j] = float(program.read.numbers[k])
         starts = numpy.cumsum([0, *map(len, terms.rows)])
-        columns, values = zip(*itertools.chain.from_iterable(terms.rows)) if starts[-1] else ((), ())
+        columns, values = (
+            zip(*itertools.chain.from_iterable(terms.rows)) if starts[-1] else ((), ())
+        )
         self.matrix = csr_matrix((values, columns, starts), shape=(len(starts) - 1, terms.n))
 
 
@@ -47,12 +49,20 @@ def options_of(words: dict[str, Any]) -> dict[str, Any]:
 
 
 def mixed(p: Arrays, cost: Any, words: dict[str, Any]) -> dict[str, Any]:
-    found = milp(cost, integrality=p.whole, bounds=Bounds(p.bounds[:, 0], p.bounds[:, 1]),
-                 constraints=LinearConstraint(p.matrix, p.lo, p.hi) if len(p.lo) else None,
-                 options={"mip_rel_gap": words["mipgap"], **options_of(words)})
+    found = milp(
+        cost,
+        integrality=p.whole,
+        bounds=Bounds(p.bounds[:, 0], p.bounds[:, 1]),
+        constraints=LinearConstraint(p.matrix, p.lo, p.hi) if len(p.lo) else None,
+        options={"mip_rel_gap": words["mipgap"], **options_of(words)},
+    )
     gap = found.get("mip_gap")
-    return {"status": int(found.status), "message": found.message, "gap": None if gap is None else min(float(gap), 1.0),
-            "values": None if found.x is None else [float(v) for v in found.x]}
+    return {
+        "status": int(found.status),
+        "message": found.message,
+        "gap": None if gap is None else min(float(gap), 1.0),
+        "values": None if found.x is None else [float(v) for v in found.x],
+    }
 
 
 def linear(p: Arrays, cost: Any, words: dict[str, Any], sign: float) -> dict[str, Any]:
@@ -62,25 +72,35 @@ def linear(p: Arrays, cost: Any, words: dict[str, Any], sign: float) -> dict[str
     up = numpy.flatnonzero((lo != hi) & (hi < INFINITE))
     down = numpy.flatnonzero((lo != hi) & (lo > -INFINITE))
     upper = vstack([a[up], -a[down]]) if len(up) + len(down) else None
-    found = linprog(cost, upper, None if upper is None else numpy.concatenate([hi[up], -lo[down]]),
-                    a[equal] if len(equal) else None, lo[equal] if len(equal) else None,
-                    p.bounds, method="highs", options=options_of(words))
+    found = linprog(
+        cost,
+        upper,
+        None if upper is None else numpy.concatenate([hi[up], -lo[down]]),
+        a[equal] if len(equal) else None,
+        lo[equal] if len(equal) else None,
+        p.bounds,
+        method="highs",
+        options=options_of(words),
+    )
     answer = {"status": int(found.status), "message": found.message, "values": None}
     if found.status == 0:
         y = numpy.zeros(len(lo))
         if upper is not None:
-            numpy.add.at(y, up, found.ineqlin.marginals[:len(up)])
-            numpy.add.at(y, down, -found.ineqlin.marginals[len(up):])
+            numpy.add.at(y, up, found.ineqlin.marginals[: len(up)])
+            numpy.add.at(y, down, -found.ineqlin.marginals[len(up) :])
         if len(equal):
             y[equal] += found.eqlin.marginals
         costs = found.lower.marginals + found.upper.marginals
-        answer.update(values=[float(v) for v in found.x], duals=[float(v) for v in sign * y],
-                      costs=[float(v) for v in sign * costs])
+        answer.update(
+            values=[float(v) for v in found.x],
+            duals=[float(v) for v in sign * y],
+            costs=[float(v) for v in sign * costs],
+        )
     return answer
 
 
 def main() -> None:
-    signal.signal(signal.SIGINT, signal.SIG_DFL)        # HiGHS keeps no point where it is ended
+    signal.signal(signal.SIGINT, signal.SIG_DFL)  # HiGHS keeps no point where it is ended
     with open(sys.argv[1], "rb") as source:
         p = Arrays(Program(source.read()))
     words = json.loads(sys.argv[3]) if len(sys.argv) > 3 else USUAL

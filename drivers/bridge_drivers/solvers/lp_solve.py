@@ -11,7 +11,7 @@ from .statuses import LP_SOLVE, OPTIMAL, TIME, Says, row_in
 
 INFINITE = 1e30
 OBJECTIVE = "Value of objective function:"
-TO_GAPS = {"-g", "-ga", "-gr", "-f"}    # words with which it stops at a gap, and does not say so
+TO_GAPS = {"-g", "-ga", "-gr", "-f"}  # words with which it stops at a gap, and does not say so
 SOLVED, SUBOPTIMAL = Says("", Code.SOLVED, OPTIMAL), "Suboptimal solution"
 
 
@@ -31,7 +31,9 @@ class LpSolve(Solver):
         objective = [line for line in told if line.startswith(OBJECTIVE)]
         says = row_in(LP_SOLVE, head) or (SOLVED if heading else None)
         if says is None:
-            return stopped("a limit") if ran.killed or options.timelim else without_answer(ran, r"\S")
+            return (
+                stopped("a limit") if ran.killed or options.timelim else without_answer(ran, r"\S")
+            )
         if says.words == SUBOPTIMAL and options.timelim:
             says = says._replace(code=Code.LIMIT, text=TIME)
         odd = [line for line in told if line not in objective and says is SOLVED and not job.extra]

@@ -9,7 +9,7 @@ from ..codes import Code
 from ..texts import tables
 
 TIME, OPTIMAL = "the time limit", "optimal solution"
-NO_POINT = "(no integer solution - continuous used)"    # behind a status of CBC
+NO_POINT = "(no integer solution - continuous used)"  # behind a status of CBC
 
 
 class Says(NamedTuple):
@@ -25,7 +25,8 @@ class Says(NamedTuple):
 # a sentence of GLPK's log; the letters of its file; the number in SciPy's message; the first line of QSopt_ex's answer
 COIN, LP_SOLVE, GLPK, GLPK_FILE, HIGHS, ESOLVER = (
     [Says(words, Code[code.rstrip("*")], text, code.endswith("*")) for words, code, text in rows]
-    for rows in tables("solvers.txt").values())
+    for rows in tables("solvers.txt").values()
+)
 
 
 def row_of(rows: Sequence[Says], status: str) -> Says | None:

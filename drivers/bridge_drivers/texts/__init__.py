@@ -20,5 +20,10 @@ def parts(name: str) -> dict[str, str]:
 def tables(name: str) -> dict[str, list[list[str]]]:
     """The rows below each heading, whose parts stand between marks `|`. A line that begins with a
     blank goes on with the one before it."""
-    return {head: [[" ".join(part.split()) for part in row.split(" |")]
-                   for row in rows.replace("\n ", " ").strip().split("\n")] for head, rows in parts(name).items()}
+    return {
+        head: [
+            [" ".join(part.split()) for part in row.split(" |")]
+            for row in rows.replace("\n ", " ").strip().split("\n")
+        ]
+        for head, rows in parts(name).items()
+    }
