@@ -12,7 +12,7 @@ from typing import Iterable, Iterator, Mapping, Sequence
 from .codes import Code
 from .miss import NONE, Miss, miss, missing
 from .options import Options
-from .program import Objective, Program
+from .model.linear_program import Objective, Program
 from .solvers.base import Outcome
 from .values import Named, Number, double_of, finite, in_order, texts_of
 

@@ -21,7 +21,7 @@ from .job import Job
 from .miss import ROUNDING, miss
 from .sol import numbers_of
 from .solvers.base import BASIC
-from .program import TIED, TIED_ROW
+from .model.linear_program import TIED, TIED_ROW
 from .values import in_order, plain, text_of
 from .verdicts import Said
 

@@ -10,7 +10,7 @@ from .formats.source import Source, Workspace, read_model
 from .mps_file import judged, reading
 from .names import Names
 from .nl import header, prepared
-from .program import Program
+from .model.linear_program import Program
 
 
 class Subject(NamedTuple):

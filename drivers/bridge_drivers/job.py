@@ -14,7 +14,7 @@ from typing import Any, Callable, Mapping, NamedTuple, Sequence, TypeVar
 from .files import fill
 from .interrupts import SIGNALS, send, with_child
 from .options import Options
-from .program import Program, given
+from .model.linear_program import Program, given
 from .progress import Progress, detailed
 
 LOG = "solver.log"

@@ -4,7 +4,7 @@ from __future__ import annotations
 
 from typing import Collection, Iterator, Mapping, NamedTuple
 
-from .program import Program
+from .model.linear_program import Program
 from .values import in_order
 
 MOST = 1e-6  # of the largest term: what counts as satisfied

@@ -10,7 +10,7 @@ from .bridge import Bridge, Refused, Reply
 from .codes import Status
 from .files import Places, fill
 from .mps_reader import Text, exact
-from .program import Program, program_of
+from .model.linear_program import Program, program_of
 
 FREE, FIXED = "free", "fixed"
 READS = {FREE: "mps", FIXED: "fixed"}  # commands by form

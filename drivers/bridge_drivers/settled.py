@@ -12,7 +12,7 @@ from .answer import Answer
 from .certify.claims import Verdict
 from .codes import Code
 from .miss import NONE, OWN, ROUNDING, Miss
-from .program import TIED, Objective
+from .model.linear_program import TIED, Objective
 from .ruling import STRICT, At, Found, Misses, Ruling, ruled
 from .values import double_of
 from .verdicts import Said

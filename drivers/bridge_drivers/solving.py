@@ -21,7 +21,7 @@ from .mps_file import judged, reading
 from .names import Names
 from .nl import header, prepared
 from .options import Options
-from .program import Program, given, is_hollow
+from .model.linear_program import Program, given, is_hollow
 from .ruling import FINAL
 from .settled import Facts, proved_duals, settled
 from .solvers.base import Outcome, Solver, Unclear

@@ -16,7 +16,7 @@ from .inputs import Subject
 from .mps_reader import OBJECTIVE, exact
 from .names import Names, with_name
 from .printable import some
-from .program import TIED, TIED_ROW, Program
+from .model.linear_program import TIED, TIED_ROW, Program
 from .sol import factors_of
 from .terms import entries_of
 from .values import double_of

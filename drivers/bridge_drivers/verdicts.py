@@ -8,7 +8,7 @@ from fractions import Fraction
 from math import gcd
 from typing import NamedTuple
 
-from .program import Program
+from .model.linear_program import Program
 from .ruling import FINAL
 from .values import exact_decimal, wholes_of
 

@@ -17,7 +17,7 @@ from bridge_drivers.certify.plans import LEAST_TURN, Plan, Plans
 from bridge_drivers.certify.text import Naming
 from bridge_drivers.exact.dual_bound import MultiplierKind, Multipliers
 from bridge_drivers.certify.parts import Empty, Split, count, leaf, rows_used
-from bridge_drivers.program import Program
+from bridge_drivers.model.linear_program import Program
 from models import whole
 
 SECTIONS = ("OBJSENSE", "ROWS", "COLUMNS", "RHS", "RANGES", "BOUNDS")

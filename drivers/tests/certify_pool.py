@@ -31,7 +31,7 @@ from bridge_drivers.certify.plans import Plans
 from bridge_drivers.certify.pool import Pool, Processes, pool_of
 from bridge_drivers.certify.watch import Paused, Stopped, Watch
 from bridge_drivers.interrupts import SIGNALS, Interrupted
-from bridge_drivers.program import Program
+from bridge_drivers.model.linear_program import Program
 from models import nl, real, whole
 import families
 

@@ -26,7 +26,7 @@ from bridge_drivers.certify.plans import Plans
 from bridge_drivers.certify.search import Search
 from bridge_drivers.certify.short import trivial
 from bridge_drivers.certify.watch import Over, Watch
-from bridge_drivers.program import Program
+from bridge_drivers.model.linear_program import Program
 import families
 from models import BINARY, CLAIMED, MODELS, nl, real, whole
 

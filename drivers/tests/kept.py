@@ -17,7 +17,7 @@ from bridge_drivers import files, solvers, verdicts
 from bridge_drivers.bridge import Bridge, Late, Reply
 from bridge_drivers.certificates import Kept, keep
 from bridge_drivers.files import Places, own_folder
-from bridge_drivers.program import Program
+from bridge_drivers.model.linear_program import Program
 from bridge_drivers.verdicts import Said
 
 OPTIMAL = b"certificate 1\noptimal 0\npoint 0\nduals 0\n"

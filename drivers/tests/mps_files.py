@@ -16,7 +16,7 @@ from bridge_drivers.certify.model import Model
 from bridge_drivers.miss import miss, misses
 from bridge_drivers.mps_file import lists_of
 from bridge_drivers.mps_reader import Text
-from bridge_drivers.program import program_of
+from bridge_drivers.model.linear_program import program_of
 from models import BOTH, FIXED, MODELS, MPS, rows_of
 from plain import Plain, random_text
 

@@ -25,7 +25,7 @@ from bridge_drivers.answer import Answer
 from bridge_drivers.certify.claims import Verdict
 from bridge_drivers.codes import Code
 from bridge_drivers.options import Options
-from bridge_drivers.program import Program
+from bridge_drivers.model.linear_program import Program
 from bridge_drivers.settled import Facts, Settled, settled
 from bridge_drivers.solvers.base import Outcome
 from models import FAR, FOLDER, MODELS, is_solved, rows_of

@@ -21,7 +21,7 @@ from bridge_drivers.certify.claims import Certifying, Verdict, certified
 from bridge_drivers.certify.plans import Plans
 from bridge_drivers.certify.watch import Over, Watch
 from bridge_drivers.codes import Code, Status
-from bridge_drivers.program import Program
+from bridge_drivers.model.linear_program import Program
 from bridge_drivers.progress import Progress, detailed
 from bridge_drivers.solvers import statuses
 from bridge_drivers.solvers.statuses import Says

@@ -23,7 +23,7 @@ from bridge_drivers.codes import Failure
 from bridge_drivers.formats.source import Damaged
 from bridge_drivers.interrupts import SIGNALS, Interrupted, Signals, with_child
 from bridge_drivers.names import Names
-from bridge_drivers.program import Program
+from bridge_drivers.model.linear_program import Program
 from models import MODELS, rows_of
 
 BINARY = Path(HERE, "binary")

@@ -21,7 +21,7 @@ from .watch import Watch
 from ..exact.dual_bound import Multipliers, bit_width, dual_bound, fits_certificate
 from ..bridge import Bridge, Late, Refused
 from ..files import naming
-from ..program import Program
+from ..model.linear_program import Program
 
 WITHOUT = "not proved: "
 NO_POINT = WITHOUT + "no exact point was found near the answer"

@@ -12,7 +12,7 @@ from typing import Iterable, Iterator, List, Mapping, NamedTuple, Optional, Sequ
 from ..bridge import Bridge
 from ..nl import header
 from ..mps_reader import OBJECTIVE, Text
-from ..program import TIED, TIED_ROW, Program
+from ..model.linear_program import TIED, TIED_ROW, Program
 from ..sol import factors_of
 from ..terms import Pairs, Terms, entries_of, terms_of
 from ..values import reduced, wholes_of

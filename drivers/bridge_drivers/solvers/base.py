@@ -16,7 +16,7 @@ from .statuses import TIME, Says
 
 if TYPE_CHECKING:
     from ..job import Job, Ran
-    from ..program import Program
+    from ..model.linear_program import Program
 
 BASIC, SUPERBASIC, LOWER, UPPER, EQUAL = 1, 2, 3, 4, 5  # AMPL's statuses of the basis
 GAP = Option("mipgap", 0.0, SHARE, "relative gap at which the search stops")

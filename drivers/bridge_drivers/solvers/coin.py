@@ -29,7 +29,7 @@ from .statuses import COIN, NO_POINT, row_of
 
 if TYPE_CHECKING:
     from ..job import Job, Ran
-    from ..program import Program
+    from ..model.linear_program import Program
 
 LEAST_LONG = 23
 LONG = re.compile(rb"(?<= )[-+]?[\d.]{%d,}(?:[eE]\S+)?$" % LEAST_LONG, re.M)

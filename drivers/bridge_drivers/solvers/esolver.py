@@ -7,7 +7,7 @@ from fractions import Fraction
 
 from ..codes import Code
 from ..job import Job
-from ..program import Program
+from ..model.linear_program import Program
 from ..values import Named
 from .base import Outcome, Solver, outcome, read_lines, stopped, without_answer
 from .coin import basis

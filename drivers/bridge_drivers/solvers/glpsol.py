@@ -5,7 +5,7 @@ from __future__ import annotations
 from ..codes import Code
 from ..job import Job, Ran
 from ..options import SWITCH, Option
-from ..program import Program
+from ..model.linear_program import Program
 from .base import (
     BASIC,
     EQUAL,

@@ -11,7 +11,7 @@ from typing import Any
 
 from ..codes import Code
 from ..job import Job
-from ..program import Program
+from ..model.linear_program import Program
 from .base import GAP, Outcome, Solver, Unclear, outcome, read_lines, without_answer
 from .statuses import HIGHS, row_of
 

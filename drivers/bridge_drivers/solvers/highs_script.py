@@ -19,7 +19,7 @@ from scipy.sparse import csr_matrix, vstack
 
 sys.dont_write_bytecode = True
 sys.path[0] = os.path.join(os.path.dirname(os.path.abspath(__file__)), "..", "..")
-from bridge_drivers.program import Program  # noqa: E402
+from bridge_drivers.model.linear_program import Program  # noqa: E402
 
 INFINITE = float("inf")
 USUAL = {"mipgap": 0.0, "seconds": 0.0, "relax": False, "presolve": True, "disp": False}

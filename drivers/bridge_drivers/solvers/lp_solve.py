@@ -5,7 +5,7 @@ from __future__ import annotations
 
 from ..codes import Code
 from ..job import Job
-from ..program import Program
+from ..model.linear_program import Program
 from .base import GAP, Outcome, Solver, Unclear, outcome, stopped, without_answer
 from .statuses import LP_SOLVE, OPTIMAL, TIME, Says, row_in
 

@@ -13,10 +13,10 @@ from itertools import compress
 from operator import mul
 from typing import Iterator, Sequence
 
-from .mps_reader import MARKS, OBJECTIVE, OTHER, Text, exact
-from .names import Names
-from .printable import in_a_line, some
-from .terms import Terms, entries_of, terms_of
+from ..mps_reader import MARKS, OBJECTIVE, OTHER, Text, exact
+from ..names import Names
+from ..printable import in_a_line, some
+from ..terms import Terms, entries_of, terms_of
 
 TIED, TIED_ROW = "z", "zdef"
 INFINITE = math.inf

@@ -1,0 +1,1 @@
+"""One program: its rows, columns and numbers, in the forms that the other packages take."""
