@@ -7,9 +7,9 @@ import os
 from fractions import Fraction
 from typing import NamedTuple
 
-from . import verdicts
+from .program import verdict as verdicts
 from .answer import Answer
-from .bridge import Bridge, Late, Refused
+from .program.bridge import Bridge, Late, Refused
 from .certify import clp
 from .certify.claims import WITHOUT, Certifying, Given, Verdict, certified
 from .certify.pool import pool_of
@@ -23,7 +23,7 @@ from .sol import numbers_of
 from .solvers.base import BASIC
 from .model.linear_program import TIED, TIED_ROW
 from .values import in_order, plain, text_of
-from .verdicts import Said
+from .program.verdict import Said
 
 SECONDS = 60.0  # of a search, where timelim says nothing
 OLDER = 60.0  # for the verdict on an older certificate

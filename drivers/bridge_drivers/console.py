@@ -10,7 +10,7 @@ import os
 import sys
 from typing import Callable, Iterator, NoReturn, Sequence, TextIO, cast
 
-from . import verdicts
+from .program import verdict as verdicts
 from .codes import Status
 from .interrupts import SIGNALS, Interrupted
 from .printable import printable

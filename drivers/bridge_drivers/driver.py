@@ -10,7 +10,7 @@ import tempfile
 from typing import Iterator, Sequence
 
 from . import VERSION, console, interface, minizinc, sol, solvers
-from .bridge import BESIDE, Bridge, find
+from .program.bridge import BESIDE, Bridge, find
 from .codes import Code, Failure, Status
 from .files import Places, fill, own_folder
 from .formats.source import Source, Workspace, missing_source, read_model

@@ -11,8 +11,9 @@ import subprocess
 import sys
 from typing import TYPE_CHECKING, Callable, Iterable, Mapping, NamedTuple, Sequence
 
-from . import VERSION, commands, console, explaining, faults, interface
-from .bridge import BESIDE, PACKAGE, built, find, is_plain, sum_of
+from . import VERSION, commands, console, interface
+from .program import reasons, refusal
+from .program.bridge import BESIDE, PACKAGE, built, find, is_plain, sum_of
 from .codes import Code, Failure, Status
 from .commands import COMMANDS, NAME, VERDICTS, WORDS
 from .formats.file_kinds import is_mps_file, is_packed_file, start_of_file
@@ -135,7 +136,7 @@ def helped(call: Call) -> int:
         sys.stdout.write(commands.usage())
         return Status.DONE
     text = (
-        commands.help_of(topic) or faults.listed() * (topic == "refusals") or helped_driver(topic)
+        commands.help_of(topic) or reasons.listed() * (topic == "refusals") or helped_driver(topic)
     )
     if not text:
         raise BadWords(
@@ -326,8 +327,8 @@ def passed_on(place: Sequence[str], words: Sequence[str]) -> int:
 
 def run(place: Sequence[str], call: Sequence[str], words: Sequence[str]) -> int:
     """Its status. A verdict is in colour on a terminal, and a file that cannot be read is told with its cause."""
-    files = explaining.files_of(call)
-    faulty = any(map(explaining.fault_at, files))
+    files = refusal.files_of(call)
+    faulty = any(map(refusal.fault_at, files))
     is_coloured = words[0] in VERDICTS and console.is_coloured(sys.stdout)
     out, err = (subprocess.PIPE if wanted else None for wanted in (is_coloured, faulty))
     try:
@@ -343,7 +344,7 @@ def run(place: Sequence[str], call: Sequence[str], words: Sequence[str]) -> int:
     if line.strip():
         console.tell(line.rstrip("\n"), sys.stdout)
     if status == Status.UNREAD and faulty:
-        told = f"{NAME}: {explaining.unreadable(files, dict(zip(files, explaining.files_of(words))))}\n"
+        told = f"{NAME}: {refusal.unreadable(files, dict(zip(files, refusal.files_of(words))))}\n"
     sys.stderr.write(told)
     return status
 

@@ -4,7 +4,7 @@ from __future__ import annotations
 
 from typing import NamedTuple, Sequence
 
-from .bridge import Bridge, Reply
+from .program.bridge import Bridge, Reply
 from .codes import Status
 from .formats.source import Source, Workspace, read_model
 from .mps_file import judged, reading

@@ -14,14 +14,16 @@ from dataclasses import dataclass, field
 from fractions import Fraction
 from typing import TYPE_CHECKING, Any, Iterator, Mapping, Sequence, Union
 
-from . import VERSION, explaining, verdicts
-from .bridge import BESIDE, Bridge, Refused, find, sum_of
+from . import VERSION
+from .program import refusal
+from .program import verdict as verdicts
+from .program.bridge import BESIDE, Bridge, Refused, find, sum_of
 from .codes import Code, Failure, Status
 from .formats.source import Source, Workspace, read_source
 from .inputs import Subject, subject
 from .options import BadOption, Options, Words, words_of
 from .values import double_of
-from .verdicts import Said
+from .program.verdict import Said
 
 if TYPE_CHECKING:  # what few calls need is read by them
     from .driver import Driver, Run
@@ -285,7 +287,7 @@ def asked(told: Report, bridge: str) -> Iterator[tuple[Bridge, Workspace]]:
             return
         except Refused as fault:
             told.say(fault.line(), fault.status)
-            told.refusal = explaining.object_of(fault.words, fault.told, fault.shown)
+            told.refusal = refusal.object_of(fault.words, fault.told, fault.shown)
         except Failure as fault:
             told.say(str(fault), fault.status)
         except OSError as fault:
@@ -372,7 +374,7 @@ def figures(model: Path, *, objective: int = 0, bridge: str = "") -> Report:
 def called(call: Sequence[str], words: Sequence[str]) -> Report:
     """Whether a call of another command of the proved program is refused; its files are known by `words`."""
     told = Report(FRONT)
-    shown = dict(zip(explaining.files_of(call), explaining.files_of(words)))
+    shown = dict(zip(refusal.files_of(call), refusal.files_of(words)))
     with asked(told, "") as (program, _):
         reply = program.call(*call)
         if reply.status not in (0, 1):

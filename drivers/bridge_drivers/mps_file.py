@@ -6,7 +6,7 @@ from __future__ import annotations
 import itertools
 from typing import NamedTuple, Sequence
 
-from .bridge import Bridge, Refused, Reply
+from .program.bridge import Bridge, Refused, Reply
 from .codes import Status
 from .files import Places, fill
 from .mps_reader import Text, exact

@@ -7,7 +7,7 @@ import math
 from fractions import Fraction
 from typing import NamedTuple, Sequence
 
-from . import verdicts
+from .program import verdict as verdicts
 from .answer import Answer
 from .certify.claims import Verdict
 from .codes import Code
@@ -15,7 +15,7 @@ from .miss import NONE, OWN, ROUNDING, Miss
 from .model.linear_program import TIED, Objective
 from .ruling import STRICT, At, Found, Misses, Ruling, ruled
 from .values import double_of
-from .verdicts import Said
+from .program.verdict import Said
 
 FAR = 1e-6  # of the largest term or the sum: between unequal objectives
 CLOSE = Fraction(1, 10**6)  # of the objective: a bound that is at it

@@ -9,7 +9,7 @@ import os
 import tempfile
 from typing import Iterable, Iterator, List, Sequence, Tuple
 
-from .bridge import Bridge
+from .program.bridge import Bridge
 from .files import fill
 from .nl import header
 from .printable import in_a_line

@@ -9,7 +9,7 @@ import signal
 from dataclasses import dataclass
 
 from .answer import Answer
-from .bridge import Bridge, Refused
+from .program.bridge import Bridge, Refused
 from .certificates import Certifier, Kept
 from .certify.claims import WITHOUT, Verdict
 from .codes import Code, Failure, Status
@@ -26,7 +26,7 @@ from .ruling import FINAL
 from .settled import Facts, proved_duals, settled
 from .solvers.base import Outcome, Solver, Unclear
 from .values import BadValue, in_order
-from .verdicts import Said, percent, read
+from .program.verdict import Said, percent, read
 
 INTERRUPTED = {
     Code.LIMIT_WITH_POINT: "interrupted with a feasible solution",

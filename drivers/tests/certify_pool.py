@@ -23,7 +23,7 @@ from unittest import mock
 
 from certify_search import SECONDS, Certified
 from support import HERE, PROGRAM
-from bridge_drivers.bridge import Bridge
+from bridge_drivers.program.bridge import Bridge
 from bridge_drivers.certify import crowd, pool as pools, text
 from bridge_drivers.certify.claims import Certifying, Verdict, certified
 from bridge_drivers.certify.parts import Better

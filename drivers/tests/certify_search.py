@@ -17,7 +17,7 @@ from typing import Sequence
 from unittest import mock
 
 from support import NEEDS_CLP, NEEDS_PROGRAM, PROGRAM, Case
-from bridge_drivers.bridge import Bridge, Late
+from bridge_drivers.program.bridge import Bridge, Late
 from bridge_drivers.certify import text
 from bridge_drivers.certify.claims import Certifying, Given, Verdict, certified
 from bridge_drivers.certify.crowd import Crowd

@@ -39,7 +39,7 @@ HERE = os.path.dirname(os.path.abspath(__file__))
 sys.path[:0] = [os.path.join(HERE, ".."), HERE]
 
 import families  # noqa: E402
-from bridge_drivers.bridge import BESIDE, Bridge, Refused, find  # noqa: E402
+from bridge_drivers.program.bridge import BESIDE, Bridge, Refused, find  # noqa: E402
 from bridge_drivers.formats.file_kinds import stub_of  # noqa: E402
 from bridge_drivers.formats.source import Damaged, Workspace  # noqa: E402
 from bridge_drivers.inputs import subject  # noqa: E402

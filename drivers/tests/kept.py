@@ -13,12 +13,13 @@ from unittest import mock
 from support import DRIVERS, NEEDS_PROGRAM, Case, ended
 from models import MODELS, rows_of
 
-from bridge_drivers import files, solvers, verdicts
-from bridge_drivers.bridge import Bridge, Late, Reply
+from bridge_drivers import files, solvers
+from bridge_drivers.program import verdict as verdicts
+from bridge_drivers.program.bridge import Bridge, Late, Reply
 from bridge_drivers.certificates import Kept, keep
 from bridge_drivers.files import Places, own_folder
 from bridge_drivers.model.linear_program import Program
-from bridge_drivers.verdicts import Said
+from bridge_drivers.program.verdict import Said
 
 OPTIMAL = b"certificate 1\noptimal 0\npoint 0\nduals 0\n"
 OLDER = b"letters\n"

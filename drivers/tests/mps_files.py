@@ -11,7 +11,7 @@ from unittest import mock
 from support import NEEDS_CLP, NEEDS_MPS, NEEDS_PROGRAM, PROGRAM, Case, bridge, driven, needs
 
 from bridge_drivers import mps_file, mps_reader, solvers, terms
-from bridge_drivers.bridge import Refused
+from bridge_drivers.program.bridge import Refused
 from bridge_drivers.certify.model import Model
 from bridge_drivers.miss import miss, misses
 from bridge_drivers.mps_file import lists_of

@@ -34,7 +34,7 @@ from models import MODELS, rows_of, text_of as model_text
 
 import bridge_drivers
 from bridge_drivers import BridgeError, Report, certify, explain, figures, interface, solve, verify
-from bridge_drivers.bridge import built
+from bridge_drivers.program.bridge import built
 from bridge_drivers.explained import page, reading
 from bridge_drivers.explained.command import Explaining, Files
 from bridge_drivers.explained.picture import MOST_DEPTH, MOST_SHOWN, Picture

@@ -17,8 +17,9 @@ from pathlib import Path
 from support import BIN, TOP, Case, called, ended
 from models import rows_of
 
-from bridge_drivers import commands, explaining, faults, front, solvers
-from bridge_drivers.bridge import Refused, Reply
+from bridge_drivers import commands, front, solvers
+from bridge_drivers.program import reasons, refusal
+from bridge_drivers.program.bridge import Refused, Reply
 from bridge_drivers.certify.command import Command
 from bridge_drivers.driver import Driver
 from bridge_drivers.names import Names
@@ -280,7 +281,7 @@ class Refusals(Case):
         self.nl = self.stub + ".nl"
 
     def line(self, told: str, *words: str, shown: str = "m.nl") -> str:
-        return explaining.in_words(
+        return refusal.in_words(
             words or ("export", self.nl), "refused " + told, {self.nl: shown}
         )
 
@@ -343,13 +344,13 @@ class Refusals(Case):
             self.line(NONLINEAR, shown="m\x1b[1m.nl"),
             "m\\x1b[1m.nl line 17: constraint 0: (\\x1b[2Jspeed * (x1 + 3)) is nonlinear",
         )
-        more = "\n".join(explaining.Refusal(["export", self.nl], "refused " + NONLINEAR, {}).more())
+        more = "\n".join(refusal.Refusal(["export", self.nl], "refused " + NONLINEAR, {}).more())
         self.assertIn("\\x1b[2Jspeed", more)
         self.assertNotRegex(line + more, "[\x00-\x08\x0b-\x1f\x7f-\x9f]")
 
     def test_more(self) -> None:
         """The whole expression, what helps, the lines around."""
-        more = explaining.Refusal(["export", self.nl], "refused " + NONLINEAR, {}).more()
+        more = refusal.Refusal(["export", self.nl], "refused " + NONLINEAR, {}).more()
         self.assertEqual(more[0], "in: ((5 * x1) + >>(x0 * (x1 + 3))<< + x2)")
         self.assertTrue(more[1].startswith("what helps: "))
         self.assertEqual((more[4], len(more)), (">     17 o2", 8))
@@ -361,11 +362,11 @@ class Refusals(Case):
 
         for case in (case for name in WORKED for case in texts.cases(name)):
             if case.told.startswith("refused "):
-                told = explaining.parsed(case.told.rstrip("\n"))
+                told = refusal.parsed(case.told.rstrip("\n"))
                 assert told is not None, case.told
-                reason = faults.OPCODE.sub("refused opcode", told.reason)
-                self.assertTrue(reason in faults.MEANING, f"{case.name}: {reason}")
-        text = faults.listed()
-        for row in faults.MEANING.values():
+                reason = reasons.OPCODE.sub("refused opcode", told.reason)
+                self.assertTrue(reason in reasons.MEANING, f"{case.name}: {reason}")
+        text = reasons.listed()
+        for row in reasons.MEANING.values():
             self.assertIn(f"  {row.reasons}:", text)
             self.assertTrue(row.text or row.more, row.reasons)

@@ -15,7 +15,8 @@ from fractions import Fraction as F
 from unittest import mock
 
 from support import NEEDS_CLP, NEEDS_PROGRAM, Case, Injected, Reply, bridge, content, ended
-from bridge_drivers import sol, solvers, verdicts
+from bridge_drivers import sol, solvers
+from bridge_drivers.program import verdict as verdicts
 from bridge_drivers.certificates import Certifier
 from bridge_drivers.certify.claims import Certifying, Verdict, certified
 from bridge_drivers.certify.plans import Plans

@@ -17,8 +17,9 @@ from pathlib import Path
 from unittest import mock
 
 from support import BIN, EXAMPLES, HERE, NEEDS_PROGRAM, Case, bridge as program
-from bridge_drivers import bridge, console, mps_file, nl, progress, sol, solvers, stats, values
-from bridge_drivers.bridge import Bridge, Refused, Reply
+from bridge_drivers import console, mps_file, nl, progress, sol, solvers, stats, values
+from bridge_drivers.program import bridge
+from bridge_drivers.program.bridge import Bridge, Refused, Reply
 from bridge_drivers.codes import Failure
 from bridge_drivers.formats.source import Damaged
 from bridge_drivers.interrupts import SIGNALS, Interrupted, Signals, with_child

@@ -19,7 +19,7 @@ from .parts import Better
 from .plans import Plans
 from .sparse import NoSolution, Wide
 from .watch import KEPT, Over, Stopped
-from ..bridge import Refused
+from ..program.bridge import Refused
 from ..exact.dual_bound import DOUBLES_NOTE, MultiplierKind, fits_certificate, is_optimal_in_doubles
 from ..exact.leaf_proofs import LeafProof, LeafProver, basis_duals
 

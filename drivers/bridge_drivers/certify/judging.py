@@ -19,7 +19,7 @@ from .short import shortened
 from .text import Naming
 from .watch import Watch
 from ..exact.dual_bound import Multipliers, bit_width, dual_bound, fits_certificate
-from ..bridge import Bridge, Late, Refused
+from ..program.bridge import Bridge, Late, Refused
 from ..files import naming
 from ..model.linear_program import Program
 

@@ -9,7 +9,7 @@ from functools import cached_property
 from math import gcd, lcm
 from typing import Iterable, Iterator, List, Mapping, NamedTuple, Optional, Sequence
 
-from ..bridge import Bridge
+from ..program.bridge import Bridge
 from ..nl import header
 from ..mps_reader import OBJECTIVE, Text
 from ..model.linear_program import TIED, TIED_ROW, Program

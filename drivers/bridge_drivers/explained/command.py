@@ -4,8 +4,8 @@ from __future__ import annotations
 
 from typing import NamedTuple
 
-from .. import verdicts
-from ..bridge import Refused
+from ..program import verdict as verdicts
+from ..program.bridge import Refused
 from ..certify.model import Unfit, model_of
 from ..codes import Status
 from ..files import Places

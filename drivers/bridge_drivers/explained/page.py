@@ -10,7 +10,7 @@ from string import Template
 from typing import TYPE_CHECKING, Iterable, Iterator, Mapping, NamedTuple, Sequence
 
 from .. import texts
-from ..bridge import sum_of
+from ..program.bridge import sum_of
 from .bounds import Bounds
 from .reading import WEIGHTS
 from .words import Wording, both

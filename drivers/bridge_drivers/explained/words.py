@@ -7,11 +7,11 @@ from collections import Counter
 from fractions import Fraction
 from typing import Mapping, Sequence
 
-from .. import verdicts
+from ..program import verdict as verdicts
 from ..names import Names
 from ..printable import counted, some
 from ..values import double_of, exact_decimal
-from ..verdicts import Said, decimal, share
+from ..program.verdict import Said, decimal, share
 from .bounds import Bounds, Term, total
 from .reading import LEMMA, PLANE, SPLIT, WEIGHTS, Certificate, Node
 

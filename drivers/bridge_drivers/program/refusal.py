@@ -12,12 +12,12 @@ import os
 import re
 from typing import Mapping, NamedTuple, Sequence
 
-from . import faults
-from .faults import OPCODE, meaning_of
-from .formats import file_kinds
-from .names import Names, comment_of, with_name
-from .nl import expression as expression_of
-from .printable import in_a_line, printable
+from . import reasons
+from .reasons import OPCODE, meaning_of
+from ..formats import file_kinds
+from ..names import Names, comment_of, with_name
+from ..nl import expression as expression_of
+from ..printable import in_a_line, printable
 
 TOLD = re.compile(
     r"refused (?:file (\d+) ?)?(?:(line|row|column|objective) (\d+)|program)?: (.*)", re.S
@@ -196,7 +196,7 @@ class Refusal:
         return f"{file}: {self.thing(t)}{t.reason}{meaning(t.reason)}"
 
     def at_line(self, t: Told) -> str:
-        is_mps = t.file == 1 and self.command in faults.COMMANDS
+        is_mps = t.file == 1 and self.command in reasons.COMMANDS
         if t.file == 1 and (
             is_mps and t.number == 1 or self.is_model and t.reason == "bad first line"
         ):
@@ -204,7 +204,7 @@ class Refusal:
             if kind is not None and not (is_mps and kind is file_kinds.MPS):
                 return f"{t.reason}: it {file_kinds.describe(self.files[0], kind, self.shown[0])}"
         if is_mps:
-            word = faults.fault(self.files[0], t.number, t.reason)
+            word = reasons.fault(self.files[0], t.number, t.reason)
             return f"{t.reason} {word}" if word else t.reason + meaning(t.reason)
         if t.reason == "bad first line" and t.file == 2 and self.command in FIRST_LINES:
             return f"{t.reason} (it does not begin with `{FIRST_LINES[self.command]}`)"

@@ -6,8 +6,8 @@ import re
 import textwrap
 from typing import Iterable, Mapping, NamedTuple, Sequence
 
-from .printable import either, near
-from .texts import tables
+from ..printable import either, near
+from ..texts import tables
 
 OPCODE = re.compile(r"refused opcode (\d+)$")
 WIDTH = 96

@@ -12,11 +12,11 @@ import subprocess
 import tempfile
 from typing import Callable, Mapping, NamedTuple, Sequence
 
-from . import explaining
-from .codes import Code, Failure, Status
-from .interrupts import with_child
+from . import refusal
+from ..codes import Code, Failure, Status
+from ..interrupts import with_child
 
-PACKAGE = os.path.dirname(os.path.abspath(__file__))
+PACKAGE = os.path.dirname(os.path.dirname(os.path.abspath(__file__)))
 HERE = os.path.dirname(PACKAGE)
 BESIDE = (
     os.path.join(PACKAGE, "bin", "bridge"),  # a wheel
@@ -63,9 +63,9 @@ class Refused(Exception):
         if self.status < 0:
             return f"`bridge {self.command}` was stopped by signal {-self.status}"
         if self.status == Status.UNREAD and self.words:
-            return explaining.unreadable(explaining.files_of(self.words), self.shown)
+            return refusal.unreadable(refusal.files_of(self.words), self.shown)
         text = self.told or ENDED.get(self.status, f"ended with {self.status}")
-        return explaining.in_words(self.words, text, self.shown)
+        return refusal.in_words(self.words, text, self.shown)
 
 
 def is_plain(word: str) -> bool:

@@ -8,9 +8,9 @@ from fractions import Fraction
 from math import gcd
 from typing import NamedTuple
 
-from .model.linear_program import Program
-from .ruling import FINAL
-from .values import exact_decimal, wholes_of
+from ..model.linear_program import Program
+from ..ruling import FINAL
+from ..values import exact_decimal, wholes_of
 
 LINE = re.compile(
     r"(?:(optimal|feasible|bound) (\S+)|within (\S+) (\S+)|(infeasible|unbounded))"
