@@ -10,17 +10,17 @@ from unittest import TestCase, mock
 
 from certify_search import Certified
 from support import NEEDS_CLP, NEEDS_PROGRAM
-from bridge_drivers.certify import bases, short, sparse
+from bridge_drivers.certify import bases, short
 from bridge_drivers.certify.claims import Given, certified
 from bridge_drivers.certify.clp import State
 from bridge_drivers.certify.model import Box, Model, over_one
-from bridge_drivers.certify.sparse import NoSolution, Wide
 from bridge_drivers.exact.dual_bound import MultiplierKind, Multipliers, bit_width, dual_bound
+from bridge_drivers.exact.linear_systems import NotSolved, scipy_or_none
 from families import made, uneven
 from certify_parts import built
 from models import nl, real
 
-NEEDS_SCIPY = unittest.skipUnless(sparse.tools(), "no SciPy")
+NEEDS_SCIPY = unittest.skipUnless(scipy_or_none(), "no SciPy")
 
 OPTIMUM = [F(17, 13), F(1, 26)]
 
@@ -43,53 +43,7 @@ def rounding(p: Model) -> short.Rounding:
 
 
 def without_scipy():
-    return mock.patch.object(bases, "tools", lambda: None)
-
-
-class Fractions(TestCase):
-    def test_near(self) -> None:
-        """Values that are told again from their digits, and ones that have too few."""
-        rng = random.Random(3)
-        for _ in range(50):
-            wanted = [F(rng.randint(-999, 999), rng.choice((1, 7, 7, 91, 360))) for _ in range(4)]
-            values = [round(v * 2**80) for v in wanted]
-            found = sparse.near(values, 80, 1)
-            self.assertEqual([F(v, found.den) for v in found.numbers], wanted)
-        self.assertIsNone(sparse.near([round(F(10007, 20011) * 2**20)], 20, 1))
-
-
-@NEEDS_SCIPY
-class Squares(TestCase):
-    def test_random(self) -> None:
-        """The system and its transpose."""
-        rng = random.Random(4)
-        for n in (1, 2, 5, 40):
-            rows = [
-                [(j, rng.randint(-50, 50)) for j in range(n) if j == i or rng.random() < 0.2]
-                for i in range(n)
-            ]
-            rows = [[(j, a or 1) for j, a in row] for row in rows]
-            square = sparse.Square(rows, 20_000)
-            side = [rng.randint(-9, 9) for _ in range(n)]
-            x = square.solve(side)
-            for row, s in zip(rows, side):
-                self.assertEqual(sum(a * x.numbers[j] for j, a in row), s * x.den)
-            y = square.solve(side, True)
-            for k, s in enumerate(side):
-                at = sum(a * y.numbers[i] for i, row in enumerate(rows) for j, a in row if j == k)
-                self.assertEqual(at, s * y.den)
-
-    def test_faults(self) -> None:
-        with self.assertRaisesRegex(NoSolution, "singular"):
-            sparse.Square([[(0, 1), (1, 2)], [(0, 2), (1, 4)]], 400).solve([1, 0])
-        with self.assertRaisesRegex(NoSolution, "too wide"):
-            sparse.Square([[(0, 2**70)]], 400)
-        with self.assertRaisesRegex(NoSolution, "right side"):
-            sparse.Square([[(0, 3)]], 400).solve([2**60])
-        rows = [[(0, 97), (9, 1)]] + [[(k - 1, 1), (k, 97)] for k in range(1, 10)]
-        with self.assertRaises(Wide) as caught:
-            sparse.Square(rows, 60).solve([1] + [0] * 9)
-        self.assertEqual(str(caught.exception), "more than 30 bits")
+    return mock.patch.object(bases, "scipy_or_none", lambda: None)
 
 
 class Bases(TestCase):
@@ -107,7 +61,7 @@ class Bases(TestCase):
             ([1], [0], [0.0, 2.0], "column 0 could be better"),
             ([0, 1], [1], [1.3, 0.0], "not square"),
         ):
-            with self.assertRaisesRegex(NoSolution, why):
+            with self.assertRaisesRegex(NotSolved, why):
                 bases.optimum(p, bases.Basis(columns, rows), x)
 
     def test_by_hand(self) -> None:

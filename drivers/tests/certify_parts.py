@@ -4,14 +4,13 @@ equations, points, and the forecasts of plans."""
 from __future__ import annotations
 
 import math
-import random
 from fractions import Fraction as F
 from types import SimpleNamespace
 from unittest import TestCase
 
 from support import Case
 from bridge_drivers import miss
-from bridge_drivers.certify import directions, equations, exact, points, text
+from bridge_drivers.certify import directions, equations, points, text
 from bridge_drivers.certify.model import Model, Unfit
 from bridge_drivers.certify.plans import LEAST_TURN, Plan, Plans
 from bridge_drivers.certify.text import Naming
@@ -93,32 +92,6 @@ class Numbers(TestCase):
         ):
             self.assertEqual(text.written(value), wanted)
             self.assertEqual(F(wanted), value)
-
-
-class Systems(TestCase):
-    def test_random(self) -> None:
-        rng = random.Random(1)
-        for _ in range(30):
-            n = rng.randint(1, 7)
-            x = [F(rng.randint(-9, 9), rng.randint(1, 5)) for _ in range(n)]
-            system = []
-            for _ in range(n + 1):
-                terms = {
-                    j: F(rng.randint(-3, 3), rng.randint(1, 3))
-                    for j in range(n)
-                    if rng.random() < 0.6
-                }
-                system.append((terms, sum(a * x[j] for j, a in terms.items())))
-            found = exact.solved(system)
-            for terms, side in system:
-                self.assertEqual(sum(a * found.get(j, 0) for j, a in terms.items()), side)
-
-    def test_none(self) -> None:
-        self.assertIsNone(exact.solved([({0: 1, 1: 1}, 1), ({0: 2, 1: 2}, 3)]))
-        self.assertIsNone(exact.solved([({}, 1)]))
-        self.assertEqual(exact.solved([({}, 0)]), {})
-        wide = [({j: i + j + (i == j) for j in range(9)}, i) for i in range(9)]
-        self.assertIsNone(exact.solved(wide, 10))
 
 
 class Models(TestCase):

@@ -8,10 +8,15 @@ from fractions import Fraction
 from typing import Iterator, List, Sequence, Tuple
 
 from .clp import Basis, Clp, Linear, State
-from .exact import solved
 from .model import Model, Point, Side, over_one
 from .points import Placed, place
-from .sparse import NoSolution, Solution, Square, tools
+from ..exact.linear_systems import (
+    LiftedSystem,
+    NotSolved,
+    RationalVector,
+    scipy_or_none,
+    solve_exactly,
+)
 from ..exact.dual_bound import MultiplierKind, Multipliers
 
 BY_HAND = 300  # unknowns of a system that is eliminated without SciPy
@@ -29,45 +34,47 @@ Near = Tuple[Basis, List[float]]  # with values of columns
 
 
 def can_be_large() -> bool:
-    return tools() is not None
+    return scipy_or_none() is not None
 
 
 def optimum(p: Model, basis: Basis, x: Sequence[float]) -> tuple[Point, Multipliers]:
-    """Point and duals of a basis whose values are near x. NoSolution where it has none, and where the basis is not
-    optimal; Wide where its numbers have too many bits to be found."""
+    """Point and duals of a basis whose values are near x. NotSolved where it has none, and where the basis is not
+    optimal; TooManyBits where its numbers have too many bits to be found."""
     placed = place(p, basis, x)
     if len(placed.columns) != len(placed.rows):
-        raise NoSolution("the basis is not square")
+        raise NotSolved("the basis is not square")
     found, duals = systems(p, placed)
-    den = found.den
+    den = found.denominator
     full = [v * den for v in placed.at]
-    for j, v in zip(placed.columns, found.numbers):
+    for j, v in zip(placed.columns, found.numerators):
         full[j] = v
-    y = {i: v for i, v in zip(placed.rows, duals.numbers) if v}
+    y = {i: v for i, v in zip(placed.rows, duals.numerators) if v}
     for j, _ in p.broken_bounds(full, den):
-        raise NoSolution(f"bound {j} is broken")
+        raise NotSolved(f"bound {j} is broken")
     for i, _ in p.broken_rows(full, den):
-        raise NoSolution(f"row {i} is broken")
-    check_duals(p, full, den, y, duals.den, placed)
+        raise NotSolved(f"row {i} is broken")
+    check_duals(p, full, den, y, duals.denominator, placed)
     shared = {v: Fraction(v, den * p.unit) for v in set(full)}
     return [shared[v] for v in full], Multipliers(
-        {i: v * p.scale for i, v in y.items()}, duals.den * p.cost_scale, MultiplierKind.DUAL
+        {i: v * p.scale for i, v in y.items()},
+        duals.denominator * p.cost_scale,
+        MultiplierKind.DUAL,
     )
 
 
-def systems(p: Model, placed: Placed) -> tuple[Solution, Solution]:
+def systems(p: Model, placed: Placed) -> tuple[RationalVector, RationalVector]:
     """The basic columns times `unit`, and the duals of tight rows times `cost_scale` over `scale`."""
     rows, sides = placed.inside, placed.rest
     costs, n = [p.costs[j] for j in placed.columns], len(placed.columns)
     if can_be_large() and n:
         try:
-            square = Square(rows, min(max(WORK // n, LEAST_DIGITS), MOST_DIGITS))
-            return square.solve(sides), square.solve(costs, True)
-        except NoSolution:
+            square = LiftedSystem(rows, min(max(WORK // n, LEAST_DIGITS), MOST_DIGITS))
+            return square.solve(sides), square.solve_transposed(costs)
+        except NotSolved:
             if n > BY_HAND:
                 raise
     if n > BY_HAND:
-        raise NoSolution("SciPy is not there")
+        raise NotSolved("SciPy is not there")
     turned: list[dict[int, int]] = [{} for _ in range(n)]
     for r, row in enumerate(rows):
         for k, a in row:
@@ -75,11 +82,11 @@ def systems(p: Model, placed: Placed) -> tuple[Solution, Solution]:
     return by_hand([dict(row) for row in rows], sides), by_hand(turned, costs)
 
 
-def by_hand(system: list[dict[int, int]], sides: Sequence[int]) -> Solution:
-    values = solved(zip(system, sides))
+def by_hand(system: list[dict[int, int]], sides: Sequence[int]) -> RationalVector:
+    values = solve_exactly(zip(system, sides))
     if values is None:
-        raise NoSolution("the basis is singular, or takes too much work")
-    return Solution(*over_one([values.get(k, Fraction(0)) for k in range(len(system))]))
+        raise NotSolved("the basis is singular, or takes too much work")
+    return RationalVector(*over_one([values.get(k, Fraction(0)) for k in range(len(system))]))
 
 
 def check_duals(
@@ -88,12 +95,12 @@ def check_duals(
     """That each dual and each reduced cost has the sign of the end that its row or column stands at."""
     for i, v in y.items():
         if (p.side_lo[i] if v > 0 else p.side_hi[i]) != placed.side[i]:
-            raise NoSolution(f"the dual of row {i} has no side")
+            raise NotSolved(f"the dual of row {i} has no side")
     for j, r in enumerate(p.terms.without([c * dual_den for c in p.costs], y)):
         if r:
             end = p.lo[j] if r > 0 else p.hi[j]
             if end is None or full[j] != end * den:
-                raise NoSolution(f"column {j} could be better")
+                raise NotSolved(f"column {j} could be better")
 
 
 class Refining:

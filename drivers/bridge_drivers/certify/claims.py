@@ -17,7 +17,7 @@ from .judging import NO_POINT, WITHOUT, Bound, Given, Verdict, wide_note
 from .model import Box, Point, Unfit
 from .parts import Better
 from .plans import Plans
-from .sparse import NoSolution, Wide
+from ..exact.linear_systems import NotSolved, TooManyBits
 from .watch import KEPT, Over, Stopped
 from ..program.bridge import Refused
 from ..exact.dual_bound import DOUBLES_NOTE, MultiplierKind, fits_certificate, is_optimal_in_doubles
@@ -170,9 +170,9 @@ class Certifying(Contradicting):
         for basis, x in bases if not self.note else ():
             try:
                 point, leaf = optimum(self.model, basis, x)
-            except NoSolution:
+            except NotSolved:
                 continue
-            except Wide as wide:
+            except TooManyBits as wide:
                 self.note = wide_note(str(wide))
                 return
             yield from self.at_optimum(point, leaf)

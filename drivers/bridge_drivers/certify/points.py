@@ -8,7 +8,7 @@ from fractions import Fraction
 from typing import Iterator, Mapping, NamedTuple, Sequence
 
 from .clp import Basis, State, library
-from .exact import solved
+from ..exact.linear_systems import solve_exactly
 from .model import Model, Point, Side
 from ..exact.dual_bound import fits_certificate
 from ..terms import Pairs
@@ -76,7 +76,7 @@ def end_near(lo: Side, hi: Side, value: float) -> Side:
 def vertex(p: Model, basis: Basis, x: Sequence[float]) -> Point | None:
     """The exact point of a basis whose values are near x."""
     placed = place(p, basis, x)
-    found = solved((dict(row), rest) for row, rest in zip(placed.inside, placed.rest))
+    found = solve_exactly((dict(row), rest) for row, rest in zip(placed.inside, placed.rest))
     if found is None:
         return None
     out = [Fraction(v, p.unit) for v in placed.at]

@@ -13,7 +13,7 @@ from math import lcm
 from typing import Iterator, Mapping, NamedTuple, Sequence, Tuple
 
 from .clp import Clp, Linear, State
-from .exact import solved
+from ..exact.linear_systems import solve_exactly
 from .model import Box, Model, Point, over_one
 from ..exact.dual_bound import (
     DualBound,
@@ -204,7 +204,7 @@ class Rounding:
         """By how much columns move that stand far enough from their bounds: those that the elimination leaves free
         stay, and columns that are alone move last. None where others would have to."""
         p, free = self.p, self.free(over, ten) if self.exact else []
-        found = solved(
+        found = solve_exactly(
             ({j: a for j, a in p.rows[i] if free[j]}, self.rest(i, over, ten)) for i in self.exact
         )
         if found is None:
@@ -371,7 +371,7 @@ def met_exactly(p: Model, leaf: Multipliers, judged: DualBound) -> ShortDuals | 
             ({i: a * p.cost_scale for i, a in p.terms.column(j) if free[i]}, base[j])
             for j in columns
         ]
-        moves = solved(system)
+        moves = solve_exactly(system)
         if moves is None:
             return None
         over = lcm(1, *{v.denominator for v in moves.values()})

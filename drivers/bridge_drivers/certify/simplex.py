@@ -10,7 +10,7 @@ from __future__ import annotations
 from fractions import Fraction
 from typing import Callable, Dict, Iterable, List, NamedTuple, Optional
 
-from .exact import Lines
+from ..exact.linear_systems import IntegerRows
 from .model import Model, Point, Side, scaled
 from .points import end_near
 
@@ -43,8 +43,8 @@ def is_small(p: Model) -> bool:
     return p.m <= MOST_ROWS and p.terms.count() + p.n <= MOST_NUMBERS
 
 
-class Simplex(Lines):
-    """`lines` has an equation by basic variable, `x` the values of all. The objective is the variable n + m. `look` is
+class Simplex(IntegerRows):
+    """`rows` has an equation by basic variable, `x` the values of all. The objective is the variable n + m. `look` is
     called at each step."""
 
     def __init__(self, p: Model, look: Callable[[], None]) -> None:
@@ -61,32 +61,32 @@ class Simplex(Lines):
 
     def pivot(self, basic: int, enters: int) -> None:
         """The line of the one becomes that of the other, which leaves all other lines."""
-        self.add(enters, self.eliminated(basic, enters))
+        self.add(enters, self.eliminate(basic, enters))
 
     def start(self, columns: Iterable[int], x: List[float]) -> None:
         """From a basis of columns, as far as it is one; what is not basic stands at the end that is near to x."""
         p = self.p
         for j in columns:
-            rows = [b for b in self.at[j] if b >= p.n and b != self.cost]
-            if j not in self.lines and rows:
+            rows = [b for b in self.names_with[j] if b >= p.n and b != self.cost]
+            if j not in self.rows and rows:
                 self.look()
-                self.pivot(min(rows, key=lambda b: len(self.lines[b])), j)
+                self.pivot(min(rows, key=lambda b: len(self.rows[b])), j)
         for k, near in enumerate([*x, *p.terms.activities(x)]):
-            if k not in self.lines:
+            if k not in self.rows:
                 self.x[k] = Fraction(end_near(self.lo[k], self.hi[k], near * p.unit) or 0)
-        for basic, line in self.lines.items():
+        for basic, line in self.rows.items():
             total = sum((a * self.x[k] for k, a in line.items() if k != basic), ZERO)
             self.x[basic] = -total / line[basic]
 
     def rate(self, basic: int, enters: int) -> Fraction:
         """Of a basic variable, by that of the entering one."""
-        line = self.lines[basic]
+        line = self.rows[basic]
         return Fraction(-line[enters], line[basic])
 
     def missed(self) -> Dict[int, int]:
         """Basic variables beyond an end: 1 above, -1 below."""
         found = {}
-        for b in self.lines:
+        for b in self.rows:
             lo, hi = self.lo[b], self.hi[b]
             if lo is not None and self.x[b] < lo:
                 found[b] = -1
@@ -98,7 +98,7 @@ class Simplex(Lines):
         """By variable that is not basic: of what is missed in all, else of the objective."""
         found: Dict[int, Fraction] = {}
         for b, sign in (missed or {self.cost: 1}).items():
-            line = self.lines[b]
+            line = self.rows[b]
             for k, a in line.items():
                 if k != b:
                     found[k] = found.get(k, ZERO) + sign * Fraction(-a, line[b])
@@ -117,7 +117,7 @@ class Simplex(Lines):
         """To the first end that is met; None where none is."""
         end = self.hi[enters] if way > 0 else self.lo[enters]
         best = None if end is None else Step(abs(end - self.x[enters]), None, end)
-        for b in self.at[enters]:
+        for b in self.names_with[enters]:
             rate = way * self.rate(b, enters)
             end = self.met(b, rate > 0, missed.get(b, 0))
             if end is None:
@@ -141,7 +141,7 @@ class Simplex(Lines):
     def go(self, enters: int, way: int, step: Step) -> None:
         self.stalled = 0 if step.size else self.stalled + 1
         if step.size:
-            for b in self.at[enters]:
+            for b in self.names_with[enters]:
                 self.x[b] += way * step.size * self.rate(b, enters)
             self.x[enters] += way * step.size
         if step.leaves is not None:
@@ -172,5 +172,5 @@ class Simplex(Lines):
         return [self.x[j] / self.p.unit for j in range(self.p.n)]
 
     def ray(self, enters: int, way: int) -> Point:
-        found = {b: way * self.rate(b, enters) for b in self.at[enters]}
+        found = {b: way * self.rate(b, enters) for b in self.names_with[enters]}
         return [Fraction(way) if j == enters else found.get(j, ZERO) for j in range(self.p.n)]

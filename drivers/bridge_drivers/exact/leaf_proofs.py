@@ -11,7 +11,7 @@ import math
 from fractions import Fraction
 from typing import Dict, Iterable, Iterator, List, Mapping, NamedTuple, Optional, Sequence, Tuple
 
-from ..certify.exact import Equation, solved
+from .linear_systems import Equation, solve_exactly
 from ..certify.model import Box, Model
 from .dual_bound import (
     DualBound,
@@ -362,7 +362,7 @@ def phase_one_duals(
 def _solved_in(rows: Sequence[int], columns: Iterable[Equation]) -> Optional[Dict[int, Fraction]]:
     """The duals of these rows under which each column, with its cost, has the reduced cost 0."""
     unknowns = set(rows)
-    return solved(
+    return solve_exactly(
         [({i: a for i, a in terms.items() if i in unknowns}, cost) for terms, cost in columns]
     )
 
