@@ -15,7 +15,7 @@ from bridge_drivers.certify.model import Model, Unfit
 from bridge_drivers.certify.plans import LEAST_TURN, Plan, Plans
 from bridge_drivers.certify.text import Naming
 from bridge_drivers.exact.dual_bound import MultiplierKind, Multipliers
-from bridge_drivers.certify.parts import Empty, Split, count, leaf, rows_used
+from bridge_drivers.exact.tree import EmptyDomain, Split, leaf_of, node_count, rows_used
 from bridge_drivers.model.linear_program import Program
 from models import whole
 
@@ -175,7 +175,7 @@ class Texts(Case):
         """Splits, an empty box, a form that is split twice, and a leaf under the objective."""
         p = model().with_rows([])
         a, b, c = (
-            leaf(given, added)
+            leaf_of(given, added)
             for given, added in (
                 (Multipliers({0: -2, 3: 4}, 3, MultiplierKind.DUAL), (3,)),
                 (Multipliers({3: -1}, 1, MultiplierKind.FARKAS), (3,)),
@@ -183,8 +183,8 @@ class Texts(Case):
             )
         )
         q = p.with_rows([({1: 1, 2: 2}, None, None)])
-        tree = [Split(1, 0), Split(6, 4), b, Split(6, 6), b, a, Split(2, -1), Empty(2, 0), c]
-        self.assertEqual((count(tree), rows_used(tree)), (11, {3}))
+        tree = [Split(1, 0), Split(6, 4), b, Split(6, 6), b, a, Split(2, -1), EmptyDomain(2, 0), c]
+        self.assertEqual((node_count(tree), rows_used(tree)), (11, {3}))
         self.assertEqual(
             list(text.tree_lines(q, tree, Naming({}, 3, -1))),
             [

@@ -16,10 +16,11 @@ from dataclasses import dataclass
 from functools import cached_property
 from typing import Callable, List
 
-from .parts import Better, Done, Held, Opened, Step, Tree, count, joined, least_base, rebuilt
+from .parts import Better, Done, Opened, Step, joined, least_base
 from .pool import Failed, Outcome, Pool, Portion, Problem
 from .search import MOST_NODES, Exact, Goal
 from .watch import Paused, Stopped, Watch
+from ..exact.tree import RemoteSubtree, Tree, node_count, with_remote
 
 AT_HOME = 100  # nodes that this process works first
 RESERVE = 2  # portions that wait, for each process
@@ -199,7 +200,8 @@ class Crowd:
         seconds = min(max(seconds, strand.seconds), max(until - self.watch.spent(), 0.0))
         opened = [
             one._replace(
-                other=one.other and one.other._replace(tree=[Held(k, count(one.other.tree))])
+                other=one.other
+                and one.other._replace(tree=[RemoteSubtree(k, node_count(one.other.tree))])
             )
             for k, one in enumerate(strand.opened)
         ]
@@ -232,7 +234,7 @@ class Crowd:
         held = {k: one.other.tree for k, one in enumerate(strand.opened) if one.other is not None}
 
         def whole(done: Done) -> Done:
-            return done._replace(tree=rebuilt(done.tree, held))
+            return done._replace(tree=with_remote(done.tree, held))
 
         strand.opened = [one._replace(other=one.other and whole(one.other)) for one in found.opened]
         strand.seconds = 0.0 if found.nodes else 2 * max(strand.seconds, LEAST)

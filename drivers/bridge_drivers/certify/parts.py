@@ -12,81 +12,17 @@ from typing import (
     FrozenSet,
     Iterable,
     Iterator,
-    List,
-    Mapping,
     NamedTuple,
     Optional,
     Sequence,
-    Tuple,
-    Union,
 )
 
 from .clp import Clp
 from .model import Box, Model, Point, Side
-from ..exact.dual_bound import MultiplierKind, Multipliers
+from ..exact.tree import Split, Tree
 
 
-class Leaf(NamedTuple):
-    """`packed` are its numbers, `added` the added rows that it uses."""
-
-    packed: bytes
-    added: Tuple[int, ...]
-    nodes: int = 1
-
-    def multipliers(self) -> Multipliers:
-        is_farkas, denominator, *pairs = map(int, self.packed.split())
-        kind = MultiplierKind.FARKAS if is_farkas else MultiplierKind.DUAL
-        return Multipliers(dict(zip(pairs[::2], pairs[1::2])), denominator, kind)
-
-
-class Empty(NamedTuple):
-    """A box without a whole value of one column, which lies above `at` and below `at + 1`: a plane and two leaves."""
-
-    column: int
-    at: int
-    nodes: int = 3
-
-
-class Split(NamedTuple):
-    """The parts `at most at` and `at least at + 1` of a whole column, or of a row behind the columns that stands for a
-    whole form."""
-
-    column: int
-    at: int
-    nodes: int = 1
-
-
-class Held(NamedTuple):
-    """A tree that somebody else has: a search elsewhere gets it as this."""
-
-    key: int
-    nodes: int
-
-
-Tree = List[
-    Union[Leaf, Empty, Split, Held]
-]  # in the order of the text: a split before what closes its two parts
 Needs = FrozenSet[int]  # depths of splits
-
-
-def leaf(given: Multipliers, added: Iterable[int]) -> Leaf:
-    pairs = "".join(f" {i} {v}" for i, v in given.numerators.items())
-    return Leaf(f"{int(given.is_farkas)} {given.denominator}{pairs}".encode(), tuple(added))
-
-
-def count(tree: Tree) -> int:
-    """The nodes of its text."""
-    return sum(node.nodes for node in tree)
-
-
-def rows_used(tree: Tree) -> set[int]:
-    """The added rows that its leaves use."""
-    return {row for node in tree if isinstance(node, Leaf) for row in node.added}
-
-
-def rebuilt(tree: Tree, held: Mapping[int, Tree]) -> Tree:
-    """With what is held put in."""
-    return [node for one in tree for node in (held[one.key] if isinstance(one, Held) else (one,))]
 
 
 class Better(Exception):

@@ -17,12 +17,12 @@ from typing import Iterator, NamedTuple, Sequence
 from .crowd import Crowd
 from .directions import directions
 from .model import Added, Model
-from .parts import Tree
 from .pool import Pool, Problem
 from .search import MOST_NODES, Exact
 from .short import trivial
 from .spine import Maker, Row, Spined, Value
 from .watch import Paused, Stopped, Watch
+from ..exact.tree import Tree
 from ..files import naming
 
 SLICE, SPARE = 0.1, 1.0  # seconds of a search at a time; those that are left for its bound

@@ -12,11 +12,12 @@ from typing import Any, Callable, Dict, Iterable, Mapping, NamedTuple, Sequence,
 
 from .clp import Clp, State
 from .model import TIGHT, Box, Model, Point
-from .parts import Better, Done, Empty, Opened, Parts, Step, count, joined, leaf
+from .parts import Better, Done, Opened, Parts, Step, joined
 from .points import vertex
 from .watch import Paused, Stopped, Watch
 from ..exact.dual_bound import MultiplierKind, Multipliers
 from ..exact.leaf_proofs import LeafProof, LeafProver, basis_duals, phase_one_duals
+from ..exact.tree import EmptyDomain, leaf_of, node_count
 
 NEAR, TINY = 1e-6, Fraction(1, 10**9)  # of a whole number: not split first; it is this
 LARGE = 2.0**53  # from here on doubles do not hold each whole number
@@ -206,7 +207,7 @@ class Search(Parts):
             self.leave()
             depth = len(self.before)
             if depth not in done.needs:
-                self.nodes -= 1 + (count(other.tree) if other is not None else 0)
+                self.nodes -= 1 + (node_count(other.tree) if other is not None else 0)
             elif other is not None:
                 done = joined(step, depth, done, other)
             else:
@@ -377,7 +378,7 @@ class Search(Parts):
         """Weights do not see an empty box, a plane on the column does."""
         hi = self.box.hi[column]
         assert hi is not None
-        found = Empty(column, hi // self.model.unit)
+        found = EmptyDomain(column, hi // self.model.unit)
         self.nodes += found.nodes
         owners = [part[column] for part in self.owners]
         return Done([found], frozenset(owner for owner in owners if owner is not None))
@@ -450,7 +451,7 @@ class Search(Parts):
         proof = self.prover.sparsified(proof._replace(surplus=slack), Box(*ends))
         self.nodes += 1
         return Done(
-            [leaf(proof.multipliers, (i for i in proof.multipliers.numerators if i >= p.n_con))],
+            [leaf_of(proof.multipliers, (i for i in proof.multipliers.numerators if i >= p.n_con))],
             frozenset(needed.intersection(owner for owner, _, _ in self.ends_used(proof))),
         )
 

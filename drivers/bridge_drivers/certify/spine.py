@@ -14,13 +14,14 @@ from typing import Dict, Iterator, Mapping, NamedTuple, Sequence, Tuple
 from . import text
 from .clp import Clp, State
 from .model import Added, Model, Step
-from .parts import Better, Tree, count, rows_used
+from .parts import Better
 from .search import Goal, Search
 from .text import Naming
 from .watch import Stopped, Watch
 from ..exact.dual_bound import MultiplierKind
 from ..exact.mir import MIRCut, MIRProof, prove_mir_cut
 from ..exact.mir_separation import MIRSeparator
+from ..exact.tree import Tree, node_count, rows_used
 
 ROUNDS = 30
 EACH = 20  # cuts of one round
@@ -274,10 +275,10 @@ class Spined:
 
     def nodes(self) -> int:
         proofs = sum(
-            1 + (3 if isinstance(row.proof, MIRProof) else count(row.proof))
+            1 + (3 if isinstance(row.proof, MIRProof) else node_count(row.proof))
             for row in self.kept.values()
         )
-        return count(self.tree) + 2 * len(self.value.added) + proofs
+        return node_count(self.tree) + 2 * len(self.value.added) + proofs
 
     def lines(self) -> Iterator[str]:
         """Behind the tree stand the parts beyond the cuts, from the deepest."""

@@ -7,9 +7,9 @@ from typing import Dict, Iterator, Mapping, NamedTuple, Optional, Sequence, Tupl
 
 from .equations import Parity
 from .model import Model, Point
-from .parts import Empty, Leaf, Split, Tree
 from ..exact.dual_bound import MultiplierKind, Multipliers
 from ..exact.mir import MIRProof
+from ..exact.tree import EmptyDomain, Leaf, Split, Tree
 from ..values import exact_decimal
 
 FIRST = "certificate 1"
@@ -79,7 +79,9 @@ def tree_lines(model: Model, tree: Tree, naming: Naming) -> Iterator[str]:
         names, row = parts.pop()
         if isinstance(node, Leaf):
             yield from leaf_lines(node.multipliers(), naming, names)
-        elif isinstance(node, Empty):  # both parts of a plane on it contradict one of its bounds
+        elif isinstance(
+            node, EmptyDomain
+        ):  # both parts of a plane on it contradict one of its bounds
             yield from (
                 *plane_lines({node.column: 1}, node.at),
                 "weights 1",

@@ -25,9 +25,9 @@ from math import gcd, lcm, sqrt
 from typing import Dict, Mapping, NamedTuple, Optional, Sequence, Tuple, TypeVar
 
 from ..certify.model import Added, Box, Model, Side
-from ..certify.parts import Leaf, leaf
 from .dual_bound import MultiplierKind, Multipliers
 from .leaf_proofs import LeafProver, Ratio, last_convergent
+from .tree import Leaf, leaf_of
 
 LEAST_EFFICACY = 1e-3
 LARGEST_DENOMINATOR = 10**6  # of the combination's multipliers
@@ -312,5 +312,5 @@ def prove_mir_cut(program: Model, cut: MIRCut) -> Optional[MIRProof]:
         if proof is None or not proof.multipliers.fits_certificate():
             return None
         added = (i for i in proof.multipliers.numerators if program.n_con <= i < program.m)
-        leaves.append(leaf(proof.multipliers, added))
+        leaves.append(leaf_of(proof.multipliers, added))
     return MIRProof(cut.split, program.m, *leaves)
