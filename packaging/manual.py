@@ -6,7 +6,7 @@ from typing import Iterable
 
 from bridge_drivers import commands, solvers
 from bridge_drivers.certify.command import OPTIONS
-from bridge_drivers.codes import STATUSES
+from bridge_drivers.commands import STATUS_TEXTS
 from bridge_drivers.completion import DASHED
 from bridge_drivers.options import COMMON, Option
 
@@ -56,7 +56,7 @@ def parts() -> dict[str, str]:
         "COMMANDS": of_commands(commands.COMMANDS),
         "OWN": of_commands(commands.OWN),
         "MODEL": roff(commands.MODEL[:1].upper() + commands.MODEL[1:]) + ".",
-        "STATUS": "\n".join(item(str(int(status)), text) for status, text in STATUSES.items()),
+        "STATUS": "\n".join(item(str(int(status)), text) for status, text in STATUS_TEXTS.items()),
         "OPTIONS": of_options(drivers_options()),
         "CERTIFY": of_options(OPTIONS),
         "DASHED": "\n".join(item(word, text) for word, text in DASHED.items()),

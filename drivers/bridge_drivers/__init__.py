@@ -8,17 +8,19 @@ VERSION = "0.1.0"
 
 from . import certify as searches  # noqa: E402,F401  read before the call of this name
 from .interface import (
-    BridgeError,
-    FileFault,
-    ModelRefused,
-    NotInstalled,
     Report,
-    WrongOption,
     certify,  # noqa: E402
     explain,
     figures,
     solve,
     verify,
+)
+from .system.errors import (  # noqa: E402
+    BridgeError,
+    FileFault,
+    ModelRefused,
+    NotInstalled,
+    WrongOption,
 )
 
 __all__ = [

@@ -9,7 +9,7 @@ from functools import cached_property
 from itertools import islice
 from typing import Iterable, Iterator, Mapping, Sequence
 
-from .codes import Code
+from .system.codes import Code
 from .miss import NONE, Miss, miss, missing
 from .options import Options
 from .model.linear_program import Objective, Program

@@ -9,13 +9,14 @@ from typing import NamedTuple
 
 from .program import verdict as verdicts
 from .answer import Answer
-from .program.bridge import Bridge, Late, Refused
+from .program.bridge import Bridge, Refused
 from .certify import clp
 from .certify.claims import WITHOUT, Certifying, Given, Verdict, certified
 from .certify.pool import pool_of
 from .certify.text import answer_lines
 from .certify.watch import Watch
-from .codes import Code
+from .system.codes import Code
+from .system.errors import DeadlineExceeded
 from .files import Places
 from .job import Job
 from .miss import ROUNDING, miss
@@ -336,7 +337,7 @@ def older(bridge: Bridge, nl: str, maximise: bool, line: str, target: str) -> st
     bridge.limit = OLDER
     try:
         proves = bridge.verdict("verify", nl, target)
-    except (Late, Refused):
+    except (DeadlineExceeded, Refused):
         return ""
     finally:
         bridge.limit = None

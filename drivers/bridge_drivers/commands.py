@@ -4,9 +4,9 @@ from __future__ import annotations
 
 import re
 import textwrap
-from typing import Iterable, NamedTuple, Sequence
+from typing import Iterable, Mapping, NamedTuple, Sequence
 
-from .codes import STATUSES, Status
+from .system.codes import ExitStatus
 from .texts import tables
 
 NAME = "nl-bridge"
@@ -63,15 +63,31 @@ COMMANDS, OWN = map(commands_of, ("of the proved program", "around it"))
 WORDS = sorted({command.word for command in (*COMMANDS, *OWN)})
 VERDICTS = ("verify", "verify_mps", "verify_fixed", "check", "prove")
 PROVED = (
-    Status.DONE,
-    Status.FAILED,
-    Status.REFUSED,
-    Status.BAD_WORDS,
-    Status.UNREAD,
-    Status.UNWRITTEN,
-    Status.NO_MEMORY,
-    Status.NOT_THERE,
+    ExitStatus.DONE,
+    ExitStatus.FAILED,
+    ExitStatus.REFUSED,
+    ExitStatus.BAD_WORDS,
+    ExitStatus.UNREAD,
+    ExitStatus.UNWRITTEN,
+    ExitStatus.NO_MEMORY,
+    ExitStatus.NOT_THERE,
 )
+
+
+# what help, and README.md, say of each exit status
+STATUS_TEXTS: Mapping[ExitStatus, str] = {
+    ExitStatus.DONE: "done: a text, an answer, a verdict that is yes",
+    ExitStatus.FAILED: "another verdict; nothing is proved; no answer, or a fault",
+    ExitStatus.REFUSED: "the model, or another text, is refused",
+    ExitStatus.BAD_WORDS: "bad words or options",
+    ExitStatus.UNREAD: "a file could not be read",
+    ExitStatus.UNWRITTEN: "a file or standard output could not be written",
+    ExitStatus.NO_MEMORY: "want of memory",
+    ExitStatus.NOT_SETTLED: "strict=1 is not met",
+    ExitStatus.NOT_THERE: "the proved program or the solver is not there",
+    ExitStatus.INTERRUPTED: "interrupted (SIGINT)",
+    ExitStatus.TERMINATED: "ended (SIGTERM)",
+}
 
 
 def rows(word: str) -> list[Command]:
@@ -98,8 +114,8 @@ def rows_of(commands: Iterable[Command]) -> str:
     return "".join(wrapped(c.text, f"  {c.call()}", 33) for c in commands)
 
 
-def status_text(statuses: Iterable[Status]) -> str:
-    return "; ".join(f"{int(status)} {STATUSES[status]}" for status in statuses)
+def status_text(statuses: Iterable[ExitStatus]) -> str:
+    return "; ".join(f"{int(status)} {STATUS_TEXTS[status]}" for status in statuses)
 
 
 def usage() -> str:

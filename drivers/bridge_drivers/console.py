@@ -11,7 +11,7 @@ import sys
 from typing import Callable, Iterator, NoReturn, Sequence, TextIO, cast
 
 from .program import verdict as verdicts
-from .codes import Status
+from .system.codes import ExitStatus
 from .interrupts import SIGNALS, Interrupted
 from .printable import printable
 
@@ -125,7 +125,7 @@ def run(name: str, command: Callable[[], int]) -> NoReturn:
         sys.stdout.flush()
     except OutputBroken as fault:
         close(f"{name}: standard output: {fault}\n")
-        status = Status.UNWRITTEN
+        status = ExitStatus.UNWRITTEN
     except Interrupted as signal:
         close(f"{name}: interrupted\n")
         status = signal.status()

@@ -11,12 +11,22 @@ from typing import Iterator, Sequence
 
 from . import VERSION, console, interface, minizinc, sol, solvers
 from .program.bridge import BESIDE, Bridge, find
-from .codes import Code, Failure, Status
+from .system.codes import Code, ExitStatus
+from .system.errors import (
+    BridgeError,
+    DriverFault,
+    FileAction,
+    FileFault,
+    NotFound,
+    RunInterrupted,
+    WrongOption,
+)
 from .files import Places, fill, own_folder
 from .formats.source import Source, Workspace, missing_source, read_model
 from .interrupts import SIGNALS, Interrupted
 from .job import Clock
-from .options import EXAMPLE, MODEL, USAGE, BadOption, Option, Options, Words, words_of
+from .options import EXAMPLE, MODEL, USAGE, Option, Options, Words, words_of
+from .ruling import code_of_error
 from .solving import Result, Solving
 
 
@@ -26,9 +36,7 @@ def writing(path: str) -> Iterator[None]:
     try:
         yield
     except OSError as fault:
-        raise Failure(
-            Code.FILE, f"{fault.filename or path}: {fault.strerror}", Status.UNWRITTEN
-        ) from None
+        raise FileFault.of(fault, path, FileAction.WRITE) from None
 
 
 class Run:
@@ -44,12 +52,12 @@ class Run:
         self.words = Words()
         self.clock = Clock(self.name)
         self.workspace, self.model = Workspace(), Source("", "", "")
-        self.missing: Failure | None = None
+        self.missing: BridgeError | None = None
         self.nl = self.sol = self.kept_in = ""
         self.is_put = self.is_mps = False
         self.message: list[str] = []
         self.result: Result | None = None
-        self.fault: Failure | None = None
+        self.fault: BridgeError | None = None
         self.bridge_words: Sequence[str] = ()
 
     def run(self, asked: Words) -> int:
@@ -58,7 +66,7 @@ class Run:
             with self.workspace:
                 return self.done()
         except Interrupted as signal:
-            return self.failed(Failure(Code.STOPPED, "interrupted", Status(signal.status())))
+            return self.failed(RunInterrupted(signal.number))
 
     def done(self) -> int:
         """The same, before what was made for it is removed."""
@@ -66,28 +74,25 @@ class Run:
             self.take_model()
             self.take_options()
             return self.deliver(self.work())
-        except Failure as fault:
+        except BridgeError as fault:
             return self.failed(fault)
         except Exception as fault:  # a modelling system is told, whatever it was
             if self.options.outlev >= 2:
                 raise
             if self.is_put:  # such as a closed output: the .sol stands
-                return Status.FAILED
-            return self.failed(
-                Failure(Code.FAULT, f"a fault of the driver: {fault!r} (outlev=2 shows where)")
-            )
+                return ExitStatus.FAILED
+            return self.failed(DriverFault(repr(fault)))
 
     def take_model(self) -> None:
         """Where there is none, `missing` says why, once options and an older .sol are seen to."""
         word = self.words.stub or ""
         try:
             self.model = read_model(word, self.workspace)
-        except (Failure, OSError) as fault:
-            self.missing = (
-                fault
-                if isinstance(fault, Failure)
-                else Failure(Code.FILE, f"{word}: {fault.strerror}", Status.UNREAD)
-            )
+        except BridgeError as fault:
+            self.missing = fault
+            self.model = missing_source(word)
+        except OSError as fault:
+            self.missing = FileFault(word, str(fault.strerror), FileAction.READ)
             self.model = missing_source(word)
         self.nl, self.is_mps = self.model.path, self.model.is_mps
         self.sol = self.model.stub + ".sol"
@@ -101,16 +106,16 @@ class Run:
         o.environment(self.name)
         o.take(self.words.options)
         if (o.prove or o.strict) and not o.check:
-            raise BadOption("check=0 proves nothing: it does not go with prove=1 or strict=1")
+            raise WrongOption("check=0 proves nothing: it does not go with prove=1 or strict=1")
         if o.format and not self.is_mps and self.missing is None:
-            raise BadOption(f"format={o.format} is for MPS files, and {self.model.name} is none")
+            raise WrongOption(f"format={o.format} is for MPS files, and {self.model.name} is none")
         if self.is_mps and self.writes():  # it is judged as it stands
-            raise BadOption(
+            raise WrongOption(
                 "a .sol is the answer to an .nl file: wantsol=2 prints the values of "
                 f"{self.model.name}, `nl-bridge import` makes an .nl of it"
             )
         if self.is_mps and o.shortest:
-            raise BadOption("shortest=1 is for .nl files: an MPS file is read as it stands")
+            raise WrongOption("shortest=1 is for .nl files: an MPS file is read as it stands")
         o.prove = int(bool(o.prove or o.strict))
         self.clock.tells = o.outlev >= 2
         o.is_written = self.writes()
@@ -142,10 +147,7 @@ class Run:
                 if solver.package and not named
                 else "install it"
             )
-            raise Failure(
-                Code.NOT_FOUND,
-                f"{named or solver.program} was not found: {how} or give solver=PATH",
-            )
+            raise NotFound(named or solver.program, f"{how} or give solver=PATH")
         return os.path.abspath(place)
 
     def work(self) -> Result:
@@ -182,7 +184,7 @@ class Run:
             *result.lines[1:],
         ]
 
-    def deliver(self, result: Result) -> Status:
+    def deliver(self, result: Result) -> ExitStatus:
         """The .sol, where it is asked for and in a folder that is kept, and the values, at once or not at all."""
         self.result, self.message = result, self.lines(result)
         if self.options.solution:
@@ -198,10 +200,10 @@ class Run:
             if self.kept_in:
                 fill(os.path.join(self.kept_in, "bridge.sol"), data)
         if self.words.ampl:
-            return Status.DONE
+            return ExitStatus.DONE
         if result.kept is not None and result.kept.failed:
-            return Status.UNWRITTEN
-        return Status.DONE if result.is_final else Status.NOT_SETTLED
+            return ExitStatus.UNWRITTEN
+        return ExitStatus.DONE if result.is_final else ExitStatus.NOT_SETTLED
 
     def pairs(self, key: str) -> sol.Pairs:
         """Values, duals or reduced costs by name, of the file or beside it: not of a tied objective."""
@@ -236,22 +238,25 @@ class Run:
             Places([self.nl], overwrite=True).write(self.sol, data)
             self.is_put = True
 
-    def failed(self, fault: Failure) -> int:
+    def failed(self, fault: BridgeError) -> int:
         """With -AMPL a .sol with the code, and exit 0 with it."""
         self.fault = fault
         if (
             self.words.ampl
             and not self.is_mps
-            and fault.code != Code.STOPPED
+            and not isinstance(fault, RunInterrupted)
             and not self.options.failexit
         ):
-            with contextlib.suppress(Failure, OSError, ValueError, IndexError):
+            with contextlib.suppress(BridgeError, OSError, ValueError, IndexError):
                 self.put(
                     sol.bare(
-                        self.nl, fault.code, self.options.objno - 1, [f"{self.name}: {fault.text}"]
+                        self.nl,
+                        code_of_error(fault),
+                        self.options.objno - 1,
+                        [f"{self.name}: {fault.text}"],
                     )
                 )
-                return Status.DONE
+                return ExitStatus.DONE
         return fault.status
 
 
@@ -266,10 +271,10 @@ class Driver(Run):
         asked = words_of(argv)
         if asked.ask is not None:
             sys.stdout.write(self.told(asked.ask, asked.topic))
-            return Status.DONE
+            return ExitStatus.DONE
         if asked.stub is None:
             sys.stderr.write(self.usage())
-            return Status.BAD_WORDS
+            return ExitStatus.BAD_WORDS
         return self.run(asked)
 
     def usage(self) -> str:
@@ -300,7 +305,7 @@ class Driver(Run):
         finally:
             self.clock.progress.stop()
 
-    def deliver(self, result: Result) -> Status:
+    def deliver(self, result: Result) -> ExitStatus:
         o, status = self.options, super().deliver(result)
         lines, answer = self.message, result.answer
         out = sys.stderr if self.is_quiet else sys.stdout
@@ -341,7 +346,7 @@ class Driver(Run):
             *sol.lines(duals),
         ]
 
-    def failed(self, fault: Failure) -> int:
+    def failed(self, fault: BridgeError) -> int:
         line = f"{self.name}: {fault.text}"
         sys.stderr.write(line + "\n")
         minizinc.tell(line, is_error=True)

@@ -14,11 +14,12 @@ from typing import TYPE_CHECKING, Callable, Iterable, Mapping, NamedTuple, Seque
 from . import VERSION, commands, console, interface
 from .program import reasons, refusal
 from .program.bridge import BESIDE, PACKAGE, built, find, is_plain, sum_of
-from .codes import Code, Failure, Status
+from .system.codes import ExitStatus
+from .system.errors import BridgeError, FileAction, FileFault, NotStarted
 from .commands import COMMANDS, NAME, VERDICTS, WORDS
 from .formats.file_kinds import is_mps_file, is_packed_file, start_of_file
 from .formats.source import Workspace, is_stream, name_of_model, read_source
-from .interface import BridgeError, Report
+from .interface import Report
 from .interrupts import with_child
 from .mps_file import imported
 from .printable import near
@@ -90,14 +91,14 @@ def command(words: Sequence[str]) -> int:
             return helped(call)
         if not call.word:
             sys.stderr.write(commands.usage())
-            return Status.BAD_WORDS
+            return ExitStatus.BAD_WORDS
         if call.word not in WORDS:
             raise BadWords(f"unknown command {call.word}", call.word, WORDS)
         return done(call)
     except BadWords as fault:
         sys.stderr.write(f"{NAME}: {fault} -h lists the commands\n")
-        return Status.BAD_WORDS
-    except Failure as fault:
+        return ExitStatus.BAD_WORDS
+    except BridgeError as fault:
         sys.stderr.write(f"{NAME}: {fault}\n")
         return fault.status
 
@@ -110,7 +111,7 @@ def done(call: Call) -> int:
         raise BadWords(wrong if call.word not in PROVED else f"bad words: {wrong}")
     if call.word == "completion":
         print(completion(call.rest[0]), end="")
-        return Status.DONE
+        return ExitStatus.DONE
     is_own = call.word in REPORTS
     if call.word == "verify":
         is_own = call.json or is_model(call.rest)
@@ -134,7 +135,7 @@ def helped(call: Call) -> int:
     topic = call.rest[0] if call.word == "help" and call.rest else call.word
     if topic in ("", "help"):
         sys.stdout.write(commands.usage())
-        return Status.DONE
+        return ExitStatus.DONE
     text = (
         commands.help_of(topic) or reasons.listed() * (topic == "refusals") or helped_driver(topic)
     )
@@ -143,7 +144,7 @@ def helped(call: Call) -> int:
             f"no help on {topic}", topic, [*WORDS, "refusals", *certifier().options.known]
         )
     sys.stdout.write(text)
-    return Status.DONE
+    return ExitStatus.DONE
 
 
 def helped_driver(topic: str) -> str:
@@ -178,7 +179,7 @@ def shown(call: Call) -> int:
         report, fault = REPORTS[call.word](call), ""
     except BridgeError as error:
         report, fault = error.report, error.report.text
-    is_answer = call.word == "explain" and report.status == Status.REFUSED
+    is_answer = call.word == "explain" and report.status == ExitStatus.REFUSED
     if fault and (call.json or not is_answer):
         sys.stderr.write(f"{NAME}: {fault}\n")
     if call.json:
@@ -253,9 +254,7 @@ def import_into(call: Call) -> Report:
         try:
             told.say(imported(bridge, path, call.rest[1], call.overwrite))
         except OSError as fault:
-            raise Failure(
-                Code.FILE, f"{fault.filename}: {fault.strerror}", Status.UNWRITTEN
-            ) from None
+            raise FileFault.of(fault, call.rest[1], FileAction.WRITE) from None
     return told
 
 
@@ -319,7 +318,7 @@ def passed_on(place: Sequence[str], words: Sequence[str]) -> int:
         with contextlib.suppress(OSError):  # of SIGKILL
             signal.signal(-status, signal.SIG_DFL)
         os.kill(os.getpid(), -status)
-    if status == Status.REFUSED:
+    if status == ExitStatus.REFUSED:
         call = words[1:] if words[0] == "export" and len(words) < 4 else words
         sys.stderr.write(f"{NAME}: `{NAME} explain {' '.join(call)}` says more\n")
     return status
@@ -339,11 +338,11 @@ def run(place: Sequence[str], call: Sequence[str], words: Sequence[str]) -> int:
             stderr=err,
         )
     except OSError as fault:
-        raise Failure(Code.NOT_FOUND, f"{place[0]} could not be run: {fault.strerror}") from None
+        raise NotStarted(place[0], str(fault.strerror)) from None
     line, told = ((part or b"").decode("utf-8", "surrogateescape") for part in said)
     if line.strip():
         console.tell(line.rstrip("\n"), sys.stdout)
-    if status == Status.UNREAD and faulty:
+    if status == ExitStatus.UNREAD and faulty:
         told = f"{NAME}: {refusal.unreadable(files, dict(zip(files, refusal.files_of(words))))}\n"
     sys.stderr.write(told)
     return status

@@ -5,7 +5,7 @@ from __future__ import annotations
 from typing import NamedTuple, Sequence
 
 from .program.bridge import Bridge, Reply
-from .codes import Status
+from .system.codes import ExitStatus
 from .formats.source import Source, Workspace, read_model
 from .mps_file import judged, reading
 from .names import Names
@@ -35,7 +35,9 @@ class Subject(NamedTuple):
         if self.own is None:
             return Program(self.bridge.text("export", self.path, objective))
         if objective != "0":
-            reply = Reply(Status.REFUSED, b"", f"refused objective {objective}: no such objective")
+            reply = Reply(
+                ExitStatus.REFUSED, b"", f"refused objective {objective}: no such objective"
+            )
             raise self.bridge.refused(("verify", self.path, ""), reply)
         return self.own
 

@@ -18,10 +18,21 @@ from . import VERSION
 from .program import refusal
 from .program import verdict as verdicts
 from .program.bridge import BESIDE, Bridge, Refused, find, sum_of
-from .codes import Code, Failure, Status
+from .system.codes import ExitStatus
+from .system.errors import (
+    BridgeError,
+    FileAction,
+    FileFault,
+    ModelRefused,
+    NotInstalled,
+    ProgramFailed,
+    RunInterrupted,
+    WrongOption,
+)
 from .formats.source import Source, Workspace, read_source
 from .inputs import Subject, subject
-from .options import BadOption, Options, Words, words_of
+from .options import Options, Words, words_of
+from .ruling import code_of_error
 from .values import double_of
 from .program.verdict import Said
 
@@ -126,7 +137,7 @@ def reported(driver: Driver, argv: Sequence[str]) -> int:
     try:
         options.environment(driver.name)
         options.take(asked.options)
-    except BadOption:
+    except WrongOption:
         options.json = int("json=1" in asked.options)
     if asked.ask is not None or not options.json:
         return driver.main(argv)
@@ -142,7 +153,8 @@ def fill(told: Report, run: Run) -> None:
     told.sources["model"] = run.model
     if run.fault is not None:
         told.say(f"{run.name}: {run.fault.text}")
-        told.code = None if run.fault.code == Code.STOPPED else int(run.fault.code)
+        stopped = isinstance(run.fault, RunInterrupted)
+        told.code = None if stopped else int(code_of_error(run.fault))
     elif run.result is not None:
         result = run.result
         told.code, told.lines, told.text = int(result.code), result.lines, result.lines[-1]
@@ -153,42 +165,28 @@ def fill(told: Report, run: Run) -> None:
         )
 
 
-class BridgeError(Exception):
-    """No answer: the solver gave none, or something is at fault. `report` is what the command would
-    tell with json=1, `code` AMPL's (None of nl-bridge), `status` the exit status."""
-
-    def __init__(self, report: Report) -> None:
-        super().__init__(report.text)
-        self.report, self.code, self.status = report, report.code, report.status
-
-
-class ModelRefused(BridgeError):
-    """The model, or a certificate, is refused: the text says where and why."""
-
-
-class WrongOption(BridgeError):
-    """An unknown option, or a value out of its range."""
-
-
-class FileFault(BridgeError):
-    """A file cannot be read or written."""
+def error_of_refusal(fault: Refused) -> BridgeError:
+    """The error of a call that the proved program did not answer, by its exit status."""
+    line, status = fault.line(), fault.status
+    if status == ExitStatus.REFUSED:
+        return ModelRefused(line)
+    if status == ExitStatus.BAD_WORDS:
+        return WrongOption(line)
+    if status == ExitStatus.UNREAD:
+        return FileFault("", line, FileAction.READ)
+    if status == ExitStatus.UNWRITTEN:
+        return FileFault("", line, FileAction.WRITE)
+    if status == ExitStatus.NOT_THERE:
+        return NotInstalled(line)
+    error = ProgramFailed(line)
+    error.status = status
+    return error
 
 
-class NotInstalled(BridgeError):
-    """The proved program or the solver is not there."""
-
-
-KINDS: dict[int, type[BridgeError]] = {
-    Status.REFUSED: ModelRefused,
-    Status.BAD_WORDS: WrongOption,
-    Status.UNREAD: FileFault,
-    Status.UNWRITTEN: FileFault,
-    Status.NOT_THERE: NotInstalled,
-}
-
-
-def error_of(report: Report) -> BridgeError:
-    return KINDS.get(report.status, BridgeError)(report)
+def with_report(error: BridgeError, report: Report) -> BridgeError:
+    """The error as a call of this package raises it: it has the report of the call."""
+    error.report = report.end()
+    return error
 
 
 def solve(
@@ -258,9 +256,10 @@ def solved(
 
     told = Report(command)
     if solver not in NAMES:
-        told.code = int(Code.BAD_OPTION)
-        told.say(f"no driver of {solver}: {', '.join(NAMES)}", Status.BAD_WORDS)
-        raise error_of(told.end())
+        error = WrongOption(f"no driver of {solver}: {', '.join(NAMES)}")
+        told.code = int(code_of_error(error))
+        told.say(error.text, error.status)
+        raise with_report(error, told)
     run = kind(solver)
     known: dict[str, object] = {"wantsol": ALL_NUMBERS, **given, "solver": program, **options}
     words = [
@@ -273,7 +272,7 @@ def solved(
     told.status = run.run(Words(os.fspath(model), echo=False, options=words))
     fill(told, run)
     if run.fault is not None:
-        raise error_of(told.end())
+        raise with_report(run.fault, told)
     return told.end()
 
 
@@ -286,13 +285,14 @@ def asked(told: Report, bridge: str) -> Iterator[tuple[Bridge, Workspace]]:
             yield Bridge(place, lambda argv: None), workspace
             return
         except Refused as fault:
-            told.say(fault.line(), fault.status)
+            error = error_of_refusal(fault)
             told.refusal = refusal.object_of(fault.words, fault.told, fault.shown)
-        except Failure as fault:
-            told.say(str(fault), fault.status)
+        except BridgeError as fault:
+            error = fault
         except OSError as fault:
-            told.say(f"{fault.filename}: {fault.strerror}", Status.UNREAD)
-    raise error_of(told.end()) from None
+            error = FileFault(str(fault.filename), str(fault.strerror), FileAction.READ)
+        told.say(error.text, error.status)
+    raise with_report(error, told) from None
 
 
 @contextlib.contextmanager
@@ -320,7 +320,7 @@ def verify(model: Path, certificate: Path, *, bridge: str = "") -> Report:
         line = found.bridge.verdict("verify", found.path, source.path)
         told.lines = [*found.notes, line]
         told.take_line(line)
-        told.status = Status.DONE if told.claim else Status.FAILED
+        told.status = ExitStatus.DONE if told.claim else ExitStatus.FAILED
     return told.end()
 
 

@@ -7,7 +7,7 @@ import itertools
 from typing import NamedTuple, Sequence
 
 from .program.bridge import Bridge, Refused, Reply
-from .codes import Status
+from .system.codes import ExitStatus
 from .files import Places, fill
 from .mps_reader import Text, exact
 from .model.linear_program import Program, program_of
@@ -41,7 +41,7 @@ def reading(bridge: Bridge, path: str, form: str = "") -> Reading:
     if form:
         return Reading(form, bridge.text(READS[form], path))
     replies = {form: bridge.call(command, path) for form, command in READS.items()}
-    taken = [form for form, reply in replies.items() if reply.status == Status.DONE]
+    taken = [form for form, reply in replies.items() if reply.status == ExitStatus.DONE]
     if not taken:
         raise both_refused(bridge, path, replies)
     notes = []
@@ -55,7 +55,7 @@ def reading(bridge: Bridge, path: str, form: str = "") -> Reading:
 def both_refused(bridge: Bridge, path: str, replies: dict[str, Reply]) -> Refused:
     """The fault of the form that goes further."""
     for form, reply in replies.items():
-        if reply.status != Status.REFUSED:
+        if reply.status != ExitStatus.REFUSED:
             return bridge.refused((READS[form], path), reply)
     first = max(READS, key=lambda form: line_of(replies[form].told))
     fault = MpsRefused(READS[first], replies[first], (READS[first], path), bridge.shown)
@@ -83,7 +83,7 @@ def judged(bridge: Bridge, path: str, probe: str, read: Reading) -> Program:
     program = program_of(read.text)
     bridge.spelled = {"verify": VERIFIES[read.form]}
     reply = bridge.call("verify", path, fill(probe, PROBE))
-    if reply.status in (Status.DONE, Status.FAILED):
+    if reply.status in (ExitStatus.DONE, ExitStatus.FAILED):
         return program
     words = bridge.in_full(("verify", path, probe))
     fault = MpsRefused(words[0], reply, words, bridge.shown)

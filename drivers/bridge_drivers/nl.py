@@ -13,7 +13,7 @@ import struct
 from typing import Any, Iterable, NamedTuple
 
 from .files import fill
-from .formats.source import Damaged
+from .system.errors import Damaged, ModelRefused
 from .names import Names, comment_of
 from .texts import tables
 
@@ -76,7 +76,9 @@ def prepared(path: str, target: str, shorter: bool, is_told: bool = True) -> tup
         f.seek(0)
         data = f.read()
     if os.path.exists(target) and os.path.samefile(path, target):
-        raise Damaged(f"{target} is the model itself, and would be overwritten: give another keep")
+        raise ModelRefused(
+            f"{target} is the model itself, and would be overwritten: give another keep"
+        )
     if not is_binary:
         text, count = shortest_numbers(data)
         if not count:
@@ -87,9 +89,8 @@ def prepared(path: str, target: str, shorter: bool, is_told: bool = True) -> tup
     try:
         text = Binary(data).text()
     except (struct.error, IndexError, ValueError) as fault:
-        raise Damaged(
-            f"{path}: the binary .nl file ends too soon or is damaged ({fault})"
-        ) from None
+        reason = f"the binary .nl file ends too soon or is damaged ({fault})"
+        raise Damaged(path, reason) from None
     return fill(target, text), ["the binary .nl file was turned into text, which is not proved"]
 
 

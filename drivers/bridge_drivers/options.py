@@ -9,7 +9,7 @@ import textwrap
 from dataclasses import dataclass, field
 from typing import Iterable, Sequence, TypeVar, Union, cast
 
-from .codes import Code, Failure
+from .system.errors import WrongOption
 from .printable import either, near
 from .texts import parts
 
@@ -62,13 +62,6 @@ WIDTH = 96  # of a line of help
 PLAIN: dict[object, Text] = {int: COUNT, float: AMOUNT, str: WORD}
 
 
-class BadOption(Failure):
-    """An unknown name, a value out of its range, or none."""
-
-    def __init__(self, text: str) -> None:
-        super().__init__(Code.BAD_OPTION, text)
-
-
 class Option:
     """One option: its name, what it is where nothing is said, its values, and what -= tells."""
 
@@ -83,7 +76,7 @@ class Option:
         try:
             return self.kind(word)
         except ValueError:
-            raise BadOption(f"{self.name}={word}: {self.kind} is wanted") from None
+            raise WrongOption(f"{self.name}={word}: {self.kind} is wanted") from None
 
     def values(self) -> str:
         """Its values, and what it is where nothing is said."""
@@ -212,7 +205,9 @@ class Options:
         """The option of this name, in capitals or not, with `-` before it or not."""
         name = name.lstrip("-").lower()
         if name not in self.known:
-            raise BadOption(f"unknown option {name};{near(name, self.known)} -= lists the options")
+            raise WrongOption(
+                f"unknown option {name};{near(name, self.known)} -= lists the options"
+            )
         return self.known[name]
 
     def take(self, words: Iterable[str]) -> None:
@@ -224,7 +219,7 @@ class Options:
                 value = left.pop()[1:]
             option = self.find(name)  # an unknown one is told as that
             if not value and not left:
-                raise BadOption(f"no value for {name}")
+                raise WrongOption(f"no value for {name}")
             value = value or left.pop()
             self.put(option.name, option.read(value))
             self.given.append(f"{option.name}={value}")
@@ -235,7 +230,7 @@ class Options:
             try:
                 words = shlex.split(os.environ.get(name, ""))
             except ValueError:
-                raise BadOption(f"{name}: a quote does not end") from None
+                raise WrongOption(f"{name}: a quote does not end") from None
             self.take(words)
 
 

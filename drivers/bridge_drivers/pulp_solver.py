@@ -17,7 +17,8 @@ from typing import Any, Iterable, Mapping, Sequence
 import pulp
 
 from . import solvers
-from .interface import BridgeError, Report, solve
+from .interface import Report, solve
+from .system.errors import BridgeError
 
 FILES = ("mps", "json")  # the problem, and what is told of it
 MOST_BYTES = 255  # of a name in an MPS file

@@ -4,9 +4,10 @@ code that this earns. `tests/rulings.py` goes through all of it by tables."""
 from __future__ import annotations
 
 import enum
-from typing import NamedTuple
+from typing import NamedTuple, Sequence
 
-from .codes import Code
+from .system import errors
+from .system.codes import Code
 
 FINAL = ("optimal", "infeasible", "unbounded")  # claims that end the question
 NO_BOUND = "no bound is proved"
@@ -45,6 +46,26 @@ class Found(NamedTuple):
     is_open: bool = False
     checked: bool = True
     strict: bool = False
+
+
+# of each kind of error its code; the first class that an error is of counts
+CODES_OF_ERRORS: Sequence[tuple[type[errors.BridgeError], Code]] = (
+    (errors.TakesNoIntegers, Code.TAKES_NO_INTEGERS),
+    (errors.ModelRefused, Code.REFUSED),
+    (errors.ProgramFailed, Code.REFUSED),
+    (errors.WrongOption, Code.BAD_OPTION),
+    (errors.NotInstalled, Code.NOT_FOUND),
+    (errors.FileFault, Code.FILE),
+    (errors.SolverFailed, Code.NO_ANSWER),
+    (errors.NotReturned, Code.NOT_RETURNED),
+    (errors.RunInterrupted, Code.STOPPED),
+    (errors.BridgeError, Code.FAULT),
+)
+
+
+def code_of_error(error: errors.BridgeError) -> Code:
+    """AMPL's code of a run that ended by this error."""
+    return next(code for kind, code in CODES_OF_ERRORS if isinstance(error, kind))
 
 
 class Ruling(NamedTuple):

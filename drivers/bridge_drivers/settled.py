@@ -10,7 +10,7 @@ from typing import NamedTuple, Sequence
 from .program import verdict as verdicts
 from .answer import Answer
 from .certify.claims import Verdict
-from .codes import Code
+from .system.codes import Code
 from .miss import NONE, OWN, ROUNDING, Miss
 from .model.linear_program import TIED, Objective
 from .ruling import STRICT, At, Found, Misses, Ruling, ruled

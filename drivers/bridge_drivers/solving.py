@@ -12,9 +12,21 @@ from .answer import Answer
 from .program.bridge import Bridge, Refused
 from .certificates import Certifier, Kept
 from .certify.claims import WITHOUT, Verdict
-from .codes import Code, Failure, Status
+from .system.codes import Code, ExitStatus
+from .system.errors import (
+    BridgeError,
+    Damaged,
+    ModelRefused,
+    NotReturned,
+    NotStarted,
+    ProgramFailed,
+    SolverFailed,
+    TakesNoIntegers,
+    UnusableAnswer,
+    WrongOption,
+)
 from .files import Places
-from .formats.source import Damaged, Source
+from .formats.source import Source
 from .interrupts import Interrupted
 from .job import ANSWERS, Clock, Job
 from .mps_file import judged, reading
@@ -73,12 +85,12 @@ class Solving:
         self.gap = 0.0  # that is asked for
 
     def result(self) -> Result:
-        """The outcome. Failure where there is none."""
+        """The outcome. BridgeError where there is none."""
         kept = os.path.join(self.folder, "text.mps" if self.model.is_mps else "text.nl")
         try:
             path, notes = self.prepared(kept)
         except Damaged as fault:
-            raise Failure(fault.code, fault.text.replace(self.nl, self.model.name)) from None
+            raise Damaged(self.model.name, fault.reason) from None
         self.bridge.shown[path] = self.model.name
         if (
             self.options.keep
@@ -91,17 +103,13 @@ class Solving:
         except Refused as fault:
             return self.refused(fault, path)
         if program.whole and not self.solver.integers and not self.options.relax:
-            raise Failure(
-                Code.TAKES_NO_INTEGERS,
-                f"{self.solver.title} takes no integer variables, and the model has "
-                f"{len(program.whole)}; relax=1 drops that they are whole",
-            )
+            raise TakesNoIntegers(self.solver.title, len(program.whole))
         if self.options.only:
             return self.only_written(program)
         try:
             extra = shlex.split(self.options.extra)
         except ValueError:
-            raise Failure(Code.BAD_OPTION, "extra: a quote does not end") from None
+            raise WrongOption("extra: a quote does not end") from None
         self.gap = float(self.options.own.get("mipgap", 0.0))
         job = self.make_job(program, self.options, self.folder, self.solver_path, extra, self.clock)
         job.read = lambda line: self.solver.said(line, program)
@@ -115,8 +123,7 @@ class Solving:
             is_told = not any(word.startswith("shortest") for word in self.options.given)
             return prepared(self.nl, target, bool(self.options.shortest), is_told)
         if self.options.objno != 1:
-            raise Failure(
-                Code.REFUSED,
+            raise ModelRefused(
                 f"{self.model.name}: objno={self.options.objno}: no such "
                 "objective: the first N row of an MPS file is its objective, and its only one",
             )
@@ -156,7 +163,7 @@ class Solving:
                 f"{self.model.name}: objno={self.options.objno}: no such objective: the file "
                 f"has {header(nl).objectives}, and objno counts from 1"
             )
-        raise Failure(Code.REFUSED, line, Status.REFUSED if fault.status == 2 else Status.FAILED)
+        raise ModelRefused(line) if fault.status == ExitStatus.REFUSED else ProgramFailed(line)
 
     def only_written(self, program: Program) -> Result:
         """With only=mps: the text that the solver reads, beside the model, and how it is called with it."""
@@ -179,8 +186,8 @@ class Solving:
             )
         try:
             answer = self.asked(job, False)
-        except Failure as fault:
-            other = self.in_another_way(job, "was none") if fault.code == Code.NO_ANSWER else None
+        except SolverFailed:
+            other = self.in_another_way(job, "was none")
             if other is None:
                 raise
             answer = other
@@ -189,7 +196,7 @@ class Solving:
             answer = other if other is not None and other.is_good() else answer
         if answer.outcome.code == Code.INFEASIBLE_OR_UNBOUNDED and self.options.failexit:
             # MiniZinc would say that it is infeasible
-            raise Failure(Code.NO_ANSWER, f"{self.solver.title}: {answer.outcome.text}")
+            raise SolverFailed(self.solver.title, answer.outcome.text)
         return answer
 
     def asked(self, job: Job, again: bool) -> Answer:
@@ -207,18 +214,11 @@ class Solving:
         except (Unclear, BadValue, LookupError, ValueError, ArithmeticError) as fault:
             if job.is_interrupted:
                 raise Interrupted(signal.SIGINT) from None
-            ended = (
-                f"; it was ended by {signal.Signals(-job.status).name}" if job.status < 0 else ""
-            )
-            raise Failure(
-                Code.NO_ANSWER, f"{self.solver.title} gave no usable answer: {fault}{ended}"
-            ) from None
+            ended_by = signal.Signals(-job.status).name if job.status < 0 else ""
+            raise UnusableAnswer(self.solver.title, str(fault), ended_by) from None
         except OSError as fault:
-            raise Failure(
-                Code.NOT_FOUND,
-                f"{fault.filename or self.solver_path} could not be "
-                f"run or written: {fault.strerror}",
-            ) from None
+            path = str(fault.filename or self.solver_path)
+            raise NotStarted(path, str(fault.strerror), "run or written") from None
 
     def in_another_way(self, job: Job, was: str) -> Answer | None:
         """None where it was asked so before, or gives no answer. `was` says what the first answer was."""
@@ -226,7 +226,7 @@ class Solving:
             return None
         try:
             answer = self.asked(job, True)
-        except Failure:
+        except BridgeError:
             return None
         answer.outcome.notes.append(
             f"{self.solver.title} was asked once more {self.solver.again}: "
@@ -271,7 +271,7 @@ class Solving:
                 lines.append(f"{found.kind} point was found; objective {found.answer.objective()}")
             answer, sol = self.checked(certifier, found.answer, verdict, lines, before)
         except Refused as fault:
-            raise Failure(Code.NOT_RETURNED, f"return: {fault.line()}") from None
+            raise NotReturned(fault.line()) from None
         if self.options.outlev and verdict.figures:
             print(f"certificate: {verdict.figures}", flush=True)
         said = read(verdict.line) if verdict.is_proved() else None

@@ -17,7 +17,8 @@ from typing import Sequence
 from unittest import mock
 
 from support import NEEDS_CLP, NEEDS_PROGRAM, PROGRAM, Case
-from bridge_drivers.program.bridge import Bridge, Late
+from bridge_drivers.program.bridge import Bridge
+from bridge_drivers.system.errors import DeadlineExceeded
 from bridge_drivers.certify import text
 from bridge_drivers.certify.claims import Certifying, Given, Verdict, certified
 from bridge_drivers.certify.crowd import Crowd
@@ -413,7 +414,7 @@ class Limits(Certified):
             if words[0] != "verify":
                 return call(*words)
             self.assertIsNotNone(work.bridge.limit)
-            raise Late("verify")
+            raise DeadlineExceeded("verify")
 
         with mock.patch.object(work.bridge, "call", late):
             verdict = certified(work, "point", Given(KNAP))

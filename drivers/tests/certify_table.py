@@ -41,7 +41,8 @@ sys.path[:0] = [os.path.join(HERE, ".."), HERE]
 import families  # noqa: E402
 from bridge_drivers.program.bridge import BESIDE, Bridge, Refused, find  # noqa: E402
 from bridge_drivers.formats.file_kinds import stub_of  # noqa: E402
-from bridge_drivers.formats.source import Damaged, Workspace  # noqa: E402
+from bridge_drivers.formats.source import Workspace  # noqa: E402
+from bridge_drivers.system.errors import Damaged  # noqa: E402
 from bridge_drivers.inputs import subject  # noqa: E402
 
 SOURCES = (

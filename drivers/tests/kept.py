@@ -15,7 +15,8 @@ from models import MODELS, rows_of
 
 from bridge_drivers import files, solvers
 from bridge_drivers.program import verdict as verdicts
-from bridge_drivers.program.bridge import Bridge, Late, Reply
+from bridge_drivers.program.bridge import Bridge, Reply
+from bridge_drivers.system.errors import DeadlineExceeded
 from bridge_drivers.certificates import Kept, keep
 from bridge_drivers.files import Places, own_folder
 from bridge_drivers.model.linear_program import Program
@@ -91,7 +92,11 @@ class Certificates(Case):
         self.put(b"model")
         source.write_bytes(OPTIMAL)
         status = int(verdicts.read(says or "") is None)
-        reply = Reply(status, f"{says}\n".encode(), "") if says is not None else Late("verify")
+        reply = (
+            Reply(status, f"{says}\n".encode(), "")
+            if says is not None
+            else DeadlineExceeded("verify")
+        )
         with mock.patch.object(bridge, "call", side_effect=[reply]):
             return keep(
                 bridge, self.stub + ".nl", True, overwrite, str(source), line, target or self.target

@@ -30,7 +30,7 @@ from misleading import Misleading  # noqa: E402
 from misleading_kinds import EACH, models  # noqa: E402
 from support import Sol  # noqa: E402
 from bridge_drivers import certificates, solvers  # noqa: E402
-from bridge_drivers.codes import Code  # noqa: E402
+from bridge_drivers.system.codes import Code  # noqa: E402
 from bridge_drivers.driver import Driver  # noqa: E402
 from bridge_drivers.solving import Solving  # noqa: E402
 

@@ -7,7 +7,7 @@ import unittest
 from typing import Iterator
 
 from support import ALLOWED
-from bridge_drivers.codes import Code
+from bridge_drivers.system.codes import Code
 from bridge_drivers.ruling import FINAL, NO_BOUND, At, Found, Misses, Ruling, ruled
 
 SOLVED, UNSURE, LIMIT = Code.SOLVED, Code.UNSURE, Code.LIMIT

@@ -41,7 +41,8 @@ from support import (
 
 from bridge_drivers import VERSION, commands, front, solvers
 from bridge_drivers.certify.command import OPTIONS
-from bridge_drivers.codes import STATUSES, Status
+from bridge_drivers.system.codes import ExitStatus
+from bridge_drivers.commands import STATUS_TEXTS
 from bridge_drivers.options import COMMON
 
 DOCUMENTS = (
@@ -72,11 +73,11 @@ class Tables(unittest.TestCase):
     """What stands in several places agrees."""
 
     def test_statuses(self) -> None:
-        rows = "".join(f"| {int(status)} | {text} |\n" for status, text in STATUSES.items())
+        rows = "".join(f"| {int(status)} | {text} |\n" for status, text in STATUS_TEXTS.items())
         self.assertIn("| status | meaning |\n|---|---|\n" + rows, text_of("drivers/README.md"))
-        self.assertEqual(set(STATUSES), set(Status))
+        self.assertEqual(set(STATUS_TEXTS), set(ExitStatus))
         for status in commands.PROVED:
-            self.assertIn(STATUSES[status], commands.usage().replace("\n        ", " "))
+            self.assertIn(STATUS_TEXTS[status], commands.usage().replace("\n        ", " "))
 
     def test_options_that_are_named(self) -> None:
         """Words `name=..` of documents are options, and the README has each option in its table."""

@@ -23,7 +23,7 @@ from support import (
 from bridge_drivers import certificates, solvers
 from bridge_drivers.answer import Answer
 from bridge_drivers.certify.claims import Verdict
-from bridge_drivers.codes import Code
+from bridge_drivers.system.codes import Code
 from bridge_drivers.options import Options
 from bridge_drivers.model.linear_program import Program
 from bridge_drivers.settled import Facts, Settled, settled

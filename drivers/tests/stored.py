@@ -25,7 +25,7 @@ HERE = os.path.dirname(os.path.abspath(__file__))
 sys.path[:0] = [os.path.join(HERE, ".."), HERE]
 
 from bridge_drivers import solvers  # noqa: E402
-from bridge_drivers.codes import Status  # noqa: E402
+from bridge_drivers.system.codes import ExitStatus  # noqa: E402
 from bridge_drivers.job import ANSWERS  # noqa: E402
 from families import BINARY, drawn, listed, program  # noqa: E402
 from models import MODELS, is_solved, real, rows_of  # noqa: E402
@@ -113,7 +113,7 @@ def run(driver: str, text: bytes, options: Sequence[str], interrupt: float = 0.0
         if interrupt:
             time.sleep(interrupt)
             child.send_signal(signal.SIGINT)
-        if child.wait() not in (0, Status.INTERRUPTED if interrupt else 0):
+        if child.wait() not in (0, ExitStatus.INTERRUPTED if interrupt else 0):
             sys.exit(f"{driver}: status {child.returncode}")
         data = {path.name: path.read_bytes() for path in sorted(kept.iterdir())}
     logs = {

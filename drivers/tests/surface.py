@@ -25,7 +25,8 @@ from bridge_drivers.driver import Driver
 from bridge_drivers.names import Names
 from bridge_drivers.printable import near
 from bridge_drivers.nl import expression
-from bridge_drivers.options import BadOption, Option, Options, Range, words_of
+from bridge_drivers.options import Option, Options, Range, words_of
+from bridge_drivers.system.errors import WrongOption
 
 ASK = """source {folder}/completion
 COMP_WORDS=({words}) COMP_CWORD=$(({count} - 1))
@@ -97,12 +98,12 @@ class Help(unittest.TestCase):
 
 class Words(unittest.TestCase):
     def refused(self, told: str, *options: str) -> None:
-        with self.assertRaisesRegex(BadOption, told):
+        with self.assertRaisesRegex(WrongOption, told):
             Options().take(list(options))
 
     def test_did_you_mean(self) -> None:
         for word, meant in rows_of("surface", "near"):
-            with self.assertRaisesRegex(BadOption, f"did you mean `{meant}`\\?"):
+            with self.assertRaisesRegex(WrongOption, f"did you mean `{meant}`\\?"):
                 Command("cbc").options.take([word + "=1"])
         self.assertEqual(near("veryfy", commands.WORDS), " did you mean `verify`?")
         self.assertEqual(near("gap", commands.WORDS), "")
@@ -122,7 +123,7 @@ class Words(unittest.TestCase):
             if option.default != "":
                 self.assertEqual(option.read(str(option.default)), option.default)
             for bad in ("-1", "x", "nan", "1e400") if isinstance(option.kind, Range) else ():
-                with self.assertRaisesRegex(BadOption, f"{option.kind} is wanted"):
+                with self.assertRaisesRegex(WrongOption, f"{option.kind} is wanted"):
                     option.read(bad)
         for option in ("prove=2", "outlev=3", "wantsol=16", "objno=0", "only=lp", "format=nl"):
             self.refused(f"^{option}: .* is wanted$", option)
@@ -281,9 +282,7 @@ class Refusals(Case):
         self.nl = self.stub + ".nl"
 
     def line(self, told: str, *words: str, shown: str = "m.nl") -> str:
-        return refusal.in_words(
-            words or ("export", self.nl), "refused " + told, {self.nl: shown}
-        )
+        return refusal.in_words(words or ("export", self.nl), "refused " + told, {self.nl: shown})
 
     def test_lines(self) -> None:
         """Expressions, places, and the files of the words, among which a fault is counted."""

@@ -21,7 +21,7 @@ from bridge_drivers.certificates import Certifier
 from bridge_drivers.certify.claims import Certifying, Verdict, certified
 from bridge_drivers.certify.plans import Plans
 from bridge_drivers.certify.watch import Over, Watch
-from bridge_drivers.codes import Code, Status
+from bridge_drivers.system.codes import Code, ExitStatus
 from bridge_drivers.model.linear_program import Program
 from bridge_drivers.progress import Progress, detailed
 from bridge_drivers.solvers import statuses
@@ -245,7 +245,7 @@ class Each(Case):
                     real.driver, "", self.stub, "-AMPL", "-e", *real.options, run=runs[name]
                 )
                 if not real.codes:
-                    self.assertEqual(done.returncode, Status.INTERRUPTED)
+                    self.assertEqual(done.returncode, ExitStatus.INTERRUPTED)
                     self.assertIn(real.told, done.stderr)
                     self.assertFalse(os.path.exists(self.stub + ".sol"))
                     continue

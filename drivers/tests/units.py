@@ -20,8 +20,7 @@ from support import BIN, EXAMPLES, HERE, NEEDS_PROGRAM, Case, bridge as program
 from bridge_drivers import console, mps_file, nl, progress, sol, solvers, stats, values
 from bridge_drivers.program import bridge
 from bridge_drivers.program.bridge import Bridge, Refused, Reply
-from bridge_drivers.codes import Failure
-from bridge_drivers.formats.source import Damaged
+from bridge_drivers.system.errors import Damaged, NotInstalled
 from bridge_drivers.interrupts import SIGNALS, Interrupted, Signals, with_child
 from bridge_drivers.names import Names
 from bridge_drivers.model.linear_program import Program
@@ -207,8 +206,8 @@ class Files(Case):
                 bridge.find("", [os.path.join(other, "bridge")]), [os.path.join(other, "bridge")]
             )
         with mock.patch.dict(os.environ, {"PATH": other, "BRIDGE": ""}):
-            self.assertRaisesRegex(Failure, "is another program", bridge.find, "", [])
-        self.assertRaises(Failure, program(["/nonexistent/bridge"]).call, "export", "x")
+            self.assertRaisesRegex(NotInstalled, "is another program", bridge.find, "", [])
+        self.assertRaises(NotInstalled, program(["/nonexistent/bridge"]).call, "export", "x")
 
 
 class Terminal(io.StringIO):

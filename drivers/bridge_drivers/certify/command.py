@@ -10,9 +10,10 @@ import time
 from typing import Sequence
 
 from .. import console, interface, solvers
-from ..codes import Code, Failure, Status
+from ..system.codes import ExitStatus
+from ..system.errors import BridgeError, WrongOption
 from ..driver import Driver, Run
-from ..options import AMOUNT, FILE, SWITCH, BadOption, Option, Options, Text
+from ..options import AMOUNT, FILE, SWITCH, Option, Options, Text
 from ..solving import Result
 
 NAME = "bridge-certify"
@@ -55,19 +56,19 @@ class Finding(Run):
 
     def take_options(self) -> None:
         if self.words.ampl or self.words.save:
-            raise Failure(Code.BAD_OPTION, f"{NAME} writes no .sol")
+            raise WrongOption(f"{NAME} writes no .sol")
         super().take_options()
 
     def writes(self) -> bool:
         return False
 
-    def deliver(self, result: Result) -> Status:
+    def deliver(self, result: Result) -> ExitStatus:
         """Where nothing is proved, nothing is done."""
         status = super().deliver(result)
-        is_vain = status in (Status.DONE, Status.NOT_SETTLED) and result.lines[-1].startswith(
-            "not pr"
-        )
-        return Status.FAILED if is_vain else status
+        is_vain = status in (ExitStatus.DONE, ExitStatus.NOT_SETTLED) and result.lines[
+            -1
+        ].startswith("not pr")
+        return ExitStatus.FAILED if is_vain else status
 
 
 class Command(Finding, Driver):
@@ -82,7 +83,7 @@ class Command(Finding, Driver):
         given = self.options.certificate
         self.is_quiet = given == "-"
         if self.options.json and self.is_quiet:
-            raise Failure(Code.BAD_OPTION, "json=1 and certificate=- both want standard output")
+            raise WrongOption("json=1 and certificate=- both want standard output")
         kept = given or self.model.stub + ".certificate"
         self.options.certificate = self.workspace.new_path() if self.is_quiet else kept
 
@@ -91,7 +92,7 @@ class Command(Finding, Driver):
         kept = result.kept.line if result.kept and self.is_quiet else None
         return [line for line in super().lines(result) if line != kept]
 
-    def deliver(self, result: Result) -> Status:
+    def deliver(self, result: Result) -> ExitStatus:
         status = super().deliver(result)
         if self.options.own["stats"] and result.figures:
             print(
@@ -103,7 +104,7 @@ class Command(Finding, Driver):
                 shutil.copyfileobj(f, sys.stdout)
         return status
 
-    def failed(self, fault: Failure) -> int:
+    def failed(self, fault: BridgeError) -> int:
         status = super().failed(fault)
         if os.path.isfile(self.options.certificate) and not self.is_quiet:
             sys.stderr.write(f"{NAME}: {self.options.certificate} stays as it was\n")
@@ -118,7 +119,7 @@ def solver_of(argv: Sequence[str]) -> str:
 def run(argv: Sequence[str]) -> int:
     try:
         command = Command(solver_of(argv))
-    except BadOption as fault:
+    except WrongOption as fault:
         return Command(solvers.NAMES[0]).failed(fault)
     return interface.reported(command, argv)
 

@@ -19,7 +19,8 @@ from .short import shortened
 from .text import Naming
 from .watch import Watch
 from ..exact.dual_bound import Multipliers, bit_width, dual_bound, fits_certificate
-from ..program.bridge import Bridge, Late, Refused
+from ..system.errors import DeadlineExceeded
+from ..program.bridge import Bridge, Refused
 from ..files import naming
 from ..model.linear_program import Program
 
@@ -154,7 +155,7 @@ class Judging:
             self.watch.progress.tell("bridge verify")
             with self.watch.held():
                 reply = self.bridge.call("verify", self.nl, self.path)
-        except Late:
+        except DeadlineExceeded:
             return Verdict(WITHOUT + "time: bridge verify was ended before its verdict", point)
         finally:
             self.bridge.limit = None

@@ -7,7 +7,7 @@ from typing import NamedTuple
 from ..program import verdict as verdicts
 from ..program.bridge import Refused
 from ..certify.model import Unfit, model_of
-from ..codes import Status
+from ..system.codes import ExitStatus
 from ..files import Places
 from ..inputs import Subject
 from ..interface import Report
@@ -117,7 +117,7 @@ def explained(model: Subject, files: Files, report: Report) -> None:
     verdict = model.bridge.verdict("verify", model.path, files.judged())
     told = Explaining(model, files, verdict, verdicts.read(verdict) is not None)
     report.take_line(verdict)
-    report.status = Status.DONE if told.holds else Status.FAILED
+    report.status = ExitStatus.DONE if told.holds else ExitStatus.FAILED
     lines = [*map(in_a_line, told.lines()), *model.notes]
     places = Places([model.given.path, model.given.name, files.certificate], files.overwrite)
     for path, text in ((files.html, told.page), (files.svg, told.picture)):
@@ -126,6 +126,6 @@ def explained(model: Subject, files: Files, report: Report) -> None:
                 places.write(path, text().encode("utf-8", "backslashreplace"))
                 lines.append(f"{path} is written")
             except OSError as fault:
-                report.status = Status.UNWRITTEN
+                report.status = ExitStatus.UNWRITTEN
                 lines.append(f"{path} is not written: {fault.strerror or fault}")
     report.lines, report.explained = lines, told.object()

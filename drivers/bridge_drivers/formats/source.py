@@ -21,7 +21,7 @@ import zlib
 from dataclasses import dataclass, field, replace
 from typing import BinaryIO, Iterator, NamedTuple, Optional, Sequence, Tuple
 
-from ..codes import Code, Failure, Status
+from ..system.errors import Damaged, NoModel, TooLarge
 from . import file_kinds
 from .mps_repair import repair_mps
 
@@ -48,20 +48,6 @@ class Limits(NamedTuple):
 
     def most_unpacked(self, packed: int) -> int:
         return min(self.most_bytes, max(self.free_bytes, self.most_ratio * packed))
-
-
-class Damaged(Failure):
-    """A packed or binary file that cannot be read."""
-
-    def __init__(self, text: str) -> None:
-        super().__init__(Code.REFUSED, text)
-
-
-class TooLarge(Failure):
-    """A source that goes on past its limit."""
-
-    def __init__(self, text: str) -> None:
-        super().__init__(Code.REFUSED, text)
 
 
 @dataclass(frozen=True)
@@ -187,11 +173,11 @@ def read_source(name: str, workspace: Workspace, limits: Limits = Limits()) -> S
             unpacked = packing.unpack(io.BufferedReader(whole))
             copy = _copied(source, unpacked, workspace, whole, limits)
         except DAMAGES as fault:
-            text = f"{name}: the packed file ends too soon or is damaged ({fault})"
-            raise Damaged(text) from None
+            reason = f"the packed file ends too soon or is damaged ({fault})"
+            raise Damaged(name, reason) from None
         except OSError as fault:
             if fault.errno is None:  # of gzip and bz2
-                raise Damaged(f"{name}: the packed file is damaged ({fault})") from None
+                raise Damaged(name, f"the packed file is damaged ({fault})") from None
             raise
     note = f"what is judged is the text that {os.path.basename(name)} unpacks to"
     return _with_kind(replace(copy, notes=(note,)))
@@ -201,13 +187,12 @@ def read_model(word: str, workspace: Workspace, limits: Limits = Limits()) -> So
     """The model that a word names; what other programs write in MPS is repaired in a copy.
 
     Raises:
-        Failure: There is no such file.
+        NoModel: There is no such file.
         OSError, Damaged, TooLarge: As `read_source`.
     """
     name = name_of_model(word)
     if not is_stream(name) and not os.path.isfile(name):
-        text = file_kinds.explain_missing_model(word)
-        raise Failure(Code.FILE, text, Status.UNREAD)
+        raise NoModel(word, file_kinds.explain_missing_model(word))
     source = read_source(name, workspace, limits)
     if not source.is_mps:
         return source
@@ -265,7 +250,7 @@ def _copied(
             assert piece is not None
             size += len(piece)
             if size > (limits.most_unpacked(packed.count) if packed else limits.most_bytes):
-                raise TooLarge(f"{source.name}: it is larger than is read, {size} bytes or more")
+                raise TooLarge(source.name, size)
             start += piece[: file_kinds.LOOKED_AT - len(start)]
             digest.update(piece)
             copy.write(piece)

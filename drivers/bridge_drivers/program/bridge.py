@@ -13,7 +13,8 @@ import tempfile
 from typing import Callable, Mapping, NamedTuple, Sequence
 
 from . import refusal
-from ..codes import Code, Failure, Status
+from ..system.codes import ExitStatus
+from ..system.errors import DeadlineExceeded, NotFound, NotInstalled, NotStarted
 from ..interrupts import with_child
 
 PACKAGE = os.path.dirname(os.path.dirname(os.path.abspath(__file__)))
@@ -56,13 +57,13 @@ class Refused(Exception):
         self.words, self.shown = list(words), shown or {}
 
     def line(self) -> str:
-        if self.status == Status.BAD_WORDS and not all(map(is_plain, self.words)):
+        if self.status == ExitStatus.BAD_WORDS and not all(map(is_plain, self.words)):
             return "a path that is not UTF-8"
-        if self.status == Status.BAD_WORDS:
+        if self.status == ExitStatus.BAD_WORDS:
             return f"this bridge does not know the command `{self.command}` (bad words)"
         if self.status < 0:
             return f"`bridge {self.command}` was stopped by signal {-self.status}"
-        if self.status == Status.UNREAD and self.words:
+        if self.status == ExitStatus.UNREAD and self.words:
             return refusal.unreadable(refusal.files_of(self.words), self.shown)
         text = self.told or ENDED.get(self.status, f"ended with {self.status}")
         return refusal.in_words(self.words, text, self.shown)
@@ -79,7 +80,7 @@ def is_ours(place: str) -> bool:
         ran = subprocess.run([place], stdin=subprocess.DEVNULL, capture_output=True, timeout=20)
     except (OSError, subprocess.TimeoutExpired):
         return False
-    return ran.returncode == Status.BAD_WORDS and ran.stderr.strip() == b"bad words"
+    return ran.returncode == ExitStatus.BAD_WORDS and ran.stderr.strip() == b"bad words"
 
 
 def find(named: str, beside: Sequence[str]) -> list[str]:
@@ -89,7 +90,7 @@ def find(named: str, beside: Sequence[str]) -> list[str]:
         try:
             return shlex.split(told)
         except ValueError:
-            raise Failure(Code.NOT_FOUND, f"bridge={told}: a quote does not end") from None
+            raise NotInstalled(f"bridge={told}: a quote does not end") from None
     for place in beside:
         if os.access(place, os.X_OK) and not os.path.isdir(place):
             return [place]
@@ -100,8 +101,8 @@ def find(named: str, beside: Sequence[str]) -> list[str]:
     ours = next(filter(is_ours, named_so), "")
     if ours:
         return [ours]
-    other = f" ({named_so[0]} is another program)" if named_so else ""
-    raise Failure(Code.NOT_FOUND, f"bridge was not found{other}: give bridge=PATH or set BRIDGE")
+    other = named_so[0] if named_so else ""
+    raise NotFound("bridge", "give bridge=PATH or set BRIDGE", other)
 
 
 def sum_of(path: str | None) -> str | None:
@@ -130,10 +131,6 @@ def built(program: str) -> Mapping[str, str]:
     return {}
 
 
-class Late(Exception):
-    """A call that went on past its limit, and was ended."""
-
-
 class Bridge:
     """Calls of `bridge`. `note` is told the words of each; `limit` is for one call, in seconds. `shown` has the paths
     that the user knows files by, `spelled` commands that stand for others (`verify_mps` for `verify`).
@@ -159,9 +156,9 @@ class Bridge:
                 stderr=subprocess.PIPE,
             )
         except OSError as fault:
-            raise Failure(Code.NOT_FOUND, f"{argv[0]} could not be run: {fault.strerror}") from None
+            raise NotStarted(argv[0], str(fault.strerror)) from None
         except subprocess.TimeoutExpired:
-            raise Late(words[0]) from None
+            raise DeadlineExceeded(words[0]) from None
 
     def reply(self, child: subprocess.Popen[bytes]) -> Reply:
         out, told = child.communicate(timeout=self.limit)

@@ -9,7 +9,7 @@ import shutil
 from dataclasses import dataclass, field
 from typing import TYPE_CHECKING, Mapping, Sequence
 
-from ..codes import Code
+from ..system.codes import Code
 from ..options import SHARE, Option
 from ..values import Number
 from .statuses import TIME, Says

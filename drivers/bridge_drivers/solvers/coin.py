@@ -9,7 +9,7 @@ import struct
 from array import array
 from typing import TYPE_CHECKING
 
-from ..codes import Code
+from ..system.codes import Code
 from ..options import Option
 from ..values import Named
 from .base import (

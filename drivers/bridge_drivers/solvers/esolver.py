@@ -5,7 +5,7 @@ from __future__ import annotations
 
 from fractions import Fraction
 
-from ..codes import Code
+from ..system.codes import Code
 from ..job import Job
 from ..model.linear_program import Program
 from ..values import Named

@@ -2,7 +2,7 @@
 
 from __future__ import annotations
 
-from ..codes import Code
+from ..system.codes import Code
 from ..job import Job, Ran
 from ..options import SWITCH, Option
 from ..model.linear_program import Program

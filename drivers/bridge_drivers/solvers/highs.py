@@ -9,7 +9,7 @@ import shutil
 import subprocess
 from typing import Any
 
-from ..codes import Code
+from ..system.codes import Code
 from ..job import Job
 from ..model.linear_program import Program
 from .base import GAP, Outcome, Solver, Unclear, outcome, read_lines, without_answer

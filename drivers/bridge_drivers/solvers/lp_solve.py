@@ -3,7 +3,7 @@ what it prints too, so that a column at 1e30 may have no end."""
 
 from __future__ import annotations
 
-from ..codes import Code
+from ..system.codes import Code
 from ..job import Job
 from ..model.linear_program import Program
 from .base import GAP, Outcome, Solver, Unclear, outcome, stopped, without_answer

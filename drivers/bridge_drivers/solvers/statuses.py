@@ -5,7 +5,7 @@ from __future__ import annotations
 
 from typing import NamedTuple, Sequence
 
-from ..codes import Code
+from ..system.codes import Code
 from ..texts import tables
 
 TIME, OPTIMAL = "the time limit", "optimal solution"

@@ -14,11 +14,10 @@ from typing import Callable
 
 import pytest
 
-from bridge_drivers.codes import Failure, Status
+from bridge_drivers.system.codes import ExitStatus
+from bridge_drivers.system.errors import Damaged, NoModel, TooLarge
 from bridge_drivers.formats.source import (
-    Damaged,
     Limits,
-    TooLarge,
     Workspace,
     read_model,
     read_source,
@@ -172,6 +171,6 @@ def test_what_is_repaired_is_a_copy(tmp_path: Path, workspace: Workspace) -> Non
 
 @pytest.mark.parametrize("word", ["missing", ".", "/nonexistent/m.nl"])
 def test_what_is_no_model(tmp_path: Path, workspace: Workspace, word: str) -> None:
-    with pytest.raises(Failure) as caught:
+    with pytest.raises(NoModel) as caught:
         read_model(str(tmp_path / word), workspace)
-    assert caught.value.status is Status.UNREAD
+    assert caught.value.status is ExitStatus.UNREAD

@@ -1,0 +1,1 @@
+"""Files, processes, words and errors: what every other package stands on. Nothing here knows models."""

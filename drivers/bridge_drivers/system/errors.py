@@ -1,0 +1,235 @@
+"""The one hierarchy of exceptions: why a run has no answer.
+
+Each class carries the values that it is about and makes its text of them, so that a caller can
+tell errors apart without reading sentences. Each knows the exit status of a command that ends by
+it; AMPL's code of each is decided by `ruling.code_of_error`.
+"""
+
+from __future__ import annotations
+
+import enum
+from typing import Any
+
+from .codes import ExitStatus
+
+
+class BridgeError(Exception):
+    """There is no answer: the solver gave none, or something is at fault.
+
+    Attributes:
+        reason: Why, in words that can stand behind what it is about.
+        status: The exit status of a command that ends by this.
+        report: What the command would tell with json=1 (a `Report` of the package's calls, which
+            this layer does not know). None until an error leaves such a call.
+    """
+
+    status: int = ExitStatus.FAILED
+    report: Any = None
+
+    def __init__(self, reason: str) -> None:
+        # `args` stay the values of the class at hand, by which a copy of it is made in another process
+        self.reason = reason
+
+    @property
+    def code(self) -> int | None:
+        """AMPL's code where a driver failed; None of other calls."""
+        return None if self.report is None else self.report.code
+
+    @property
+    def text(self) -> str:
+        """What it says, in one line."""
+        return " ".join(self.describe().split("\n"))
+
+    def describe(self) -> str:
+        """What it says, made of its values."""
+        return self.reason
+
+    def __str__(self) -> str:
+        return self.text if self.report is None else str(self.report.text)
+
+
+class ModelRefused(BridgeError):
+    """The model, or a certificate, is refused: the text says where and why."""
+
+    status = ExitStatus.REFUSED
+
+
+class Damaged(ModelRefused):
+    """A packed or binary file that cannot be read."""
+
+    def __init__(self, path: str, reason: str) -> None:
+        super().__init__(reason)
+        self.path = path
+
+    def describe(self) -> str:
+        return f"{self.path}: {self.reason}"
+
+
+class TooLarge(ModelRefused):
+    """A source that goes on past its limit; `size` bytes were read of it until then."""
+
+    def __init__(self, path: str, size: int) -> None:
+        super().__init__(f"it is larger than is read, {size} bytes or more")
+        self.path = path
+        self.size = size
+
+    def describe(self) -> str:
+        return f"{self.path}: {self.reason}"
+
+
+class TakesNoIntegers(ModelRefused):
+    """The solver takes no integer variables, and the model has some."""
+
+    def __init__(self, solver: str, integers: int) -> None:
+        super().__init__(f"the model has {integers} integer variables")
+        self.solver = solver
+        self.integers = integers
+
+    def describe(self) -> str:
+        return (
+            f"{self.solver} takes no integer variables, and the model has {self.integers}; "
+            "relax=1 drops that they are whole"
+        )
+
+
+class WrongOption(BridgeError):
+    """An unknown option, a value out of its range, or words that no command takes."""
+
+    status = ExitStatus.BAD_WORDS
+
+
+class FileAction(enum.Enum):
+    """What was tried with a file."""
+
+    READ = ExitStatus.UNREAD
+    WRITE = ExitStatus.UNWRITTEN
+
+
+class FileFault(BridgeError):
+    """A file cannot be read or written; `path` is empty where the reason names it."""
+
+    def __init__(self, path: str, reason: str, action: FileAction) -> None:
+        super().__init__(reason)
+        self.path = path
+        self.action = action
+        self.status = action.value
+
+    def describe(self) -> str:
+        return f"{self.path}: {self.reason}" if self.path else self.reason
+
+    @staticmethod
+    def of(fault: OSError, path: str, action: FileAction) -> FileFault:
+        """A fault of the system; `path` is told where it has no file of its own."""
+        return FileFault(str(fault.filename or path), str(fault.strerror), action)
+
+
+class NoModel(FileFault):
+    """The word of a call names no model; the reason is a whole sentence on what stands there."""
+
+    def __init__(self, word: str, reason: str) -> None:
+        super().__init__(word, reason, FileAction.READ)
+
+    def describe(self) -> str:
+        return self.reason
+
+
+class NotInstalled(BridgeError):
+    """The proved program, a solver or a library is not there, or cannot be started."""
+
+    status = ExitStatus.NOT_THERE
+
+
+class NotFound(NotInstalled):
+    """A program was found nowhere; `remedy` says what helps."""
+
+    def __init__(self, program: str, remedy: str, other: str = "") -> None:
+        super().__init__("was not found")
+        self.program = program
+        self.remedy = remedy
+        self.other = other  # a program of the same name that is another one
+
+    def describe(self) -> str:
+        other = f" ({self.other} is another program)" if self.other else ""
+        return f"{self.program} was not found{other}: {self.remedy}"
+
+
+class NotStarted(NotInstalled):
+    """A program that is there cannot be run; `tried` says what was tried."""
+
+    def __init__(self, program: str, reason: str, tried: str = "run") -> None:
+        super().__init__(reason)
+        self.program = program
+        self.tried = tried
+
+    def describe(self) -> str:
+        return f"{self.program} could not be {self.tried}: {self.reason}"
+
+
+class SolverFailed(BridgeError):
+    """The solver ended without an answer that can be used."""
+
+    def __init__(self, solver: str, reason: str) -> None:
+        super().__init__(reason)
+        self.solver = solver
+
+    def describe(self) -> str:
+        return f"{self.solver}: {self.reason}"
+
+
+class UnusableAnswer(SolverFailed):
+    """The solver's answer is missing or makes no sense; `ended_by` names the signal that ended it."""
+
+    def __init__(self, solver: str, reason: str, ended_by: str = "") -> None:
+        super().__init__(solver, reason)
+        self.ended_by = ended_by
+
+    def describe(self) -> str:
+        ended = f"; it was ended by {self.ended_by}" if self.ended_by else ""
+        return f"{self.solver} gave no usable answer: {self.reason}{ended}"
+
+
+class ProgramFailed(BridgeError):
+    """The proved program ended without its answer, and not since it refuses the model."""
+
+
+class NotReturned(BridgeError):
+    """The proved program does not take the solver's answer back."""
+
+    def describe(self) -> str:
+        return f"return: {self.reason}"
+
+
+class DriverFault(BridgeError):
+    """A fault of the drivers themselves."""
+
+    def describe(self) -> str:
+        return f"a fault of the driver: {self.reason} (outlev=2 shows where)"
+
+
+class RunInterrupted(BridgeError):
+    """A signal ended the run."""
+
+    def __init__(self, number: int) -> None:
+        super().__init__("interrupted")
+        self.number = number
+        self.status = ExitStatus(128 + number)
+
+
+class SearchEnded(BridgeError):
+    """A search ended without a tree; the reason says why."""
+
+
+class SearchPaused(SearchEnded):
+    """The time or the nodes that a search had are over: it can go on."""
+
+
+class DeadlineExceeded(SearchPaused):
+    """The time of a search or of a call is over."""
+
+
+class NodeLimit(SearchPaused):
+    """A search has visited as many nodes as it may."""
+
+    def __init__(self, nodes: int) -> None:
+        super().__init__(f"more than {nodes} nodes")
+        self.nodes = nodes
