@@ -12,7 +12,7 @@ from support import NEEDS_CLP, NEEDS_PROGRAM, Case
 from bridge_drivers.certify import points, spine
 from bridge_drivers.certify.claims import Given, certified
 from bridge_drivers.certify.clp import State
-from bridge_drivers.certify.model import Box, Model
+from bridge_drivers.model.integer_form import Box, IntegerProgram, Row
 from bridge_drivers.certify.simplex import Ended, Simplex
 from bridge_drivers.exact.dual_bound import MultiplierKind, is_optimal_in_doubles
 from bridge_drivers.exact.leaf_proofs import LeafProver, from_fractions
@@ -24,7 +24,7 @@ from models import BINARY, MODELS, nl, real, whole
 MOST_STEPS = 3000
 
 
-def program(rng: random.Random, n: int, m: int) -> Model:
+def program(rng: random.Random, n: int, m: int) -> IntegerProgram:
     """Of n columns and m rows of all kinds, with ranges, free columns, and small numbers."""
     columns, rows, costs = [], [], ["1", "-2", "0.5", "3", "-1e-12", "0"]
     for _ in range(n):
@@ -43,7 +43,7 @@ def program(rng: random.Random, n: int, m: int) -> Model:
     return built(columns, rows, rng.choice(["min", "max"]), [rng.choice(costs) for _ in range(n)])
 
 
-def ended(p: Model, rng: random.Random) -> Ended:
+def ended(p: IntegerProgram, rng: random.Random) -> Ended:
     """From a basis of any columns, and any values."""
     steps = itertools.count()
 
@@ -63,7 +63,7 @@ class Fractions(TestCase):
         for seed in range(400):
             rng = random.Random(seed)
             p = program(rng, rng.randint(1, 8), rng.randint(1, 7))
-            found, box = ended(p, rng), Box(p.lo, p.hi)
+            found, box = ended(p, rng), Box(p.lower, p.upper)
             claims.add(found.claim)
             with self.subTest(seed=seed, claim=found.claim):
                 if found.claim == "infeasible":
@@ -72,9 +72,9 @@ class Fractions(TestCase):
                     self.assertIsNotNone(proof)
                     continue
                 assert found.point is not None
-                self.assertTrue(p.fits(found.point))
+                self.assertTrue(p.is_feasible(found.point))
                 if found.claim == "unbounded":
-                    self.assertTrue(points.is_ray(p.cone(), found.ray))
+                    self.assertTrue(points.is_ray(p.recession_cone(), found.ray))
                 else:
                     prover = LeafProver(p, p.value(found.point))
                     proof = prover.prove(from_fractions(p, found.rows, MultiplierKind.DUAL), box)
@@ -132,7 +132,7 @@ class Programs(Case):
                 continue
             closed += 1
             self.assertFalse(model.best is None or model.is_endless, model.name)
-            terms = [float(c) * v for c, v in zip(p.cost, clp.values())]
+            terms = [float(c) * v for c, v in zip(p.cost_fractions, clp.values())]
             self.assertLessEqual(
                 abs(p.sign * sum(terms) - float(model.best)),
                 1e-6 * max(1.0, sum(map(abs, terms))),
@@ -195,7 +195,7 @@ class Cliques(Case):
         near = spine.conflicts(p)
         self.assertEqual(near[(0, 1)], {(1, 1), (2, 1)})
         self.assertEqual(near[(1, -1)], {(2, -1)})
-        q = p.with_rows([({1: 1, 2: 1}, None, 1)])
+        q = p.with_rows([Row({1: 1, 2: 1}, None, 1)])
         found = list(spine.cliques(q, [0.5, 0.5, 0.5]))
         self.assertEqual(
             [(c.violation, c.coefficients, c.rhs) for c in found], [(0.5, {0: 1, 1: 1, 2: 1}, 1)]

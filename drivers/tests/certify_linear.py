@@ -13,7 +13,7 @@ from support import NEEDS_CLP, NEEDS_PROGRAM
 from bridge_drivers.certify import bases, short
 from bridge_drivers.certify.claims import Given, certified
 from bridge_drivers.certify.clp import State
-from bridge_drivers.certify.model import Box, Model, over_one
+from bridge_drivers.model.integer_form import Box, IntegerProgram, over_common_denominator
 from bridge_drivers.exact.dual_bound import MultiplierKind, Multipliers, bit_width, dual_bound
 from bridge_drivers.exact.linear_systems import NotSolved, scipy_or_none
 from families import made, uneven
@@ -25,7 +25,7 @@ NEEDS_SCIPY = unittest.skipUnless(scipy_or_none(), "no SciPy")
 OPTIMUM = [F(17, 13), F(1, 26)]
 
 
-def two() -> Model:
+def two() -> IntegerProgram:
     """min 2 x0 + 3 x1; both rows are tight at the optimum."""
     return built(
         [real(), real(0, 7)],
@@ -35,7 +35,7 @@ def two() -> Model:
     )
 
 
-def rounding(p: Model) -> short.Rounding:
+def rounding(p: IntegerProgram) -> short.Rounding:
     """From CLP's optimum."""
     clp = p.relaxation()
     assert clp.solve() is State.OPTIMAL
@@ -102,14 +102,14 @@ class Shorts(TestCase):
         """Columns without an upper bound, of which rounding leaves a reduced cost below 0."""
         p = two().with_bounds([0, 0], [None, None])
         leaf = Multipliers({0: 93, 1: -76}, 100, MultiplierKind.DUAL)
-        judged = dual_bound(p, leaf, Box(p.lo, p.hi))
+        judged = dual_bound(p, leaf, Box(p.lower, p.upper))
         self.assertEqual(judged.unbounded_columns, [0])
         found = short.met_exactly(p, leaf, judged)
         self.assertEqual((found.judged.unbounded_columns, found.judged.reduced_costs[0]), ([], 0))
         self.assertLess(abs(found.bound() - F(71, 26)), F(1, 10))
         leaf = Multipliers({0: 10}, 10, MultiplierKind.DUAL)
         fixed = p.with_bounds([0, 0], [None, None]).with_costs([F(2), F(1)])
-        judged = dual_bound(fixed, leaf, Box(p.lo, p.hi))
+        judged = dual_bound(fixed, leaf, Box(p.lower, p.upper))
         self.assertEqual(judged.unbounded_columns, [0, 1])
         self.assertIsNone(short.met_exactly(fixed, leaf, judged))
 
@@ -118,9 +118,9 @@ class Shorts(TestCase):
         """Near the optimum, within rows and bounds."""
         p = two()
         found = next(rounding(p).points())
-        self.assertTrue(p.fits(found.point))
+        self.assertTrue(p.is_feasible(found.point))
         self.assertLess(p.value(found.point) - p.value(OPTIMUM), F(1, 10**7))
-        self.assertLessEqual(over_one(found.point)[1], 10**9)
+        self.assertLessEqual(over_common_denominator(found.point)[1], 10**9)
 
     @NEEDS_CLP
     def test_step_by_step(self) -> None:
@@ -141,7 +141,7 @@ class Shorts(TestCase):
         self.assertIsNone(made.solved(9))
         found = next(made.points())
         self.assertEqual(found.way, "rounding is taken up by a basis of 1 equation and 1 row")
-        self.assertTrue(p.fits(found.point))
+        self.assertTrue(p.is_feasible(found.point))
         self.assertLess(abs(p.value(found.point) - F("2.617004048583")), F(1, 10**6))
 
 
@@ -193,10 +193,10 @@ class Linear(Certified):
 
     def test_basis_of_equations(self) -> None:
         """Equations of which none has a column of its own: what rounding leaves goes through a basis of them."""
-        p = Model(self.work(made("decimal_flow", 300)).program, {}, 18)
+        p = IntegerProgram(self.work(made("decimal_flow", 300)).program, {}, 18)
         found = next(rounding(p).points())
         self.assertEqual(found.way, "rounding is taken up by a basis of 18 equations")
-        self.assertTrue(p.fits(found.point))
+        self.assertTrue(p.is_feasible(found.point))
 
     def test_whole_data(self) -> None:
         """The answer's basis is enough, with SciPy or without."""
@@ -261,7 +261,7 @@ class Linear(Certified):
         work, verdict = self.verdict(text)
         self.assertEqual(verdict.claim(), "optimal", verdict.line)
         for found in rounding(work.model).points():
-            self.assertTrue(work.model.fits(found.point))
+            self.assertTrue(work.model.is_feasible(found.point))
 
     def test_pairs(self) -> None:
         """Badly scaled equations, whose fractions together are too wide for the objective."""

@@ -11,7 +11,7 @@ from unittest import TestCase
 from support import Case
 from bridge_drivers import miss
 from bridge_drivers.certify import directions, equations, points, text
-from bridge_drivers.certify.model import Model, Unfit
+from bridge_drivers.model.integer_form import IntegerProgram, Row, UnsupportedModel
 from bridge_drivers.certify.plans import LEAST_TURN, Plan, Plans
 from bridge_drivers.certify.text import Naming
 from bridge_drivers.exact.dual_bound import MultiplierKind, Multipliers
@@ -42,7 +42,7 @@ STEEP = exported(
 )
 
 
-def built(columns, rows=(), sense: str = "min", costs=()) -> Model:
+def built(columns, rows=(), sense: str = "min", costs=()) -> IntegerProgram:
     """Of the words of `models.nl`, in any order of kinds; costs by column."""
     at, signs = dict(enumerate(costs)), [
         "L" if lo is None else "E" if lo == hi else "G" for lo, hi, _ in rows
@@ -69,12 +69,12 @@ def built(columns, rows=(), sense: str = "min", costs=()) -> Model:
     for j, (_, lo, hi) in enumerate(columns):
         text += [f" FR BND x{j}"] if lo is None else [f" LO BND x{j} {lo}"]
         text += [] if hi is None else [f" UP BND x{j} {hi}"]
-    return Model("\n".join([*text, "ENDATA", ""]).encode(), {}, len(rows))
+    return IntegerProgram("\n".join([*text, "ENDATA", ""]).encode(), {}, len(rows))
 
 
-def model() -> Model:
+def model() -> IntegerProgram:
     """max x0 + 2 x1 + 1/2; the row c0 was written times 2, the row c1 has no sides."""
-    return Model(TEXT, {0: 2}, 3)
+    return IntegerProgram(TEXT, {0: 2}, 3)
 
 
 class Numbers(TestCase):
@@ -97,29 +97,29 @@ class Numbers(TestCase):
 class Models(TestCase):
     def test_program(self) -> None:
         p = model()
-        self.assertEqual((p.n, p.m, p.sign, p.whole), (3, 3, -1, [False, True, True]))
+        self.assertEqual((p.n, p.m, p.sign, p.is_integer), (3, 3, -1, [False, True, True]))
         self.assertEqual(
-            [[(j, F(a, p.scale)) for j, a in row] for row in p.rows],
+            [[(j, F(a, p.row_scale)) for j, a in row] for row in p.rows],
             [[(0, F(3, 2)), (1, 2), (2, -1)], [], [(1, 2), (2, 4)]],
         )
-        self.assertEqual([s and F(s, p.unit) for s in p.side_lo], [None, None, 1])
-        self.assertEqual([s and F(s, p.unit) for s in p.side_hi], [3, None, 5])
-        self.assertEqual((p.value([F(1), F(1), F(0)]), p.step()), (F(-7, 2), None))
-        self.assertTrue(p.fits([F(2, 3), F(1), F(0)]))
+        self.assertEqual([s and F(s, p.bound_scale) for s in p.row_lower], [None, None, 1])
+        self.assertEqual([s and F(s, p.bound_scale) for s in p.row_upper], [3, None, 5])
+        self.assertEqual((p.value([F(1), F(1), F(0)]), p.objective_lattice()), (F(-7, 2), None))
+        self.assertTrue(p.is_feasible([F(2, 3), F(1), F(0)]))
         for x in (
             [F(2, 3), F(1, 2), F(0)],
             [F(1), F(1), F(0)],
             [F(0), F(0), F(0)],
             [F(-9), F(3), F(0)],
         ):
-            self.assertFalse(p.fits(x), x)
+            self.assertFalse(p.is_feasible(x), x)
 
     def test_step(self) -> None:
         p = model().with_costs([F(0), F(3, 2), F(-9, 4)])
-        self.assertEqual(p.step(), (F(3, 4), {1: 2, 2: -3}))
+        self.assertEqual(p.objective_lattice(), (F(3, 4), {1: 2, 2: -3}))
 
     def test_unfit(self) -> None:
-        self.assertRaises(Unfit, Model, TEXT.replace(b" x2 ", b" x7 "), {}, 3)
+        self.assertRaises(UnsupportedModel, IntegerProgram, TEXT.replace(b" x2 ", b" x7 "), {}, 3)
 
     def test_miss(self) -> None:
         program = Program(TEXT)
@@ -166,7 +166,7 @@ class Models(TestCase):
             program, x = Program(text), {"x0": "1", "x1": "2"}
             self.assertEqual(miss.miss(program, x, ["x0", "x1"]).is_much(), is_much)
             self.assertFalse(miss.miss(program, x, ["x0"]).is_much())
-            p = Model(text, {}, 1).with_whole([True, True])
+            p = IntegerProgram(text, {}, 1).with_integers([True, True])
             self.assertEqual(points.broken(p, [1.0, 2.0]) > F(1, 10**12), is_much)
 
 
@@ -182,7 +182,7 @@ class Texts(Case):
                 (Multipliers({}, 1, MultiplierKind.DUAL), ()),
             )
         )
-        q = p.with_rows([({1: 1, 2: 2}, None, None)])
+        q = p.with_rows([Row({1: 1, 2: 2})])
         tree = [Split(1, 0), Split(6, 4), b, Split(6, 6), b, a, Split(2, -1), EmptyDomain(2, 0), c]
         self.assertEqual((node_count(tree), rows_used(tree)), (11, {3}))
         self.assertEqual(
@@ -280,14 +280,14 @@ class Points(TestCase):
         self.assertEqual(found, [F(2, 3), F(1), F(0)])
 
     def test_ray(self) -> None:
-        p = model().with_costs([F(1), F(0), F(0)]).cone()
+        p = model().with_costs([F(1), F(0), F(0)]).recession_cone()
         self.assertTrue(points.is_ray(p, [F(-1), F(0), F(0)]))
         for wrong in ([F(1), F(0), F(0)], [F(0), F(0), F(0)], [F(-1), F(1), F(0)]):
             self.assertFalse(points.is_ray(p, wrong))
 
     def test_near_a_bound_that_does_not_fit(self) -> None:
         """A large value that is near its bound in doubles, and not at it."""
-        p = Model(LARGE_BOUND, {}, 1)
+        p = IntegerProgram(LARGE_BOUND, {}, 1)
         self.assertEqual(points.nearest(p, [999999999999.5]), [F(1999999999999, 2)])
 
 

@@ -155,7 +155,7 @@ class Portions(Pooled):
             work, plans = self.pooled(Here(2), found, 3)
             with self.few(0), self.assertRaises(Better) as better:
                 plans.goes(plans.begun("plain"), SECONDS)
-            self.assertTrue(work.model.fits(better.exception.point))
+            self.assertTrue(work.model.is_feasible(better.exception.point))
             caught += 1
             told += self.bound(work, plans) is not None
         self.assertGreater(min(caught, told), 5)

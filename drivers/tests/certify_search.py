@@ -298,7 +298,7 @@ class Spines(Certified):
         for size in (6, 9):
             work = self.work(families.made("pigeons", size))
             work.load()
-            plans = work.plans_for(work.model.without_cost(), None)
+            plans = work.plans_for(work.model.without_costs(), None)
             self.below(plans, "clique", "row")
             self.assertLessEqual(plans.best.nodes, 2 * (size - 1) * (size - 2) + 1)
             self.assertEqual(work.by_tree(plans.best).line, "infeasible")

@@ -12,7 +12,7 @@ from support import NEEDS_CLP, NEEDS_MPS, NEEDS_PROGRAM, PROGRAM, Case, bridge, 
 
 from bridge_drivers import mps_file, mps_reader, solvers, terms
 from bridge_drivers.program.bridge import Refused
-from bridge_drivers.certify.model import Model
+from bridge_drivers.model.integer_form import IntegerProgram
 from bridge_drivers.miss import miss, misses
 from bridge_drivers.mps_file import lists_of
 from bridge_drivers.mps_reader import Text
@@ -206,7 +206,7 @@ class Reading(Case):
             list(zip(*(over(part, scale) for part in sides))), list(plain.sides().values())
         )
         self.same_program(plain, Plain(own.text), {at: a for at, a in kept.items() if a})
-        self.same_model(plain, Model(own, {}, len(rows)))
+        self.same_model(plain, IntegerProgram(own, {}, len(rows)))
 
     def same_program(self, plain: Plain, own: Plain, entries: dict) -> None:
         """As it is exported: other names, no other N rows."""
@@ -220,21 +220,22 @@ class Reading(Case):
         }
         self.assertEqual(found, entries)
 
-    def same_model(self, plain: Plain, p: Model) -> None:
+    def same_model(self, plain: Plain, p: IntegerProgram) -> None:
         sign, columns = -1 if plain.maximise else 1, list(plain.ends)
         costs = [plain.entries.get((plain.objective(), name), F(0)) for name in columns]
-        self.assertEqual([sign * c for c in p.cost], costs)
-        self.assertEqual(sign * p.constant, -plain.rhs.get(plain.objective(), 0))
+        self.assertEqual([sign * c for c in p.cost_fractions], costs)
+        self.assertEqual(sign * p.constant_fraction, -plain.rhs.get(plain.objective(), 0))
         rows = [
             {j: a for (i, j), a in plain.entries.items() if i == row and a}
             for row in plain.constraints()
         ]
-        self.assertEqual([{columns[j]: F(a, p.scale) for j, a in row} for row in p.rows], rows)
+        self.assertEqual([{columns[j]: F(a, p.row_scale) for j, a in row} for row in p.rows], rows)
         self.assertEqual(
-            list(zip(over(p.lo, p.unit), over(p.hi, p.unit))), list(plain.bounds().values())
+            list(zip(over(p.lower, p.bound_scale), over(p.upper, p.bound_scale))),
+            list(plain.bounds().values()),
         )
         self.assertEqual(
-            list(zip(over(p.side_lo, p.unit), over(p.side_hi, p.unit))),
+            list(zip(over(p.row_lower, p.bound_scale), over(p.row_upper, p.bound_scale))),
             list(plain.sides().values()),
         )
 
@@ -266,9 +267,10 @@ class Reading(Case):
             b" FR BND x1\n FR BND z\nENDATA\n"
         )
         for sense, sign in ((b"", 1), (b"OBJSENSE\n MAX\n", -1)):
-            p = Model(text % sense, {}, 1)
+            p = IntegerProgram(text % sense, {}, 1)
             self.assertEqual(
-                (p.n, p.rows, p.cost, p.constant), (2, [[(1, 1)]], [2 * sign, -sign], 5 * sign)
+                (p.n, p.rows, p.cost_fractions, p.constant_fraction),
+                (2, [[(1, 1)]], [2 * sign, -sign], 5 * sign),
             )
 
     def test_rows_times_factors(self) -> None:
@@ -276,13 +278,13 @@ class Reading(Case):
             b"NAME nl\nROWS\n N obj\n L c1\n G c2\nCOLUMNS\n x0 c1 3\n x0 c2 0.5\n x1 c1 1\n"
             b"RHS\n RHS c1 4\nENDATA\n"
         )
-        p = Model(text, {1: 6}, 3)
+        p = IntegerProgram(text, {1: 6}, 3)
         self.assertEqual(
-            [[(j, F(a, p.scale)) for j, a in row] for row in p.rows],
+            [[(j, F(a, p.row_scale)) for j, a in row] for row in p.rows],
             [[], [(0, F(1, 2)), (1, F(1, 6))], [(0, F(1, 2))]],
         )
-        self.assertEqual(over(p.side_hi, p.unit), [None, F(2, 3), None])
-        self.assertEqual((p.scale, p.unit), (6, 3))
+        self.assertEqual(over(p.row_upper, p.bound_scale), [None, F(2, 3), None])
+        self.assertEqual((p.row_scale, p.bound_scale), (6, 3))
 
     @NEEDS_PROGRAM
     def test_exported_ones(self) -> None:
@@ -293,10 +295,10 @@ class Reading(Case):
             if reply.status == 0 and b" zdef\n" not in reply.out:
                 plain = Plain(reply.out)
                 places = [int(row[1:]) for row in plain.constraints()]
-                p = Model(reply.out, {}, max([-1, *places]) + 1)
+                p = IntegerProgram(reply.out, {}, max([-1, *places]) + 1)
                 p.terms = terms.Terms(p.n, [p.rows[i] for i in places])
-                p.side_lo, p.side_hi = (
-                    [part[i] for i in places] for part in (p.side_lo, p.side_hi)
+                p.row_lower, p.row_upper = (
+                    [part[i] for i in places] for part in (p.row_lower, p.row_upper)
                 )
                 self.same_model(plain, p)
 

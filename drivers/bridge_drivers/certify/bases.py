@@ -8,7 +8,7 @@ from fractions import Fraction
 from typing import Iterator, List, Sequence, Tuple
 
 from .clp import Basis, Clp, Linear, State
-from .model import Model, Point, Side, over_one
+from ..model.integer_form import Bound, IntegerProgram, Point, over_common_denominator
 from .points import Placed, place
 from ..exact.linear_systems import (
     LiftedSystem,
@@ -37,7 +37,7 @@ def can_be_large() -> bool:
     return scipy_or_none() is not None
 
 
-def optimum(p: Model, basis: Basis, x: Sequence[float]) -> tuple[Point, Multipliers]:
+def optimum(p: IntegerProgram, basis: Basis, x: Sequence[float]) -> tuple[Point, Multipliers]:
     """Point and duals of a basis whose values are near x. NotSolved where it has none, and where the basis is not
     optimal; TooManyBits where its numbers have too many bits to be found."""
     placed = place(p, basis, x)
@@ -49,20 +49,20 @@ def optimum(p: Model, basis: Basis, x: Sequence[float]) -> tuple[Point, Multipli
     for j, v in zip(placed.columns, found.numerators):
         full[j] = v
     y = {i: v for i, v in zip(placed.rows, duals.numerators) if v}
-    for j, _ in p.broken_bounds(full, den):
+    for j, _ in p.violated_bounds(full, den):
         raise NotSolved(f"bound {j} is broken")
-    for i, _ in p.broken_rows(full, den):
+    for i, _ in p.violated_rows(full, den):
         raise NotSolved(f"row {i} is broken")
     check_duals(p, full, den, y, duals.denominator, placed)
-    shared = {v: Fraction(v, den * p.unit) for v in set(full)}
+    shared = {v: Fraction(v, den * p.bound_scale) for v in set(full)}
     return [shared[v] for v in full], Multipliers(
-        {i: v * p.scale for i, v in y.items()},
+        {i: v * p.row_scale for i, v in y.items()},
         duals.denominator * p.cost_scale,
         MultiplierKind.DUAL,
     )
 
 
-def systems(p: Model, placed: Placed) -> tuple[RationalVector, RationalVector]:
+def systems(p: IntegerProgram, placed: Placed) -> tuple[RationalVector, RationalVector]:
     """The basic columns times `unit`, and the duals of tight rows times `cost_scale` over `scale`."""
     rows, sides = placed.inside, placed.rest
     costs, n = [p.costs[j] for j in placed.columns], len(placed.columns)
@@ -86,19 +86,26 @@ def by_hand(system: list[dict[int, int]], sides: Sequence[int]) -> RationalVecto
     values = solve_exactly(zip(system, sides))
     if values is None:
         raise NotSolved("the basis is singular, or takes too much work")
-    return RationalVector(*over_one([values.get(k, Fraction(0)) for k in range(len(system))]))
+    return RationalVector(
+        *over_common_denominator([values.get(k, Fraction(0)) for k in range(len(system))])
+    )
 
 
 def check_duals(
-    p: Model, full: Sequence[int], den: int, y: dict[int, int], dual_den: int, placed: Placed
+    p: IntegerProgram,
+    full: Sequence[int],
+    den: int,
+    y: dict[int, int],
+    dual_den: int,
+    placed: Placed,
 ) -> None:
     """That each dual and each reduced cost has the sign of the end that its row or column stands at."""
     for i, v in y.items():
-        if (p.side_lo[i] if v > 0 else p.side_hi[i]) != placed.side[i]:
+        if (p.row_lower[i] if v > 0 else p.row_upper[i]) != placed.side[i]:
             raise NotSolved(f"the dual of row {i} has no side")
     for j, r in enumerate(p.terms.without([c * dual_den for c in p.costs], y)):
         if r:
-            end = p.lo[j] if r > 0 else p.hi[j]
+            end = p.lower[j] if r > 0 else p.upper[j]
             if end is None or full[j] != end * den:
                 raise NotSolved(f"column {j} could be better")
 
@@ -108,11 +115,13 @@ class Refining:
     were made greater. Rows that are no equations get a column that has their value, whose cost is their dual.
     """
 
-    def __init__(self, p: Model, clp: Clp, seconds: float) -> None:
+    def __init__(self, p: IntegerProgram, clp: Clp, seconds: float) -> None:
         self.p, self.seconds = p, seconds
         self.x = [fixed(v) for v in clp.values()]
         self.y = [fixed(v) for v in clp.duals()]
-        self.open = [i for i in range(p.m) if p.side_lo[i] is None or p.side_lo[i] != p.side_hi[i]]
+        self.open = [
+            i for i in range(p.m) if p.row_lower[i] is None or p.row_lower[i] != p.row_upper[i]
+        ]
         self.up = self.dual_up = 0
         self.basis = clp.basis()
 
@@ -148,16 +157,19 @@ class Refining:
     def shifted(self) -> tuple[Linear, float, float]:
         """The program around the point and under the duals, with what is missed most."""
         p, one = self.p, 1 << BITS
-        lo = [less(end, v * p.unit, p.unit) for end, v in zip(p.lo, self.x)]
-        hi = [less(end, v * p.unit, p.unit) for end, v in zip(p.hi, self.x)]
+        lo = [less(end, v * p.bound_scale, p.bound_scale) for end, v in zip(p.lower, self.x)]
+        hi = [less(end, v * p.bound_scale, p.bound_scale) for end, v in zip(p.upper, self.x)]
         sides = [
-            (less(a, at * p.unit, p.unit, p.scale), less(b, at * p.unit, p.unit, p.scale))
-            for at, a, b in zip(p.terms.sums(self.x), p.side_lo, p.side_hi)
+            (
+                less(a, at * p.bound_scale, p.bound_scale, p.row_scale),
+                less(b, at * p.bound_scale, p.bound_scale, p.row_scale),
+            )
+            for at, a, b in zip(p.terms.sums(self.x), p.row_lower, p.row_upper)
         ]
         reduced = p.terms.without(
-            [c * p.scale * one for c in p.costs], dict(enumerate(self.y)), p.cost_scale
+            [c * p.row_scale * one for c in p.costs], dict(enumerate(self.y)), p.cost_scale
         )
-        cost = [r / (p.scale * p.cost_scale << BITS) for r in reduced]
+        cost = [r / (p.row_scale * p.cost_scale << BITS) for r in reduced]
         cost += [self.y[i] / one for i in self.open]
         lo += [sides[i][0] for i in self.open]
         hi += [sides[i][1] for i in self.open]
@@ -207,7 +219,7 @@ def fixed(value: float, up: int = 0) -> int:
     return (p << BITS - up) // q
 
 
-def less(end: Side, at: int, unit: int, scale: int = 1) -> float | None:
+def less(end: Bound, at: int, unit: int, scale: int = 1) -> float | None:
     """An end minus a value, which is over 2^BITS `unit` `scale`."""
     return None if end is None else ((end * scale << BITS) - at) / (unit * scale << BITS)
 

@@ -14,7 +14,7 @@ from .bases import Near, Refining, can_be_large, optimum
 from .clp import Clp, NoClp, State
 from .contradictions import Contradicting
 from .judging import NO_POINT, WITHOUT, Bound, Given, Verdict, wide_note
-from .model import Box, Point, Unfit
+from ..model.integer_form import Box, Point, UnsupportedModel
 from .parts import Better
 from .plans import Plans
 from ..exact.linear_systems import NotSolved, TooManyBits
@@ -208,7 +208,7 @@ class Certifying(Contradicting):
 
     def linear_leaf(self, clp: Clp | None, given: Given, value: Fraction) -> LeafProof | None:
         p, dual = self.model, MultiplierKind.DUAL
-        prover, box = LeafProver(p, value), Box(p.lo, p.hi)
+        prover, box = LeafProver(p, value), Box(p.lower, p.upper)
         proof: LeafProof | None = None
         if not any(p.costs):
             return prover.prove_from_doubles({}, dual, box)
@@ -261,7 +261,10 @@ class Certifying(Contradicting):
                 f"{WITHOUT}rows of whole variables are missed by {float(by):.2g} of "
                 "their largest term, which is rounding"
             )
-        is_asked, are_whole = self.proves or self.contradicted or not by, p.scale == p.unit == 1
+        is_asked, are_whole = (
+            self.proves or self.contradicted or not by,
+            p.row_scale == p.bound_scale == 1,
+        )
         found = self.best(
             self.infeasible()
             if is_asked
@@ -339,7 +342,7 @@ class Certifying(Contradicting):
         self.know_leaves(short.short_duals(p, clp, self.clp_seconds()))
         duals = basis_duals(p, *clp.basis())
         proof = LeafProver(p, None).prove_from_fractions(
-            duals, MultiplierKind.DUAL, Box(p.lo, p.hi)
+            duals, MultiplierKind.DUAL, Box(p.lower, p.upper)
         )
         if proof is not None:
             self.know_leaf(proof.multipliers, True)
@@ -412,7 +415,7 @@ def certified(work: Certifying, claim: str, given: Given = Given()) -> Verdict:
                 return found._replace(is_open=work.is_open())
     except Refused as fault:
         return Verdict(WITHOUT + fault.line())
-    except (Unfit, NoClp, Stopped, Over) as fault:
+    except (UnsupportedModel, NoClp, Stopped, Over) as fault:
         return Verdict(WITHOUT + str(fault))
     finally:
         Clp.until = math.inf

@@ -9,7 +9,7 @@ from . import points, simplex, text
 from .clp import NoClp, State
 from .equations import hollow, parity
 from .judging import WITHOUT, Given, Judging, Verdict
-from .model import Model, Point
+from ..model.integer_form import IntegerProgram, Point
 from .parts import Better
 from .watch import Stopped
 from ..exact.dual_bound import MultiplierKind
@@ -50,7 +50,7 @@ class Contradicting(Judging):
 
     def contradiction(self) -> Verdict:
         """By a tree whose leaves are all weights."""
-        plans = self.plans_for(self.model.without_cost(), None)
+        plans = self.plans_for(self.model.without_costs(), None)
         if self.proves and not self.linear:
             plans.try_all()
         else:
@@ -81,14 +81,14 @@ class Contradicting(Judging):
         leaf = from_fractions(self.model, ended.rows, kind)
         if is_infeasible:
             yield self.one_leaf(leaf, "infeasible", None)
-        elif point is not None and self.model.fits(point) and ended.claim == "unbounded":
+        elif point is not None and self.model.is_feasible(point) and ended.claim == "unbounded":
             yield self.without_end(point, ended.ray)
-        elif point is not None and self.model.fits(point):
+        elif point is not None and self.model.is_feasible(point):
             self.know_point(point)
             self.know_leaf(leaf)
             yield from self.at_optimum(point, leaf)
 
-    def ended(self, p: Model, given: Given = Given()) -> simplex.Ended:
+    def ended(self, p: IntegerProgram, given: Given = Given()) -> simplex.Ended:
         tableau = simplex.Simplex(p, lambda: self.watch.look(0, math.inf))
         tableau.start(given.basis.columns if given.basis else [], given.doubles() or [0.0] * p.n)
         return tableau.run()
@@ -120,7 +120,7 @@ class Contradicting(Judging):
         p = self.model
         if short_of_rays(p):
             return None
-        cone = p.cone()
+        cone = p.recession_cone()
         found = points.ray(cone)
         direction = self.ended(cone).point if found is None and simplex.is_small(cone) else None
         self.has_looked = True
@@ -137,7 +137,7 @@ class Contradicting(Judging):
 
     def some_point(self) -> Point | None:
         """A feasible point, whatever its objective."""
-        p = self.model.without_cost()
+        p = self.model.without_costs()
         if self.linear:
             clp = p.relaxation()
             found = None
@@ -155,6 +155,10 @@ class Contradicting(Judging):
         return None
 
 
-def short_of_rays(p: Model) -> bool:
+def short_of_rays(p: IntegerProgram) -> bool:
     """Whether each column with a cost is bounded on its better side: then there is no ray."""
-    return all((lo if c > 0 else hi) is not None for c, lo, hi in zip(p.cost, p.lo, p.hi) if c)
+    return all(
+        (lo if c > 0 else hi) is not None
+        for c, lo, hi in zip(p.cost_fractions, p.lower, p.upper)
+        if c
+    )

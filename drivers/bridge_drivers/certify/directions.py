@@ -8,7 +8,7 @@ from fractions import Fraction
 from math import gcd
 from typing import Dict, List, Mapping, Sequence, Tuple
 
-from .model import Model
+from ..model.integer_form import IntegerProgram
 
 MOST_COLUMNS = 45
 MOST_FORMS = 10
@@ -94,34 +94,35 @@ class Reduction:
         return False
 
 
-def thin_columns(p: Model, wide: Sequence[int]) -> list[Thin]:
-    ends = [(p.lo[j], p.hi[j]) for j in wide]
+def thin_columns(p: IntegerProgram, wide: Sequence[int]) -> list[Thin]:
+    ends = [(p.lower[j], p.upper[j]) for j in wide]
     widths = (
-        OPEN_WIDTH if lo is None or hi is None else Fraction(hi - lo, p.unit) for lo, hi in ends
+        OPEN_WIDTH if lo is None or hi is None else Fraction(hi - lo, p.bound_scale)
+        for lo, hi in ends
     )
     return [({k: Fraction(1)}, max(width, Fraction(1, 2))) for k, width in enumerate(widths)]
 
 
-def thin_row(p: Model, i: int, place: Mapping[int, int]) -> Thin | None:
+def thin_row(p: IntegerProgram, i: int, place: Mapping[int, int]) -> Thin | None:
     """A row over wide columns alone, a missing side of which comes from bounds."""
-    row, sides = p.rows[i], (p.side_lo[i], p.side_hi[i])
+    row, sides = p.rows[i], (p.row_lower[i], p.row_upper[i])
     if sides == (None, None) or any(
-        j not in place and (p.lo[j] is None or p.lo[j] != p.hi[j]) for j, _ in row
+        j not in place and (p.lower[j] is None or p.lower[j] != p.upper[j]) for j, _ in row
     ):
         return None
-    terms = {place[j]: Fraction(a, p.scale) for j, a in row if j in place}
+    terms = {place[j]: Fraction(a, p.row_scale) for j, a in row if j in place}
     lo, hi = (
-        end_of(p, i, upper) if side is None else Fraction(side, p.unit)
+        end_of(p, i, upper) if side is None else Fraction(side, p.bound_scale)
         for upper, side in enumerate(sides)
     )
     return None if not terms or lo is None or hi is None else sized(terms, hi - lo)
 
 
-def end_of(p: Model, i: int, upper: int) -> Fraction | None:
+def end_of(p: IntegerProgram, i: int, upper: int) -> Fraction | None:
     """The least or greatest value of a row within bounds."""
-    ends = [(a, p.hi[j] if (a > 0) == upper else p.lo[j]) for j, a in p.rows[i]]
+    ends = [(a, p.upper[j] if (a > 0) == upper else p.lower[j]) for j, a in p.rows[i]]
     finite = [a * end for a, end in ends if end is not None]
-    return Fraction(sum(finite), p.scale * p.unit) if len(finite) == len(ends) else None
+    return Fraction(sum(finite), p.row_scale * p.bound_scale) if len(finite) == len(ends) else None
 
 
 def sized(terms: Mapping[int, Fraction], width: Fraction) -> Thin:
@@ -129,10 +130,14 @@ def sized(terms: Mapping[int, Fraction], width: Fraction) -> Thin:
 
 
 def directions(
-    p: Model, objective: Mapping[int, int] = {}, width: Fraction = Fraction(0)
+    p: IntegerProgram, objective: Mapping[int, int] = {}, width: Fraction = Fraction(0)
 ) -> list[Form]:
     """Forms of a small range, thinnest first. The objective's form has that width, where it has terms."""
-    wide = [j for j, w in enumerate(p.whole) if w and (p.lo[j] is None or p.lo[j] != p.hi[j])]
+    wide = [
+        j
+        for j, w in enumerate(p.is_integer)
+        if w and (p.lower[j] is None or p.lower[j] != p.upper[j])
+    ]
     if not 2 <= len(wide) <= MOST_COLUMNS:
         return []
     place = {j: k for k, j in enumerate(wide)}
@@ -159,11 +164,11 @@ def directions(
     return found[:MOST_FORMS]
 
 
-def whole_equations(p: Model, place: Mapping[int, int]) -> list[Form]:
+def whole_equations(p: IntegerProgram, place: Mapping[int, int]) -> list[Form]:
     """Equations over wide columns in whole numbers without a common factor."""
     rows = [
         row
-        for row, lo, hi in zip(p.rows, p.side_lo, p.side_hi)
+        for row, lo, hi in zip(p.rows, p.row_lower, p.row_upper)
         if lo is not None and lo == hi and row and all(j in place for j, _ in row)
     ]
     return [{j: a // gcd(*(a for _, a in row)) for j, a in row} for row in rows]

@@ -8,7 +8,7 @@ from fractions import Fraction
 from math import floor, gcd
 from typing import Dict, Iterator, List, NamedTuple, Tuple
 
-from .model import Model
+from ..model.integer_form import IntegerProgram
 
 MOST_ROWS = 120
 MOST_NUMBER = 10**60
@@ -25,12 +25,17 @@ class Parity(NamedTuple):
     high: Dict[int, Fraction]
 
 
-def hollow(p: Model) -> Parity | None:
+def hollow(p: IntegerProgram) -> Parity | None:
     """A whole form between whose ends there is no whole number: the plane there. A column is one,
     and so are all rows of whole columns whose terms are the same up to a factor."""
-    for j, (lo, hi) in enumerate(zip(p.lo, p.hi)):
-        if p.whole[j] and lo is not None and hi is not None and -(-lo // p.unit) > hi // p.unit:
-            return Parity({j: 1}, hi // p.unit, {}, {})
+    for j, (lo, hi) in enumerate(zip(p.lower, p.upper)):
+        if (
+            p.is_integer[j]
+            and lo is not None
+            and hi is not None
+            and -(-lo // p.bound_scale) > hi // p.bound_scale
+        ):
+            return Parity({j: 1}, hi // p.bound_scale, {}, {})
     lows: Dict[object, End] = {}
     highs: Dict[object, End] = {}
     for i in alike(p):
@@ -38,7 +43,7 @@ def hollow(p: Model) -> Parity | None:
         step = gcd(*(a for _, a in row)) * (1 if row[0][1] > 0 else -1)
         form = {j: a // step for j, a in row}
         key = tuple(form.items())
-        for is_upper, end in ends(p, i, Fraction(p.scale, step)):
+        for is_upper, end in ends(p, i, Fraction(p.row_scale, step)):
             known, closest = (highs, min) if is_upper else (lows, max)
             known[key] = closest(known.get(key, end), end, key=lambda end: end[0])
         if key in lows and key in highs and floor(highs[key][0]) < lows[key][0]:
@@ -46,7 +51,7 @@ def hollow(p: Model) -> Parity | None:
     return None
 
 
-def alike(p: Model) -> Iterator[int]:
+def alike(p: IntegerProgram) -> Iterator[int]:
     """Rows of whole columns that have two ends, or may have terms of others."""
     kinds = [(len(row), row[0][0], row[-1][0]) if row else None for row in p.rows]
     counts = Counter(kinds)
@@ -54,38 +59,38 @@ def alike(p: Model) -> Iterator[int]:
         is_alone = len(row) > 1 and counts[kinds[i]] == 1
         if (
             row
-            and not (is_alone and None in (p.side_lo[i], p.side_hi[i]))
-            and all(p.whole[j] for j, _ in row)
+            and not (is_alone and None in (p.row_lower[i], p.row_upper[i]))
+            and all(p.is_integer[j] for j, _ in row)
         ):
             yield i
 
 
-def ends(p: Model, i: int, u: Fraction) -> Iterator[Tuple[bool, End]]:
+def ends(p: IntegerProgram, i: int, u: Fraction) -> Iterator[Tuple[bool, End]]:
     """Of the form that is u times a row, those below and above; of a column alone its bounds too."""
-    for is_upper, side in ((False, p.side_lo[i]), (True, p.side_hi[i])):
+    for is_upper, side in ((False, p.row_lower[i]), (True, p.row_upper[i])):
         if side is not None:
-            yield is_upper == (u > 0), (u * Fraction(side, p.unit), {i: u})
+            yield is_upper == (u > 0), (u * Fraction(side, p.bound_scale), {i: u})
     j = p.rows[i][0][0]
-    for is_upper, side in ((False, p.lo[j]), (True, p.hi[j])) if len(p.rows[i]) == 1 else ():
+    for is_upper, side in ((False, p.lower[j]), (True, p.upper[j])) if len(p.rows[i]) == 1 else ():
         if side is not None:
-            yield is_upper, (Fraction(side, p.unit), {})
+            yield is_upper, (Fraction(side, p.bound_scale), {})
 
 
-def parity(p: Model) -> Parity | None:
+def parity(p: IntegerProgram) -> Parity | None:
     """By multipliers of equations over whole columns, under which the terms are whole and the side is not."""
     rows = [
         i
-        for i, side in enumerate(p.side_lo)
+        for i, side in enumerate(p.row_lower)
         if side is not None
-        and side == p.side_hi[i]
+        and side == p.row_upper[i]
         and p.rows[i]
-        and all(p.whole[j] for j, _ in p.rows[i])
+        and all(p.is_integer[j] for j, _ in p.rows[i])
     ]
     if not rows or len(rows) > MOST_ROWS:
         return None
-    by = [p.scale // gcd(p.scale, *(a for _, a in p.rows[i])) for i in rows]
-    terms = [{j: a * k // p.scale for j, a in p.rows[i]} for i, k in zip(rows, by)]
-    sides = [Fraction((p.side_lo[i] or 0) * k, p.unit) for i, k in zip(rows, by)]
+    by = [p.row_scale // gcd(p.row_scale, *(a for _, a in p.rows[i])) for i in rows]
+    terms = [{j: a * k // p.row_scale for j, a in p.rows[i]} for i, k in zip(rows, by)]
+    sides = [Fraction((p.row_lower[i] or 0) * k, p.bound_scale) for i, k in zip(rows, by)]
     found = broken(
         [[row.get(j, 0) for row in terms] for j in sorted({j for row in terms for j in row})], sides
     )

@@ -12,7 +12,7 @@ from typing import Callable, Iterator, Mapping, NamedTuple, Sequence
 from . import points, text
 from .clp import Basis, Clp, State, library
 from .crowd import Crowd
-from .model import Box, Model, Point, model_of
+from ..model.integer_form import Box, IntegerProgram, Point, model_of
 from .plans import Plans, Shaped, written
 from .pool import Pool, Problem
 from .short import shortened
@@ -88,7 +88,7 @@ class Judging:
     else one leaf is tried. `relaxed`: the answer is of the relaxation. `bounds`: a bound of the relaxation is wanted
     too. `shortens`: after a tree, a shorter one. `pool`: other processes that search."""
 
-    model: Model
+    model: IntegerProgram
     factors: Mapping[int, int]
 
     def __init__(
@@ -118,17 +118,17 @@ class Judging:
         self.linear = False
         self.path = os.path.join(folder, "certificate")
 
-    def plans_for(self, p: Model, value: Fraction | None) -> Plans:
+    def plans_for(self, p: IntegerProgram, value: Fraction | None) -> Plans:
         return Plans(p, value, self.exact, self.folder, self.watch, self.shortens, self.pool)
 
-    def shared(self, p: Model) -> Crowd:
+    def shared(self, p: IntegerProgram) -> Crowd:
         """The search for a point."""
         return Crowd(Problem(p), self.exact, self.watch, self.pool)
 
     def load(self) -> None:
         if not hasattr(self, "model"):
             self.model, self.factors = model_of(self.bridge, self.nl, self.program)
-            self.linear = not any(self.model.whole)
+            self.linear = not any(self.model.is_integer)
             if not self.proves:
                 self.watch.restart()
                 Clp.restrict(self.watch.until_over())
@@ -189,7 +189,7 @@ class Judging:
 
     def know_leaf(self, leaf: Multipliers, is_exact: bool = False) -> None:
         """The bound of one leaf: in few digits, but where they are few anyway, or `is_exact`."""
-        bound = dual_bound(self.model, leaf, Box(self.model.lo, self.model.hi))
+        bound = dual_bound(self.model, leaf, Box(self.model.lower, self.model.upper))
         if not bound.is_finite or not leaf.fits_certificate():
             return
         value = bound.value

@@ -18,7 +18,7 @@ from typing import (
 )
 
 from .clp import Clp
-from .model import Box, Model, Point, Side
+from ..model.integer_form import Bound, Box, IntegerProgram, Point
 from ..exact.tree import Split, Tree
 
 
@@ -71,17 +71,17 @@ class Parts:
     """Bounds and sides of one part, in `box`, the model's rows of forms, and `clp`. The last `forms` rows of the model
     are forms, whose sides change. The `owners` of ends are depths of the splits that gave them."""
 
-    def __init__(self, model: Model, clp: Clp, forms: int = 0) -> None:
+    def __init__(self, model: IntegerProgram, clp: Clp, forms: int = 0) -> None:
         self.model, self.clp = model, clp
         self.forms = range(model.n + model.m - forms, model.n + model.m)
-        self.box = Box([*model.lo, *model.side_lo], [*model.hi, *model.side_hi])
+        self.box = Box([*model.lower, *model.row_lower], [*model.upper, *model.row_upper])
         self.owners: tuple[list[int | None], ...] = tuple(
             [None] * (model.n + model.m) for _ in self.box
         )
         self.above: list[Step] = []  # of a part: what stands above it
         self.open: list[Opened] = []
         self.before: list[
-            tuple[int, int, Side, int | None]
+            tuple[int, int, Bound, int | None]
         ] = []  # of each of them, what it moved: an end, its owner
         self.nodes = 0
 
@@ -90,18 +90,20 @@ class Parts:
         p = self.model
         return p.by_column[column] if column < p.n else p.rows[column - p.n]
 
-    def put(self, column: int, side: int, end: Side, owner: int | None) -> None:
+    def put(self, column: int, side: int, end: Bound, owner: int | None) -> None:
         p = self.model
         self.box[side][column], self.owners[side][column] = end, owner
-        lo, hi = p.double(self.box.lo[column]), p.double(self.box.hi[column])
+        lo, hi = p.bound_as_double(self.box.lower[column]), p.bound_as_double(
+            self.box.upper[column]
+        )
         if column < p.n:
             self.clp.bound(column, lo, hi)
         else:
-            (p.side_hi if side else p.side_lo)[column - p.n] = end
+            (p.row_upper if side else p.row_lower)[column - p.n] = end
             self.clp.side(column - p.n, lo, hi)
 
     def enter(self, step: Step) -> None:
-        side, end = 1 - step.part, (step.at + step.part) * self.model.unit
+        side, end = 1 - step.part, (step.at + step.part) * self.model.bound_scale
         old = self.box[side][step.column]
         self.before.append((step.column, side, old, self.owners[side][step.column]))
         end = end if old is None else min(old, end) if side else max(old, end)

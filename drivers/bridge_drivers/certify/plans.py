@@ -16,11 +16,11 @@ from typing import Iterator, NamedTuple, Sequence
 
 from .crowd import Crowd
 from .directions import directions
-from .model import Added, Model
+from ..model.integer_form import IntegerProgram, Row
 from .pool import Pool, Problem
 from .search import MOST_NODES, Exact
 from .short import trivial
-from .spine import Maker, Row, Spined, Value
+from .spine import Maker, ProvedCut, Spined, Value
 from .watch import Paused, Stopped, Watch
 from ..exact.tree import Tree
 from ..files import naming
@@ -61,7 +61,7 @@ class Plan:
     """A search that can go on. `is_dead`: where it cannot."""
 
     name: str
-    rows: Sequence[Row]
+    rows: Sequence[ProvedCut]
     search: Crowd
     spent: float = 0.0
     guessed: float = math.inf  # seconds that it takes, before it says so itself
@@ -88,7 +88,7 @@ class Plans:
 
     def __init__(
         self,
-        model: Model,
+        model: IntegerProgram,
         value: Fraction | None,
         exact: Exact,
         folder: str,
@@ -98,7 +98,7 @@ class Plans:
     ) -> None:
         self.model, self.exact, self.folder, self.watch = model, exact, folder, watch
         self.shortens, self.pool = shortens, pool
-        self.step = model.step()
+        self.step = model.objective_lattice()
         self.value = Value(model, value, self.step)
         self.maker = Maker(model, self.value, watch)
         self.best: Shaped | None = None
@@ -108,7 +108,7 @@ class Plans:
         self.makings = (
             ["thin", "clique"] if self.is_blind else [*KINDS, "thin"]
         )  # what is made as there is time
-        self.made: Sequence[Row] = ()  # of the first of them
+        self.made: Sequence[ProvedCut] = ()  # of the first of them
         self.gain, self.vain = (
             0.0,
             0,
@@ -121,10 +121,10 @@ class Plans:
         return self.watch.spent() + max(0.0, min(seconds, self.left()))
 
     def begun(
-        self, name: str, rows: Sequence[Row] = (), forms: Sequence[dict[int, int]] = ()
+        self, name: str, rows: Sequence[ProvedCut] = (), forms: Sequence[dict[int, int]] = ()
     ) -> Plan:
         above = [
-            *(Added(added.terms) for added in self.value.added),
+            *(Row(added.coefficients) for added in self.value.added),
             *(row.added() for row in rows),
         ]
         problem = Problem(self.model, above, forms, self.value.goal)
@@ -260,15 +260,15 @@ class Plans:
         """Those of the plan `thin`. The objective's form has the width between the relaxation, the last that was made,
         and the value."""
         p, base = self.model, self.maker.base
-        if not all(p.whole) or sum(p.whole) > MOST_THIN:
+        if not all(p.is_integer) or sum(p.is_integer) > MOST_THIN:
             return []
         if self.step is None:
             return [] if any(p.costs) else directions(p)
-        units = (base - float(p.constant)) / float(self.step.size)
+        units = (base - float(p.constant_fraction)) / float(self.step.spacing)
         return (
             []
             if math.isinf(base)
-            else directions(p, self.step.form, Fraction(max(self.value.at - units, 0.5)))
+            else directions(p, self.step.coefficients, Fraction(max(self.value.at - units, 0.5)))
         )
 
     def stands_at(self) -> float:
@@ -298,10 +298,10 @@ class Plans:
             return value
         least = trivial(self.model)
         if step is not None:
-            units = (bound - float(self.model.constant)) / float(step.size)
+            units = (bound - float(self.model.constant_fraction)) / float(step.spacing)
             if least is not None:
-                units = max(units, float((least - self.model.constant) / step.size))
-            found = self.model.constant + step.size * math.ceil(units - 1e-6)
+                units = max(units, float((least - self.model.constant_fraction) / step.spacing))
+            found = self.model.constant_fraction + step.spacing * math.ceil(units - 1e-6)
             least = None
         else:
             room = max(float(value) - bound, 1e-9 * max(1.0, abs(bound)))

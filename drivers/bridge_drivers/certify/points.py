@@ -9,7 +9,7 @@ from typing import Iterator, Mapping, NamedTuple, Sequence
 
 from .clp import Basis, State, library
 from ..exact.linear_systems import solve_exactly
-from .model import Model, Point, Side
+from ..model.integer_form import Bound, IntegerProgram, Point
 from ..exact.dual_bound import fits_certificate
 from ..terms import Pairs
 
@@ -33,26 +33,33 @@ class Placed(NamedTuple):
     rest: list[int]
 
 
-def place(p: Model, basis: Basis, x: Sequence[float]) -> Placed:
+def place(p: IntegerProgram, basis: Basis, x: Sequence[float]) -> Placed:
     """Each column that is not basic at the end near x, each tight row at the side near it."""
     is_basic = [False] * p.n
     for j in basis.columns:
         is_basic[j] = True
     at = [
-        0 if basic else end_near(lo, hi, v * p.unit) or 0
-        for basic, lo, hi, v in zip(is_basic, p.lo, p.hi, x)
+        0 if basic else end_near(lo, hi, v * p.bound_scale) or 0
+        for basic, lo, hi, v in zip(is_basic, p.lower, p.upper, x)
     ]
     ranged = [
         i
         for i in basis.rows
-        if p.side_lo[i] is not None and p.side_hi[i] is not None and p.side_lo[i] != p.side_hi[i]
+        if p.row_lower[i] is not None
+        and p.row_upper[i] is not None
+        and p.row_lower[i] != p.row_upper[i]
     ]
     bodies = {
         i: sum([a * x[j] for j, a in row])
         for i, row in zip(ranged, p.terms.inside(ranged, range(p.n)) if ranged else ())
     }
     ends = (
-        (i, end_near(p.side_lo[i], p.side_hi[i], bodies.get(i, 0.0) / p.scale * p.unit))
+        (
+            i,
+            end_near(
+                p.row_lower[i], p.row_upper[i], bodies.get(i, 0.0) / p.row_scale * p.bound_scale
+            ),
+        )
         for i in basis.rows
     )
     side = {i: end for i, end in ends if end is not None}
@@ -63,63 +70,65 @@ def place(p: Model, basis: Basis, x: Sequence[float]) -> Placed:
         at,
         side,
         p.terms.inside(rows, columns),
-        [side[i] * p.scale - taken[i] for i in rows],
+        [side[i] * p.row_scale - taken[i] for i in rows],
     )
 
 
-def end_near(lo: Side, hi: Side, value: float) -> Side:
+def end_near(lo: Bound, hi: Bound, value: float) -> Bound:
     if lo is None or hi is None:
         return hi if lo is None else lo
     return lo if lo == hi or abs(lo - value) <= abs(hi - value) else hi
 
 
-def vertex(p: Model, basis: Basis, x: Sequence[float]) -> Point | None:
+def vertex(p: IntegerProgram, basis: Basis, x: Sequence[float]) -> Point | None:
     """The exact point of a basis whose values are near x."""
     placed = place(p, basis, x)
     found = solve_exactly((dict(row), rest) for row, rest in zip(placed.inside, placed.rest))
     if found is None:
         return None
-    out = [Fraction(v, p.unit) for v in placed.at]
+    out = [Fraction(v, p.bound_scale) for v in placed.at]
     for k, j in enumerate(placed.columns):
-        out[j] = found.get(k, ZERO) / p.unit
-    return out if p.fits(out) else None
+        out[j] = found.get(k, ZERO) / p.bound_scale
+    return out if p.is_feasible(out) else None
 
 
-def near(model: Model, x: Sequence[float | Fraction]) -> Iterator[Point]:
+def near(model: IntegerProgram, x: Sequence[float | Fraction]) -> Iterator[Point]:
     """Points of short fractions near x, and bounds where x is near them: those that fit."""
     p, seen = model, []
     if all(isinstance(v, Fraction) for v in x):
         exact = [Fraction(v) for v in x]
-        if p.fits(exact):
+        if p.is_feasible(exact):
             yield exact
             return
     given = [Fraction(v) for v in x]
     for snap, most in itertools.product((NEAR, ZERO), DENOMINATORS):
         out = [near_one(p, j, v, most, snap) for j, v in enumerate(given)]
         is_near = all(abs(value - v) <= APART * max(ONE, abs(v)) for value, v in zip(out, given))
-        if is_near and out not in seen and p.fits(out):
+        if is_near and out not in seen and p.is_feasible(out):
             seen.append(out)
             yield out
 
 
-def near_one(p: Model, column: int, value: Fraction, most: int, snap: Fraction) -> Fraction:
+def near_one(
+    p: IntegerProgram, column: int, value: Fraction, most: int, snap: Fraction
+) -> Fraction:
     """A bound within that share, else a fraction with a denominator of at most `most`."""
-    if p.whole[column]:
+    if p.is_integer[column]:
         return Fraction(round(value))
-    for end in p.ends(column):
+    for end in p.finite_bounds(column):
         if abs(end - value) <= snap * max(ONE, abs(end)):
             return end
     return value.limit_denominator(most)
 
 
-def whole_point(p: Model, x: Sequence[float | Fraction], seconds: float) -> Point | None:
+def whole_point(p: IntegerProgram, x: Sequence[float | Fraction], seconds: float) -> Point | None:
     """The best exact point that has the whole columns of x, where CLP finds it in that time, else one that is near."""
     fixed = whole_columns(p, x)
     if any(abs(float(x[j]) - v) > NEAR_WHOLE for j, v in fixed.items()):
         return None
     if len(fixed) == p.n:
         out = [fixed[j] for j in range(p.n)]
-        return out if p.fits(out) else None
+        return out if p.is_feasible(out) else None
     if library() is not None:
         around = with_fixed(p, fixed)
         clp = around.relaxation()
@@ -133,76 +142,79 @@ def whole_point(p: Model, x: Sequence[float | Fraction], seconds: float) -> Poin
     return nearest(p, x)
 
 
-def nearest(model: Model, x: Sequence[float | Fraction]) -> Point | None:
+def nearest(model: IntegerProgram, x: Sequence[float | Fraction]) -> Point | None:
     """The best of the points near x."""
     found = list(near(model, x))
     return min(found, key=model.value) if found else None
 
 
-def whole_columns(model: Model, x: Sequence[float | Fraction]) -> dict[int, Fraction]:
-    return {j: Fraction(round(x[j])) for j, w in enumerate(model.whole) if w}
+def whole_columns(model: IntegerProgram, x: Sequence[float | Fraction]) -> dict[int, Fraction]:
+    return {j: Fraction(round(x[j])) for j, w in enumerate(model.is_integer) if w}
 
 
-def with_fixed(p: Model, fixed: Mapping[int, Fraction]) -> Model:
+def with_fixed(p: IntegerProgram, fixed: Mapping[int, Fraction]) -> IntegerProgram:
     """Under values of columns."""
     return p.with_bounds(
         *(
-            [int(fixed[j] * p.unit) if j in fixed else v for j, v in enumerate(ends)]
-            for ends in (p.lo, p.hi)
+            [int(fixed[j] * p.bound_scale) if j in fixed else v for j, v in enumerate(ends)]
+            for ends in (p.lower, p.upper)
         )
     )
 
 
-def loosened(model: Model, x: Sequence[float | Fraction], frees: bool) -> Model:
+def loosened(model: IntegerProgram, x: Sequence[float | Fraction], frees: bool) -> IntegerProgram:
     """The program around an answer: its whole columns as they are, but for those of more digits
     than solvers print, and with `frees` those that have a cost and stand in an equation."""
     p, fixed = model, whole_columns(model, x)
     given = {
         j
-        for row, lo, hi in zip(p.rows, p.side_lo, p.side_hi)
+        for row, lo, hi in zip(p.rows, p.row_lower, p.row_upper)
         if lo is not None and lo == hi
         for j, _ in row
-        if frees and p.cost[j]
+        if frees and p.cost_fractions[j]
     }
-    los, his = list(p.lo), list(p.hi)
+    los, his = list(p.lower), list(p.upper)
     for j, v in fixed.items():
         if j in given:
             continue
         room = math.ceil(abs(v) * APART) if abs(v) * APART >= 1 else 0
-        lo, hi = ((int(v) + by) * p.unit for by in (-room, room))
+        lo, hi = ((int(v) + by) * p.bound_scale for by in (-room, room))
         old_lo, old_hi = los[j], his[j]
         los[j] = lo if old_lo is None else max(lo, old_lo)
         his[j] = hi if old_hi is None else min(hi, old_hi)
     return p.with_bounds(los, his)
 
 
-def is_contradicted(model: Model, x: Sequence[float | Fraction], seconds: float) -> bool:
+def is_contradicted(model: IntegerProgram, x: Sequence[float | Fraction], seconds: float) -> bool:
     """Whether CLP finds no values of the other columns for the whole ones of x."""
-    if all(model.whole) or library() is None:
+    if all(model.is_integer) or library() is None:
         return False
     clp = with_fixed(model, whole_columns(model, x)).relaxation()
     clp.seconds = seconds
     return clp.solve() is State.INFEASIBLE and clp.solve(again=True) is State.INFEASIBLE
 
 
-def broken(model: Model, x: Sequence[float | Fraction]) -> Fraction:
+def broken(model: IntegerProgram, x: Sequence[float | Fraction]) -> Fraction:
     """By what share of its largest term a row of whole columns, or a bound of one, is missed most
     at the whole columns of x."""
     p, fixed = model, whole_columns(model, x)
     most = max(
-        (miss(v * p.unit, p.lo[j], p.hi[j], Fraction(p.unit)) for j, v in fixed.items()),
+        (
+            miss(v * p.bound_scale, p.lower[j], p.upper[j], Fraction(p.bound_scale))
+            for j, v in fixed.items()
+        ),
         default=ZERO,
     )
-    share = Fraction(p.unit, p.scale)
-    for row, lo, hi in zip(p.rows, p.side_lo, p.side_hi):
-        if all(p.whole[j] for j, _ in row):
+    share = Fraction(p.bound_scale, p.row_scale)
+    for row, lo, hi in zip(p.rows, p.row_lower, p.row_upper):
+        if all(p.is_integer[j] for j, _ in row):
             at = sum((a * fixed[j] for j, a in row), ZERO) * share
             size = max((abs(a) * max(abs(fixed[j]), ONE) for j, a in row), default=ONE) * share
             most = max(most, miss(at, lo, hi, size))
     return most
 
 
-def miss(at: Fraction, lo: Side, hi: Side, size: Fraction) -> Fraction:
+def miss(at: Fraction, lo: Bound, hi: Bound, size: Fraction) -> Fraction:
     """What a value misses its sides by, as a share of the side or of that size."""
     end = at
     if lo is not None and at < lo:
@@ -212,13 +224,13 @@ def miss(at: Fraction, lo: Side, hi: Side, size: Fraction) -> Fraction:
     return abs(end - at) / max(size, abs(at), abs(end))
 
 
-def is_ray(cone: Model, d: Point) -> bool:
+def is_ray(cone: IntegerProgram, d: Point) -> bool:
     """Whether the direction has no end, and improves the objective."""
     size = max((abs(v) for v in d), default=ZERO) or ONE
-    return cone.value(d) < 0 and cone.fits([v / size for v in d])
+    return cone.value(d) < 0 and cone.is_feasible([v / size for v in d])
 
 
-def ray(cone: Model) -> Point | None:
+def ray(cone: IntegerProgram) -> Point | None:
     """An improving direction without end, in short fractions where they do."""
     clp = cone.relaxation()
     if clp.solve() is not State.OPTIMAL or clp.objective() >= 0:

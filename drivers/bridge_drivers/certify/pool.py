@@ -21,7 +21,7 @@ from typing import Any, Dict, Iterable, Iterator, List, NamedTuple, Optional, Se
 
 from . import points
 from .clp import library
-from .model import Added, Model
+from ..model.integer_form import IntegerProgram, Row
 from .parts import Done, Opened, Step
 from .search import Choice, Exact, Goal, Learnt, Search
 from .watch import Paused, Stopped, Watch
@@ -38,13 +38,13 @@ MOST_KEPT = 2  # programs of a process
 class Problem(NamedTuple):
     """What all portions of a search share: the file's program, the rows of the spine, the forms, and the goal."""
 
-    model: Model
-    rows: Sequence[Added] = ()
+    model: IntegerProgram
+    rows: Sequence[Row] = ()
     forms: Sequence[Dict[int, int]] = ()
     goal: Goal = Goal(None)
 
     def search(self, watch: Watch, exact: Exact | None = None) -> Search:
-        searched = self.model.with_rows([*self.rows, *map(Added, self.forms)])
+        searched = self.model.with_rows([*self.rows, *map(Row, self.forms)])
         return Search(
             searched,
             self.goal,

@@ -11,7 +11,7 @@ from fractions import Fraction
 from typing import Any, Callable, Dict, Iterable, Mapping, NamedTuple, Sequence, Tuple
 
 from .clp import Clp, State
-from .model import TIGHT, Box, Model, Point
+from ..model.integer_form import PHASE_ONE_TOLERANCE, Box, IntegerProgram, Point
 from .parts import Better, Done, Opened, Parts, Step, joined
 from .points import vertex
 from .watch import Paused, Stopped, Watch
@@ -166,7 +166,7 @@ class Search(Parts):
 
     def __init__(
         self,
-        model: Model,
+        model: IntegerProgram,
         goal: Goal,
         watch: Watch,
         exact: Exact = lambda x: None,
@@ -179,7 +179,7 @@ class Search(Parts):
         self.until, self.most, self.deepest = math.inf, MOST_NODES, float(MOST_DEPTH)
         self.tell: Callable[[], None] | None = None
         self.missing: Clp | None = None
-        self.constant = float(model.constant) if has_cost else 0.0
+        self.constant = float(model.constant_fraction) if has_cost else 0.0
         self.choice = Choice(strong)
         self.aim_at(goal)
 
@@ -253,10 +253,10 @@ class Search(Parts):
             lo, hi = lows[j], highs[j]
             if (
                 j < p.n
-                and p.whole[j]
+                and p.is_integer[j]
                 and lo is not None
                 and hi is not None
-                and -(-lo // p.unit) > hi // p.unit
+                and -(-lo // p.bound_scale) > hi // p.bound_scale
             ):
                 return j
         return None
@@ -271,9 +271,9 @@ class Search(Parts):
             self.tell()
 
     def nearest_zero(self, column: int) -> float:
-        lo, hi = self.box.lo[column], self.box.hi[column]
+        lo, hi = self.box.lower[column], self.box.upper[column]
         least = max(lo or 0, 0)
-        return (least if hi is None else min(least, hi)) / self.model.unit
+        return (least if hi is None else min(least, hi)) / self.model.bound_scale
 
     def best_bound(self) -> float:
         """The least of what is not worked yet, by its relaxations, or the one above where it has none; the root may
@@ -310,15 +310,20 @@ class Search(Parts):
         whole only within a tolerance, or of what is not fixed. Whole values that doubles do not tell apart are the
         exact ones of the basis."""
         p = self.model
-        if state is State.OPTIMAL and any(w and abs(v) >= LARGE for v, w in zip(x, p.whole)):
-            part = p.with_bounds(self.box.lo[: p.n], self.box.hi[: p.n]).with_whole([False] * p.n)
+        if state is State.OPTIMAL and any(w and abs(v) >= LARGE for v, w in zip(x, p.is_integer)):
+            part = p.with_bounds(self.box.lower[: p.n], self.box.upper[: p.n]).with_integers(
+                [False] * p.n
+            )
             near: list[Any] = [
-                next((end for end in part.ends(j) if float(end) == v), v) for j, v in enumerate(x)
+                next((end for end in part.finite_bounds(j) if float(end) == v), v)
+                for j, v in enumerate(x)
             ]
             x = vertex(part, self.clp.basis(), x) or near  # type: ignore[assignment]
         values = dict(enumerate(x))
-        values.update((j, sum(a // p.scale * x[k] for k, a in self.terms(j))) for j in self.forms)
-        apart = {j: abs(v - round(v)) for j, v in values.items() if j >= p.n or p.whole[j]}
+        values.update(
+            (j, sum(a // p.row_scale * x[k] for k, a in self.terms(j))) for j in self.forms
+        )
+        apart = {j: abs(v - round(v)) for j, v in values.items() if j >= p.n or p.is_integer[j]}
         fractional = [j for j, by in apart.items() if by > NEAR]
         if fractional and fractional[0] < p.n:
             column, first = self.choice.column(self, values, fractional, base)
@@ -339,8 +344,8 @@ class Search(Parts):
     def compare(self, x: Sequence[float]) -> None:
         """Better where the exact point there should not be."""
         p, (target, strict) = self.model, self.aim
-        point = [Fraction(round(v)) for v in x] if all(p.whole) else self.exact(x)
-        if point is not None and p.fits(point):
+        point = [Fraction(round(v)) for v in x] if all(p.is_integer) else self.exact(x)
+        if point is not None and p.is_feasible(point):
             value = p.value(point)
             if target is None or value < target or strict and value == target:
                 raise Better(point, value)
@@ -350,23 +355,24 @@ class Search(Parts):
         rounded by it."""
 
         def rank(j: int) -> tuple[float, bool, float]:
-            lo, hi = self.box.lo[j], self.box.hi[j]
+            lo, hi = self.box.lower[j], self.box.upper[j]
             return (
                 apart[j],
-                bool(self.model.cost[j]),
+                bool(self.model.cost_fractions[j]),
                 -math.inf if lo is None or hi is None else -float(hi - lo),
             )
 
         found = [
             j
             for j in apart
-            if j < self.model.n and (self.box.lo[j] is None or self.box.lo[j] != self.box.hi[j])
+            if j < self.model.n
+            and (self.box.lower[j] is None or self.box.lower[j] != self.box.upper[j])
         ]
         return max(found, key=rank) if found else None
 
     def branch(self, column: int, value: float, first: int, base: float) -> Step:
         """Bounds of whole columns need not be whole: a part may be empty, but never both."""
-        lo, hi, unit = self.box.lo[column], self.box.hi[column], self.model.unit
+        lo, hi, unit = self.box.lower[column], self.box.upper[column], self.model.bound_scale
         at = math.floor(value + TINY)
         if column < self.model.n:
             at = at if hi is None else min(at, -(-hi // unit) - 1)
@@ -376,9 +382,9 @@ class Search(Parts):
 
     def empty(self, column: int) -> Done:
         """Weights do not see an empty box, a plane on the column does."""
-        hi = self.box.hi[column]
+        hi = self.box.upper[column]
         assert hi is not None
-        found = EmptyDomain(column, hi // self.model.unit)
+        found = EmptyDomain(column, hi // self.model.bound_scale)
         self.nodes += found.nodes
         owners = [part[column] for part in self.owners]
         return Done([found], frozenset(owner for owner in owners if owner is not None))
@@ -410,7 +416,7 @@ class Search(Parts):
     def by_row(self) -> Done | None:
         p = self.model
         for i in range(p.m) if p.m * p.n <= MOST_LOOKED_AT else ():
-            for side, one in ((p.side_lo[i], 1), (p.side_hi[i], -1)):
+            for side, one in ((p.row_lower[i], 1), (p.row_upper[i], -1)):
                 weights = Multipliers({i: one}, 1, MultiplierKind.FARKAS)
                 proof = None if side is None else self.prover.prove(weights, self.box)
                 if proof is not None:
@@ -419,13 +425,15 @@ class Search(Parts):
 
     def by_missing(self, least: float = FEASIBLE) -> Done | None:
         """With the duals of the program that minimises by how much rows are missed, where that is not less."""
-        p, (lo, hi) = self.model, ([self.model.double(end) for end in part] for part in self.box)
+        p, (lo, hi) = self.model, (
+            [self.model.bound_as_double(end) for end in part] for part in self.box
+        )
         clp = self.missing = self.missing or p.phase_one()
         for j in range(p.n):
             clp.bound(j, lo[j], hi[j])
         for j in self.forms:
             clp.side(j - p.n, lo[j], hi[j])
-        clp.tighten(min(TIGHT, least))
+        clp.tighten(min(PHASE_ONE_TOLERANCE, least))
         if clp.solve() is not State.OPTIMAL or clp.objective() < least:
             return None
         return self.fathomed(self.proved_leaf(clp, MultiplierKind.FARKAS, phase_one_duals))
@@ -439,19 +447,24 @@ class Search(Parts):
         p, used, slack = self.model, self.ends_used(proof), proof.surplus
         needed = {owner for owner, _, _ in used}
         for owner, j, r in sorted(used, reverse=True):
-            own = None if j >= p.n else p.lo[j] if r > 0 else p.hi[j]
-            bound = self.box.lo[j] if r > 0 else self.box.hi[j]
+            own = None if j >= p.n else p.lower[j] if r > 0 else p.upper[j]
+            bound = self.box.lower[j] if r > 0 else self.box.upper[j]
             if own is not None and bound is not None and r * (bound - own) <= slack:
                 slack -= r * (bound - own)
                 needed.discard(owner)
         ends = (
             [end if owner in needed else own for end, owner, own in zip(*part)]
-            for part in zip(self.box, self.owners, (p.lo, p.hi))
+            for part in zip(self.box, self.owners, (p.lower, p.upper))
         )
         proof = self.prover.sparsified(proof._replace(surplus=slack), Box(*ends))
         self.nodes += 1
         return Done(
-            [leaf_of(proof.multipliers, (i for i in proof.multipliers.numerators if i >= p.n_con))],
+            [
+                leaf_of(
+                    proof.multipliers,
+                    (i for i in proof.multipliers.numerators if i >= p.constraint_count),
+                )
+            ],
             frozenset(needed.intersection(owner for owner, _, _ in self.ends_used(proof))),
         )
 

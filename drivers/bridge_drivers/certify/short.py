@@ -14,7 +14,7 @@ from typing import Iterator, Mapping, NamedTuple, Sequence, Tuple
 
 from .clp import Clp, Linear, State
 from ..exact.linear_systems import solve_exactly
-from .model import Box, Model, Point, over_one
+from ..model.integer_form import Box, IntegerProgram, Point, over_common_denominator
 from ..exact.dual_bound import (
     DualBound,
     MultiplierKind,
@@ -68,15 +68,20 @@ class Rounding:
     each is rounded by the size of its rows."""
 
     def __init__(
-        self, p: Model, kept: bytes, x: Sequence[float], seconds: float, by_rows: bool = False
+        self,
+        p: IntegerProgram,
+        kept: bytes,
+        x: Sequence[float],
+        seconds: float,
+        by_rows: bool = False,
     ) -> None:
         self.p, self.kept, self.seconds = p, kept, seconds
         self.size = max([abs(v) for v in x], default=0.0)
         self.alone = alone(p)
         self.equations = {
             i: side
-            for i, side in enumerate(p.side_lo)
-            if side is not None and side == p.side_hi[i] and i not in self.alone
+            for i, side in enumerate(p.row_lower)
+            if side is not None and side == p.row_upper[i] and i not in self.alone
         }
         self.exact = dict(self.equations)
         self.tight: set[int] | None = None
@@ -104,7 +109,7 @@ class Rounding:
                 yield found
 
     def fits(self, found: ShortPoint) -> bool:
-        return all(map(fits_certificate, found.point)) and self.p.fits(found.point)
+        return all(map(fits_certificate, found.point)) and self.p.is_feasible(found.point)
 
     def solved(self, places: int) -> ShortPoint | None:
         """The program with room, its point rounded; None where it has none."""
@@ -124,7 +129,7 @@ class Rounding:
         last: dict[int, int] = {}
         self.equations.update(
             (i, side)
-            for i, side in enumerate(self.p.side_lo)
+            for i, side in enumerate(self.p.row_lower)
             if side is not None and i in self.alone
         )
         self.tight, self.exact, self.alone = set(), dict(self.equations), {}
@@ -140,8 +145,8 @@ class Rounding:
             found = self.point(x, places)
             if found is None:
                 return None
-            over, den = over_one(found.point)
-            last = dict(self.p.broken_rows([v * self.p.unit for v in over], den))
+            over, den = over_common_denominator(found.point)
+            last = dict(self.p.violated_rows([v * self.p.bound_scale for v in over], den))
             if not last:
                 return found if self.fits(found) else None
             self.exact.update({i: side for i, side in last.items() if i in self.tight})
@@ -153,24 +158,24 @@ class Rounding:
         p, linear = self.p, self.p.linear()
         sides, lo, hi = linear.sides, linear.lo, linear.hi
         weights, least = [10 ** (self.most - by) for by in self.more], unit * 10.0**-self.most
-        rooms = [(size / p.scale + 1) * least for size in p.terms.sizes(weights)]
+        rooms = [(size / p.row_scale + 1) * least for size in p.terms.sizes(weights)]
         for i, room in enumerate(rooms):
             if self.tight is None or i in self.tight:
                 sides[i] = inner(*sides[i], room)
         for i, (j, a) in self.alone.items():
-            lo[j], hi[j] = inner(lo[j], hi[j], 2 * rooms[i] / (abs(a) / p.scale))
+            lo[j], hi[j] = inner(lo[j], hi[j], 2 * rooms[i] / (abs(a) / p.row_scale))
         return linear
 
     def point(self, x: Sequence[float], places: int) -> ShortPoint | None:
         """Rounded, over a power of ten times `unit`; None where rows are not met exactly."""
         p, ten = self.p, 10 ** max(places + self.most, 0)
-        over = [nearest(v, places + by, ten) * p.unit for v, by in zip(x, self.more)]
-        for j, end in p.broken_bounds(over, ten):
+        over = [nearest(v, places + by, ten) * p.bound_scale for v, by in zip(x, self.more)]
+        for j, end in p.violated_bounds(over, ten):
             over[j] = end * ten
         moved = self.by_pairs(over, ten) if self.in_pairs else self.by_basis(over, ten)
         if moved is None:
             return None
-        den = ten * p.unit
+        den = ten * p.bound_scale
         shared = {v: Fraction(v, den) for v in set(over)}
         return ShortPoint(
             [(v + moved[j]) / den if j in moved else shared[v] for j, v in enumerate(over)],
@@ -193,9 +198,9 @@ class Rounding:
         self, i: int, over: Sequence[int], ten: int, moved: Mapping[int, Fraction] = {}
     ) -> Fraction:
         """What a row lacks of its side, over 10^places times `unit` and `scale`."""
-        p, side = self.p, self.exact.get(i, self.p.side_lo[i])
+        p, side = self.p, self.exact.get(i, self.p.row_lower[i])
         assert side is not None
-        left = Fraction(side * p.scale * ten - sum([a * over[j] for j, a in p.rows[i]]))
+        left = Fraction(side * p.row_scale * ten - sum([a * over[j] for j, a in p.rows[i]]))
         return (
             left - sum((a * moved[j] for j, a in p.rows[i] if j in moved), ZERO) if moved else left
         )
@@ -216,10 +221,10 @@ class Rounding:
 
     def free(self, over: Sequence[int], ten: int) -> list[bool]:
         """Columns that stand far enough from their bounds."""
-        p, far = self.p, [FREE * self.p.unit * 10 ** (self.most - by) for by in self.more]
+        p, far = self.p, [FREE * self.p.bound_scale * 10 ** (self.most - by) for by in self.more]
         return [
             (lo is None or v - lo * ten > room) and (hi is None or hi * ten - v > room)
-            for v, lo, hi, room in zip(over, p.lo, p.hi, far)
+            for v, lo, hi, room in zip(over, p.lower, p.upper, far)
         ]
 
     def by_pairs(self, over: Sequence[int], ten: int) -> dict[int, Fraction] | None:
@@ -227,9 +232,9 @@ class Rounding:
         the objective wide. None where a row has no pair that no row before it has."""
         p, seen, moved = self.p, set[int](), dict[int, Fraction]()
         free = self.free(over, ten)
-        is_high = [hi is not None and v >= hi * ten for v, hi in zip(over, p.hi)]
+        is_high = [hi is not None and v >= hi * ten for v, hi in zip(over, p.upper)]
         for i in (*self.exact, *self.alone):
-            fresh = [(j, a) for j, a in p.rows[i] if j not in seen and p.lo[j] != p.hi[j]]
+            fresh = [(j, a) for j, a in p.rows[i] if j not in seen and p.lower[j] != p.upper[j]]
             firsts = [(j, a) for j, a in fresh if free[j] or j == self.alone.get(i, (-1, 0))[0]]
             seen.update(j for j, _ in p.rows[i])
             rest = self.rest(i, over, ten, moved)
@@ -271,32 +276,32 @@ def nearest(value: float, places: int, ten: int) -> int:
     return round(value * power) * (ten // power)
 
 
-def decimals_by_rows(p: Model, x: Sequence[float]) -> list[int]:
+def decimals_by_rows(p: IntegerProgram, x: Sequence[float]) -> list[int]:
     """By column the decimals by which a rounding of its value is as small beside each of its rows
     as that of 1 beside 1."""
     share = [0.0] * p.n
-    for row, lo, hi in zip(p.rows, p.side_lo, p.side_hi):
-        sizes = [abs(a * x[j]) / p.scale for j, a in row]
-        sizes += [abs(side) / p.unit for side in (lo, hi) if side is not None]
-        size = max(sizes, default=0.0) * p.scale
+    for row, lo, hi in zip(p.rows, p.row_lower, p.row_upper):
+        sizes = [abs(a * x[j]) / p.row_scale for j, a in row]
+        sizes += [abs(side) / p.bound_scale for side in (lo, hi) if side is not None]
+        size = max(sizes, default=0.0) * p.row_scale
         for j, a in row if size else ():
             share[j] = max(share[j], abs(a) / size)
     return [max(-MOST_MORE, min(math.ceil(math.log10(v)), MOST_MORE)) if v else 0 for v in share]
 
 
-def alone(p: Model) -> dict[int, tuple[int, int]]:
+def alone(p: IntegerProgram) -> dict[int, tuple[int, int]]:
     """By equation a column that stands in it and nowhere else, with its coefficient: 1 where there is such a one."""
     starts = p.columns.starts
     single = [
         j
         for j in range(p.n)
-        if starts[j + 1] - starts[j] == 1 and (p.lo[j] is None or p.lo[j] != p.hi[j])
+        if starts[j + 1] - starts[j] == 1 and (p.lower[j] is None or p.lower[j] != p.upper[j])
     ]
     found: dict[int, tuple[int, int]] = {}
     for j in single:
         ((i, a),) = p.terms.column(j)
-        if p.side_lo[i] is not None and p.side_lo[i] == p.side_hi[i]:
-            if i not in found or abs(a) == p.scale != abs(found[i][1]):
+        if p.row_lower[i] is not None and p.row_lower[i] == p.row_upper[i]:
+            if i not in found or abs(a) == p.row_scale != abs(found[i][1]):
                 found[i] = j, a
     return found
 
@@ -317,12 +322,12 @@ def solved_again(linear: Linear, kept: bytes, seconds: float, tolerance: float) 
     return clp if clp.solve_somehow() is State.OPTIMAL else None
 
 
-def short_duals(p: Model, clp: Clp, seconds: float) -> list[ShortDuals]:
+def short_duals(p: IntegerProgram, clp: Clp, seconds: float) -> list[ShortDuals]:
     """Those of the least room whose bound is near CLP's objective, else all; the best first."""
     kept = clp.keep()
     found: list[ShortDuals] = []
-    size = max((abs(float(c)) for c in p.cost), default=0.0)
-    top = clp.objective() + float(p.constant)
+    size = max((abs(float(c)) for c in p.cost_fractions), default=0.0)
+    top = clp.objective() + float(p.constant_fraction)
     for share in SHARES:
         y = with_room(p, share * size, kept, seconds) if share else clp.duals()
         found += roundings(p, dict(enumerate(y)))
@@ -332,18 +337,20 @@ def short_duals(p: Model, clp: Clp, seconds: float) -> list[ShortDuals]:
     return found
 
 
-def with_room(p: Model, room: float, kept: bytes, seconds: float) -> list[float]:
+def with_room(p: IntegerProgram, room: float, kept: bytes, seconds: float) -> list[float]:
     """The duals under costs that leave room in each column that has one bound."""
     linear = p.linear()
-    costs = [c - room * ((hi is None) - (lo is None)) for c, lo, hi in zip(linear.cost, p.lo, p.hi)]
+    costs = [
+        c - room * ((hi is None) - (lo is None)) for c, lo, hi in zip(linear.cost, p.lower, p.upper)
+    ]
     clp = solved_again(linear._replace(cost=costs), kept, seconds, TOLERANCE)
     return clp.duals() if clp is not None else []
 
 
-def roundings(p: Model, y: Mapping[int, float]) -> list[ShortDuals]:
+def roundings(p: IntegerProgram, y: Mapping[int, float]) -> list[ShortDuals]:
     """Those whose bound is finite."""
     found = []
-    box, given = Box(p.lo, p.hi), {i: v for i, v in y.items() if v}
+    box, given = Box(p.lower, p.upper), {i: v for i, v in y.items() if v}
     first = -math.floor(math.log10(max((abs(v) for v in given.values()), default=1.0)))
     for places in DUAL_PLACES:
         leaf = rounded(p, given, first + places, MultiplierKind.DUAL)
@@ -356,15 +363,15 @@ def roundings(p: Model, y: Mapping[int, float]) -> list[ShortDuals]:
     return found
 
 
-def met_exactly(p: Model, leaf: Multipliers, judged: DualBound) -> ShortDuals | None:
+def met_exactly(p: IntegerProgram, leaf: Multipliers, judged: DualBound) -> ShortDuals | None:
     """Columns that lack the bound that their reduced cost needs get the reduced cost 0: duals move
     that stand far enough from 0, or are those of equations."""
     columns, base = set(judged.unbounded_columns), judged.reduced_costs
-    box = Box(p.lo, p.hi)
+    box = Box(p.lower, p.upper)
     far = max((abs(v) for v in leaf.numerators.values()), default=0) * MOVED
     free = [
         lo is not None and lo == hi or abs(leaf.numerators.get(i, 0)) > far
-        for i, (lo, hi) in enumerate(zip(p.side_lo, p.side_hi))
+        for i, (lo, hi) in enumerate(zip(p.row_lower, p.row_upper))
     ]
     for _ in range(ROUNDS):
         system = [
@@ -390,13 +397,13 @@ def met_exactly(p: Model, leaf: Multipliers, judged: DualBound) -> ShortDuals | 
     return None
 
 
-def trivial(p: Model) -> Fraction | None:
+def trivial(p: IntegerProgram) -> Fraction | None:
     """What the objective is at least within bounds alone, where they say it."""
-    bound = dual_bound(p, NOTHING, Box(p.lo, p.hi))
+    bound = dual_bound(p, NOTHING, Box(p.lower, p.upper))
     return bound.value if bound.is_finite else None
 
 
-def shortened(p: Model, bound: Fraction) -> Fraction:
+def shortened(p: IntegerProgram, bound: Fraction) -> Fraction:
     """Few digits, a little worse, and never worse than what bounds alone say."""
     step = Fraction(10) ** (math.floor(math.log10(max(1.0, abs(float(bound))))) - DIGITS)
     least = trivial(p)

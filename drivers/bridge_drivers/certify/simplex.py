@@ -11,7 +11,7 @@ from fractions import Fraction
 from typing import Callable, Dict, Iterable, List, NamedTuple, Optional
 
 from ..exact.linear_systems import IntegerRows
-from .model import Model, Point, Side, scaled
+from ..model.integer_form import Bound, IntegerProgram, Point, scaled
 from .points import end_near
 
 MOST_ROWS = 250
@@ -36,10 +36,10 @@ class Step(NamedTuple):
 
     size: Fraction
     leaves: Optional[int]
-    end: Side
+    end: Bound
 
 
-def is_small(p: Model) -> bool:
+def is_small(p: IntegerProgram) -> bool:
     return p.m <= MOST_ROWS and p.terms.count() + p.n <= MOST_NUMBERS
 
 
@@ -47,11 +47,11 @@ class Simplex(IntegerRows):
     """`rows` has an equation by basic variable, `x` the values of all. The objective is the variable n + m. `look` is
     called at each step."""
 
-    def __init__(self, p: Model, look: Callable[[], None]) -> None:
+    def __init__(self, p: IntegerProgram, look: Callable[[], None]) -> None:
         super().__init__()
         self.p, self.look = p, look
-        self.lo: List[Side] = [*p.lo, *(scaled(s, p.scale) for s in p.side_lo), None]
-        self.hi: List[Side] = [*p.hi, *(scaled(s, p.scale) for s in p.side_hi), None]
+        self.lo: List[Bound] = [*p.lower, *(scaled(s, p.row_scale) for s in p.row_lower), None]
+        self.hi: List[Bound] = [*p.upper, *(scaled(s, p.row_scale) for s in p.row_upper), None]
         self.cost = p.n + p.m
         for i, row in enumerate(p.rows):
             self.add(p.n + i, {p.n + i: -1, **dict(row)})
@@ -73,7 +73,7 @@ class Simplex(IntegerRows):
                 self.pivot(min(rows, key=lambda b: len(self.rows[b])), j)
         for k, near in enumerate([*x, *p.terms.activities(x)]):
             if k not in self.rows:
-                self.x[k] = Fraction(end_near(self.lo[k], self.hi[k], near * p.unit) or 0)
+                self.x[k] = Fraction(end_near(self.lo[k], self.hi[k], near * p.bound_scale) or 0)
         for basic, line in self.rows.items():
             total = sum((a * self.x[k] for k, a in line.items() if k != basic), ZERO)
             self.x[basic] = -total / line[basic]
@@ -132,7 +132,7 @@ class Simplex(IntegerRows):
                 best = Step(size, b, end)
         return best
 
-    def met(self, b: int, is_up: bool, missed: int) -> Side:
+    def met(self, b: int, is_up: bool, missed: int) -> Bound:
         """The end that a basic variable meets next."""
         if missed:
             return (self.lo if is_up else self.hi)[b] if is_up == (missed < 0) else None
@@ -160,7 +160,7 @@ class Simplex(IntegerRows):
                 rows = {k - self.p.n: y for k, y in slopes.items() if k >= self.p.n and y}
                 if missed:
                     return Ended("infeasible", None, rows)
-                scale = Fraction(self.p.scale, self.p.cost_scale)
+                scale = Fraction(self.p.row_scale, self.p.cost_scale)
                 return Ended("optimal", self.point(), {i: y * scale for i, y in rows.items()})
             way = 1 if slopes[enters] < 0 else -1
             step = self.step(enters, way, missed)
@@ -169,7 +169,7 @@ class Simplex(IntegerRows):
             self.go(enters, way, step)
 
     def point(self) -> Point:
-        return [self.x[j] / self.p.unit for j in range(self.p.n)]
+        return [self.x[j] / self.p.bound_scale for j in range(self.p.n)]
 
     def ray(self, enters: int, way: int) -> Point:
         found = {b: way * self.rate(b, enters) for b in self.names_with[enters]}

@@ -13,7 +13,7 @@ from typing import Dict, Iterator, Mapping, NamedTuple, Sequence, Tuple
 
 from . import text
 from .clp import Clp, State
-from .model import Added, Model, Step
+from ..model.integer_form import IntegerProgram, ObjectiveLattice, Row
 from .parts import Better
 from .search import Goal, Search
 from .text import Naming
@@ -49,26 +49,26 @@ class CliqueCut(NamedTuple):
     before: Sequence[CliqueCut] = ()
 
 
-def knapsacks(m: Model) -> Iterator[tuple[Items, Fraction]]:
+def knapsacks(m: IntegerProgram) -> Iterator[tuple[Items, Fraction]]:
     """Each side of a row over binary literals with positive weights; others stand at a bound."""
-    for row, lo, hi in zip(m.rows, m.side_lo, m.side_hi):
+    for row, lo, hi in zip(m.rows, m.row_lower, m.row_upper):
         for sign, side in ((1, hi), (-1, lo)) if len(row) <= MOST_IN_ROW else ():
-            ends = [(m.lo if sign * a > 0 else m.hi)[j] for j, a in row]
+            ends = [(m.lower if sign * a > 0 else m.upper)[j] for j, a in row]
             finite = [sign * a * end for (_, a), end in zip(row, ends) if end is not None]
             rest = (
                 -1
                 if side is None or len(finite) < len(row)
-                else sign * side * m.scale - sum(finite)
+                else sign * side * m.row_scale - sum(finite)
             )
             if rest >= 0:
                 yield [
                     (abs(a), (j, 1 if sign * a > 0 else -1))
                     for j, a in row
-                    if m.whole[j] and m.lo[j] == 0 and m.hi[j] == m.unit
-                ], Fraction(rest, m.unit)
+                    if m.is_integer[j] and m.lower[j] == 0 and m.upper[j] == m.bound_scale
+                ], Fraction(rest, m.bound_scale)
 
 
-def conflicts(m: Model) -> Dict[Literal, set[Literal]]:
+def conflicts(m: IntegerProgram) -> Dict[Literal, set[Literal]]:
     """Literals of which two cannot be 1 together, by one row."""
     found: Dict[Literal, set[Literal]] = {}
     for items, side in knapsacks(m):
@@ -80,7 +80,7 @@ def conflicts(m: Model) -> Dict[Literal, set[Literal]]:
     return found
 
 
-def cliques(m: Model, x: Sequence[float]) -> Iterator[CliqueCut]:
+def cliques(m: IntegerProgram, x: Sequence[float]) -> Iterator[CliqueCut]:
     """From each literal the clique that grows by the greatest values, literal by literal, since below the one before
     each closes by one leaf."""
     near, seen = conflicts(m), set[frozenset[Literal]]()
@@ -108,15 +108,15 @@ def clique(literals: Sequence[Literal], value: Mapping[Literal, float]) -> Cliqu
     )
 
 
-class Row(NamedTuple):
+class ProvedCut(NamedTuple):
     """One row of the spine: `terms` at most `at`, with the tree of the part beyond it, or the proof of a lemma."""
 
     terms: Dict[int, int]
     at: int
     proof: Tree | MIRProof
 
-    def added(self) -> Added:
-        return Added(self.terms, None, self.at)
+    def added(self) -> Row:
+        return Row(self.terms, None, self.at)
 
     def parts(self) -> Sequence[Tree]:
         return (
@@ -131,34 +131,39 @@ class Value:
     there is a step, `at` is the greatest value of its form that would be better; `added` is the plane of that.
     """
 
-    def __init__(self, model: Model, value: Fraction | None, step: Step | None) -> None:
+    def __init__(
+        self, model: IntegerProgram, value: Fraction | None, step: ObjectiveLattice | None
+    ) -> None:
         self.value, self.step, self.at = value, step, 0
         self.goal = Goal(value)
         if step is not None and value is not None:
-            self.at = math.ceil((value - model.constant) / step.size) - 1
-            self.goal = Goal(value - step.size, True)
-        self.added = [] if step is None else [Added(step.form, None, self.at)]
+            self.at = math.ceil((value - model.constant_fraction) / step.spacing) - 1
+            self.goal = Goal(value - step.spacing, True)
+        self.added = [] if step is None else [Row(step.coefficients, None, self.at)]
 
 
 class Maker:
     """Makes rows of the spine for a value, within seconds of the watch."""
 
-    def __init__(self, model: Model, value: Value, watch: Watch) -> None:
+    def __init__(self, model: IntegerProgram, value: Value, watch: Watch) -> None:
         self.model, self.value, self.watch = model, value, watch
         self.goal = math.inf if value.goal.target is None else float(value.goal.target)
         self.base = -math.inf  # of the last relaxation
         self.stalled = STALLED if any(model.costs) else ROUNDS
 
-    def relaxed(self, rows: Sequence[Row]) -> tuple[Model, Clp] | None:
+    def relaxed(self, rows: Sequence[ProvedCut]) -> tuple[IntegerProgram, Clp] | None:
         """The relaxation under the rows; the plane on the objective is there without its side, so that the bound is
         seen."""
         m = self.model.with_rows(
-            [*(Added(added.terms) for added in self.value.added), *(row.added() for row in rows)]
+            [
+                *(Row(added.coefficients) for added in self.value.added),
+                *(row.added() for row in rows),
+            ]
         )
         clp = m.relaxation()
         if clp.solve() is not State.OPTIMAL:
             return None
-        self.base = clp.objective() + float(self.model.constant)
+        self.base = clp.objective() + float(self.model.constant_fraction)
         if self.watch.is_due() and any(self.model.costs):
             self.watch.tell(cuts=len(rows), bound=self.model.sign * self.base)
         return m, clp
@@ -166,7 +171,9 @@ class Maker:
     def is_over(self, until: float) -> bool:
         return self.watch.spent() > until or self.watch.is_stopped
 
-    def cuts(self, kinds: Sequence[str], before: Sequence[Row], until: float) -> list[Row]:
+    def cuts(
+        self, kinds: Sequence[str], before: Sequence[ProvedCut], until: float
+    ) -> list[ProvedCut]:
         """The rows of before, and those of these kinds below them."""
         rows = list(before)
         seen = {key(row.terms, row.at) for row in rows}
@@ -193,7 +200,12 @@ class Maker:
         return rows
 
     def proposed(
-        self, m: Model, clp: Clp, kinds: Sequence[str], used: Sequence[object], until: float
+        self,
+        m: IntegerProgram,
+        clp: Clp,
+        kinds: Sequence[str],
+        used: Sequence[object],
+        until: float,
     ) -> Iterator[CliqueCut | MIRCut]:
         """Cliques and lemmas, of each the deepest first, as long as fewer than there may be in one round are used."""
         x = clp.values()
@@ -215,11 +227,13 @@ class Maker:
                 break
             yield cut
 
-    def is_proved(self, cut: CliqueCut | MIRCut, rows: list[Row], model: Model) -> bool:
+    def is_proved(
+        self, cut: CliqueCut | MIRCut, rows: list[ProvedCut], model: IntegerProgram
+    ) -> bool:
         """With what comes before it; as far as that goes, it is among the rows."""
         if isinstance(cut, MIRCut):
             proof = prove_mir_cut(model, cut)
-            rows += [] if proof is None else [Row(cut.coefficients, cut.rhs, proof)]
+            rows += [] if proof is None else [ProvedCut(cut.coefficients, cut.rhs, proof)]
             return proof is not None
         for one in (*cut.before, cut):
             if one is cut or all(
@@ -228,15 +242,15 @@ class Maker:
                 tree = self.beyond(one, rows)
                 if tree is None:
                     return False
-                rows.append(Row(one.coefficients, one.rhs, tree))
+                rows.append(ProvedCut(one.coefficients, one.rhs, tree))
         return True
 
-    def beyond(self, cut: CliqueCut, rows: Sequence[Row]) -> Tree | None:
+    def beyond(self, cut: CliqueCut, rows: Sequence[ProvedCut]) -> Tree | None:
         """The tree of the part beyond a cut, under the plane on the objective."""
         added = [
             *self.value.added,
             *(row.added() for row in rows),
-            Added(cut.coefficients, cut.rhs + 1),
+            Row(cut.coefficients, cut.rhs + 1),
         ]
         search = Search(self.model.with_rows(added), Goal(None), self.watch, strong=4)
         search.until, search.most = self.watch.spent() + BEYOND_SECONDS, BEYOND_NODES
@@ -261,7 +275,12 @@ class Spined:
     """
 
     def __init__(
-        self, model: Model, searched: Model, value: Value, rows: Sequence[Row], tree: Tree
+        self,
+        model: IntegerProgram,
+        searched: IntegerProgram,
+        value: Value,
+        rows: Sequence[ProvedCut],
+        tree: Tree,
     ) -> None:
         self.model, self.searched, self.value, self.tree = model, searched, value, tree
         start, used = model.m + len(value.added), rows_used(tree)
@@ -284,7 +303,7 @@ class Spined:
         """Behind the tree stand the parts beyond the cuts, from the deepest."""
         step, row, sign = self.value.step, self.model.m, self.model.sign
         if step is not None:
-            yield from text.plane_lines(step.form, self.value.at)
+            yield from text.plane_lines(step.coefficients, self.value.at)
         beyond: list[tuple[int, Tree]] = []
         for at, (terms, side, proof) in self.kept.items():
             if isinstance(proof, MIRProof):
@@ -292,12 +311,12 @@ class Spined:
             else:
                 yield from text.plane_lines(terms, side)
                 beyond.append((at + 1, proof))
-        plane = None if step is None else (row, step.size)
+        plane = None if step is None else (row, step.spacing)
         yield from self.tree_lines(self.tree, self.end, plane)
         for first, tree in reversed(beyond):
             yield from self.tree_lines(tree, first)
         if step is not None:
-            yield from text.multiplier_lines({row: sign * step.size}, MultiplierKind.DUAL)
+            yield from text.multiplier_lines({row: sign * step.spacing}, MultiplierKind.DUAL)
 
     def tree_lines(
         self, tree: Tree, first: int, plane: tuple[int, Fraction] | None = None

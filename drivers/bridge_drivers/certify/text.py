@@ -6,7 +6,7 @@ from fractions import Fraction
 from typing import Dict, Iterator, Mapping, NamedTuple, Optional, Sequence, Tuple
 
 from .equations import Parity
-from .model import Model, Point
+from ..model.integer_form import IntegerProgram, Point
 from ..exact.dual_bound import MultiplierKind, Multipliers
 from ..exact.mir import MIRProof
 from ..exact.tree import EmptyDomain, Leaf, Split, Tree
@@ -73,7 +73,7 @@ def leaf_lines(leaf: Multipliers, naming: Naming, names: Names) -> Iterator[str]
     yield from multiplier_lines(values, kind)
 
 
-def tree_lines(model: Model, tree: Tree, naming: Naming) -> Iterator[str]:
+def tree_lines(model: IntegerProgram, tree: Tree, naming: Naming) -> Iterator[str]:
     parts: list[tuple[Names, int]] = [({}, naming.first)]  # that are still to come
     for node in tree:
         names, row = parts.pop()
@@ -94,7 +94,7 @@ def tree_lines(model: Model, tree: Tree, naming: Naming) -> Iterator[str]:
             parts += [(names, row)] * 2
         elif isinstance(node, Split):
             form = node.column - model.n
-            yield from plane_lines({j: a // model.scale for j, a in model.rows[form]}, node.at)
+            yield from plane_lines({j: a // model.row_scale for j, a in model.rows[form]}, node.at)
             least, most = names.get(form, (-1, -1))
             parts += [
                 ({**names, form: (row, most)}, row + 1),

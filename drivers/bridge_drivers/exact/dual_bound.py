@@ -20,7 +20,7 @@ import math
 from fractions import Fraction
 from typing import Dict, Iterable, List, Mapping, NamedTuple, Optional, Sequence
 
-from ..certify.model import Box, Model, Side
+from ..model.integer_form import Bound, Box, IntegerProgram
 from ..miss import OWN as ROUNDING_OF_A_ROW
 from ..values import MOST_DIGITS as LARGEST_INTEGER
 
@@ -109,19 +109,19 @@ def bit_width(values: Iterable[Fraction]) -> int:
     return max((max(abs(v.numerator), v.denominator).bit_length() for v in distinct), default=0)
 
 
-def needed_row_bound(program: Model, row: int, multiplier: float | Fraction) -> Side:
+def needed_row_bound(program: IntegerProgram, row: int, multiplier: float | Fraction) -> Bound:
     """The bound of a row that a multiplier of this sign rests on, over the program's unit."""
-    return program.side_lo[row] if multiplier > 0 else program.side_hi[row]
+    return program.row_lower[row] if multiplier > 0 else program.row_upper[row]
 
 
-def has_needed_bound(program: Model, row: int, multiplier: float | Fraction) -> bool:
+def has_needed_bound(program: IntegerProgram, row: int, multiplier: float | Fraction) -> bool:
     """Whether a row can have a multiplier of this sign; any row can have 0."""
     return multiplier == 0 or needed_row_bound(program, row, multiplier) is not None
 
 
-def needed_column_bound(box: Box, column: int, reduced_cost: float) -> Side:
+def needed_column_bound(box: Box, column: int, reduced_cost: float) -> Bound:
     """The bound of a column that a reduced cost of this sign rests on, over the program's unit."""
-    return box.lo[column] if reduced_cost > 0 else box.hi[column]
+    return box.lower[column] if reduced_cost > 0 else box.upper[column]
 
 
 def reduced_cost_term(box: Box, column: int, reduced_cost: int) -> Optional[int]:
@@ -132,7 +132,7 @@ def reduced_cost_term(box: Box, column: int, reduced_cost: int) -> Optional[int]
     return None if end is None else reduced_cost * end
 
 
-def dual_bound(program: Model, multipliers: Multipliers, box: Box) -> DualBound:
+def dual_bound(program: IntegerProgram, multipliers: Multipliers, box: Box) -> DualBound:
     """The exact bound of the rule above, in whole numbers.
 
     Args:
@@ -143,30 +143,32 @@ def dual_bound(program: Model, multipliers: Multipliers, box: Box) -> DualBound:
     Returns:
         The bound, over cost_scale * scale * unit of the program times the multipliers' denominator.
     """
-    common = multipliers.denominator * program.scale
+    common = multipliers.denominator * program.row_scale
     if multipliers.is_farkas:
         cost_scale, bound, costs = 1, 0, [0] * program.n
     else:
         cost_scale = program.cost_scale
-        bound = program.start * common * program.unit
+        bound = program.constant * common * program.bound_scale
         costs = [cost * common for cost in program.costs]
     for row, numerator in multipliers.numerators.items():
         row_bound = needed_row_bound(program, row, numerator)
         assert row_bound is not None, f"row {row} lacks the bound that its multiplier needs"
-        bound += numerator * row_bound * cost_scale * program.scale
+        bound += numerator * row_bound * cost_scale * program.row_scale
     reduced_costs = program.terms.without(costs, multipliers.numerators, cost_scale)
     unbounded = []
     for column, reduced_cost in enumerate(reduced_costs):
         if reduced_cost:  # most are 0; no call for each, since this is the inner loop of a search
-            end = box.lo[column] if reduced_cost > 0 else box.hi[column]
+            end = box.lower[column] if reduced_cost > 0 else box.upper[column]
             if end is None:
                 unbounded.append(column)
             else:
                 bound += reduced_cost * end
-    return DualBound(bound, cost_scale * common * program.unit, reduced_costs, unbounded)
+    return DualBound(bound, cost_scale * common * program.bound_scale, reduced_costs, unbounded)
 
 
-def is_optimal_in_doubles(program: Model, x: Sequence[float], duals: Mapping[int, float]) -> bool:
+def is_optimal_in_doubles(
+    program: IntegerProgram, x: Sequence[float], duals: Mapping[int, float]
+) -> bool:
     """Whether duals bound the objective at a point that misses nothing but rounding.
 
     That is no proof: a column without the bound that its reduced cost needs is taken to end far
@@ -178,14 +180,14 @@ def is_optimal_in_doubles(program: Model, x: Sequence[float], duals: Mapping[int
         duals: By row, of the program as it is minimised here.
     """
     point = [
-        _at_bound(value, program.double(lower), program.double(upper))
-        for value, lower, upper in zip(x, program.lo, program.hi)
+        _at_bound(value, program.bound_as_double(lower), program.bound_as_double(upper))
+        for value, lower, upper in zip(x, program.lower, program.upper)
     ]
     residuals = row_residuals(program, point)
     if residuals is None:
         return False
-    terms = [float(cost) * value for cost, value in zip(program.cost, point) if cost]
-    constant = float(program.constant)
+    terms = [float(cost) * value for cost, value in zip(program.cost_fractions, point) if cost]
+    constant = float(program.constant_fraction)
     size = sum([abs(term) for term in terms]) + abs(constant)
     objective = sum(terms) + constant
     worth_of_residuals = sum(abs(dual) * residuals[row] for row, dual in duals.items())
@@ -194,19 +196,19 @@ def is_optimal_in_doubles(program: Model, x: Sequence[float], duals: Mapping[int
     return gap <= RELATIVE_GAP * max(1.0, abs(objective), size)
 
 
-def row_residuals(program: Model, x: Sequence[float]) -> Optional[List[float]]:
+def row_residuals(program: IntegerProgram, x: Sequence[float]) -> Optional[List[float]]:
     """By how much rows are missed at a point, and what doubles leave out of that.
 
     Returns:
         By row, at least 0; None where a column's bound is missed, or a row by more than rounding.
     """
-    for value, lower, upper in zip(x, program.lo, program.hi):
-        if violation(value, program.double(lower), program.double(upper)):
+    for value, lower, upper in zip(x, program.lower, program.upper):
+        if violation(value, program.bound_as_double(lower), program.bound_as_double(upper)):
             return None
     found = []
-    for row, lower, upper in zip(program.rows, program.side_lo, program.side_hi):
-        terms = [coefficient / program.scale * x[column] for column, coefficient in row]
-        low, high = program.double(lower), program.double(upper)
+    for row, lower, upper in zip(program.rows, program.row_lower, program.row_upper):
+        terms = [coefficient / program.row_scale * x[column] for column, coefficient in row]
+        low, high = program.bound_as_double(lower), program.bound_as_double(upper)
         sizes = [abs(v) for v in (*terms, low or 0.0, high or 0.0)]
         missed = abs(violation(sum(terms), low, high))
         if missed > ROUNDING_OF_A_ROW * max(sizes):
@@ -224,36 +226,38 @@ def violation(value: float, lower: Optional[float], upper: Optional[float]) -> f
     return 0.0
 
 
-def lower_bound_in_doubles(program: Model, x: Sequence[float], duals: Mapping[int, float]) -> float:
+def lower_bound_in_doubles(
+    program: IntegerProgram, x: Sequence[float], duals: Mapping[int, float]
+) -> float:
     """The rule above in doubles, less all that their rounding may have added.
 
     Args:
         x: Values of the columns, by which those are taken to end that have no bound.
         duals: By row; those without the row bound that they rest on count as 0.
     """
-    reduced_costs = [float(cost) for cost in program.cost]
+    reduced_costs = [float(cost) for cost in program.cost_fractions]
     sizes = [abs(cost) for cost in reduced_costs]
     operations = [2] * program.n
-    bound = float(program.constant)
+    bound = float(program.constant_fraction)
     total_size = abs(bound)
     for row, dual in duals.items():
-        end = program.double(needed_row_bound(program, row, dual)) if dual else None
+        end = program.bound_as_double(needed_row_bound(program, row, dual)) if dual else None
         if end is None:
             continue
         bound += dual * end
         total_size += abs(dual * end)
         for column, coefficient in program.rows[row]:
-            term = dual * (coefficient / program.scale)
+            term = dual * (coefficient / program.row_scale)
             reduced_costs[column] -= term
             sizes[column] += abs(term)
             operations[column] += 1
-    box = Box(program.lo, program.hi)
+    box = Box(program.lower, program.upper)
     for column, cost in enumerate(reduced_costs):
         error = operations[column] * UNIT_ROUNDOFF * sizes[column]
         zero = ZERO_REDUCED_COST * sizes[column]
         least = math.inf
         for near in (cost - error, cost + error):
-            end = program.double(needed_column_bound(box, column, near))
+            end = program.bound_as_double(needed_column_bound(box, column, near))
             least = min(least, _least_term(near, end, x[column], zero))
         bound += least
         total_size += abs(least)

@@ -12,7 +12,7 @@ from fractions import Fraction
 from typing import Dict, Iterable, Iterator, List, Mapping, NamedTuple, Optional, Sequence, Tuple
 
 from .linear_systems import Equation, solve_exactly
-from ..certify.model import Box, Model
+from ..model.integer_form import Box, IntegerProgram
 from .dual_bound import (
     DualBound,
     MultiplierKind,
@@ -69,7 +69,9 @@ class LeafProver:
         is_strict: Whether the bound must exceed the cutoff.
     """
 
-    def __init__(self, program: Model, cutoff: Optional[Fraction], is_strict: bool = False) -> None:
+    def __init__(
+        self, program: IntegerProgram, cutoff: Optional[Fraction], is_strict: bool = False
+    ) -> None:
         self.program = program
         self.cutoff = cutoff
         self.is_strict = is_strict
@@ -151,7 +153,7 @@ class LeafProver:
         multiplier = numerator * self._cost_scale(multipliers)
         row_bound = needed_row_bound(self.program, row, numerator)
         assert row_bound is not None
-        left = surplus - multiplier * row_bound * self.program.scale
+        left = surplus - multiplier * row_bound * self.program.row_scale
         for column, coefficient in self.program.rows[row]:
             term = reduced_cost_term(box, column, costs[column] + multiplier * coefficient)
             if term is None:
@@ -160,7 +162,9 @@ class LeafProver:
         return left
 
 
-def from_ratios(program: Model, values: Mapping[int, Ratio], kind: MultiplierKind) -> Multipliers:
+def from_ratios(
+    program: IntegerProgram, values: Mapping[int, Ratio], kind: MultiplierKind
+) -> Multipliers:
     """Multipliers over their least common denominator, without those that lack their row bound."""
     kept = {
         row: ratio
@@ -175,14 +179,14 @@ def from_ratios(program: Model, values: Mapping[int, Ratio], kind: MultiplierKin
 
 
 def from_fractions(
-    program: Model, values: Mapping[int, Fraction], kind: MultiplierKind
+    program: IntegerProgram, values: Mapping[int, Fraction], kind: MultiplierKind
 ) -> Multipliers:
     ratios = {row: (v.numerator, v.denominator) for row, v in values.items()}
     return from_ratios(program, ratios, kind)
 
 
 def rounded(
-    program: Model, values: Mapping[int, float], places: int, kind: MultiplierKind
+    program: IntegerProgram, values: Mapping[int, float], places: int, kind: MultiplierKind
 ) -> Multipliers:
     """Multipliers rounded to so many decimals, which may stand left of the point (below 0)."""
     power = 10 ** abs(places)
@@ -195,7 +199,7 @@ def rounded(
 
 
 def short_candidates(
-    program: Model, values: Mapping[int, float], kind: MultiplierKind
+    program: IntegerProgram, values: Mapping[int, float], kind: MultiplierKind
 ) -> Iterator[Multipliers]:
     """Roundings of multipliers, about in the order of their length.
 
@@ -215,7 +219,7 @@ def short_candidates(
             yield rounded(program, shrunk, SHRUNK_DIGITS + first_digit, kind)
 
 
-def _whole_multiples(program: Model, values: Mapping[int, float]) -> Iterator[Multipliers]:
+def _whole_multiples(program: IntegerProgram, values: Mapping[int, float]) -> Iterator[Multipliers]:
     sizes = [abs(v) for v in values.values()]
     least, largest = min(sizes), max(sizes)
     if largest / least < FARKAS_SPREAD:
@@ -225,7 +229,7 @@ def _whole_multiples(program: Model, values: Mapping[int, float]) -> Iterator[Mu
 
 
 def _decimals_and_fractions(
-    program: Model, values: Mapping[int, float], kind: MultiplierKind, first_digit: int
+    program: IntegerProgram, values: Mapping[int, float], kind: MultiplierKind, first_digit: int
 ) -> Iterator[Multipliers]:
     """Ever more decimals, and among them fractions of ever larger denominators."""
     digits = iter(DECIMAL_DIGITS)
@@ -239,7 +243,7 @@ def _decimals_and_fractions(
 
 
 def repaired_bound(
-    program: Model, multipliers: Multipliers, box: Box
+    program: IntegerProgram, multipliers: Multipliers, box: Box
 ) -> Tuple[Multipliers, DualBound]:
     """The bound of multipliers, or of those that a repair makes of them.
 
@@ -263,16 +267,16 @@ def repaired_bound(
 
 
 def _with_column_repaired(
-    program: Model, multipliers: Multipliers, box: Box, column: int
+    program: IntegerProgram, multipliers: Multipliers, box: Box, column: int
 ) -> Multipliers:
     """The same where no row of the column can take up its reduced cost."""
     numerators = multipliers.numerators
-    lower, upper = box.lo[column], box.hi[column]
+    lower, upper = box.lower[column], box.upper[column]
     if multipliers.is_farkas:
         cost_scale, cost = 1, 0
     else:
         cost_scale = program.cost_scale
-        cost = program.costs[column] * multipliers.denominator * program.scale
+        cost = program.costs[column] * multipliers.denominator * program.row_scale
     entries = program.terms.column(column)
     reduced_cost = cost - cost_scale * sum(numerators.get(row, 0) * a for row, a in entries)
     if not reduced_cost or (lower if reduced_cost > 0 else upper) is not None:
@@ -290,7 +294,12 @@ def _with_column_repaired(
 
 
 def _absorbed(
-    program: Model, given: Multipliers, row: int, reduced_cost: int, coefficient: int, is_free: bool
+    program: IntegerProgram,
+    given: Multipliers,
+    row: int,
+    reduced_cost: int,
+    coefficient: int,
+    is_free: bool,
 ) -> Optional[Multipliers]:
     """The multipliers where that of one row takes up a column's reduced cost.
 
@@ -322,7 +331,7 @@ def _absorbed(
 
 
 def basis_duals(
-    program: Model, basic: Sequence[int], rows: Sequence[int]
+    program: IntegerProgram, basic: Sequence[int], rows: Sequence[int]
 ) -> Optional[Dict[int, Fraction]]:
     """The exact duals of a basis: the reduced costs of its basic columns are 0.
 
@@ -335,7 +344,7 @@ def basis_duals(
     """
     if len(basic) > MOST_BASIC_COLUMNS or len(basic) != len(rows):
         return None
-    columns = ((dict(program.by_column[j]), program.costs[j] * program.scale) for j in basic)
+    columns = ((dict(program.by_column[j]), program.costs[j] * program.row_scale) for j in basic)
     found = _solved_in(rows, columns)
     if found is None:
         return None
@@ -343,7 +352,7 @@ def basis_duals(
 
 
 def phase_one_duals(
-    program: Model, basic: Sequence[int], rows: Sequence[int]
+    program: IntegerProgram, basic: Sequence[int], rows: Sequence[int]
 ) -> Optional[Dict[int, Fraction]]:
     """The same of the program of phase one, which has two artificial columns a row.
 

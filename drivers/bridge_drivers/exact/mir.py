@@ -24,7 +24,7 @@ from fractions import Fraction
 from math import gcd, lcm, sqrt
 from typing import Dict, Mapping, NamedTuple, Optional, Sequence, Tuple, TypeVar
 
-from ..certify.model import Added, Box, Model, Side
+from ..model.integer_form import Bound, Box, IntegerProgram, Row
 from .dual_bound import MultiplierKind, Multipliers
 from .leaf_proofs import LeafProver, Ratio, last_convergent
 from .tree import Leaf, leaf_of
@@ -63,10 +63,10 @@ class Substitutions(Dict[int, Optional[Substitution]]):
     None stands for what has no bound to count from. `x` is the point that cuts are to cut off.
     """
 
-    def __init__(self, program: Model, x: Sequence[float]) -> None:
+    def __init__(self, program: IntegerProgram, x: Sequence[float]) -> None:
         super().__init__()
         self.program = program
-        activities = (sum([a * x[j] for j, a in row]) / program.scale for row in program.rows)
+        activities = (sum([a * x[j] for j, a in row]) / program.row_scale for row in program.rows)
         self.x = [*x, *activities]
 
     def __missing__(self, place: int) -> Optional[Substitution]:
@@ -74,7 +74,7 @@ class Substitutions(Dict[int, Optional[Substitution]]):
         return self[place]
 
     def _from_nearest_bound(self, place: int) -> Optional[Substitution]:
-        unit, value = self.program.unit, self.x[place]
+        unit, value = self.program.bound_scale, self.x[place]
         lower, upper, is_integer = self._bounds(place)
         if upper is not None and (lower is None or value - lower / unit > upper / unit - value):
             distance = max(upper / unit - value, 0.0)
@@ -84,24 +84,28 @@ class Substitutions(Dict[int, Optional[Substitution]]):
         distance = max(value - lower / unit, 0.0)
         return Substitution(lower, 1, distance, is_integer, lower == upper)
 
-    def _bounds(self, place: int) -> Tuple[Side, Side, bool]:
+    def _bounds(self, place: int) -> Tuple[Bound, Bound, bool]:
         """Bounds, over the unit, and whether all is integer between them."""
         program, row = self.program, place - self.program.n
         if row < 0:
-            lower, upper = program.lo[place], program.hi[place]
-            if program.whole[place]:
-                lower, upper = _integral(lower, program.unit), _integral(upper, program.unit)
-            return lower, upper, program.whole[place]
-        lower, upper = program.side_lo[row], program.side_hi[row]
+            lower, upper = program.lower[place], program.upper[place]
+            if program.is_integer[place]:
+                lower, upper = _integral(lower, program.bound_scale), _integral(
+                    upper, program.bound_scale
+                )
+            return lower, upper, program.is_integer[place]
+        lower, upper = program.row_lower[row], program.row_upper[row]
         is_integer = (
-            lower == _integral(lower, program.unit)
-            and upper == _integral(upper, program.unit)
-            and all(program.whole[j] and a % program.scale == 0 for j, a in program.rows[row])
+            lower == _integral(lower, program.bound_scale)
+            and upper == _integral(upper, program.bound_scale)
+            and all(
+                program.is_integer[j] and a % program.row_scale == 0 for j, a in program.rows[row]
+            )
         )
         return lower, upper, is_integer
 
 
-def _integral(bound: Side, unit: int) -> Side:
+def _integral(bound: Bound, unit: int) -> Bound:
     """A bound that is a whole number; None of another one."""
     return None if bound is None or bound % unit else bound
 
@@ -160,7 +164,7 @@ class MIRProof(NamedTuple):
 
 
 def aggregated(
-    program: Model, combination: Mapping[int, Number], factor: Number
+    program: IntegerProgram, combination: Mapping[int, Number], factor: Number
 ) -> Dict[int, Number]:
     """A combination of rows as a sum that is 0 at each point: of columns, and of rows behind them.
 
@@ -172,7 +176,7 @@ def aggregated(
         for column, a in program.rows[row]:
             product = multiplier * a
             total[column] = total[column] + product if column in total else product
-        total[program.n + row] = -multiplier * program.scale
+        total[program.n + row] = -multiplier * program.row_scale
     return {place: coefficient * factor for place, coefficient in total.items()}
 
 
@@ -191,10 +195,10 @@ def mir_cut(
     common, multipliers = _over_one_denominator(combination)
     total = aggregated(program, multipliers, over)
     if divisor.column is None:
-        size = common * program.scale
+        size = common * program.row_scale
     else:
         size = abs(total.get(divisor.column, 0)) // over
-    d = size * program.unit * times
+    d = size * program.bound_scale * times
     terms = _substituted(substitutions, total)
     if not d or terms is None:
         return None
@@ -231,7 +235,7 @@ def _substituted(substitutions: Substitutions, total: Mapping[int, int]) -> Opti
     return terms
 
 
-def _exact_cut(program: Model, terms: Terms, d: int, whole: int, rest: int) -> MIRCut:
+def _exact_cut(program: IntegerProgram, terms: Terms, d: int, whole: int, rest: int) -> MIRCut:
     """The cut and the multipliers of its proof, in whole numbers.
 
     With `rest = b - whole * d` and `room = d - rest`, all is multiplied by `room`, so that
@@ -239,21 +243,21 @@ def _exact_cut(program: Model, terms: Terms, d: int, whole: int, rest: int) -> M
     `c % d` is above `rest`. In its lower part the form has the multiplier `-room`, in the upper one
     `rest`; what rows have there makes up the difference to the cut.
     """
-    unit, room = program.unit, d - rest
+    unit, room = program.bound_scale, d - rest
     coefficients, form = [0] * program.n, [0] * program.n
-    rhs, form_rhs = whole * room * program.scale * unit, whole
+    rhs, form_rhs = whole * room * program.row_scale * unit, whole
     low: Dict[int, int] = {program.m: -room}
     high: Dict[int, int] = {program.m: rest}
     for place, (substitution, v) in terms.items():
         sign = substitution.sign
         c = v * sign * unit
         lifted, in_form = _rounded_coefficient(substitution, c, d, rest)
-        rhs += sign * lifted * substitution.bound * program.scale
+        rhs += sign * lifted * substitution.bound * program.row_scale
         form_rhs += sign * in_form * substitution.bound // unit
         row = place - program.n
-        for j, a in program.rows[row] if row >= 0 else ((place, program.scale),):
+        for j, a in program.rows[row] if row >= 0 else ((place, program.row_scale),):
             coefficients[j] += sign * lifted * a * unit
-            form[j] += sign * in_form * a // program.scale
+            form[j] += sign * in_form * a // program.row_scale
         if row >= 0:
             low[row] = sign * (in_form * room - lifted)
             high[row] = sign * (c - rest * in_form - lifted)
@@ -276,8 +280,10 @@ def _rounded_coefficient(substitution: Substitution, c: int, d: int, rest: int) 
     return whole * (d - rest) + max(0, fraction - rest), whole + (fraction > rest)
 
 
-def _leaf_multipliers(program: Model, numerators: Mapping[int, int], common: int) -> Multipliers:
-    factor = program.scale * program.unit
+def _leaf_multipliers(
+    program: IntegerProgram, numerators: Mapping[int, int], common: int
+) -> Multipliers:
+    factor = program.row_scale * program.bound_scale
     nonzero = {row: v * factor for row, v in numerators.items() if v}
     return Multipliers(nonzero, common, MultiplierKind.DUAL)
 
@@ -295,22 +301,24 @@ def _efficacy(cut: MIRCut, x: Sequence[float]) -> float:
     return violation / sqrt(sum([float(a) ** 2 for a in sizes]))
 
 
-def prove_mir_cut(program: Model, cut: MIRCut) -> Optional[MIRProof]:
+def prove_mir_cut(program: IntegerProgram, cut: MIRCut) -> Optional[MIRProof]:
     """The proof, where the exact rule accepts both of its leaves.
 
     Args:
         program: With the rows that the cut was made of.
     """
     form, whole = cut.split
-    split = program.with_rows([Added(form, whole + 1, whole)])
-    against_cut = split.with_form({j: -a for j, a in cut.coefficients.items()})
+    split = program.with_rows([Row(form, whole + 1, whole)])
+    against_cut = split.with_integer_costs({j: -a for j, a in cut.coefficients.items()})
     prover = LeafProver(against_cut, Fraction(-cut.rhs))
-    box = Box(program.lo, program.hi)
+    box = Box(program.lower, program.upper)
     leaves = []
     for multipliers in cut.multipliers:
         proof = prover.prove(multipliers, box)
         if proof is None or not proof.multipliers.fits_certificate():
             return None
-        added = (i for i in proof.multipliers.numerators if program.n_con <= i < program.m)
+        added = (
+            i for i in proof.multipliers.numerators if program.constraint_count <= i < program.m
+        )
         leaves.append(leaf_of(proof.multipliers, added))
     return MIRProof(cut.split, program.m, *leaves)

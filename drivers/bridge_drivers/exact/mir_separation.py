@@ -23,7 +23,7 @@ from typing import (
 )
 
 from ..certify.clp import Clp
-from ..certify.model import Model
+from ..model.integer_form import IntegerProgram
 from .leaf_proofs import Ratio
 from .mir import Combination, Divisor, MIRCut, Substitution, Substitutions, aggregated, mir_cut
 
@@ -56,13 +56,13 @@ class _Screening:
         self.rhs = 0.0
         self.slack = 0.0  # of the other columns with coefficients below 0, as their squares
         self.squares = 0.0
-        for place, v in aggregated(program, combination, 1 / program.scale).items():
+        for place, v in aggregated(program, combination, 1 / program.row_scale).items():
             if abs(v) <= ZERO_COEFFICIENT:
                 continue
             substitution = substitutions[place]
             if substitution is None:
                 raise LookupError(place)
-            self.rhs -= v * substitution.bound / program.unit
+            self.rhs -= v * substitution.bound / program.bound_scale
             if not substitution.is_fixed:
                 self._add(v * substitution.sign, substitution, place)
 
@@ -132,17 +132,17 @@ class VariableBound(NamedTuple):
     coefficient: float
 
 
-def variable_bounds(program: Model) -> Dict[int, List[VariableBound]]:
+def variable_bounds(program: IntegerProgram) -> Dict[int, List[VariableBound]]:
     """Those that rows of two columns give, by continuous column."""
     found: Dict[int, List[VariableBound]] = {}
     for i, row in enumerate(program.rows):
         if len(row) != 2:
             continue
-        for sign, bound in ((1, program.side_hi[i]), (-1, program.side_lo[i])):
+        for sign, bound in ((1, program.row_upper[i]), (-1, program.row_lower[i])):
             for (j, a), (y, b) in (row, row[::-1]) if bound == 0 else ():
-                is_mixed = program.whole[y] and not program.whole[j]
+                is_mixed = program.is_integer[y] and not program.is_integer[j]
                 if is_mixed and sign * a > 0 > sign * b:
-                    variable_bound = VariableBound(-b / a, y, i, a / program.scale)
+                    variable_bound = VariableBound(-b / a, y, i, a / program.row_scale)
                     found.setdefault(j, []).append(variable_bound)
     return found
 
@@ -150,7 +150,7 @@ def variable_bounds(program: Model) -> Dict[int, List[VariableBound]]:
 class MIRSeparator:
     """Looks for MIR cuts at the optimum x of a relaxation (aggregation heuristic)."""
 
-    def __init__(self, program: Model, clp: Clp, x: Sequence[float]) -> None:
+    def __init__(self, program: IntegerProgram, clp: Clp, x: Sequence[float]) -> None:
         self.program = program
         self.clp = clp
         self.x = x
@@ -158,7 +158,7 @@ class MIRSeparator:
         self.distances = [0.0] * program.n  # of continuous columns from their nearest bound
         self.nearest: Dict[int, VariableBound] = {}  # where that is a variable bound
         known = variable_bounds(program)
-        for j in (j for j in range(program.n) if not program.whole[j]):
+        for j in (j for j in range(program.n) if not program.is_integer[j]):
             substitution = self.substitutions[j]
             self.distances[j] = FAR_FROM_BOUNDS if substitution is None else substitution.value
             for bound in known.get(j, ()):
@@ -187,8 +187,8 @@ class MIRSeparator:
         """Each row by each of its bounds, and sums of rows that begin with it."""
         for row in range(self.program.m):
             for sign, bound in (
-                (1.0, self.program.side_hi[row]),
-                (-1.0, self.program.side_lo[row]),
+                (1.0, self.program.row_upper[row]),
+                (-1.0, self.program.row_lower[row]),
             ):
                 if bound is not None and self.program.rows[row]:
                     yield from self._sums_from({row: sign})
@@ -196,7 +196,7 @@ class MIRSeparator:
     def _sums_from(self, combination: Combination) -> Iterator[Combination]:
         """The combination, and those that take out columns which stand between their bounds."""
         for _ in range(MOST_AGGREGATED_ROWS):
-            total = aggregated(self.program, combination, 1 / self.program.scale)
+            total = aggregated(self.program, combination, 1 / self.program.row_scale)
             yield self._with_variable_bounds(combination, total)
             between = [
                 j
@@ -210,7 +210,7 @@ class MIRSeparator:
             if eliminating is None:
                 return
             row, a = eliminating
-            combination = {**combination, row: -total[column] * self.program.scale / a}
+            combination = {**combination, row: -total[column] * self.program.row_scale / a}
 
     def _row_to_eliminate(
         self, column: int, coefficient: float, used: Combination
@@ -222,7 +222,7 @@ class MIRSeparator:
         """
         found = []
         for row, a in self.program.by_column[column]:
-            lower, upper = self.program.side_lo[row], self.program.side_hi[row]
+            lower, upper = self.program.row_lower[row], self.program.row_upper[row]
             needed = upper if coefficient * a < 0 else lower
             is_variable_bound = len(self.program.rows[row]) == 2 and lower != upper
             if row not in used and not is_variable_bound and needed is not None:
@@ -245,7 +245,9 @@ class MIRSeparator:
         basis = self.clp.keep()
         basic, _ = self.clp.basis()
         from_half = [
-            (abs(self.x[j] - floor(self.x[j]) - 0.5), j) for j in basic if self.program.whole[j]
+            (abs(self.x[j] - floor(self.x[j]) - 0.5), j)
+            for j in basic
+            if self.program.is_integer[j]
         ]
         for distance, j in sorted(from_half)[:MOST_TABLEAU_ROWS]:
             if distance < 0.5 - LEAST_TABLEAU_FRACTION:

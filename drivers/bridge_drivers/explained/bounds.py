@@ -5,7 +5,7 @@ from __future__ import annotations
 from fractions import Fraction
 from typing import Iterable, Iterator, Mapping, NamedTuple, Optional, Sequence
 
-from ..certify.model import Model
+from ..model.integer_form import IntegerProgram
 from .reading import LEMMA, PLANE, SPLIT, WEIGHTS, Certificate
 
 End = Optional[Fraction]
@@ -51,11 +51,11 @@ class Term(NamedTuple):
 class Bounds:
     """Over the folded program of the file. `value` is that of the certificate's point, where it has one."""
 
-    def __init__(self, model: Model, certificate: Certificate) -> None:
+    def __init__(self, model: IntegerProgram, certificate: Certificate) -> None:
         self.model, self.certificate = model, certificate
-        costs = {j: model.sign * c for j, c in enumerate(model.cost) if c}
+        costs = {j: model.sign * c for j, c in enumerate(model.cost_fractions) if c}
         constant, point, numbers = (
-            model.sign * model.constant,
+            model.sign * model.constant_fraction,
             certificate.point,
             certificate.numbers,
         )
@@ -63,16 +63,16 @@ class Bounds:
         self.goal = Goal(costs, constant, model.maximise, numbers[0] if numbers else self.value)
 
     def over_unit(self, number: int | None) -> End:
-        return None if number is None else Fraction(number, self.model.unit)
+        return None if number is None else Fraction(number, self.model.bound_scale)
 
     def row(self, number: int) -> Row:
         """A constraint of the program."""
         m = self.model
-        low, high = map(self.over_unit, (m.side_lo[number], m.side_hi[number]))
-        return Row([(j, Fraction(a, m.scale)) for j, a in m.rows[number]], low, high)
+        low, high = map(self.over_unit, (m.row_lower[number], m.row_upper[number]))
+        return Row([(j, Fraction(a, m.row_scale)) for j, a in m.rows[number]], low, high)
 
     def ends(self, column: int) -> tuple[End, End]:
-        return self.over_unit(self.model.lo[column]), self.over_unit(self.model.hi[column])
+        return self.over_unit(self.model.lower[column]), self.over_unit(self.model.upper[column])
 
     def part(self, place: int) -> Part:
         """What is true at the node, by the parts above it."""

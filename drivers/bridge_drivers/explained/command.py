@@ -6,7 +6,7 @@ from typing import NamedTuple
 
 from ..program import verdict as verdicts
 from ..program.bridge import Refused
-from ..certify.model import Unfit, model_of
+from ..model.integer_form import UnsupportedModel, model_of
 from ..system.codes import ExitStatus
 from ..files import Places
 from ..inputs import Subject
@@ -54,7 +54,7 @@ class Explaining:
         try:
             program = given.program(str(self.certificate.objective or 0))
             model, _ = model_of(given.bridge, given.path, program)
-        except (Refused, Unfit) as fault:
+        except (Refused, UnsupportedModel) as fault:
             told = fault.line() if isinstance(fault, Refused) else str(fault)
             self.note = f"without bounds: {told}"
             return None

@@ -5,7 +5,7 @@ from __future__ import annotations
 from fractions import Fraction
 from typing import Mapping, NamedTuple, Optional, Sequence, Union
 
-from bridge_drivers.certify.model import Box, Model
+from bridge_drivers.model.integer_form import Box, IntegerProgram
 
 Number = Union[int, float, str, Fraction]
 
@@ -27,7 +27,9 @@ class Row(NamedTuple):
     coefficients: Mapping[int, Number]
 
 
-def program(columns: Sequence[Column], rows: Sequence[Row] = (), sense: str = "min") -> Model:
+def program(
+    columns: Sequence[Column], rows: Sequence[Row] = (), sense: str = "min"
+) -> IntegerProgram:
     """Through the one reader of exported texts, as the search gets it."""
     lines = ["NAME nl", *(["OBJSENSE", " MAX"] if sense == "max" else []), "ROWS", " N obj"]
     lines += [f" {_letter(row)} c{i}" for i, row in enumerate(rows)] + ["COLUMNS"]
@@ -45,11 +47,11 @@ def program(columns: Sequence[Column], rows: Sequence[Row] = (), sense: str = "m
     for j, column in enumerate(columns):
         lines.append(f" FR BND x{j}" if column.lower is None else f" LO BND x{j} {column.lower}")
         lines += [] if column.upper is None else [f" UP BND x{j} {column.upper}"]
-    return Model("\n".join([*lines, "ENDATA", ""]).encode(), {}, len(rows))
+    return IntegerProgram("\n".join([*lines, "ENDATA", ""]).encode(), {}, len(rows))
 
 
-def box_of(model: Model) -> Box:
-    return Box(model.lo, model.hi)
+def box_of(model: IntegerProgram) -> Box:
+    return Box(model.lower, model.upper)
 
 
 def _letter(row: Row) -> str:

@@ -102,7 +102,7 @@ def test_doubles_say_optimal_only_near_the_exact_bound(case) -> None:
     x = [float(v) for v in point]
     duals = {row: v / multipliers.denominator for row, v in multipliers.numerators.items()}
     if is_optimal_in_doubles(p, x, duals):
-        size = sum(abs(float(c) * v) for c, v in zip(p.cost, x))
+        size = sum(abs(float(c) * v) for c, v in zip(p.cost_fractions, x))
         gap = p.value([Fraction(v) for v in point]) - dual_bound(p, multipliers, box_of(p)).value
         assert gap <= 2e-6 * max(1.0, size)
 

@@ -9,7 +9,7 @@ import pytest
 from hypothesis import given
 from hypothesis import strategies as st
 
-from bridge_drivers.certify.model import Box, Model
+from bridge_drivers.model.integer_form import Box, IntegerProgram
 from bridge_drivers.exact import leaf_proofs
 from bridge_drivers.exact.dual_bound import MultiplierKind, Multipliers, dual_bound
 from bridge_drivers.exact.leaf_proofs import LeafProver, basis_duals, last_convergent
@@ -19,7 +19,7 @@ DUAL, FARKAS = MultiplierKind.DUAL, MultiplierKind.FARKAS
 
 
 @pytest.fixture
-def mixed() -> Model:
+def mixed() -> IntegerProgram:
     """max x + 2 y: a free x, integers y up to 2.5 and z up to 3."""
     columns = [
         Column(None, None, cost=1),
@@ -39,7 +39,9 @@ def mixed() -> Model:
         (Fraction(-5), False, False),
     ],
 )
-def test_the_cutoff(mixed: Model, cutoff: Fraction, is_strict: bool, is_proved: bool) -> None:
+def test_the_cutoff(
+    mixed: IntegerProgram, cutoff: Fraction, is_strict: bool, is_proved: bool
+) -> None:
     """The dual 2/3 of the first row makes the free column's reduced cost 0; it shows -17/3."""
     prover = LeafProver(mixed, cutoff, is_strict)
     proof = prover.prove_from_doubles({0: -0.66666667, 1: 0.0}, DUAL, box_of(mixed))
@@ -50,9 +52,9 @@ def test_the_cutoff(mixed: Model, cutoff: Fraction, is_strict: bool, is_proved: 
         assert proof.surplus >= 0
 
 
-def test_farkas_multipliers_are_small_whole_numbers(mixed: Model) -> None:
-    box = Box(list(mixed.lo), list(mixed.hi))
-    box.hi[1] = box.hi[2] = 0
+def test_farkas_multipliers_are_small_whole_numbers(mixed: IntegerProgram) -> None:
+    box = Box(list(mixed.lower), list(mixed.upper))
+    box.upper[1] = box.upper[2] = 0
     prover = LeafProver(mixed, None)
     proof = prover.prove_from_doubles({1: 0.25}, FARKAS, box)
     assert proof is not None
@@ -75,7 +77,7 @@ def test_duals_are_made_smaller_at_last(monkeypatch: pytest.MonkeyPatch) -> None
     assert exact.prove_from_doubles(duals, DUAL, box_of(steep)) is None
 
 
-def test_duals_of_a_basis(mixed: Model) -> None:
+def test_duals_of_a_basis(mixed: IntegerProgram) -> None:
     assert basis_duals(mixed, [0], [0]) == {0: Fraction(-2, 3)}
     assert basis_duals(mixed, [0, 1], [0]) is None
 

@@ -78,7 +78,7 @@ def test_cuts_hold_and_are_proved(case) -> None:
     assert sum(a * x[j] for j, a in cut.coefficients.items()) > cut.rhs
     halves = [Fraction(k, 2) for k in range(2 * uppers[0] + 1)]
     for point in itertools.product(halves, *(map(Fraction, range(top + 1)) for top in uppers[1:])):
-        if p.fits(list(point)):
+        if p.is_feasible(list(point)):
             assert sum(a * point[j] for j, a in cut.coefficients.items()) <= cut.rhs
             form = sum(a * point[j] for j, a in cut.split.form.items())
             assert form.denominator == 1
