@@ -5,12 +5,8 @@ written where `solution` says."""
 from __future__ import annotations
 
 import json
-import os
-import tempfile
 from typing import Iterable, Iterator, List, Sequence, Tuple
 
-from .program.bridge import Bridge
-from .files import fill
 from .nl import header
 from .printable import in_a_line
 
@@ -49,20 +45,6 @@ def numbers_of(sol: bytes) -> tuple[list[str], list[str]]:
     first = at + 4
     middle = first + int(lines[at + 1])
     return lines[first:middle], lines[middle : middle + int(lines[at + 3])]
-
-
-def factors_of(
-    bridge: Bridge, nl: str, rows: Sequence[str], objective: str = "0"
-) -> dict[str, str]:
-    """What `export` multiplied each written row by: duals of 1, as `return` gives them back."""
-    if not rows:
-        return {}
-    answer = f"answer 1\nobjno {objective}\n" + "".join(f"row {r} 1\n" for r in rows)
-    with tempfile.TemporaryDirectory(prefix="nl-bridge-") as folder:
-        duals, _ = numbers_of(
-            bridge.text("return", nl, fill(os.path.join(folder, "ones.txt"), answer.encode()))
-        )
-    return {row: duals[int(row[1:])] for row in rows}
 
 
 def encoded(lines: Sequence[str]) -> bytes:

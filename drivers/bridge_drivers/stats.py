@@ -17,7 +17,7 @@ from .mps_reader import OBJECTIVE, exact
 from .names import Names, with_name
 from .printable import some
 from .model.linear_program import TIED, TIED_ROW, Program
-from .sol import factors_of
+from .pipeline.row_factors import factors_of
 from .terms import entries_of
 from .values import double_of
 

@@ -12,6 +12,7 @@ from support import NEEDS_CLP, NEEDS_PROGRAM, Case
 from bridge_drivers.certify import points, spine
 from bridge_drivers.certify.claims import Given, certified
 from bridge_drivers.certify.clp import State
+from bridge_drivers.exact.relaxation import relaxation
 from bridge_drivers.model.integer_form import Box, IntegerProgram, Row
 from bridge_drivers.certify.simplex import Ended, Simplex
 from bridge_drivers.exact.dual_bound import MultiplierKind, is_optimal_in_doubles
@@ -125,7 +126,7 @@ class Programs(Case):
         for model in filter(Misleading.is_linear, models(12)):
             work = self.work(model.text())
             work.load()
-            p, clp = work.model, work.model.relaxation()
+            p, clp = work.model, relaxation(work.model)
             if clp.solve() is not State.OPTIMAL or not is_optimal_in_doubles(
                 p, clp.values(), dict(enumerate(clp.duals()))
             ):

@@ -13,6 +13,7 @@ from support import NEEDS_CLP, NEEDS_PROGRAM
 from bridge_drivers.certify import bases, short
 from bridge_drivers.certify.claims import Given, certified
 from bridge_drivers.certify.clp import State
+from bridge_drivers.exact.relaxation import relaxation
 from bridge_drivers.model.integer_form import Box, IntegerProgram, over_common_denominator
 from bridge_drivers.exact.dual_bound import MultiplierKind, Multipliers, bit_width, dual_bound
 from bridge_drivers.exact.linear_systems import NotSolved, scipy_or_none
@@ -37,7 +38,7 @@ def two() -> IntegerProgram:
 
 def rounding(p: IntegerProgram) -> short.Rounding:
     """From CLP's optimum."""
-    clp = p.relaxation()
+    clp = relaxation(p)
     assert clp.solve() is State.OPTIMAL
     return short.Rounding(p, clp.keep(), clp.values(), 1.0)
 
@@ -149,11 +150,11 @@ class Shorts(TestCase):
 class Starts(TestCase):
     def test_basis(self) -> None:
         """CLP goes on from a basis: no step is left from the optimal one."""
-        clp = two().relaxation()
+        clp = relaxation(two())
         clp.start(bases.Basis([0, 1], [0, 1]), [1.3, 0.04])
         self.assertEqual(clp.basis(), ([0, 1], [0, 1]))
         self.assertIs(clp.solve(0), State.OPTIMAL)
-        other = two().relaxation()
+        other = relaxation(two())
         other.start(bases.Basis([], []), [0.0, 7.0])
         self.assertEqual(other.basis(), ([], []))
         self.assertIs(other.solve(), State.OPTIMAL)

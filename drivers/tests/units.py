@@ -18,6 +18,7 @@ from unittest import mock
 
 from support import BIN, EXAMPLES, HERE, NEEDS_PROGRAM, Case, bridge as program
 from bridge_drivers import console, mps_file, nl, progress, sol, solvers, stats, values
+from bridge_drivers.pipeline.row_factors import factors_of
 from bridge_drivers.program import bridge
 from bridge_drivers.program.bridge import Bridge, Refused, Reply
 from bridge_drivers.system.errors import Damaged, NotInstalled
@@ -116,7 +117,7 @@ class Figures(Case):
                 assert Path(words[2]).read_text() == "answer 1\nobjno 0\nrow c0 1\nrow c2 1\n"
                 return Reply(0, b"\nOptions\n3\n1\n1\n0\n3\n3\n1\n0\n6\n0\n7\nobjno 0 0\n", "")
 
-        factors = sol.factors_of(Returning([], lambda argv: None), "m.nl", ["c0", "c2"])
+        factors = factors_of(Returning([], lambda argv: None), "m.nl", ["c0", "c2"])
         self.assertEqual(factors, {"c0": "6", "c2": "7"})
 
 

@@ -7,7 +7,8 @@ import math
 from fractions import Fraction
 from typing import Iterator, List, Sequence, Tuple
 
-from .clp import Basis, Clp, Linear, State
+from ..model.double_form import DoubleProgram
+from .clp import Basis, Clp, State
 from ..model.integer_form import Bound, IntegerProgram, Point, over_common_denominator
 from .points import Placed, place
 from ..exact.linear_systems import (
@@ -154,7 +155,7 @@ class Refining:
         free = {self.open[j - n] for j in columns if j >= n}
         return Basis([j for j in columns if j < n], [i for i in rows if i not in free])
 
-    def shifted(self) -> tuple[Linear, float, float]:
+    def shifted(self) -> tuple[DoubleProgram, float, float]:
         """The program around the point and under the duals, with what is missed most."""
         p, one = self.p, 1 << BITS
         lo = [less(end, v * p.bound_scale, p.bound_scale) for end, v in zip(p.lower, self.x)]
@@ -184,19 +185,24 @@ class Refining:
         )
         for i in self.open:
             sides[i] = (0.0, 0.0)
-        return Linear(lo, hi, cost, sides, columns), missed, dual_missed(lo, hi, cost)
+        return (
+            DoubleProgram(lo, hi, cost, [a for a, _ in sides], [b for _, b in sides], columns),
+            missed,
+            dual_missed(lo, hi, cost),
+        )
 
-    def enlarged(self, linear: Linear) -> Linear:
+    def enlarged(self, linear: DoubleProgram) -> DoubleProgram:
         up, dual_up = 2.0**self.up, 2.0**self.dual_up
 
         def far(end: float | None) -> float | None:
             return None if end is None or abs(end) > FAR / up else end * up
 
-        return Linear(
-            [far(v) for v in linear.lo],
-            [far(v) for v in linear.hi],
-            [max(-STEEP, min(c * dual_up, STEEP)) for c in linear.cost],
-            [(far(a), far(b)) for a, b in linear.sides],
+        return DoubleProgram(
+            [far(v) for v in linear.lower],
+            [far(v) for v in linear.upper],
+            [max(-STEEP, min(c * dual_up, STEEP)) for c in linear.costs],
+            [far(v) for v in linear.row_lower],
+            [far(v) for v in linear.row_upper],
             linear.columns,
         )
 

@@ -1,5 +1,4 @@
-"""Linear programs in doubles, and CLP in this process, by its C interface: each relaxation starts from the basis before
-it."""
+"""CLP in this process, by its C interface: each relaxation starts from the basis before it."""
 
 from __future__ import annotations
 
@@ -8,10 +7,9 @@ import ctypes.util
 import enum
 import math
 import time
-from array import array
-from typing import Any, Iterable, List, NamedTuple, Optional, Sequence, Tuple
+from typing import Any, Iterable, List, NamedTuple, Optional, Sequence
 
-from ..terms import Arrays, Terms, numpy
+from ..model.double_form import DoubleProgram
 
 INFINITE = 1.7976931348623157e308  # COIN's own
 STATUS_BITS = 7
@@ -47,63 +45,6 @@ class Basis(NamedTuple):
 
     columns: List[int]
     rows: List[int]
-
-
-class Columns(NamedTuple):
-    """The entries of the column j are those from `starts[j]` on: `index` are their rows, `value`
-    their coefficients. Each is an array, or one of NumPy."""
-
-    starts: Any
-    index: Any
-    value: Any
-
-    def with_units(self, units: Iterable[Tuple[int, float]]) -> Columns:
-        """With one column more for each row and coefficient."""
-        starts, index, value = (
-            array("i", self.starts),
-            array("i", self.index),
-            array("d", self.value),
-        )
-        for i, a in units:
-            index.append(i)
-            value.append(a)
-            starts.append(len(index))
-        return Columns(starts, index, value)
-
-    def over(self, by: Sequence[float]) -> Columns:
-        """Coefficients over what columns are made greater by."""
-        if all(one == 1 for one in by):
-            return self
-        each = (one for j, one in enumerate(by) for _ in range(self.starts[j], self.starts[j + 1]))
-        return self._replace(value=array("d", [a / one for a, one in zip(self.value, each)]))
-
-
-def columns_of(terms: Terms, m: int, scale: int) -> Columns:
-    """The terms of `m` rows over their scale, those of a column by row."""
-    if isinstance(terms, Arrays):
-        np = numpy()
-        key = terms.column_of.astype(np.int64) * m + terms.row
-        order = slice(None) if (np.diff(key) > 0).all() else np.argsort(key, kind="stable")
-        starts = np.concatenate([[0], np.cumsum(np.bincount(terms.column_of, minlength=terms.n))])
-        value = np.array([a / scale for a in terms.table])[terms.number[order]]
-        return Columns(starts.astype(np.int32), np.ascontiguousarray(terms.row[order]), value)
-    starts, index, value = array("i", [0]), array("i"), array("d")
-    for column in terms.columns:
-        index.extend([i for i, _ in column])
-        value.extend([a / scale for _, a in column])
-        starts.append(len(index))
-    return Columns(starts, index, value)
-
-
-class Linear(NamedTuple):
-    """A linear program in doubles, minimised: bounds of columns, costs, (lower, upper) sides of
-    rows, and coefficients. None is infinite."""
-
-    lo: list[End]
-    hi: list[End]
-    cost: list[float]
-    sides: list[tuple[End, End]]
-    columns: Columns
 
 
 def enlarging(size: float) -> float:
@@ -162,27 +103,27 @@ class Clp:
         """All solves of all of them, from now on."""
         cls.until = time.monotonic() + seconds
 
-    def __init__(self, linear: Linear) -> None:
+    def __init__(self, linear: DoubleProgram) -> None:
         lib = library()
         if lib is None:
             raise NoClp()
         self.lib, self.model = lib, lib.Clp_newModel()
-        self.n, self.m = len(linear.cost), len(linear.sides)
+        self.n, self.m = len(linear.costs), len(linear.row_lower)
         self.by = [
             1.0 if None in pair else enlarging(max((abs(end) for end in pair if end), default=1.0))
-            for pair in zip(linear.lo, linear.hi)
+            for pair in zip(linear.lower, linear.upper)
         ]
-        costs = [c / by for c, by in zip(linear.cost, self.by)]
+        costs = [c / by for c, by in zip(linear.costs, self.by)]
         self.cost = enlarging(max((abs(c) for c in costs), default=0.0))
         columns = linear.columns.over(self.by)
-        self.lo = ends((v and v * by for v, by in zip(linear.lo, self.by)), -INFINITE)
-        self.hi = ends((v and v * by for v, by in zip(linear.hi, self.by)), INFINITE)
-        self.side_lo = ends((a for a, _ in linear.sides), -INFINITE)
-        self.side_hi = ends((b for _, b in linear.sides), INFINITE)
+        self.lo = ends((v and v * by for v, by in zip(linear.lower, self.by)), -INFINITE)
+        self.hi = ends((v and v * by for v, by in zip(linear.upper, self.by)), INFINITE)
+        self.side_lo = ends(linear.row_lower, -INFINITE)
+        self.side_hi = ends(linear.row_upper, INFINITE)
         given = [
             buffer(ctypes.c_int, columns.starts),
-            buffer(ctypes.c_int, columns.index),
-            buffer(ctypes.c_double, columns.value),
+            buffer(ctypes.c_int, columns.rows),
+            buffer(ctypes.c_double, columns.values),
         ]
         lib.Clp_setLogLevel(self.model, 0)
         lib.Clp_setSmallElementValue(self.model, 0.0)

@@ -9,6 +9,7 @@ from . import points, simplex, text
 from .clp import NoClp, State
 from .equations import hollow, parity
 from .judging import WITHOUT, Given, Judging, Verdict
+from ..exact.relaxation import relaxation
 from ..model.integer_form import IntegerProgram, Point
 from .parts import Better
 from .watch import Stopped
@@ -139,7 +140,7 @@ class Contradicting(Judging):
         """A feasible point, whatever its objective."""
         p = self.model.without_costs()
         if self.linear:
-            clp = p.relaxation()
+            clp = relaxation(p)
             found = None
             if clp.solve() is State.OPTIMAL:
                 found = next(points.near(p, clp.values()), None) or points.vertex(

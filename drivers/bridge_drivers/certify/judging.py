@@ -12,7 +12,9 @@ from typing import Callable, Iterator, Mapping, NamedTuple, Sequence
 from . import points, text
 from .clp import Basis, Clp, State, library
 from .crowd import Crowd
-from ..model.integer_form import Box, IntegerProgram, Point, model_of
+from ..exact.relaxation import relaxation
+from ..pipeline.row_factors import whole_form
+from ..model.integer_form import Box, IntegerProgram, Point
 from .plans import Plans, Shaped, written
 from .pool import Pool, Problem
 from .short import shortened
@@ -127,7 +129,7 @@ class Judging:
 
     def load(self) -> None:
         if not hasattr(self, "model"):
-            self.model, self.factors = model_of(self.bridge, self.nl, self.program)
+            self.model, self.factors = whole_form(self.bridge, self.nl, self.program)
             self.linear = not any(self.model.is_integer)
             if not self.proves:
                 self.watch.restart()
@@ -277,7 +279,7 @@ class Judging:
         if library() is None:
             return None, State.OTHER
         self.watch.progress.tell("the relaxation by CLP")
-        clp = self.model.relaxation()
+        clp = relaxation(self.model)
         if given.basis is not None and given.values is not None:
             clp.start(given.basis, given.doubles())
         clp.seconds = self.clp_seconds() if self.proves or self.linear else ONE_LEAF

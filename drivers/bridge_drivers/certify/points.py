@@ -9,6 +9,7 @@ from typing import Iterator, Mapping, NamedTuple, Sequence
 
 from .clp import Basis, State, library
 from ..exact.linear_systems import solve_exactly
+from ..exact.relaxation import relaxation
 from ..model.integer_form import Bound, IntegerProgram, Point
 from ..exact.dual_bound import fits_certificate
 from ..terms import Pairs
@@ -131,7 +132,7 @@ def whole_point(p: IntegerProgram, x: Sequence[float | Fraction], seconds: float
         return out if p.is_feasible(out) else None
     if library() is not None:
         around = with_fixed(p, fixed)
-        clp = around.relaxation()
+        clp = relaxation(around)
         clp.seconds = seconds
         if clp.solve_somehow() is State.OPTIMAL:
             found = vertex(around, clp.basis(), clp.values())
@@ -189,7 +190,7 @@ def is_contradicted(model: IntegerProgram, x: Sequence[float | Fraction], second
     """Whether CLP finds no values of the other columns for the whole ones of x."""
     if all(model.is_integer) or library() is None:
         return False
-    clp = with_fixed(model, whole_columns(model, x)).relaxation()
+    clp = relaxation(with_fixed(model, whole_columns(model, x)))
     clp.seconds = seconds
     return clp.solve() is State.INFEASIBLE and clp.solve(again=True) is State.INFEASIBLE
 
@@ -232,7 +233,7 @@ def is_ray(cone: IntegerProgram, d: Point) -> bool:
 
 def ray(cone: IntegerProgram) -> Point | None:
     """An improving direction without end, in short fractions where they do."""
-    clp = cone.relaxation()
+    clp = relaxation(cone)
     if clp.solve() is not State.OPTIMAL or clp.objective() >= 0:
         return None
     x = clp.values()

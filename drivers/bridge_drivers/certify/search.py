@@ -11,7 +11,8 @@ from fractions import Fraction
 from typing import Any, Callable, Dict, Iterable, Mapping, NamedTuple, Sequence, Tuple
 
 from .clp import Clp, State
-from ..model.integer_form import PHASE_ONE_TOLERANCE, Box, IntegerProgram, Point
+from ..exact.relaxation import PHASE_ONE_TOLERANCE, phase_one, relaxation
+from ..model.integer_form import Box, IntegerProgram, Point
 from .parts import Better, Done, Opened, Parts, Step, joined
 from .points import vertex
 from .watch import Paused, Stopped, Watch
@@ -174,7 +175,7 @@ class Search(Parts):
         strong: int = STRONG,
     ) -> None:
         has_cost = goal.target is not None
-        super().__init__(model, model.relaxation(has_cost), forms)
+        super().__init__(model, relaxation(model, has_costs=has_cost), forms)
         self.watch, self.exact = watch, exact
         self.until, self.most, self.deepest = math.inf, MOST_NODES, float(MOST_DEPTH)
         self.tell: Callable[[], None] | None = None
@@ -428,7 +429,7 @@ class Search(Parts):
         p, (lo, hi) = self.model, (
             [self.model.bound_as_double(end) for end in part] for part in self.box
         )
-        clp = self.missing = self.missing or p.phase_one()
+        clp = self.missing = self.missing or phase_one(p)
         for j in range(p.n):
             clp.bound(j, lo[j], hi[j])
         for j in self.forms:

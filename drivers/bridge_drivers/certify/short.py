@@ -12,7 +12,8 @@ from fractions import Fraction
 from math import lcm
 from typing import Iterator, Mapping, NamedTuple, Sequence, Tuple
 
-from .clp import Clp, Linear, State
+from ..model.double_form import DoubleProgram
+from .clp import Clp, State
 from ..exact.linear_systems import solve_exactly
 from ..model.integer_form import Box, IntegerProgram, Point, over_common_denominator
 from ..exact.dual_bound import (
@@ -153,15 +154,15 @@ class Rounding:
             self.tight |= set(last)
         return None
 
-    def tightened(self, unit: float) -> Linear:
+    def tightened(self, unit: float) -> DoubleProgram:
         """With room for rounding to `unit` in rows, and in the bounds of what takes up the rest."""
-        p, linear = self.p, self.p.linear()
-        sides, lo, hi = linear.sides, linear.lo, linear.hi
+        p, linear = self.p, self.p.in_doubles()
+        lows, highs, lo, hi = linear.row_lower, linear.row_upper, linear.lower, linear.upper
         weights, least = [10 ** (self.most - by) for by in self.more], unit * 10.0**-self.most
         rooms = [(size / p.row_scale + 1) * least for size in p.terms.sizes(weights)]
         for i, room in enumerate(rooms):
             if self.tight is None or i in self.tight:
-                sides[i] = inner(*sides[i], room)
+                lows[i], highs[i] = inner(lows[i], highs[i], room)
         for i, (j, a) in self.alone.items():
             lo[j], hi[j] = inner(lo[j], hi[j], 2 * rooms[i] / (abs(a) / p.row_scale))
         return linear
@@ -313,7 +314,9 @@ def inner(lo: float | None, hi: float | None, room: float) -> tuple[float | None
     return None if lo is None else lo + room, None if hi is None else hi - room
 
 
-def solved_again(linear: Linear, kept: bytes, seconds: float, tolerance: float) -> Clp | None:
+def solved_again(
+    linear: DoubleProgram, kept: bytes, seconds: float, tolerance: float
+) -> Clp | None:
     """From a basis; None where it has no optimum then."""
     clp = Clp(linear)
     clp.seconds = seconds
@@ -339,11 +342,12 @@ def short_duals(p: IntegerProgram, clp: Clp, seconds: float) -> list[ShortDuals]
 
 def with_room(p: IntegerProgram, room: float, kept: bytes, seconds: float) -> list[float]:
     """The duals under costs that leave room in each column that has one bound."""
-    linear = p.linear()
+    linear = p.in_doubles()
     costs = [
-        c - room * ((hi is None) - (lo is None)) for c, lo, hi in zip(linear.cost, p.lower, p.upper)
+        c - room * ((hi is None) - (lo is None))
+        for c, lo, hi in zip(linear.costs, p.lower, p.upper)
     ]
-    clp = solved_again(linear._replace(cost=costs), kept, seconds, TOLERANCE)
+    clp = solved_again(linear._replace(costs=costs), kept, seconds, TOLERANCE)
     return clp.duals() if clp is not None else []
 
 

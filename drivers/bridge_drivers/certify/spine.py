@@ -13,6 +13,7 @@ from typing import Dict, Iterator, Mapping, NamedTuple, Sequence, Tuple
 
 from . import text
 from .clp import Clp, State
+from ..exact.relaxation import relaxation
 from ..model.integer_form import IntegerProgram, ObjectiveLattice, Row
 from .parts import Better
 from .search import Goal, Search
@@ -160,7 +161,7 @@ class Maker:
                 *(row.added() for row in rows),
             ]
         )
-        clp = m.relaxation()
+        clp = relaxation(m)
         if clp.solve() is not State.OPTIMAL:
             return None
         self.base = clp.objective() + float(self.model.constant_fraction)

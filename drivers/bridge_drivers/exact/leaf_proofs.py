@@ -12,6 +12,7 @@ from fractions import Fraction
 from typing import Dict, Iterable, Iterator, List, Mapping, NamedTuple, Optional, Sequence, Tuple
 
 from .linear_systems import Equation, solve_exactly
+from .relaxation import row_unit
 from ..model.integer_form import Box, IntegerProgram
 from .dual_bound import (
     DualBound,
@@ -364,7 +365,7 @@ def phase_one_duals(
             columns.append((dict(program.by_column[column]), 0))
         else:
             is_negative, row = divmod(column - program.n, program.m)
-            columns.append(({row: program.row_unit(row)}, -1 if is_negative else 1))
+            columns.append(({row: row_unit(program, row)}, -1 if is_negative else 1))
     return _solved_in(rows, columns)
 
 

@@ -6,7 +6,8 @@ from typing import NamedTuple
 
 from ..program import verdict as verdicts
 from ..program.bridge import Refused
-from ..model.integer_form import UnsupportedModel, model_of
+from ..model.integer_form import UnsupportedModel
+from ..pipeline.row_factors import whole_form
 from ..system.codes import ExitStatus
 from ..files import Places
 from ..inputs import Subject
@@ -53,7 +54,7 @@ class Explaining:
         """The program in exact numbers; None, with a note, where it is not to be had."""
         try:
             program = given.program(str(self.certificate.objective or 0))
-            model, _ = model_of(given.bridge, given.path, program)
+            model, _ = whole_form(given.bridge, given.path, program)
         except (Refused, UnsupportedModel) as fault:
             told = fault.line() if isinstance(fault, Refused) else str(fault)
             self.note = f"without bounds: {told}"

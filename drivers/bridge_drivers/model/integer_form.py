@@ -21,21 +21,15 @@ from functools import cached_property
 from math import gcd, lcm
 from typing import Iterable, Iterator, List, Mapping, NamedTuple, Optional, Sequence, Tuple
 
-from ..program.bridge import Bridge
-from ..certify.clp import Clp, Columns, Linear, columns_of, enlarging
 from ..mps_reader import OBJECTIVE, Text
-from ..nl import header
+from .double_form import DoubleProgram, SparseColumns, columns_of
 from .linear_program import TIED, TIED_ROW, Program
-from ..sol import factors_of
 from ..terms import Pairs, Terms, entries_of, terms_of
 from ..values import reduced, wholes_of
 
 Bound = Optional[int]  # over a scale; None: there is no such bound
 Bounds = List[Optional[int]]
 Point = List[Fraction]
-
-# tolerance of a relaxation whose optimum is compared with 0
-PHASE_ONE_TOLERANCE = 1e-9
 
 
 class UnsupportedModel(Exception):
@@ -207,7 +201,7 @@ class IntegerProgram:
         return self.terms.columns
 
     @cached_property
-    def columns(self) -> Columns:
+    def columns(self) -> SparseColumns:
         """The coefficients in doubles."""
         return columns_of(self.terms, self.m, self.row_scale)
 
@@ -286,40 +280,16 @@ class IntegerProgram:
         """A bound of a column or row, which stands over `bound_scale`."""
         return None if bound is None else bound / self.bound_scale
 
-    def linear(self, has_cost: bool = True) -> Linear:
-        """The relaxation, without the constant."""
-        sides = zip(self.row_lower, self.row_upper)
-        return Linear(
+    def in_doubles(self, *, has_costs: bool = True) -> DoubleProgram:
+        """The relaxation, without the constant; with all costs 0 where it `has_costs` not."""
+        return DoubleProgram(
             [self.bound_as_double(bound) for bound in self.lower],
             [self.bound_as_double(bound) for bound in self.upper],
-            [c / self.cost_scale if has_cost else 0.0 for c in self.costs],
-            [(self.bound_as_double(low), self.bound_as_double(high)) for low, high in sides],
+            [c / self.cost_scale if has_costs else 0.0 for c in self.costs],
+            [self.bound_as_double(bound) for bound in self.row_lower],
+            [self.bound_as_double(bound) for bound in self.row_upper],
             self.columns,
         )
-
-    def relaxation(self, has_cost: bool = True) -> Clp:
-        return Clp(self.linear(has_cost))
-
-    def phase_one(self) -> Clp:
-        """Minimises by how much rows are missed, each in its own unit: two more columns a row take that up."""
-        linear, m = self.linear(False), self.m
-        missing = [(i, float(one * self.row_unit(i))) for one in (1, -1) for i in range(m)]
-        clp = Clp(
-            Linear(
-                linear.lo + [0.0] * (2 * m),
-                linear.hi + [None] * (2 * m),
-                [0.0] * self.n + [1.0] * (2 * m),
-                linear.sides,
-                linear.columns.with_units(missing),
-            )
-        )
-        clp.tighten(PHASE_ONE_TOLERANCE)
-        return clp
-
-    def row_unit(self, row: int) -> Fraction:
-        """1, or the power of two near the coefficients of a row where all of them are small."""
-        most = max((abs(a) for _, a in self.rows[row]), default=0) / self.row_scale
-        return 1 / Fraction(enlarging(most))
 
     def is_feasible(self, x: Point) -> bool:
         """Whether a point has whole values where it must, and keeps to all bounds and rows."""
@@ -386,17 +356,3 @@ def violations(
             yield place, low
         elif high is not None and v > high * denominator:
             yield place, high
-
-
-def model_of(bridge: Bridge, nl: str, program: Program) -> tuple[IntegerProgram, dict[int, int]]:
-    """The program of a file, and what `export` multiplied its rows by where that is not 1."""
-    names = [name for name in program.constraints if name != TIED_ROW]
-    if not program.is_exported:
-        return IntegerProgram(program, {}, len(names)), {}
-    known = {
-        int(row[1:]): Fraction(factor) for row, factor in factors_of(bridge, nl, names).items()
-    }
-    if any(factor.denominator != 1 or factor < 0 for factor in known.values()):
-        raise UnsupportedModel("a row's factor is not whole")
-    factors = {i: int(factor) for i, factor in known.items() if factor > 1}
-    return IntegerProgram(program, factors, header(nl).constraints), factors

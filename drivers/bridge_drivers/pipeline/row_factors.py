@@ -1,0 +1,68 @@
+"""The factors by which `bridge export` multiplies rows, and the whole form that takes them out.
+
+A row is multiplied where the file divides. The exported text does not tell by what: the dual of a
+row comes back from `bridge return` times its factor, so that duals of 1 come back as the factors.
+"""
+
+from __future__ import annotations
+
+import os
+import tempfile
+from fractions import Fraction
+from typing import Dict, NamedTuple, Sequence
+
+from ..files import fill
+from ..model.integer_form import IntegerProgram, UnsupportedModel
+from ..model.linear_program import TIED_ROW, Program
+from ..nl import header
+from ..program.bridge import Bridge
+from ..sol import numbers_of
+
+
+class WholeForm(NamedTuple):
+    """A program in whole numbers, with the factors of its rows.
+
+    Attributes:
+        factors: What `export` multiplied rows by, those that are not 1.
+    """
+
+    program: IntegerProgram
+    factors: Dict[int, int]
+
+
+def factors_of(
+    bridge: Bridge, nl: str, rows: Sequence[str], objective: str = "0"
+) -> Dict[str, str]:
+    """By name of an exported row what it was multiplied by, as a text.
+
+    Args:
+        nl: The path of the file.
+        rows: The names of the exported rows.
+        objective: The number of the objective that was exported.
+    """
+    if not rows:
+        return {}
+    answer = f"answer 1\nobjno {objective}\n" + "".join(f"row {r} 1\n" for r in rows)
+    with tempfile.TemporaryDirectory(prefix="nl-bridge-") as folder:
+        duals, _ = numbers_of(
+            bridge.text("return", nl, fill(os.path.join(folder, "ones.txt"), answer.encode()))
+        )
+    return {row: duals[int(row[1:])] for row in rows}
+
+
+def whole_form(bridge: Bridge, nl: str, program: Program) -> WholeForm:
+    """A file's program in whole numbers.
+
+    Raises:
+        UnsupportedModel: The search does not take it.
+    """
+    names = [name for name in program.constraints if name != TIED_ROW]
+    if not program.is_exported:
+        return WholeForm(IntegerProgram(program, {}, len(names)), {})
+    known = {
+        int(row[1:]): Fraction(factor) for row, factor in factors_of(bridge, nl, names).items()
+    }
+    if any(factor.denominator != 1 or factor < 0 for factor in known.values()):
+        raise UnsupportedModel("a row's factor is not whole")
+    factors = {i: int(factor) for i, factor in known.items() if factor > 1}
+    return WholeForm(IntegerProgram(program, factors, header(nl).constraints), factors)
