@@ -85,7 +85,9 @@ STATUS_TEXTS: Mapping[ExitStatus, str] = {
     ExitStatus.NO_MEMORY: "want of memory",
     ExitStatus.NOT_SETTLED: "strict=1 is not met",
     ExitStatus.NOT_THERE: "the proved program or the solver is not there",
+    ExitStatus.HUNG_UP: "its terminal was closed (SIGHUP)",
     ExitStatus.INTERRUPTED: "interrupted (SIGINT)",
+    ExitStatus.QUIT: "ended (SIGQUIT)",
     ExitStatus.TERMINATED: "ended (SIGTERM)",
 }
 

@@ -12,7 +12,7 @@ from typing import Callable, Iterator, NoReturn, Sequence, TextIO, cast
 
 from .program import verdict as verdicts
 from .system.codes import ExitStatus
-from .interrupts import SIGNALS, Interrupted
+from .system.processes import SIGNALS, Interrupted
 from .printable import printable
 
 GREEN, YELLOW, RED = 32, 33, 31
@@ -109,7 +109,7 @@ def run(name: str, command: Callable[[], int]) -> NoReturn:
     of a terminal as `\\x1b`; a standard output that breaks or is closed is told in one line, and so is a signal.
     """
     gc.set_threshold(*COLLECTED)
-    SIGNALS.take()
+    SIGNALS.install()
     fill()
     for stream in (sys.stdout, sys.stderr):
         if hasattr(stream, "reconfigure"):

@@ -23,7 +23,7 @@ from .system.errors import (
 )
 from .files import Places, fill, own_folder
 from .formats.source import Source, Workspace, missing_source, read_model
-from .interrupts import SIGNALS, Interrupted
+from .system.processes import SIGNALS, Interrupted
 from .job import Clock
 from .options import EXAMPLE, MODEL, USAGE, Option, Options, Words, words_of
 from .ruling import code_of_error
@@ -156,12 +156,12 @@ class Run:
         bridge = self.find_bridge()
         bridge.shown[self.nl] = self.model.name
         solver_path = "" if self.options.only else self.find_solver()
-        with SIGNALS.kept(True):
+        with SIGNALS.deferred():
             with writing(self.options.keep):  # the folder for files in between, this run's alone
                 self.kept_in = own_folder(self.options.keep, self.name) if self.options.keep else ""
             folder = self.kept_in or tempfile.mkdtemp(prefix=self.name + "-")
             try:
-                with SIGNALS.kept(False), writing(folder):
+                with SIGNALS.delivered(), writing(folder):
                     return self.make_solving(
                         self.solver,
                         self.options,
@@ -234,7 +234,7 @@ class Run:
         return f"{path} is written"
 
     def put(self, data: bytes) -> None:
-        with writing(self.sol), SIGNALS.kept(True):
+        with writing(self.sol), SIGNALS.deferred():
             Places([self.nl], overwrite=True).write(self.sol, data)
             self.is_put = True
 

@@ -13,7 +13,7 @@ import sys
 from pathlib import Path
 from typing import BinaryIO, Iterator, Sequence
 
-from .interrupts import SIGNALS
+from .system.processes import SIGNALS
 
 NO_ONE = 0o222  # the bits of a mode that let someone write
 READ = "it is what this command reads"
@@ -67,7 +67,7 @@ def write(target: str, data: bytes) -> None:
     mode = stat.S_IMODE(os.stat(place).st_mode) if os.path.exists(place) else None
     if mode is not None and not (mode & NO_ONE and os.access(place, os.W_OK)):
         raise PermissionError(13, "it may not be written", target)
-    with SIGNALS.kept(True):
+    with SIGNALS.deferred():
         part = ""
         try:
             with naming(target), beside(place) as out:

@@ -20,7 +20,7 @@ from .commands import COMMANDS, NAME, VERDICTS, WORDS
 from .formats.file_kinds import is_mps_file, is_packed_file, start_of_file
 from .formats.source import Workspace, is_stream, name_of_model, read_source
 from .interface import Report
-from .interrupts import with_child
+from .system.processes import with_child
 from .mps_file import imported
 from .printable import near
 

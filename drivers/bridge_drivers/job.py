@@ -12,7 +12,7 @@ import time
 from typing import Any, Callable, Mapping, NamedTuple, Sequence, TypeVar
 
 from .files import fill
-from .interrupts import SIGNALS, send, with_child
+from .system.processes import SIGNALS, signal_group, with_child
 from .options import Options
 from .model.linear_program import Program, given
 from .progress import Progress, detailed
@@ -117,7 +117,7 @@ class Job:
 
         def late() -> None:
             killed.set()
-            send(child, signal.SIGKILL)
+            signal_group(child, signal.SIGKILL)
 
         timer = threading.Timer(self.options.timelim * 1.1 + 5, late)
         if self.options.timelim:
@@ -125,7 +125,7 @@ class Job:
             timer.start()
         self.clock.progress.begin(os.path.basename(self.solver), self.options.timelim)
         try:
-            with SIGNALS.first_to(lambda: self.interrupt(child)):
+            with SIGNALS.first_interrupt_to(lambda: self.interrupt(child)):
                 log = self.logged(child)
                 status = child.wait()
         finally:  # also where a signal ends the driver
@@ -150,4 +150,4 @@ class Job:
     def interrupt(self, child: subprocess.Popen[bytes]) -> None:
         """It is told to end, and what it answers then is the answer."""
         self.is_interrupted = True
-        send(child, signal.SIGINT)
+        signal_group(child, signal.SIGINT)

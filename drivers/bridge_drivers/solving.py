@@ -27,7 +27,7 @@ from .system.errors import (
 )
 from .files import Places
 from .formats.source import Source
-from .interrupts import Interrupted
+from .system.processes import Interrupted
 from .job import ANSWERS, Clock, Job
 from .mps_file import judged, reading
 from .names import Names

@@ -30,7 +30,7 @@ from bridge_drivers.certify.parts import Better
 from bridge_drivers.certify.plans import Plans
 from bridge_drivers.certify.pool import Pool, Processes, pool_of
 from bridge_drivers.certify.watch import Paused, Stopped, Watch
-from bridge_drivers.interrupts import SIGNALS, Interrupted
+from bridge_drivers.system.processes import SIGNALS, Interrupted
 from bridge_drivers.model.linear_program import Program
 from models import nl, real, whole
 import families
@@ -338,7 +338,7 @@ def goes(pid: int) -> bool:
 
 def long(path: str, folder: str) -> None:
     """A long search by two processes, as a driver makes it."""
-    SIGNALS.take()
+    SIGNALS.install()
     crowd.AT_HOME = 3
     bridge, pool = Bridge(PROGRAM, lambda argv: None), Processes(2)
     work = Certifying(

@@ -192,7 +192,7 @@ class Certificates(Case):
     def test_interrupts_wait(self) -> None:
         """A signal while it is written comes after that."""
         seen: list[bool] = []
-        with mock.patch("os.replace", lambda *words: seen.append(files.SIGNALS.is_held)):
+        with mock.patch("os.replace", lambda *words: seen.append(files.SIGNALS.is_deferring)):
             self.keep("optimal 17", "")
         self.assertEqual(seen, [True])
 

@@ -1,5 +1,5 @@
 """Decimals, exported texts and their figures, imports with names, binary files, .sol texts, what is shown while a run
-goes on and in colour, interrupts."""
+goes on and in colour."""
 
 from __future__ import annotations
 
@@ -7,7 +7,6 @@ import contextlib
 import io
 import os
 import pty
-import signal
 import struct
 import subprocess
 import sys
@@ -22,7 +21,6 @@ from bridge_drivers.pipeline.row_factors import factors_of
 from bridge_drivers.program import bridge
 from bridge_drivers.program.bridge import Bridge, Refused, Reply
 from bridge_drivers.system.errors import Damaged, NotInstalled
-from bridge_drivers.interrupts import SIGNALS, Interrupted, Signals, with_child
 from bridge_drivers.names import Names
 from bridge_drivers.model.linear_program import Program
 from models import MODELS, rows_of
@@ -320,57 +318,3 @@ class Colours(Case):
             (status, told.split(b"\n")[0]),
             (0, b"\x1b[32mknap.certificate holds of " b"knap.nl: optimal 17\x1b[0m"),
         )
-
-
-class Interrupts(Case):
-    def setUp(self) -> None:
-        super().setUp()
-        patch = mock.patch.dict(vars(SIGNALS), vars(Signals()))
-        patch.start()
-        self.addCleanup(patch.stop)
-        for number in (signal.SIGTERM, signal.SIGINT):
-            self.addCleanup(signal.signal, number, signal.signal(number, SIGNALS.came))
-
-    def test_while_a_process_is_started(self) -> None:
-        """The process that nobody knew of yet has ended."""
-        started, start = [], subprocess.Popen
-
-        def interrupted(*words, **others):
-            started.append(start(*words, **others))
-            signal.raise_signal(signal.SIGTERM)
-            return started[0]
-
-        with mock.patch.object(subprocess, "Popen", interrupted), self.assertRaises(
-            Interrupted
-        ) as caught:
-            with_child(
-                lambda child: self.fail("it is not used"), ["sleep", "60"], start_new_session=True
-            )
-        self.assertEqual((caught.exception.status(), started[0].returncode), (143, -9))
-
-    def test_the_first_interrupt_of_a_block(self) -> None:
-        """It is the receiver's, the second one ends the run."""
-        got: list[int] = []
-        with self.assertRaises(Interrupted), SIGNALS.first_to(lambda: got.append(1)):
-            signal.raise_signal(signal.SIGINT)
-            self.assertEqual(got, [1])
-            signal.raise_signal(signal.SIGINT)
-        self.assertEqual(got, [1])
-        self.assertIsNone(SIGNALS.receiver)
-
-    def test_while_a_process_runs_and_ends(self) -> None:
-        """A second signal does not break off what the first one ends."""
-
-        def used(child: subprocess.Popen) -> None:
-            with SIGNALS.kept(True):
-                signal.raise_signal(signal.SIGTERM)
-                seen.append(child)
-            self.fail("what waited was lost")
-
-        seen: list[subprocess.Popen] = []
-        with self.assertRaises(Interrupted):
-            try:
-                with_child(used, [sys.executable, "-c", "input()"], stdin=subprocess.PIPE)
-            finally:
-                signal.raise_signal(signal.SIGTERM)
-        self.assertEqual(seen[0].returncode, -9)

@@ -26,7 +26,7 @@ from .parts import Done, Opened, Step
 from .search import Choice, Exact, Goal, Learnt, Search
 from .watch import Paused, Stopped, Watch
 from .. import VERSION
-from ..interrupts import NUMBERS, SIGNALS
+from ..system.processes import HANDLED_SIGNALS, SIGNALS
 
 START = "fork" if sys.platform == "linux" else None  # 3 ms each; `spawn` has 100 to 300
 GRACE = 1.0  # seconds that a portion has to end
@@ -149,7 +149,7 @@ class Processes(Pool):
     def stop(self) -> None:
         if self.started is None:
             return
-        with SIGNALS.kept(True):
+        with SIGNALS.deferred():
             started, self.started = self.started, None
             with contextlib.suppress(OSError):
                 self.line.send_bytes(b"end")
@@ -207,7 +207,7 @@ def pool_of(jobs: int, address: str) -> Pool | None:
 @contextlib.contextmanager
 def unsignalled() -> Iterator[None]:
     """Signals wait in the block, also in processes that are started in it."""
-    old = masked("SIG_BLOCK", NUMBERS)
+    old = masked("SIG_BLOCK", HANDLED_SIGNALS)
     try:
         yield
     finally:
@@ -224,10 +224,11 @@ def masked(how: str, numbers: Iterable[int]) -> Iterable[int]:
 
 
 def begin(end: connection.Connection) -> None:
-    """In a process: it ends by its parent's word, or with its parent. An interrupt of a terminal is the parent's."""
-    signal.signal(signal.SIGINT, signal.SIG_IGN)
-    signal.signal(signal.SIGTERM, signal.SIG_DFL)
-    masked("SIG_UNBLOCK", NUMBERS)
+    """In a process: it ends by its parent's word, or with its parent. What a terminal sends is the parent's."""
+    for number in HANDLED_SIGNALS:
+        is_ours = number == signal.SIGTERM
+        signal.signal(number, signal.SIG_DFL if is_ours else signal.SIG_IGN)
+    masked("SIG_UNBLOCK", HANDLED_SIGNALS)
     threading.Thread(target=wait_for_end, args=(end,), daemon=True).start()
 
 

@@ -8,7 +8,7 @@ import threading
 import time
 from typing import Callable, ContextManager, Iterator
 
-from ..interrupts import SIGNALS
+from ..system.processes import SIGNALS
 from ..progress import Progress, detailed
 
 EVERY = 0.5  # seconds between what is told of the progress
@@ -118,7 +118,7 @@ class Watch:
 
     def over(self, number: int, frame: object) -> None:
         """Not while a process is started or ended, nor where it is held off: it comes again."""
-        if self.is_armed and not SIGNALS.is_held and not self.is_held:
+        if self.is_armed and not SIGNALS.is_deferring and not self.is_held:
             raise Over("time")
 
     def arm(self, seconds: float) -> None:

@@ -33,7 +33,7 @@ from typing import (
 import numpy as np
 import numpy.typing as npt
 
-from ..interrupts import SIGNALS
+from ..system.processes import SIGNALS
 
 # Elimination
 RHS = -1  # the unknown of a row whose value is -1: its coefficient is the right-hand side
@@ -240,7 +240,7 @@ def scipy_or_none() -> Any:
 
     Signals wait for the end of the import: half of a module would stay behind.
     """
-    with SIGNALS.kept(True):
+    with SIGNALS.deferred():
         try:
             import scipy.sparse.linalg
         except ImportError:

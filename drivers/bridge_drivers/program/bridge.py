@@ -15,7 +15,7 @@ from typing import Callable, Mapping, NamedTuple, Sequence
 from . import refusal
 from ..system.codes import ExitStatus
 from ..system.errors import DeadlineExceeded, NotFound, NotInstalled, NotStarted
-from ..interrupts import with_child
+from ..system.processes import with_child
 
 PACKAGE = os.path.dirname(os.path.dirname(os.path.abspath(__file__)))
 HERE = os.path.dirname(PACKAGE)

@@ -42,5 +42,7 @@ class ExitStatus(enum.IntEnum):
     NO_MEMORY = 6
     NOT_SETTLED = 7
     NOT_THERE = 127
+    HUNG_UP = 129
     INTERRUPTED = 130
+    QUIT = 131
     TERMINATED = 143
