@@ -30,7 +30,7 @@ from bridge_drivers.job import ANSWERS  # noqa: E402
 from families import BINARY, drawn, listed, program  # noqa: E402
 from models import MODELS, is_solved, real, rows_of  # noqa: E402
 
-FOLDER = Path(HERE, "stored")
+FOLDER = Path(HERE, "data", "stored")
 Content = Union[str, list]
 
 

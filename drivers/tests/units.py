@@ -25,7 +25,7 @@ from bridge_drivers.names import Names
 from bridge_drivers.model.linear_program import Program
 from models import MODELS, rows_of
 
-BINARY = Path(HERE, "binary")
+BINARY = Path(HERE, "data", "binary")
 TEXTS = {name: text.encode() for name, text in rows_of("figures", "text")}
 
 

@@ -1,0 +1,15 @@
+NAME t
+OBJSENSE
+ MAX
+ROWS
+ N o
+ L r
+COLUMNS
+ x o 2 r 1
+ y o 3 r 1
+RHS
+ r 1.5
+BOUNDS
+ BV B x
+ BV B y
+ENDATA

@@ -1,0 +1,11 @@
+NAME t
+ROWS
+ N o
+ E r
+COLUMNS
+ x o 1 r 1
+RHS
+ r 4
+RANGES
+ r 0
+ENDATA

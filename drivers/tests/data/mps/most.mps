@@ -1,0 +1,11 @@
+NAME t
+OBJSENSE
+ MAX
+ROWS
+ N o
+ L r
+COLUMNS
+ x o 2 r 3
+RHS
+ o -1 r 5
+ENDATA

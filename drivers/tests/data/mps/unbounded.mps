@@ -1,0 +1,12 @@
+NAME t
+OBJSENSE
+ MAX
+ROWS
+ N o
+ L r
+COLUMNS
+ x o 1 r 1
+ y o 1 r -1
+RHS
+ r 3
+ENDATA

@@ -1,0 +1,18 @@
+NAME t
+OBJSENSE
+ MAX
+ROWS
+ N o
+ L r
+ L s
+COLUMNS
+ M 'MARKER' 'INTORG'
+ x o 2 r 3
+ y o 1 r 1
+ M 'MARKER' 'INTEND'
+ z o 1 s 2
+RHS
+ r 10 s 3
+BOUNDS
+ UP B y 2
+ENDATA

@@ -1,0 +1,15 @@
+NAME t
+OBJSENSE
+ MAXIMIZE
+ROWS
+ N o
+ L r
+COLUMNS
+ x o 2 r 3
+ y o 3 r 4
+RHS
+ r 11
+BOUNDS
+ LI B x 0
+ UI B y 1
+ENDATA

@@ -1,0 +1,15 @@
+NAME t
+ROWS
+ N o
+ E r
+COLUMNS
+ M 'MARKER' 'INTORG'
+ x o 1 r 2
+ y r 4
+ M 'MARKER' 'INTEND'
+RHS
+ r 13
+BOUNDS
+ UP B x 10
+ UP B y 10
+ENDATA

@@ -1,0 +1,1 @@
+"""How tests run commands: in a folder of their own, as processes, with what is installed here."""
