@@ -6,7 +6,7 @@ from dataclasses import dataclass, field
 from fractions import Fraction as F
 from typing import Mapping, Optional, Sequence
 
-from builders.nl_text import Number, Objective, Row, least, most, nl_text, real, row, whole
+from builders.nl_text import Number, Row, least, most, nl_text, real, row, whole
 
 
 @dataclass(frozen=True)

@@ -3,8 +3,6 @@
 from __future__ import annotations
 
 
-import pytest
-
 from running.workspace import Call, Workspace
 
 

@@ -7,7 +7,6 @@ import gzip
 import pytest
 
 from builders.mps_models import MPS_MODELS
-from running.places import DATA
 from running.workspace import Call, Workspace
 
 NL_BRIDGE = [

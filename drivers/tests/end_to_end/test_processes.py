@@ -273,9 +273,16 @@ def test_interrupt_in_the_background(workspace: Workspace) -> None:
     )
 
 
-@pytest.mark.needs("program", "cbc")
-@pytest.mark.parametrize("call", FULL, ids=str)
-def test_full(workspace: Workspace, call: Call) -> None:
-    """Files that may not grow: the fault has the name of its file."""
-    workspace.write("m.nl", MODELS["product"].text)
-    workspace.check(call)
+@pytest.mark.needs("program", "cbc", "prlimit")
+def test_files_that_may_not_grow(workspace: Workspace) -> None:
+    """The fault has the name of its file."""
+    workspace.write_model("product")
+    workspace.check(
+        Call(
+            'trap "" XFSZ; prlimit --fsize=64 bridge-certify m',
+            127,
+            is_shell=True,
+            matches=[r"/\S+( could not be run or written)?: File too large"],
+            lacks=["None"],
+        )
+    )

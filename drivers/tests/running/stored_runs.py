@@ -128,7 +128,7 @@ def save_runs(name: str, runs: Mapping[str, StoredRun]) -> None:
     for model, run in runs.items():
         made[model] = {"files": run.files, "logs": run.logs, "options": run.options}
         if run.interrupted:
-            made[model]["interrupted"] = True  # type: ignore[assignment]
+            made[model]["interrupted"] = True
     text = json.dumps(made, ensure_ascii=True, indent=1, sort_keys=True)
     FOLDER.mkdir(exist_ok=True)
     (FOLDER / f"{name}.json").write_text(text + "\n", encoding="utf-8")

@@ -11,10 +11,10 @@ import subprocess
 import sys
 from dataclasses import dataclass, field
 from pathlib import Path
-from typing import Any, Dict, List, Mapping, NamedTuple, Optional, Sequence, Set, Union
+from typing import Any, Dict, Mapping, NamedTuple, Optional, Sequence, Set, Union
 
 from builders.small_models import MODELS
-from running.places import BIN, DRIVERS, HIGHS_PYTHON, TESTS, program
+from running.places import BIN, DRIVERS, TESTS, program
 from running.report_schema import report_faults
 from running.sol_file import SolFile
 from running.stored_runs import StoredRun, stored_runs
@@ -169,7 +169,11 @@ class Workspace:
 
     def environment(self, **changes: str) -> Dict[str, str]:
         """The variables of a command."""
-        own = {"PYTHONPYCACHEPREFIX": str(self.cache), "BRIDGE": shlex.join(program())}
+        own = {
+            "PYTHONPYCACHEPREFIX": str(self.cache),
+            "PYTHONDONTWRITEBYTECODE": "",
+            "BRIDGE": shlex.join(program()),
+        }
         return {**os.environ, **own, **changes}
 
     def run(
@@ -360,4 +364,3 @@ class Workspace:
     def copy_files(self, source: Path) -> None:
         """Copies a folder's files into this one."""
         shutil.copytree(source, self.folder, dirs_exist_ok=True)
-
