@@ -10,7 +10,7 @@ from typing import NamedTuple
 from .program import verdict as verdicts
 from .answer import Answer
 from .program.bridge import Bridge, Refused
-from .certify import clp
+from .exact import clp
 from .certify.claims import WITHOUT, Certifying, Given, Verdict, certified
 from .certify.pool import pool_of
 from .certify.text import answer_lines

@@ -11,7 +11,7 @@ from certify_search import Certified
 from support import NEEDS_CLP, NEEDS_PROGRAM, Case
 from bridge_drivers.certify import points, spine
 from bridge_drivers.certify.claims import Given, certified
-from bridge_drivers.certify.clp import State
+from bridge_drivers.exact.clp import LpStatus
 from bridge_drivers.exact.relaxation import relaxation
 from bridge_drivers.model.integer_form import Box, IntegerProgram, Row
 from bridge_drivers.certify.simplex import Ended, Simplex
@@ -127,7 +127,7 @@ class Programs(Case):
             work = self.work(model.text())
             work.load()
             p, clp = work.model, relaxation(work.model)
-            if clp.solve() is not State.OPTIMAL or not is_optimal_in_doubles(
+            if clp.solve() is not LpStatus.OPTIMAL or not is_optimal_in_doubles(
                 p, clp.values(), dict(enumerate(clp.duals()))
             ):
                 continue

@@ -12,7 +12,7 @@ from certify_search import Certified
 from support import NEEDS_CLP, NEEDS_PROGRAM
 from bridge_drivers.certify import bases, short
 from bridge_drivers.certify.claims import Given, certified
-from bridge_drivers.certify.clp import State
+from bridge_drivers.exact.clp import LpStatus
 from bridge_drivers.exact.relaxation import relaxation
 from bridge_drivers.model.integer_form import Box, IntegerProgram, over_common_denominator
 from bridge_drivers.exact.dual_bound import MultiplierKind, Multipliers, bit_width, dual_bound
@@ -39,8 +39,8 @@ def two() -> IntegerProgram:
 def rounding(p: IntegerProgram) -> short.Rounding:
     """From CLP's optimum."""
     clp = relaxation(p)
-    assert clp.solve() is State.OPTIMAL
-    return short.Rounding(p, clp.keep(), clp.values(), 1.0)
+    assert clp.solve() is LpStatus.OPTIMAL
+    return short.Rounding(p, clp.saved_basis(), clp.values(), 1.0)
 
 
 def without_scipy():
@@ -144,20 +144,6 @@ class Shorts(TestCase):
         self.assertEqual(found.way, "rounding is taken up by a basis of 1 equation and 1 row")
         self.assertTrue(p.is_feasible(found.point))
         self.assertLess(abs(p.value(found.point) - F("2.617004048583")), F(1, 10**6))
-
-
-@NEEDS_CLP
-class Starts(TestCase):
-    def test_basis(self) -> None:
-        """CLP goes on from a basis: no step is left from the optimal one."""
-        clp = relaxation(two())
-        clp.start(bases.Basis([0, 1], [0, 1]), [1.3, 0.04])
-        self.assertEqual(clp.basis(), ([0, 1], [0, 1]))
-        self.assertIs(clp.solve(0), State.OPTIMAL)
-        other = relaxation(two())
-        other.start(bases.Basis([], []), [0.0, 7.0])
-        self.assertEqual(other.basis(), ([], []))
-        self.assertIs(other.solve(), State.OPTIMAL)
 
 
 @NEEDS_PROGRAM

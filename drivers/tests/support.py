@@ -31,7 +31,8 @@ sys.path[:0] = [os.path.join(HERE, ".."), HERE]
 
 from bridge_drivers import VERSION, solvers  # noqa: E402
 from bridge_drivers.program.bridge import BESIDE, Bridge, Reply, find  # noqa: E402
-from bridge_drivers.certify import clp, simplex  # noqa: E402
+from bridge_drivers.certify import simplex  # noqa: E402
+from bridge_drivers.exact import clp  # noqa: E402
 from bridge_drivers.driver import Driver  # noqa: E402
 from bridge_drivers.job import LOG, Job, Ran  # noqa: E402
 from bridge_drivers.solving import Solving  # noqa: E402

@@ -8,7 +8,7 @@ from fractions import Fraction
 from typing import Iterator, List, Sequence, Tuple
 
 from ..model.double_form import DoubleProgram
-from .clp import Basis, Clp, State
+from ..exact.clp import Basis, Clp, LpStatus
 from ..model.integer_form import Bound, IntegerProgram, Point, over_common_denominator
 from .points import Placed, place
 from ..exact.linear_systems import (
@@ -134,9 +134,9 @@ class Refining:
             self.dual_up = next_up(self.dual_up, dual_missed)
             clp = Clp(self.enlarged(linear))
             clp.seconds = self.seconds
-            clp.tighten(1e-9)
+            clp.set_tolerance(1e-9)
             self.restart(clp)
-            if clp.solve_somehow() is not State.OPTIMAL:
+            if clp.solve_by_either() is not LpStatus.OPTIMAL:
                 return
             self.x = [v + fixed(d, self.up) for v, d in zip(self.x, clp.values())]
             self.y = [v + fixed(d, self.dual_up) for v, d in zip(self.y, clp.duals())]
@@ -147,7 +147,9 @@ class Refining:
         """From the basis of the round before, around its point: what is not basic stands near 0."""
         n, rows = self.p.n, set(self.basis.rows)
         free = [n + k for k, i in enumerate(self.open) if i not in rows]
-        clp.start(Basis([*self.basis.columns, *free], list(rows.union(self.open))), [0.0] * clp.n)
+        clp.warm_start(
+            Basis([*self.basis.columns, *free], list(rows.union(self.open))), [0.0] * clp.n
+        )
 
     def read(self, clp: Clp) -> Basis:
         """In the program's own rows."""

@@ -11,7 +11,7 @@ from typing import Callable, Iterable, Iterator, Sequence
 
 from . import points, short, simplex
 from .bases import Near, Refining, can_be_large, optimum
-from .clp import Clp, NoClp, State
+from ..exact.clp import Clp, ClpNotInstalled, LpStatus
 from .contradictions import Contradicting
 from .judging import NO_POINT, WITHOUT, Bound, Given, Verdict, wide_note
 from ..model.integer_form import Box, Point, UnsupportedModel
@@ -111,11 +111,11 @@ class Certifying(Contradicting):
         if is_large and given.basis is not None and given.values is not None:
             yield from self.by_bases([(given.basis, given.doubles())])
         clp, state = self.relaxation(given)
-        if state is not State.OPTIMAL:
+        if state is not LpStatus.OPTIMAL:
             clp = None
         if not is_large or clp is None:
             yield from self.at_points(given, clp)
-        if state is State.UNBOUNDED:
+        if state is LpStatus.UNBOUNDED:
             yield self.unbounded()
         if clp is not None:
             yield from self.by_bases(self.bases(clp))
@@ -184,7 +184,7 @@ class Certifying(Contradicting):
         far: list[tuple[Fraction, Point]] = []
         for by_rows in (False, True) if p.terms.count() <= MOST_REFINED else (False,):
             for made in short.Rounding(
-                p, clp.keep(), clp.values(), self.clp_seconds(), by_rows
+                p, clp.saved_basis(), clp.values(), self.clp_seconds(), by_rows
             ).points():
                 self.know_point(made.point)
                 if bound is None:
@@ -246,7 +246,7 @@ class Certifying(Contradicting):
                 self.shared(near).resume(until, MOST_MENDED)
             except Better as better:
                 return better.point
-            except (NoClp, Stopped):
+            except (ClpNotInstalled, Stopped):
                 pass
         return None
 
@@ -293,7 +293,7 @@ class Certifying(Contradicting):
         point = self.point or point
         if plans.best is not None:
             yield self.by_tree(plans.best, point)
-        told = plans.told() or [str(NoClp())]
+        told = plans.told() or [str(ClpNotInstalled())]
         if self.proves or self.bounded:
             self.know_root()
         yield from self.in_the_end()
@@ -318,7 +318,7 @@ class Certifying(Contradicting):
             except Better as better:
                 point = better.point
                 self.older = max(filter(None, (self.older, plans)), key=Plans.stands_at)
-            except NoClp:
+            except ClpNotInstalled:
                 return plans
         self.know_point(point)
         return plans
@@ -337,7 +337,7 @@ class Certifying(Contradicting):
         if self.shown is not None and not self.proves:
             return
         p, (clp, state) = self.model, self.relaxation()
-        if clp is None or state is not State.OPTIMAL or not any(p.costs):
+        if clp is None or state is not LpStatus.OPTIMAL or not any(p.costs):
             return
         self.know_leaves(short.short_duals(p, clp, self.clp_seconds()))
         duals = basis_duals(p, *clp.basis())
@@ -352,7 +352,7 @@ class Certifying(Contradicting):
         if self.linear:
             yield from self.linear_optimum(Given())
         else:
-            if self.relaxation()[1] is State.INFEASIBLE:
+            if self.relaxation()[1] is LpStatus.INFEASIBLE:
                 yield from self.infeasible()
             self.know_root()
             yield from self.in_the_end()
@@ -415,8 +415,8 @@ def certified(work: Certifying, claim: str, given: Given = Given()) -> Verdict:
                 return found._replace(is_open=work.is_open())
     except Refused as fault:
         return Verdict(WITHOUT + fault.line())
-    except (UnsupportedModel, NoClp, Stopped, Over) as fault:
+    except (UnsupportedModel, ClpNotInstalled, Stopped, Over) as fault:
         return Verdict(WITHOUT + str(fault))
     finally:
-        Clp.until = math.inf
+        Clp.restrict(math.inf)
         watch.progress.begin("")

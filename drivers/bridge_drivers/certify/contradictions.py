@@ -6,7 +6,7 @@ import math
 from typing import Iterator
 
 from . import points, simplex, text
-from .clp import NoClp, State
+from ..exact.clp import ClpNotInstalled, LpStatus
 from .equations import hollow, parity
 from .judging import WITHOUT, Given, Judging, Verdict
 from ..exact.relaxation import relaxation
@@ -31,7 +31,7 @@ class Contradicting(Judging):
             if self.linear and simplex.is_small(self.model):
                 yield from self.by_simplex()
             yield self.contradiction()
-        except (NoClp, Stopped) as fault:
+        except (ClpNotInstalled, Stopped) as fault:
             yield from self.in_the_end()
             yield Verdict(f"{WITHOUT}{fault}")
         except Better as better:
@@ -142,7 +142,7 @@ class Contradicting(Judging):
         if self.linear:
             clp = relaxation(p)
             found = None
-            if clp.solve() is State.OPTIMAL:
+            if clp.solve() is LpStatus.OPTIMAL:
                 found = next(points.near(p, clp.values()), None) or points.vertex(
                     p, clp.basis(), clp.values()
                 )

@@ -10,7 +10,7 @@ from fractions import Fraction
 from typing import Callable, Iterator, Mapping, NamedTuple, Sequence
 
 from . import points, text
-from .clp import Basis, Clp, State, library
+from ..exact.clp import Basis, Clp, LpStatus, library
 from .crowd import Crowd
 from ..exact.relaxation import relaxation
 from ..pipeline.row_factors import whole_form
@@ -274,16 +274,16 @@ class Judging:
     def clp_seconds(self) -> float:
         return min(max(self.watch.left(), ONE_LEAF), MOST_CLP_SECONDS)
 
-    def relaxation(self, given: Given = Given()) -> tuple[Clp | None, State]:
+    def relaxation(self, given: Given = Given()) -> tuple[Clp | None, LpStatus]:
         """None where CLP is not there. It starts from the answer's basis."""
         if library() is None:
-            return None, State.OTHER
+            return None, LpStatus.OTHER
         self.watch.progress.tell("the relaxation by CLP")
         clp = relaxation(self.model)
         if given.basis is not None and given.values is not None:
-            clp.start(given.basis, given.doubles())
+            clp.warm_start(given.basis, given.doubles())
         clp.seconds = self.clp_seconds() if self.proves or self.linear else ONE_LEAF
-        return clp, clp.solve_somehow()
+        return clp, clp.solve_by_either()
 
     def exact(self, x: Sequence[float | Fraction]) -> Point | None:
         return points.whole_point(self.model, x, self.clp_seconds())

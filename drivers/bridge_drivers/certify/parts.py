@@ -17,7 +17,7 @@ from typing import (
     Sequence,
 )
 
-from .clp import Clp
+from ..exact.clp import Clp
 from ..model.integer_form import Bound, Box, IntegerProgram, Point
 from ..exact.tree import Split, Tree
 
@@ -97,10 +97,10 @@ class Parts:
             self.box.upper[column]
         )
         if column < p.n:
-            self.clp.bound(column, lo, hi)
+            self.clp.set_bounds(column, lo, hi)
         else:
             (p.row_upper if side else p.row_lower)[column - p.n] = end
-            self.clp.side(column - p.n, lo, hi)
+            self.clp.set_row_bounds(column - p.n, lo, hi)
 
     def enter(self, step: Step) -> None:
         side, end = 1 - step.part, (step.at + step.part) * self.model.bound_scale
@@ -136,7 +136,7 @@ class Parts:
             self.enter(step)
         last = self.last()
         if last is not None:
-            self.clp.restore(last.basis)
+            self.clp.restore_basis(last.basis)
 
 
 def joined(step: Step, depth: int, done: Done, other: Done) -> Done:

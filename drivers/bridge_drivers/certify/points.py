@@ -7,7 +7,7 @@ import math
 from fractions import Fraction
 from typing import Iterator, Mapping, NamedTuple, Sequence
 
-from .clp import Basis, State, library
+from ..exact.clp import Basis, LpStatus, library
 from ..exact.linear_systems import solve_exactly
 from ..exact.relaxation import relaxation
 from ..model.integer_form import Bound, IntegerProgram, Point
@@ -134,7 +134,7 @@ def whole_point(p: IntegerProgram, x: Sequence[float | Fraction], seconds: float
         around = with_fixed(p, fixed)
         clp = relaxation(around)
         clp.seconds = seconds
-        if clp.solve_somehow() is State.OPTIMAL:
+        if clp.solve_by_either() is LpStatus.OPTIMAL:
             found = vertex(around, clp.basis(), clp.values())
             if found is None or not all(map(fits_certificate, found)):
                 found = nearest(p, clp.values()) or found
@@ -192,7 +192,7 @@ def is_contradicted(model: IntegerProgram, x: Sequence[float | Fraction], second
         return False
     clp = relaxation(with_fixed(model, whole_columns(model, x)))
     clp.seconds = seconds
-    return clp.solve() is State.INFEASIBLE and clp.solve(again=True) is State.INFEASIBLE
+    return clp.solve() is LpStatus.INFEASIBLE and clp.solve(by_primal=True) is LpStatus.INFEASIBLE
 
 
 def broken(model: IntegerProgram, x: Sequence[float | Fraction]) -> Fraction:
@@ -234,7 +234,7 @@ def is_ray(cone: IntegerProgram, d: Point) -> bool:
 def ray(cone: IntegerProgram) -> Point | None:
     """An improving direction without end, in short fractions where they do."""
     clp = relaxation(cone)
-    if clp.solve() is not State.OPTIMAL or clp.objective() >= 0:
+    if clp.solve() is not LpStatus.OPTIMAL or clp.objective() >= 0:
         return None
     x = clp.values()
     for most in DENOMINATORS:

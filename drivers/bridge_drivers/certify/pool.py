@@ -20,7 +20,7 @@ from multiprocessing import connection
 from typing import Any, Dict, Iterable, Iterator, List, NamedTuple, Optional, Sequence
 
 from . import points
-from .clp import library
+from ..exact.clp import library
 from ..model.integer_form import IntegerProgram, Row
 from .parts import Done, Opened, Step
 from .search import Choice, Exact, Goal, Learnt, Search

@@ -10,7 +10,7 @@ import time
 from fractions import Fraction
 from typing import Any, Callable, Dict, Iterable, Mapping, NamedTuple, Sequence, Tuple
 
-from .clp import Clp, State
+from ..exact.clp import Clp, LpStatus
 from ..exact.relaxation import PHASE_ONE_TOLERANCE, phase_one, relaxation
 from ..model.integer_form import Box, IntegerProgram, Point
 from .parts import Better, Done, Opened, Parts, Step, joined
@@ -134,14 +134,14 @@ class Choice:
 
     def tried(self, search: Search, column: int, value: float, base: float) -> tuple[float, float]:
         """What few iterations in each part gain; infinite where it is empty."""
-        kept, at = search.clp.keep(), math.floor(value)
+        kept, at = search.clp.saved_basis(), math.floor(value)
         found = [math.inf, math.inf]
         for part, share in ((0, value - at), (1, at + 1 - value)):
             with search.within(Step(column, at, part, value, base, kept)):
-                if search.clp.solve(TRIED_ITERATIONS) is not State.INFEASIBLE:
+                if search.clp.solve(TRIED_ITERATIONS) is not LpStatus.INFEASIBLE:
                     found[part] = max(0.0, search.clp.objective() + search.constant - base)
                     self.learn(column, part, found[part], share)
-            search.clp.restore(kept)
+            search.clp.restore_basis(kept)
         return found[0], found[1]
 
 
@@ -214,7 +214,7 @@ class Search(Parts):
             else:
                 step = step.turned()
                 self.open.append(Opened(step, done))
-                self.clp.restore(step.basis)
+                self.clp.restore_basis(step.basis)
                 self.enter(step)
                 return None
         return done
@@ -226,17 +226,17 @@ class Search(Parts):
             return self.empty(hollow)
         self.clp.seconds = max(self.until - self.watch.spent(), LEAST_SECONDS)
         for again in (False, True):
-            state = self.clp.solve(again=again)
-            done = self.by_contradiction() if state is State.INFEASIBLE else None
+            state = self.clp.solve(by_primal=again)
+            done = self.by_contradiction() if state is LpStatus.INFEASIBLE else None
             if done is not None:
                 return done
-            if state is State.OPTIMAL:
+            if state is LpStatus.OPTIMAL:
                 break
-        if state is State.INFEASIBLE:
+        if state is LpStatus.INFEASIBLE:
             return self.branched(
                 [self.nearest_zero(j) for j in range(self.model.n)], self.goal, state
             )
-        if state is not State.OPTIMAL:
+        if state is not LpStatus.OPTIMAL:
             self.watch.look(self.nodes, self.until)  # CLP stops where the time is over
             raise Stopped(f"a relaxation is {state.name.lower()}")
         base = self.clp.objective() + self.constant
@@ -284,7 +284,7 @@ class Search(Parts):
             step, other = self.open.pop()
             self.leave()
             if other is None:
-                self.clp.restore(step.basis)
+                self.clp.restore_basis(step.basis)
                 with self.within(step.turned()):
                     least = min(least, self.own_bound(step))
         return least
@@ -293,9 +293,9 @@ class Search(Parts):
         if self.hollow(range(self.model.n)) is not None:
             return math.inf
         state = self.clp.solve()
-        if state is State.OPTIMAL:
+        if state is LpStatus.OPTIMAL:
             return self.clp.objective() + self.constant
-        if state is State.INFEASIBLE and self.by_contradiction() is not None:
+        if state is LpStatus.INFEASIBLE and self.by_contradiction() is not None:
             return math.inf
         return -math.inf if above is None else above.base
 
@@ -306,12 +306,14 @@ class Search(Parts):
         self.most = self.nodes + 2 * len(self.open) + MORE
         return self.worked()
 
-    def branched(self, x: Sequence[float], base: float, state: State) -> Step | Done:
+    def branched(self, x: Sequence[float], base: float, state: LpStatus) -> Step | Done:
         """A split of what is not whole. Where all is: a better point where it is an exact one, else a split of what is
         whole only within a tolerance, or of what is not fixed. Whole values that doubles do not tell apart are the
         exact ones of the basis."""
         p = self.model
-        if state is State.OPTIMAL and any(w and abs(v) >= LARGE for v, w in zip(x, p.is_integer)):
+        if state is LpStatus.OPTIMAL and any(
+            w and abs(v) >= LARGE for v, w in zip(x, p.is_integer)
+        ):
             part = p.with_bounds(self.box.lower[: p.n], self.box.upper[: p.n]).with_integers(
                 [False] * p.n
             )
@@ -329,13 +331,13 @@ class Search(Parts):
         if fractional and fractional[0] < p.n:
             column, first = self.choice.column(self, values, fractional, base)
             return self.branch(column, values[column], first, base)
-        if state is State.OPTIMAL:
+        if state is LpStatus.OPTIMAL:
             self.compare(x)
         done = self.by_missing()  # CLP's tolerances may hide a contradiction
         unfixed = self.unfixed(apart) if done is None else None
         if unfixed is not None:
             return self.branch(unfixed, x[unfixed], 0, base)
-        if done is None and state is not State.OPTIMAL:  # nor is what CLP calls infeasible
+        if done is None and state is not LpStatus.OPTIMAL:  # nor is what CLP calls infeasible
             self.compare(x)
         done = done or self.by_row() or self.by_missing(LEAST)
         if done is None:
@@ -379,7 +381,7 @@ class Search(Parts):
             at = at if hi is None else min(at, -(-hi // unit) - 1)
             at = at if lo is None else max(at, lo // unit)
         self.nodes += 1
-        return Step(column, at, first, float(value), base, self.clp.keep())
+        return Step(column, at, first, float(value), base, self.clp.saved_basis())
 
     def empty(self, column: int) -> Done:
         """Weights do not see an empty box, a plane on the column does."""
@@ -406,7 +408,7 @@ class Search(Parts):
 
     def by_contradiction(self) -> Done | None:
         """With weights, from a ray of CLP or from phase one."""
-        ray = self.clp.ray()
+        ray = self.clp.farkas_multipliers()
         for sign in (1, -1):
             weights = {i: sign * v for i, v in enumerate(ray)}
             proof = self.prover.prove_from_doubles(weights, MultiplierKind.FARKAS, self.box)
@@ -431,11 +433,11 @@ class Search(Parts):
         )
         clp = self.missing = self.missing or phase_one(p)
         for j in range(p.n):
-            clp.bound(j, lo[j], hi[j])
+            clp.set_bounds(j, lo[j], hi[j])
         for j in self.forms:
-            clp.side(j - p.n, lo[j], hi[j])
-        clp.tighten(min(PHASE_ONE_TOLERANCE, least))
-        if clp.solve() is not State.OPTIMAL or clp.objective() < least:
+            clp.set_row_bounds(j - p.n, lo[j], hi[j])
+        clp.set_tolerance(min(PHASE_ONE_TOLERANCE, least))
+        if clp.solve() is not LpStatus.OPTIMAL or clp.objective() < least:
             return None
         return self.fathomed(self.proved_leaf(clp, MultiplierKind.FARKAS, phase_one_duals))
 

@@ -13,7 +13,7 @@ from math import lcm
 from typing import Iterator, Mapping, NamedTuple, Sequence, Tuple
 
 from ..model.double_form import DoubleProgram
-from .clp import Clp, State
+from ..exact.clp import Clp, LpStatus
 from ..exact.linear_systems import solve_exactly
 from ..model.integer_form import Box, IntegerProgram, Point, over_common_denominator
 from ..exact.dual_bound import (
@@ -121,7 +121,7 @@ class Rounding:
         clp = solved_again(self.tightened(room), self.kept, self.seconds, room / 10)
         if clp is None:
             return None
-        self.kept = clp.keep()
+        self.kept = clp.saved_basis()
         return clp.values()
 
     def step_by_step(self, places: int) -> ShortPoint | None:
@@ -320,14 +320,14 @@ def solved_again(
     """From a basis; None where it has no optimum then."""
     clp = Clp(linear)
     clp.seconds = seconds
-    clp.tighten(tolerance)
-    clp.restore(kept)
-    return clp if clp.solve_somehow() is State.OPTIMAL else None
+    clp.set_tolerance(tolerance)
+    clp.restore_basis(kept)
+    return clp if clp.solve_by_either() is LpStatus.OPTIMAL else None
 
 
 def short_duals(p: IntegerProgram, clp: Clp, seconds: float) -> list[ShortDuals]:
     """Those of the least room whose bound is near CLP's objective, else all; the best first."""
-    kept = clp.keep()
+    kept = clp.saved_basis()
     found: list[ShortDuals] = []
     size = max((abs(float(c)) for c in p.cost_fractions), default=0.0)
     top = clp.objective() + float(p.constant_fraction)

@@ -12,7 +12,7 @@ from fractions import Fraction
 from typing import Dict, Iterator, Mapping, NamedTuple, Sequence, Tuple
 
 from . import text
-from .clp import Clp, State
+from ..exact.clp import Clp, LpStatus
 from ..exact.relaxation import relaxation
 from ..model.integer_form import IntegerProgram, ObjectiveLattice, Row
 from .parts import Better
@@ -162,7 +162,7 @@ class Maker:
             ]
         )
         clp = relaxation(m)
-        if clp.solve() is not State.OPTIMAL:
+        if clp.solve() is not LpStatus.OPTIMAL:
             return None
         self.base = clp.objective() + float(self.model.constant_fraction)
         if self.watch.is_due() and any(self.model.costs):

@@ -22,7 +22,7 @@ from typing import (
     Tuple,
 )
 
-from ..certify.clp import Clp
+from .clp import Clp
 from ..model.integer_form import IntegerProgram
 from .leaf_proofs import Ratio
 from .mir import Combination, Divisor, MIRCut, Substitution, Substitutions, aggregated, mir_cut
@@ -242,7 +242,7 @@ class MIRSeparator:
 
     def tableau_rows(self) -> Iterator[Combination]:
         """Rows of the simplex tableau whose basic columns are to be integer and are not."""
-        basis = self.clp.keep()
+        basis = self.clp.saved_basis()
         basic, _ = self.clp.basis()
         from_half = [
             (abs(self.x[j] - floor(self.x[j]) - 0.5), j)

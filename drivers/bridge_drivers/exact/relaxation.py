@@ -4,7 +4,7 @@ from __future__ import annotations
 
 from fractions import Fraction
 
-from ..certify.clp import Clp, enlarging
+from .clp import Clp, scaling_power
 from ..model.double_form import DoubleProgram
 from ..model.integer_form import IntegerProgram
 
@@ -40,11 +40,11 @@ def phase_one(program: IntegerProgram) -> Clp:
             doubles.columns.with_units(artificial),
         )
     )
-    clp.tighten(PHASE_ONE_TOLERANCE)
+    clp.set_tolerance(PHASE_ONE_TOLERANCE)
     return clp
 
 
 def row_unit(program: IntegerProgram, row: int) -> Fraction:
     """1, or the power of two near the coefficients of a row where all of them are small."""
     greatest = max((abs(a) for _, a in program.rows[row]), default=0) / program.row_scale
-    return 1 / Fraction(enlarging(greatest))
+    return 1 / Fraction(scaling_power(greatest))

@@ -1,0 +1,345 @@
+"""CLP in this process, by its C interface, for relaxations that are solved again and again.
+
+The library is loaded when it is first asked for. What CLP answers is in doubles and is proved
+elsewhere; each solve begins from the basis of the one before.
+"""
+
+from __future__ import annotations
+
+import ctypes
+import ctypes.util
+import enum
+import math
+import time
+from typing import Any, Iterable, List, Mapping, NamedTuple, Optional, Sequence, Tuple
+
+from ..model.double_form import DoubleBound, DoubleProgram
+from ..system.errors import NotInstalled
+
+INFINITE = 1.7976931348623157e308  # COIN's own
+STATUS_BITS = 7  # of a byte of a basis: the other bits are flags of CLP's own
+ITERATIONS = 100_000  # of one relaxation
+FIRST_SLICE = 1.0  # seconds of the processor, which is what CLP's own limit counts
+SMALL = 1e-3  # bounds and costs below are scaled up
+LIBRARY_NAMES = ("libClp.so.1", "libClp.so", "libClp.1.dylib", "libClp.dylib")
+
+_POINTER = ctypes.c_void_p
+_INT = ctypes.c_int
+_DOUBLE = ctypes.c_double
+
+
+class _Signature(NamedTuple):
+    returns: Any  # None: nothing
+    takes: Tuple[Any, ...]
+
+
+_SIGNATURES: Mapping[str, _Signature] = {
+    "newModel": _Signature(_POINTER, ()),
+    "deleteModel": _Signature(None, (_POINTER,)),
+    "setLogLevel": _Signature(None, (_POINTER, _INT)),
+    "loadProblem": _Signature(None, (_POINTER, _INT, _INT) + 8 * (_POINTER,)),
+    "setSmallElementValue": _Signature(None, (_POINTER, _DOUBLE)),
+    "chgColumnLower": _Signature(None, (_POINTER, _POINTER)),
+    "chgColumnUpper": _Signature(None, (_POINTER, _POINTER)),
+    "chgRowLower": _Signature(None, (_POINTER, _POINTER)),
+    "chgRowUpper": _Signature(None, (_POINTER, _POINTER)),
+    "chgObjCoefficients": _Signature(None, (_POINTER, _POINTER)),
+    "numberIterations": _Signature(_INT, (_POINTER,)),
+    "setNumberIterations": _Signature(None, (_POINTER, _INT)),
+    "setMaximumIterations": _Signature(None, (_POINTER, _INT)),
+    "setMaximumSeconds": _Signature(None, (_POINTER, _DOUBLE)),
+    "setPrimalTolerance": _Signature(None, (_POINTER, _DOUBLE)),
+    "dual": _Signature(_INT, (_POINTER, _INT)),
+    "primal": _Signature(_INT, (_POINTER, _INT)),
+    "status": _Signature(_INT, (_POINTER,)),
+    "objectiveValue": _Signature(_DOUBLE, (_POINTER,)),
+    "primalColumnSolution": _Signature(_POINTER, (_POINTER,)),
+    "dualRowSolution": _Signature(_POINTER, (_POINTER,)),
+    "infeasibilityRay": _Signature(_POINTER, (_POINTER,)),
+    "freeRay": _Signature(None, (_POINTER, _POINTER)),
+    "statusArray": _Signature(_POINTER, (_POINTER,)),
+    "copyinStatus": _Signature(None, (_POINTER, _POINTER)),
+}
+LOADED: List[Optional[ctypes.CDLL]] = []  # once it was looked for: the library, or None
+
+
+class ClpNotInstalled(NotInstalled):
+    """CLP's library is not there."""
+
+    def __init__(self) -> None:
+        super().__init__("CLP's library (coinor-libclp1) is not installed")
+
+
+class LpStatus(enum.Enum):
+    """How a relaxation ended; the values are CLP's own, but for the last."""
+
+    OPTIMAL = 0
+    INFEASIBLE = 1
+    UNBOUNDED = 2
+    OTHER = 3  # it was stopped, or has no optimum that CLP finds
+
+
+class VariableStatus(enum.IntEnum):
+    """How a column or a row stands in a basis; the values are CLP's own."""
+
+    FREE = 0
+    BASIC = 1
+    AT_UPPER = 2
+    AT_LOWER = 3
+
+
+class Basis(NamedTuple):
+    """Basic columns, and rows that are not basic: as many, where CLP's basis is complete."""
+
+    columns: List[int]
+    rows: List[int]
+
+
+def library() -> Optional[ctypes.CDLL]:
+    """CLP's library with the types of its calls; None where it is not installed."""
+    if not LOADED:
+        LOADED.append(_load())
+    return LOADED[0]
+
+
+def _load() -> Optional[ctypes.CDLL]:
+    for name in filter(None, (*LIBRARY_NAMES, ctypes.util.find_library("Clp"))):
+        try:
+            found = ctypes.CDLL(name)
+            for call, signature in _SIGNATURES.items():
+                function = getattr(found, "Clp_" + call)
+                function.restype = signature.returns
+                function.argtypes = list(signature.takes)
+            return found
+        except (OSError, AttributeError):
+            continue
+    return None
+
+
+class Clp:
+    """A relaxation whose bounds change. What is asked of it is of the last `solve`.
+
+    CLP's tolerances are of fixed size and hide what small numbers say: so columns with small bounds
+    are multiplied by a power of two, and so are small costs. CLP scales rows itself.
+
+    Attributes:
+        stop_all_at: When each solve of any relaxation ends at last, by the monotonic clock.
+        seconds: How long one solve of this relaxation may take.
+
+    Raises:
+        ClpNotInstalled: There is no library of CLP.
+    """
+
+    stop_all_at = math.inf
+    seconds = math.inf
+
+    @classmethod
+    def restrict(cls, seconds: float) -> None:
+        """All solves of all relaxations end within that time; `math.inf` takes the limit away."""
+        cls.stop_all_at = time.monotonic() + seconds
+
+    def __init__(self, program: DoubleProgram) -> None:
+        found = library()
+        if found is None:
+            raise ClpNotInstalled()
+        self.lib = found
+        self.model = found.Clp_newModel()
+        self.n = len(program.costs)
+        self.m = len(program.row_lower)
+        self.column_factors = [_column_factor(pair) for pair in zip(program.lower, program.upper)]
+        costs = [c / by for c, by in zip(program.costs, self.column_factors)]
+        self.cost_factor = scaling_power(max((abs(c) for c in costs), default=0.0))
+        self.lower = _bounds(self._scaled(program.lower), -INFINITE)
+        self.upper = _bounds(self._scaled(program.upper), INFINITE)
+        self.row_lower = _bounds(program.row_lower, -INFINITE)
+        self.row_upper = _bounds(program.row_upper, INFINITE)
+        self._load_problem(program, costs)
+
+    def __del__(self) -> None:
+        if getattr(self, "model", None):
+            self.lib.Clp_deleteModel(self.model)
+            self.model = None
+
+    def set_tolerance(self, tolerance: float) -> None:
+        """By how much rows and bounds may be missed."""
+        self.lib.Clp_setPrimalTolerance(self.model, tolerance)
+
+    def set_bounds(self, column: int, lower: DoubleBound, upper: DoubleBound) -> None:
+        """Of a column, from the next solve on."""
+        factor = self.column_factors[column]
+        self.lower[column] = -INFINITE if lower is None else lower * factor
+        self.upper[column] = INFINITE if upper is None else upper * factor
+
+    def set_row_bounds(self, row: int, lower: DoubleBound, upper: DoubleBound) -> None:
+        """The same of a row."""
+        self.row_lower[row] = -INFINITE if lower is None else lower
+        self.row_upper[row] = INFINITE if upper is None else upper
+
+    def solve(self, most_iterations: int = ITERATIONS, *, by_primal: bool = False) -> LpStatus:
+        """From the basis that it has, by the dual simplex method or the primal one.
+
+        CLP's own limit counts seconds of the processor, of which a busy machine gives few: it gets
+        slices, and after each the clock is looked at.
+        """
+        lib, model = self.lib, self.model
+        self._send_bounds()
+        lib.Clp_setNumberIterations(model, 0)
+        lib.Clp_setMaximumIterations(model, most_iterations)
+        now = time.monotonic()
+        portion = FIRST_SLICE
+        end = min(now + self.seconds, self.stop_all_at)
+        while True:
+            seconds = max(min(end - now, portion), 0.0) if end < math.inf else -1.0
+            lib.Clp_setMaximumSeconds(model, seconds)
+            (lib.Clp_primal if by_primal else lib.Clp_dual)(model, 0)
+            if not self._is_stopped() or lib.Clp_numberIterations(model) >= most_iterations:
+                break
+            began, now = now, time.monotonic()
+            if now >= end:
+                break
+            portion = min(2 * portion, (end - now) * seconds / max(now - began, seconds))
+        status = lib.Clp_status(model)
+        return LpStatus(status) if status in (0, 1, 2) else LpStatus.OTHER
+
+    def solve_by_either(self) -> LpStatus:
+        """By the dual simplex method, and by the primal one where that finds no optimum."""
+        status = self.solve()
+        return status if status is LpStatus.OPTIMAL else self.solve(by_primal=True)
+
+    def objective(self) -> float:
+        """Minimised, without the constant."""
+        return float(self.lib.Clp_objectiveValue(self.model)) / self.cost_factor
+
+    def values(self) -> List[float]:
+        """By column."""
+        found = _read(self.lib.Clp_primalColumnSolution(self.model), self.n)
+        return [x / factor for x, factor in zip(found, self.column_factors)]
+
+    def duals(self) -> List[float]:
+        """By row, of the program as it is minimised: above 0 at lower row bounds."""
+        found = _read(self.lib.Clp_dualRowSolution(self.model), self.m)
+        return [dual / self.cost_factor for dual in found]
+
+    def farkas_multipliers(self) -> List[float]:
+        """Multipliers of the rows that refute them, or those times -1; none where CLP has none."""
+        place = self.lib.Clp_infeasibilityRay(self.model)
+        if not place:
+            return []
+        multipliers = _read(place, self.m)
+        self.lib.Clp_freeRay(self.model, place)
+        return multipliers
+
+    def row_of_inverse(self, column: int, basis: bytes) -> List[float]:
+        """The row of a basic column in the inverse of a basis: multipliers of rows.
+
+        They leave 1 in this column and 0 in the other basic ones, so that they are the basis'
+        duals where the column alone has a cost. The costs of this relaxation are lost.
+
+        Args:
+            basis: As `saved_basis` has it.
+        """
+        costs = [0.0] * self.n
+        costs[column] = self.cost_factor / self.column_factors[column]
+        self.lib.Clp_chgObjCoefficients(self.model, _doubles(costs))
+        self.restore_basis(basis)
+        self.solve(0, by_primal=True)
+        return self.duals()
+
+    def saved_basis(self) -> bytes:
+        """The basis, for `restore_basis` of this or an equal relaxation."""
+        return ctypes.string_at(self.lib.Clp_statusArray(self.model), self.n + self.m)
+
+    def restore_basis(self, basis: bytes) -> None:
+        """The next solve begins from it."""
+        self.lib.Clp_copyinStatus(self.model, basis)
+
+    def warm_start(self, basis: Basis, x: Sequence[float]) -> None:
+        """The next solve begins from this basis; other columns stand at their bound nearest to x."""
+        statuses = bytearray([VariableStatus.BASIC] * (self.n + self.m))
+        is_basic = set(basis.columns)
+        for j in range(self.n):
+            if j not in is_basic:
+                value = x[j] * self.column_factors[j]
+                statuses[j] = _nearest_bound(self.lower[j], self.upper[j], value)
+        for i in basis.rows:
+            has_lower = self.row_lower[i] > -INFINITE
+            status = VariableStatus.AT_LOWER if has_lower else VariableStatus.AT_UPPER
+            statuses[self.n + i] = status
+        self.restore_basis(bytes(statuses))
+
+    def basis(self) -> Basis:
+        """The basis of the last solve."""
+        basic = [status & STATUS_BITS == VariableStatus.BASIC for status in self.saved_basis()]
+        return Basis(
+            [j for j in range(self.n) if basic[j]],
+            [i for i in range(self.m) if not basic[self.n + i]],
+        )
+
+    def _scaled(self, bounds: Iterable[DoubleBound]) -> Iterable[DoubleBound]:
+        return (bound and bound * by for bound, by in zip(bounds, self.column_factors))
+
+    def _load_problem(self, program: DoubleProgram, costs: Sequence[float]) -> None:
+        columns = program.columns.over(self.column_factors)
+        self.lib.Clp_setLogLevel(self.model, 0)
+        self.lib.Clp_setSmallElementValue(self.model, 0.0)
+        self.lib.Clp_loadProblem(
+            self.model,
+            self.n,
+            self.m,
+            _memory(ctypes.c_int, columns.starts),
+            _memory(ctypes.c_int, columns.rows),
+            _memory(ctypes.c_double, columns.values),
+            self.lower,
+            self.upper,
+            _doubles([c * self.cost_factor for c in costs]),
+            self.row_lower,
+            self.row_upper,
+        )
+
+    def _send_bounds(self) -> None:
+        self.lib.Clp_chgColumnLower(self.model, self.lower)
+        self.lib.Clp_chgColumnUpper(self.model, self.upper)
+        if self.m:
+            self.lib.Clp_chgRowLower(self.model, self.row_lower)
+            self.lib.Clp_chgRowUpper(self.model, self.row_upper)
+
+    def _is_stopped(self) -> bool:
+        """By its time or its iterations, which is CLP's status 3."""
+        return bool(self.lib.Clp_status(self.model) == 3)
+
+
+def scaling_power(size: float) -> float:
+    """The power of two that brings a small number to about 1; 1 for 0 and what is not small."""
+    return 2.0 ** -math.frexp(size)[1] if 0 < size < SMALL else 1.0
+
+
+def _column_factor(bounds: Tuple[DoubleBound, DoubleBound]) -> float:
+    """The power of two that a column is multiplied by: above 1 where both bounds are small."""
+    if None in bounds:
+        return 1.0
+    return scaling_power(max((abs(bound) for bound in bounds if bound), default=1.0))
+
+
+def _doubles(values: Sequence[float]) -> Any:
+    return (ctypes.c_double * max(len(values), 1))(*values)
+
+
+def _bounds(bounds: Iterable[DoubleBound], infinite: float) -> Any:
+    return _doubles([infinite if bound is None else bound for bound in bounds])
+
+
+def _memory(kind: Any, values: Any) -> Any:
+    """The numbers of an array where they stand, without a copy."""
+    return (kind * len(values)).from_buffer(values) if len(values) else (kind * 1)()
+
+
+def _read(place: int, count: int) -> List[float]:
+    return list((ctypes.c_double * count).from_address(place)) if count else []
+
+
+def _nearest_bound(lower: float, upper: float, value: float) -> VariableStatus:
+    """The bound that a column which is not basic stands at."""
+    if lower <= -INFINITE:
+        return VariableStatus.FREE if upper >= INFINITE else VariableStatus.AT_UPPER
+    is_near_upper = abs(upper - value) < abs(value - lower)
+    return VariableStatus.AT_UPPER if is_near_upper else VariableStatus.AT_LOWER
