@@ -14,7 +14,8 @@ from .miss import NONE, Miss, miss, missing
 from .options import Options
 from .model.linear_program import Objective, Program
 from .solvers.base import Outcome
-from .values import Named, Number, double_of, finite, in_order, texts_of
+from .formats.numbers import Number, decimals, nearest_double, require_finite
+from .model.named_values import NamedValues, values_in_order
 
 NEAR_WHOLE = 1e-5
 NEAR_DUAL = 1e-7
@@ -30,24 +31,26 @@ class Answer:
         self.program, self.outcome, self.options = program, outcome, options
         self.loose = self.loose_duals = 0
         self.apart: list[float] = []
-        self.values: Named[str] | None = None
-        self.duals: Named[str] | None = None
+        self.values: NamedValues[str] | None = None
+        self.duals: NamedValues[str] | None = None
         self.whole = program.whole if options.round and not options.relax else set()
         self.given_costs: Sequence[Number] | None = None
         if outcome.values is not None:
-            texts, self.loose = texts_of(self.rounded(in_order(outcome.values, program.columns)))
-            self.values = Named(program.columns, texts)
+            texts, self.loose = decimals(
+                self.rounded(values_in_order(outcome.values, program.columns))
+            )
+            self.values = NamedValues(program.columns, texts)
         if outcome.duals is not None:
-            texts, self.loose_duals = texts_of(in_order(outcome.duals, program.constraints))
-            self.duals = Named(program.constraints, texts)
+            texts, self.loose_duals = decimals(values_in_order(outcome.duals, program.constraints))
+            self.duals = NamedValues(program.constraints, texts)
         if outcome.costs is not None:
-            self.given_costs = finite(in_order(outcome.costs, program.columns))
+            self.given_costs = require_finite(values_in_order(outcome.costs, program.columns))
 
     @property
-    def costs(self) -> Named[str] | None:
+    def costs(self) -> NamedValues[str] | None:
         """They are checked by nothing, exact or not."""
         costs = self.given_costs
-        return None if costs is None else Named(self.program.columns, texts_of(costs)[0])
+        return None if costs is None else NamedValues(self.program.columns, decimals(costs)[0])
 
     @cached_property
     def doubles(self) -> list[float]:
@@ -94,7 +97,7 @@ class Answer:
         other = copy.copy(self)
         other.__dict__.pop("body", None)
         names = self.program.constraints
-        other.duals = None if duals is None else Named(names, in_order(duals, names))
+        other.duals = None if duals is None else NamedValues(names, values_in_order(duals, names))
         other.given_costs, other.loose_duals = None, 0
         return other
 
@@ -108,7 +111,10 @@ class Answer:
         """At other values of columns. Near its own ones its duals, costs and basis still stand, and given duals in
         their place where they are near all of them; at another point given ones alone."""
         outcome = replace(
-            self.outcome, values=Named(self.program.columns, values), objective=None, code=code
+            self.outcome,
+            values=NamedValues(self.program.columns, values),
+            objective=None,
+            code=code,
         )
         if not is_own:
             known = {row: duals[row] for row in self.program.constraints if row in duals}
@@ -142,7 +148,7 @@ class Answer:
         other.outcome, other.given_costs = outcome, self.given_costs
         return other if self.duals is not None else other.with_duals()
 
-    def reduced_costs(self, duals: Mapping[str, Fraction]) -> Named[Fraction]:
+    def reduced_costs(self, duals: Mapping[str, Fraction]) -> NamedValues[Fraction]:
         """What these leave of the costs, exactly."""
         p = self.program
         numbers = list(map(Fraction, map(bytes.decode, p.read.numbers)))
@@ -153,7 +159,7 @@ class Answer:
         for i, j, k in zip(*p.read.entries()):
             if i in y:
                 costs[j] -= y[i] * numbers[k]
-        return Named(p.columns, costs)
+        return NamedValues(p.columns, costs)
 
     def is_good(self) -> bool:
         """Whether it says what the model is, and does not miss it by much."""
@@ -174,7 +180,7 @@ class Answer:
             return None
         figure = self.outcome.objective
         if isinstance(figure, Fraction):
-            text, double = str(figure), double_of(figure)
+            text, double = str(figure), nearest_double(figure)
             near = "beyond doubles" if double is None else f"{double:.17g}"
             return text if len(text) <= 40 else f"{near} (a fraction of {len(text)} digits)"
         return f"{self.figures.value:.10g}"
@@ -193,7 +199,7 @@ class Answer:
             told.append(("suffix 4 rc %s %s\n", known or [(names[0], costs.given[0])]))
         if o.column_basis and o.row_basis is not None and costs is not None:
             told += [
-                ("suffix 0 sstatus %s %s\n", zip(names, in_order(o.column_basis, names))),
+                ("suffix 0 sstatus %s %s\n", zip(names, values_in_order(o.column_basis, names))),
                 ("suffix 1 sstatus %s %s\n", o.row_basis.items()),
             ]
         return b"".join(written(told))

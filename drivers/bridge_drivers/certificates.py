@@ -23,7 +23,8 @@ from .miss import ROUNDING, miss
 from .sol import numbers_of
 from .solvers.base import BASIC
 from .model.linear_program import TIED, TIED_ROW
-from .values import in_order, plain, text_of
+from .formats.numbers import decimal, decimal_or_fraction
+from .model.named_values import values_in_order
 from .program.verdict import Said
 
 SECONDS = 60.0  # of a search, where timelim says nothing
@@ -157,7 +158,7 @@ class Certifier:
             if verdict.is_proved():
                 return verdict
             values, duals = [
-                [text_of(round(float(text), PLACES))[0] for text in texts]
+                [decimal(round(float(text), PLACES))[0] for text in texts]
                 for texts in (values, duals)
             ]
             second = work.verified(answer_lines(values, duals, work.objective))
@@ -187,7 +188,7 @@ class Certifier:
         rows = [name for name in p.constraints if name != TIED_ROW]
         values = duals = basis = None
         if outcome.values is not None and answer.values is not None:
-            numbers = in_order(outcome.values, p.columns)[:n]
+            numbers = values_in_order(outcome.values, p.columns)[:n]
             values = [v if type(v) in (float, Fraction) else float(v) for v in numbers]
             if p.whole and not self.relaxed:
                 values = [
@@ -197,7 +198,7 @@ class Certifier:
         if outcome.duals is not None:
             duals = {int(row[1:]): outcome.duals[row] for row in rows}
         if outcome.column_basis is not None and outcome.row_basis is not None:
-            ends = in_order(outcome.column_basis, p.columns)[:n]
+            ends = values_in_order(outcome.column_basis, p.columns)[:n]
             basis = clp.Basis(
                 [j for j, end in enumerate(ends) if end == BASIC],
                 [int(r[1:]) for r in rows if outcome.row_basis[r] != BASIC],
@@ -244,7 +245,7 @@ class Certifier:
             what
             and said is not None
             and said.word == "optimal"
-            and told.split()[-1:] != [plain(str(said.value))]
+            and told.split()[-1:] != [decimal_or_fraction(str(said.value))]
         ):
             told += f"; the exact {' and '.join(what)} are rounded to decimals in it"
         is_sol = self.job.options.is_written and not self.alone
@@ -288,10 +289,12 @@ class Certifier:
         is_broken = words[-1] == "broken" or verdict.startswith("too wide at row ")
         if not has_duals and not is_broken and words[0] in ("yes", "gap", "bound", "too"):
             return "feasible" + (
-                f", objective exactly {plain(words[1])}" if words[0] in ("yes", "gap") else ""
+                f", objective exactly {decimal_or_fraction(words[1])}"
+                if words[0] in ("yes", "gap")
+                else ""
             )
         if words[0] in ("yes", "gap"):
-            return " ".join([words[0], *map(plain, words[1:])])
+            return " ".join([words[0], *map(decimal_or_fraction, words[1:])])
         if words[0] not in ("row", "bound"):
             return f"exact values do not fit 128 bits ({verdict})"
         thing = self.thing(words[0], int(words[1]))

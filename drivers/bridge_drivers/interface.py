@@ -33,7 +33,7 @@ from .formats.source import Source, Workspace, read_source
 from .inputs import Subject, subject
 from .options import Options, Words, words_of
 from .ruling import code_of_error
-from .values import double_of
+from .formats.numbers import nearest_double
 from .program.verdict import Said
 
 if TYPE_CHECKING:  # what few calls need is read by them
@@ -50,7 +50,7 @@ SUMMED = ("program", "model", "certificate")
 
 def number(value: Fraction | None) -> Object | None:
     """Exactly as text, and the nearest double; null where there is none."""
-    return None if value is None else {"exact": str(value), "double": double_of(value)}
+    return None if value is None else {"exact": str(value), "double": nearest_double(value)}
 
 
 @dataclass

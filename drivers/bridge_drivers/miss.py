@@ -5,7 +5,7 @@ from __future__ import annotations
 from typing import Collection, Iterator, Mapping, NamedTuple
 
 from .model.linear_program import Program
-from .values import in_order
+from .model.named_values import values_in_order
 
 MOST = 1e-6  # of the largest term: what counts as satisfied
 ROUNDING = 1e-12  # the same where all columns are whole numbers
@@ -33,7 +33,7 @@ def missing(share: float, name: str, is_whole: bool = False) -> Miss:
 
 def misses(program: Program, values: Mapping[str, str], whole: Collection[str]) -> Iterator[Miss]:
     """Of rows and bounds that are missed. A bound is its own largest term, and 0 is measured by 1."""
-    read, texts, terms = program.read, in_order(values, program.columns), program.terms()
+    read, texts, terms = program.read, values_in_order(values, program.columns), program.terms()
     xs, (los, his) = list(map(float, texts)), program.sides()
     are_whole = (
         [name in whole and text.lstrip("-").isdigit() for name, text in zip(program.columns, texts)]

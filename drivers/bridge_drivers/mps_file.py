@@ -9,7 +9,8 @@ from typing import NamedTuple, Sequence
 from .program.bridge import Bridge, Refused, Reply
 from .system.codes import ExitStatus
 from .files import Places, fill
-from .mps_reader import Text, exact
+from .formats.numbers import read_fraction
+from .mps_reader import Text
 from .model.linear_program import Program, program_of
 
 FREE, FIXED = "free", "fixed"
@@ -103,7 +104,9 @@ def lists_of(text: bytes) -> tuple[list[bytes], list[bytes]]:
     read = Text(text)
 
     def place(j: int) -> int:
-        is_binary = low[j] and exact(low[j]) >= 0 and high[j] and exact(high[j]) <= 1
+        is_binary = (
+            low[j] and read_fraction(low[j]) >= 0 and high[j] and read_fraction(high[j]) <= 1
+        )
         return 0 if not read.whole[j] else 1 if is_binary else 2
 
     low, high = read.bounds()

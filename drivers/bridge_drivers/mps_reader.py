@@ -7,11 +7,9 @@ from __future__ import annotations
 import itertools
 from array import array
 from collections import Counter, defaultdict
-from fractions import Fraction
-from functools import lru_cache
 from typing import Iterator, NamedTuple, Optional, Sequence
 
-from .values import wholes_of
+from .formats.numbers import decimals_over_common_denominator, read_fraction
 
 SECTIONS = (b"OBJSENSE", b"ROWS", b"COLUMNS", b"RHS", b"RANGES", b"BOUNDS")
 BLOCK = 1 << 17  # bytes that are taken apart at once
@@ -148,13 +146,13 @@ class Text:
         return [
             j
             for j, (low, high) in enumerate(zip(self.low, self.high))
-            if low is None and high and high.startswith(b"-") and exact(high) < 0
+            if low is None and high and high.startswith(b"-") and read_fraction(high) < 0
         ]
 
     def sides(self) -> tuple[list[int | None], list[int | None], int]:
         """Lower and upper ones of constraints, and what they are over."""
         texts = list({b"0", *self.rhs.values(), *self.ranges.values()})
-        numbers, scale = wholes_of(texts)
+        numbers, scale = decimals_over_common_denominator(texts)
         known = dict(zip(texts, numbers))
         at = [known[self.rhs.get(i, b"0")] for i in range(len(self.kinds))]
         low = [v if kind in "GE" else None for kind, v in zip(self.kinds, at)]
@@ -192,9 +190,3 @@ def blocks(part: Part) -> Iterator[bytes]:
 def lines(part: Part) -> Iterator[list[bytes]]:
     """The words of each, behind an empty one."""
     return (line.split(b" ") for block in blocks(part) for line in block.split(b"\n") if line)
-
-
-@lru_cache(maxsize=1 << 16)
-def exact(text: bytes) -> Fraction:
-    """A number of the text: most stand many times."""
-    return Fraction(text.decode())

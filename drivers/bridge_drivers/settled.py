@@ -14,7 +14,7 @@ from .system.codes import Code
 from .miss import NONE, OWN, ROUNDING, Miss
 from .model.linear_program import TIED, Objective
 from .ruling import STRICT, At, Found, Misses, Ruling, ruled
-from .values import double_of
+from .formats.numbers import nearest_double
 from .program.verdict import Said
 
 FAR = 1e-6  # of the largest term or the sum: between unequal objectives
@@ -190,7 +190,7 @@ def is_beyond(answer: Answer, bound: Fraction | None) -> bool:
 
 
 def as_double(value: Fraction) -> float:
-    double = double_of(value)
+    double = nearest_double(value)
     return double if double is not None else math.inf if value > 0 else -math.inf
 
 

@@ -37,7 +37,8 @@ from .model.linear_program import Program, given, is_hollow
 from .ruling import FINAL
 from .settled import Facts, proved_duals, settled
 from .solvers.base import Outcome, Solver, Unclear
-from .values import BadValue, in_order
+from .formats.numbers import NotDecimal
+from .model.named_values import values_in_order
 from .program.verdict import Said, percent, read
 
 INTERRUPTED = {
@@ -211,7 +212,7 @@ class Solving:
             answer = Answer(job.program, outcome, self.options)
             answer.missed  # a value may be none
             return answer
-        except (Unclear, BadValue, LookupError, ValueError, ArithmeticError) as fault:
+        except (Unclear, NotDecimal, LookupError, ValueError, ArithmeticError) as fault:
             if job.is_interrupted:
                 raise Interrupted(signal.SIGINT) from None
             ended_by = signal.Signals(-job.status).name if job.status < 0 else ""
@@ -333,7 +334,7 @@ class Solving:
         ):
             return None
         assert answer.outcome.values is not None
-        values = in_order(answer.outcome.values, answer.program.columns)
+        values = values_in_order(answer.outcome.values, answer.program.columns)
         other = answer.at(values, duals, answer.outcome.code, False)
         return other if other.duals is not None else None
 

@@ -13,13 +13,13 @@ from functools import lru_cache
 from typing import Collection, Union
 
 from .inputs import Subject
-from .mps_reader import OBJECTIVE, exact
+from .mps_reader import OBJECTIVE
 from .names import Names, with_name
 from .printable import some
 from .model.linear_program import TIED, TIED_ROW, Program
 from .pipeline.row_factors import factors_of
 from .terms import entries_of
-from .values import double_of
+from .formats.numbers import nearest_double, read_fraction
 
 Exact = Union[int, Fraction]
 MOST_NAMED = 5  # rows and numbers that are named of a long list
@@ -30,7 +30,7 @@ KINDS = ("continuous", "binary", "integer")
 def is_held(value: Fraction) -> bool:
     """Whether a solver that reads doubles reads this number: it is a double, or the shortest
     decimal of the one that is read."""
-    double = double_of(value)
+    double = nearest_double(value)
     return double is not None and value in (Fraction(double), Fraction(repr(double)))
 
 
@@ -111,7 +111,7 @@ class Figures:
 
 def ends_of(sizes: Collection[Exact]) -> list[float | None]:
     """The least and the greatest in doubles, None beyond them; nothing where there are none."""
-    return [double_of(end) for end in (min(sizes), max(sizes))] if sizes else []
+    return [nearest_double(end) for end in (min(sizes), max(sizes))] if sizes else []
 
 
 def told(sizes: Collection[Exact]) -> str:
@@ -129,7 +129,7 @@ def held_ends(sizes: Collection[Exact]) -> list[float | None] | None:
 @lru_cache(maxsize=1 << 16)
 def known(text: bytes) -> tuple[Exact, bool]:
     """A number, and whether it is held: most texts stand many times."""
-    value = exact(text)
+    value = read_fraction(text)
     return value.numerator if value.denominator == 1 else value, is_held(value)
 
 

@@ -16,7 +16,7 @@ from pathlib import Path
 from unittest import mock
 
 from support import BIN, EXAMPLES, HERE, NEEDS_PROGRAM, Case, bridge as program
-from bridge_drivers import console, mps_file, nl, progress, sol, solvers, stats, values
+from bridge_drivers import console, mps_file, nl, progress, sol, solvers, stats
 from bridge_drivers.pipeline.row_factors import factors_of
 from bridge_drivers.program import bridge
 from bridge_drivers.program.bridge import Bridge, Refused, Reply
@@ -27,24 +27,6 @@ from models import MODELS, rows_of
 
 BINARY = Path(HERE, "data", "binary")
 TEXTS = {name: text.encode() for name, text in rows_of("figures", "text")}
-
-
-class Decimals(Case):
-    def test_exact_and_nearest(self) -> None:
-        zeros = "0" * 390
-        for number, text, kind in [*rows_of("units", "decimal"), ["1/3" + zeros, "0", "near"]]:
-            value = float(number[:-1]) if number.endswith("f") else F(number)
-            got, is_exact = values.text_of(value)
-            self.assertEqual((is_exact, got), (kind == "exact", text or got), value)
-            if is_exact and isinstance(value, F):
-                self.assertEqual(F(got), value)
-            else:
-                self.assertLessEqual(
-                    abs(F(got) - F(value)), max(abs(F(value)) / 10**16, F(1, 10**380))
-                )
-        self.assertEqual(values.text_of(3), ("3", True))
-        for bad in (float("inf"), float("nan"), F(10**400, 7)):
-            self.assertRaises(values.BadValue, values.text_of, bad)
 
 
 class Texts(Case):

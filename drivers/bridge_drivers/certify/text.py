@@ -10,7 +10,7 @@ from ..model.integer_form import IntegerProgram, Point
 from ..exact.dual_bound import MultiplierKind, Multipliers
 from ..exact.mir import MIRProof
 from ..exact.tree import EmptyDomain, Leaf, Split, Tree
-from ..values import exact_decimal
+from ..formats.numbers import exact_decimal
 
 FIRST = "certificate 1"
 MOST_ZEROS = 3  # that stand at the end of a whole number

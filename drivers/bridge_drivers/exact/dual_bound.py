@@ -22,7 +22,7 @@ from typing import Dict, Iterable, List, Mapping, NamedTuple, Optional, Sequence
 
 from ..model.integer_form import Bound, Box, IntegerProgram
 from ..miss import OWN as ROUNDING_OF_A_ROW
-from ..values import MOST_DIGITS as LARGEST_INTEGER
+from ..formats.numbers import LARGEST_INTEGER
 
 UNIT_ROUNDOFF = 2.0**-53
 ZERO_REDUCED_COST = 1e-12  # as a share of the terms of a reduced cost: as much may be rounding

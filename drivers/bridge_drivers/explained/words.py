@@ -10,7 +10,7 @@ from typing import Mapping, Sequence
 from ..program import verdict as verdicts
 from ..names import Names
 from ..printable import counted, some
-from ..values import double_of, exact_decimal
+from ..formats.numbers import exact_decimal, nearest_double
 from ..program.verdict import Said, decimal, share
 from .bounds import Bounds, Term, total
 from .reading import LEMMA, PLANE, SPLIT, WEIGHTS, Certificate, Node
@@ -27,7 +27,7 @@ def short(value: Fraction) -> str:
     text = exact_decimal(value)
     if text is not None and len(text) <= 12:
         return text
-    double = double_of(value)
+    double = nearest_double(value)
     return BEYOND if double is None else f"{ABOUT}{double:.6g}"
 
 

@@ -25,7 +25,7 @@ from ..mps_reader import OBJECTIVE, Text
 from .double_form import DoubleProgram, SparseColumns, columns_of
 from .linear_program import TIED, TIED_ROW, Program
 from ..terms import Pairs, Terms, entries_of, terms_of
-from ..values import reduced, wholes_of
+from ..formats.numbers import decimals_over_common_denominator, lowest_terms
 
 Bound = Optional[int]  # over a scale; None: there is no such bound
 Bounds = List[Optional[int]]
@@ -123,13 +123,15 @@ class IntegerProgram:
         read = program.read
         entries = program.objective if row == OBJECTIVE else entries_of(read.entries(), row)
         used = sorted(set(entries.numbers))
-        known, factor = wholes_of([read.rhs.get(row, b"0"), *(read.numbers[k] for k in used)])
+        known, factor = decimals_over_common_denominator(
+            [read.rhs.get(row, b"0"), *(read.numbers[k] for k in used)]
+        )
         over = dict(zip(used, known[1:]))
         numbers = [known[0], *map(over.__getitem__, entries.numbers)]
         if row != OBJECTIVE:
             factor = -numbers.pop()  # of z, the last column
         sign = self.sign if factor > 0 else -self.sign
-        numbers, self.cost_scale = reduced([sign * v for v in numbers], abs(factor))
+        numbers, self.cost_scale = lowest_terms([sign * v for v in numbers], abs(factor))
         self.constant = -numbers[0]
         self.costs = [0] * self.n
         for j, v in zip(entries.columns, numbers[1:]):
@@ -145,7 +147,7 @@ class IntegerProgram:
             distinct = dict.fromkeys((k, by[i]) for i, k in zip(read.row, number))
             pairs = {pair: k for k, pair in enumerate(distinct)}
             number = array("i", [pairs[k, by[i]] for i, k in zip(read.row, number)])
-        whole, scale = wholes_of([read.numbers[k] for k in used])
+        whole, scale = decimals_over_common_denominator([read.numbers[k] for k in used])
         table = [0] * len(read.numbers)
         for k, v in zip(used, whole):
             table[k] = v
@@ -153,13 +155,13 @@ class IntegerProgram:
             least = lcm(*by)
             table = [table[k] * (least // f) for k, f in pairs]
             scale *= least
-        table, self.row_scale = reduced(table, scale)
+        table, self.row_scale = lowest_terms(table, scale)
         self.terms = terms_of(self.m, self.n, (read.row, read.column, number), table, to)
 
     def _set_bounds(self, read: Text, places: Sequence[int], factors: Mapping[int, int]) -> None:
         low, high = (texts[: self.n] for texts in read.bounds())
         texts = list({*low, *high} - {b""})
-        ends, scale = wholes_of(texts)
+        ends, scale = decimals_over_common_denominator(texts)
         *sides, side_scale = read.sides()
         unit = lcm(scale, side_scale * lcm(1, *factors.values()))
         by = [unit // (side_scale * factors.get(i, 1)) for i in places]

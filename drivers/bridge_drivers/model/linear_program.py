@@ -13,7 +13,8 @@ from itertools import compress
 from operator import mul
 from typing import Iterator, Sequence
 
-from ..mps_reader import MARKS, OBJECTIVE, OTHER, Text, exact
+from ..formats.numbers import read_fraction
+from ..mps_reader import MARKS, OBJECTIVE, OTHER, Text
 from ..names import Names
 from ..printable import in_a_line, some
 from ..terms import Terms, entries_of, terms_of
@@ -148,7 +149,7 @@ def given(program: Program, relaxed: bool = False) -> Program:
         kind, label, name, text = found.groups()
         rounds = math.ceil if kind == b"LO" else math.floor
         return (
-            b" %s %s %s %d" % (kind, label, name, rounds(exact(text)))
+            b" %s %s %s %d" % (kind, label, name, rounds(read_fraction(text)))
             if name in whole
             else found.group()
         )
@@ -162,7 +163,7 @@ def is_hollow(program: Program) -> bool:
     """Whether a whole column has no whole number between its bounds."""
     ends = zip(program.read.whole, *program.read.bounds()) if program.whole else ()
     return any(
-        whole and low and high and math.floor(exact(high)) < math.ceil(exact(low))
+        whole and low and high and math.floor(read_fraction(high)) < math.ceil(read_fraction(low))
         for whole, low, high in ends
     )
 
@@ -183,9 +184,11 @@ def exported(read: Text) -> Text:
     own.constraints = [b"c%d" % i for i in range(len(read.constraints))]
     own.columns = [b"x%d" % j for j in range(len(read.columns))]
     own.kinds, own.ranges = list(read.kinds), {}
-    own.rhs = {i: text for i, text in read.rhs.items() if i >= 0 or i == OBJECTIVE and exact(text)}
+    own.rhs = {
+        i: text for i, text in read.rhs.items() if i >= 0 or i == OBJECTIVE and read_fraction(text)
+    }
     for i, text in read.ranges.items():
-        if i >= 0 and (read.kinds[i] != "E" or exact(text)):
+        if i >= 0 and (read.kinds[i] != "E" or read_fraction(text)):
             own.ranges[i] = text.lstrip(b"-")
             if read.kinds[i] == "E":
                 own.kinds[i] = "L" if text.startswith(b"-") else "G"

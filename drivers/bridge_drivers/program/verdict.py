@@ -10,7 +10,7 @@ from typing import NamedTuple
 
 from ..model.linear_program import Program
 from ..ruling import FINAL
-from ..values import exact_decimal, wholes_of
+from ..formats.numbers import decimals_over_common_denominator, exact_decimal
 
 LINE = re.compile(
     r"(?:(optimal|feasible|bound) (\S+)|within (\S+) (\S+)|(infeasible|unbounded))"
@@ -80,7 +80,9 @@ def covers(new: Said, old: Said, maximise: bool) -> bool:
 
 def multiples(program: Program) -> Multiples | None:
     """None where a column with a cost is continuous, or none has a cost."""
-    numbers, scale = wholes_of([text.encode() for text in program.costs.values()])
+    numbers, scale = decimals_over_common_denominator(
+        [text.encode() for text in program.costs.values()]
+    )
     if not any(numbers) or any(name not in program.whole for name in program.costs):
         return None
     return Multiples(-Fraction(program.objective_rhs), Fraction(gcd(*numbers), scale))

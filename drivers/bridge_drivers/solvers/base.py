@@ -11,7 +11,7 @@ from typing import TYPE_CHECKING, Mapping, Sequence
 
 from ..system.codes import Code
 from ..options import SHARE, Option
-from ..values import Number
+from ..formats.numbers import Number
 from .statuses import TIME, Says
 
 if TYPE_CHECKING:

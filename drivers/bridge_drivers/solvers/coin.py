@@ -11,7 +11,7 @@ from typing import TYPE_CHECKING
 
 from ..system.codes import Code
 from ..options import Option
-from ..values import Named
+from ..model.named_values import NamedValues
 from .base import (
     BASIC,
     EQUAL,
@@ -92,7 +92,9 @@ class Coin(Solver):
         return [path, *(["-max"] if program.maximise else []), "-solve", "-solution", "stdout"]
 
     @staticmethod
-    def saved(program: Program, path: str) -> tuple[Named[float], Named[float], Named[float]]:
+    def saved(
+        program: Program, path: str
+    ) -> tuple[NamedValues[float], NamedValues[float], NamedValues[float]]:
         """Values, duals and reduced costs in the doubles of -saveSolution (-solution prints 8 digits): two ints, rows
         and columns, the objective, row activities, row duals, columns, reduced costs."""
         try:
@@ -108,9 +110,9 @@ class Coin(Solver):
             raise Unclear("the saved answer is of another model")
         doubles, at = array("d", data[8:]), 1 + 2 * rows
         return (
-            Named(program.columns, doubles[at : at + columns]),
-            Named(program.constraints, doubles[1 + rows : at]),
-            Named(program.columns, doubles[at + columns :]),
+            NamedValues(program.columns, doubles[at : at + columns]),
+            NamedValues(program.constraints, doubles[1 + rows : at]),
+            NamedValues(program.columns, doubles[at + columns :]),
         )
 
     def answer(self, job: Job, ran: Ran) -> Outcome:
@@ -158,7 +160,7 @@ class Clp(Coin):
     flags = {"timelim": "-sec {:g}", "again": "-presolve off"}
 
 
-def basis(program: Program, path: str) -> tuple[Named[int] | None, Named[int] | None]:
+def basis(program: Program, path: str) -> tuple[NamedValues[int] | None, NamedValues[int] | None]:
     """AMPL's statuses of an MPS basis: columns at their lower side and rows basic, but for the lines of the file, whose
     letters U and L say where a row off the basis is, if its kind does not."""
     lines = read_lines(path)
@@ -172,8 +174,8 @@ def basis(program: Program, path: str) -> tuple[Named[int] | None, Named[int] | 
         elif words[0] in ("BS", "UL"):
             moved[words[1]] = BASIC if words[0] == "BS" else UPPER
     return (
-        Named(program.columns, [moved.get(name, LOWER) for name in program.columns]),
-        Named(program.constraints, [moved.get(name, BASIC) for name in program.constraints]),
+        NamedValues(program.columns, [moved.get(name, LOWER) for name in program.columns]),
+        NamedValues(program.constraints, [moved.get(name, BASIC) for name in program.constraints]),
     )
 
 

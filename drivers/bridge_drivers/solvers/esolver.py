@@ -8,13 +8,13 @@ from fractions import Fraction
 from ..system.codes import Code
 from ..job import Job
 from ..model.linear_program import Program
-from ..values import Named
+from ..model.named_values import NamedValues
 from .base import Outcome, Solver, outcome, read_lines, stopped, without_answer
 from .coin import basis
 from .statuses import ESOLVER, OPTIMAL, TIME, row_in, row_of
 
 SECTIONS = ("VARS", "REDUCED COST", "PI", "SLACK")
-Numbers = Named[Fraction]
+Numbers = NamedValues[Fraction]
 
 
 class Esolver(Solver):
@@ -73,7 +73,7 @@ def parsed(program: Program, lines: list[str]) -> tuple[Fraction, Numbers, Numbe
         elif part is not None:
             part[word] = Fraction(figure)
     values, costs, duals = (
-        Named(names, [part.get(name, zero) for name in names])
+        NamedValues(names, [part.get(name, zero) for name in names])
         for names, part in zip(
             (program.columns, program.columns, program.constraints), parts.values()
         )
