@@ -1,0 +1,506 @@
+#!/usr/bin/env python3
+"""Checks the form of the Python of this repository, over the syntax tree: what black, mypy and flake8 do not look at.
+
+    dev/style.py [FILE ..]      a line for each place that breaks a rule; status 1 where there is one
+    dev/style.py --rules        the rules, by name
+
+Without files, all Python that git knows is looked at. `dev/style-exceptions.txt` names places that may still break a
+rule (`RULE FILE PLACE`, where PLACE is the function or class, or `-` for the module). A line of it that nothing needs any
+more is a fault, too: so the list only gets shorter.
+"""
+from __future__ import annotations
+
+import ast
+import re
+import subprocess
+import sys
+import warnings
+from collections import Counter
+from collections.abc import Callable, Iterator
+from pathlib import Path
+from typing import NamedTuple, Optional, Union
+
+with warnings.catch_warnings():
+    warnings.simplefilter("ignore", DeprecationWarning)
+    import sre_parse as regular_expressions
+
+TOP = Path(__file__).resolve().parent.parent
+EXCEPTIONS = TOP / "dev" / "style-exceptions.txt"
+PACKAGE = "drivers/bridge_drivers/"
+
+MOST_LINES_OF_FUNCTION = 40  # without its docstring
+MOST_LINES_OF_MODULE = 600
+LEAST_LINES_WITH_DOCSTRING = 8  # of a public function, without its head
+MOST_PACKED = 2  # names that one assignment may bind from a written list of values
+
+SHEBANG = re.compile(rb"#!.*python3?\s")
+TEMPLATE = re.compile(rb"@\w+@ import")
+TRUTH_NAME = re.compile(r"(is|has|are|was|can|may|wants)_")
+PASSES_BOOLEANS = {
+    "get",
+    "getattr",
+    "setdefault",
+    "setattr",
+    "pop",
+    "Value",
+    "append",
+    "add",
+}  # a value among values
+EXCEPTION_BASE = re.compile(r"^(?:Base)?Exception$|Error$|^KeyboardInterrupt$|Warning$")
+WRITING_MODE = re.compile(r"[wax+]")
+
+Function = Union[ast.FunctionDef, ast.AsyncFunctionDef]
+Defined = (ast.FunctionDef, ast.AsyncFunctionDef, ast.ClassDef)
+
+
+class Finding(NamedTuple):
+    """One place that breaks a rule."""
+
+    rule: str
+    path: str
+    line: int
+    place: str
+    text: str
+
+    def key(self) -> str:
+        """What a line of the list of exceptions says."""
+        return f"{self.rule} {self.path} {self.place}"
+
+
+class Module(NamedTuple):
+    """A module that is looked at.
+
+    Attributes:
+        path: From the top of the repository.
+        text: What stands in it.
+        tree: Its syntax tree.
+        places: Of each node the function or class in which it stands, as `Class.method`; `-` of the module itself.
+    """
+
+    path: str
+    text: str
+    tree: ast.Module
+    places: dict[ast.AST, str]
+
+    @property
+    def is_of_drivers(self) -> bool:
+        return self.path.startswith(PACKAGE)
+
+    @property
+    def is_test(self) -> bool:
+        return "/tests/" in self.path
+
+    def name_in_package(self) -> str:
+        return self.path[len(PACKAGE) : -len(".py")].replace("/", ".") if self.is_of_drivers else ""
+
+    def finding(self, rule: str, node: ast.AST, text: str) -> Finding:
+        return Finding(
+            rule, self.path, getattr(node, "lineno", 1), self.places.get(node, "-"), text
+        )
+
+
+Found = Iterator[tuple[ast.AST, str]]
+Rule = Callable[[Module], Found]
+
+
+# ---- statements and expressions
+
+
+def packed(module: Module) -> Found:
+    """An assignment binds one thing, or a pair that belongs together."""
+    for node in ast.walk(module.tree):
+        if not isinstance(node, ast.Assign) or not isinstance(node.value, ast.Tuple):
+            continue
+        target = node.targets[0]
+        if not isinstance(target, ast.Tuple) or is_simultaneous(target, node.value):
+            continue
+        if len(target.elts) > MOST_PACKED:
+            yield node, f"binds {len(target.elts)} things at once: {ast.unparse(target)}"
+
+
+def is_simultaneous(target: ast.Tuple, value: ast.Tuple) -> bool:
+    """Whether the new values are made of the old ones, as in `a, b = b, a % b`."""
+    bound = {ast.unparse(name) for name in target.elts}
+    used = {
+        ast.unparse(node) for node in ast.walk(value) if isinstance(node, (ast.Name, ast.Attribute))
+    }
+    return bool(bound & used)
+
+
+def multiplied(module: Module) -> Found:
+    """A list or a text is not multiplied by a truth value."""
+    for node in ast.walk(module.tree):
+        if not isinstance(node, ast.BinOp) or not isinstance(node.op, ast.Mult):
+            continue
+        for one, other in ((node.left, node.right), (node.right, node.left)):
+            if is_sequence(one) and is_truth(other):
+                yield node, f"multiplies by a truth value: {ast.unparse(node)[:60]}"
+                break
+
+
+def is_sequence(node: ast.expr) -> bool:
+    is_text = isinstance(node, ast.Constant) and isinstance(node.value, (str, bytes))
+    return is_text or isinstance(node, (ast.List, ast.Tuple, ast.JoinedStr, ast.ListComp))
+
+
+def is_truth(node: ast.expr) -> bool:
+    if isinstance(node, (ast.Compare, ast.BoolOp)):
+        return True
+    if isinstance(node, ast.UnaryOp) and isinstance(node.op, ast.Not):
+        return True
+    return bool(TRUTH_NAME.match(last_name(node))) or last_name(node) == "bool"
+
+
+def last_name(node: ast.AST) -> str:
+    """The last word of what is named or called, else nothing."""
+    if isinstance(node, ast.Call):
+        return last_name(node.func)
+    if isinstance(node, ast.Attribute):
+        return node.attr
+    return node.id if isinstance(node, ast.Name) else ""
+
+
+def nested_conditional(module: Module) -> Found:
+    """A conditional expression does not stand in another one."""
+    for node in ast.walk(module.tree):
+        if isinstance(node, ast.IfExp) and any(
+            isinstance(part, ast.IfExp) for part in (node.test, node.body, node.orelse)
+        ):
+            yield node, f"a conditional in a conditional: {ast.unparse(node)[:60]}"
+
+
+def boolean_argument(module: Module) -> Found:
+    """`True` and `False` are passed by name."""
+    for node in ast.walk(module.tree):
+        if not isinstance(node, ast.Call) or last_name(node.func) in PASSES_BOOLEANS:
+            continue
+        for argument in node.args:
+            if isinstance(argument, ast.Constant) and isinstance(argument.value, bool):
+                yield node, f"{argument.value} is passed without a name: {ast.unparse(node)[:60]}"
+
+
+# ---- functions, classes and modules
+
+
+def long_function(module: Module) -> Found:
+    """A function has at most 40 lines beside its docstring."""
+    for node in ast.walk(module.tree):
+        if isinstance(node, (ast.FunctionDef, ast.AsyncFunctionDef)):
+            count = lines_of(node)
+            if count > MOST_LINES_OF_FUNCTION:
+                yield node, f"{node.name} has {count} lines"
+
+
+def lines_of(node: Function) -> int:
+    """The lines of a function without its docstring."""
+    whole = (node.end_lineno or node.lineno) - node.lineno + 1
+    first = node.body[0]
+    if not isinstance(first, ast.Expr) or ast.get_docstring(node, clean=False) is None:
+        return whole
+    return whole - ((first.end_lineno or first.lineno) - first.lineno + 1)
+
+
+def long_module(module: Module) -> Found:
+    """A module has at most 600 lines."""
+    count = len(module.text.splitlines())
+    if count > MOST_LINES_OF_MODULE:
+        yield module.tree, f"the module has {count} lines"
+
+
+def undocumented(module: Module) -> Found:
+    """A public class, and a public function of more than 8 lines, says in a docstring what it is for."""
+    if module.is_test:
+        return
+    for node in ast.walk(module.tree):
+        if not isinstance(node, Defined) or not is_public(module, node) or ast.get_docstring(node):
+            continue
+        if isinstance(node, ast.ClassDef) or lines_of(node) > LEAST_LINES_WITH_DOCSTRING:
+            yield node, f"{node.name} says nothing of itself"
+
+
+def is_public(module: Module, node: ast.AST) -> bool:
+    """Whether a name, and those in which it stands, have no underscore in front, and it does not stand in a function."""
+    place = module.places[node]
+    return not any(part.startswith("_") for part in place.split(".")) and "<" not in place
+
+
+def unreal_argument(module: Module) -> Found:
+    """What a docstring lists below `Args:` are parameters."""
+    for node in ast.walk(module.tree):
+        if not isinstance(node, Defined):
+            continue
+        named = documented_arguments(ast.get_docstring(node) or "")
+        real = parameters_of(node)
+        yield from (
+            (node, f"{node.name} has no parameter {name}") for name in named if name not in real
+        )
+
+
+def documented_arguments(docstring: str) -> list[str]:
+    """The names below `Args:`, each at the front of a line that is four blanks in."""
+    _, head, rest = docstring.partition("Args:\n")
+    if not head:
+        return []
+    names = []
+    for line in rest.splitlines():
+        if line and not line.startswith(" "):
+            break
+        match = re.match(r" {4}(\*{0,2}\w+)(?:, (\w+))*(?: \(.*\))?:", line)
+        if match:
+            names += re.findall(r"\w+", match.group().split("(")[0])
+    return names
+
+
+def parameters_of(node: ast.AST) -> set[str]:
+    """The names of a function's parameters, or of those of a class's constructor and its fields."""
+    if isinstance(node, ast.ClassDef):
+        fields = {
+            it.target.id
+            for it in node.body
+            if isinstance(it, ast.AnnAssign) and isinstance(it.target, ast.Name)
+        }
+        made = [
+            it
+            for it in node.body
+            if isinstance(it, ast.FunctionDef) and it.name in ("__init__", "__new__")
+        ]
+        return fields.union(*map(parameters_of, made))
+    assert isinstance(node, (ast.FunctionDef, ast.AsyncFunctionDef))
+    given = node.args
+    named = [*given.posonlyargs, *given.args, *given.kwonlyargs, given.vararg, given.kwarg]
+    return {argument.arg for argument in named if argument is not None}
+
+
+# ---- what one module alone may do
+
+
+def exception_class(module: Module) -> Found:
+    """Exceptions are defined in system.errors alone."""
+    if not module.is_of_drivers or module.name_in_package() == "system.errors":
+        return
+    for node in ast.walk(module.tree):
+        if isinstance(node, ast.ClassDef) and any(
+            EXCEPTION_BASE.search(last_name(base)) for base in node.bases
+        ):
+            yield node, f"{node.name} is an exception of its own"
+
+
+def printing(module: Module) -> Found:
+    """Only commands.console writes to the standard streams."""
+    if not module.is_of_drivers or module.name_in_package() in (
+        "commands.console",
+        "solvers.highs_script",
+    ):
+        return
+    for node in ast.walk(module.tree):
+        if (
+            isinstance(node, ast.Call)
+            and isinstance(node.func, ast.Name)
+            and node.func.id == "print"
+        ):
+            yield node, "prints"
+        if isinstance(node, ast.Attribute) and ast.unparse(node) in ("sys.stdout", "sys.stderr"):
+            yield node, f"uses {ast.unparse(node)}"
+
+
+def writing(module: Module) -> Found:
+    """Only system.files, and formats.source for private copies, open files for writing."""
+    if not module.is_of_drivers or module.name_in_package() in ("system.files", "formats.source"):
+        return
+    for node in ast.walk(module.tree):
+        if isinstance(node, ast.Call) and is_writing(node):
+            yield node, f"writes a file: {ast.unparse(node)[:60]}"
+
+
+def is_writing(node: ast.Call) -> bool:
+    if last_name(node.func) in ("write_text", "write_bytes"):
+        return True
+    if not isinstance(node.func, ast.Name) or node.func.id != "open":
+        return False
+    modes = [*node.args[1:2], *(it.value for it in node.keywords if it.arg == "mode")]
+    return any(isinstance(it, ast.Constant) and WRITING_MODE.search(str(it.value)) for it in modes)
+
+
+def starting(module: Module) -> Found:
+    """Only system.processes starts programs."""
+    if not module.is_of_drivers or module.name_in_package() == "system.processes":
+        return
+    for node in ast.walk(module.tree):
+        names = [alias.name for alias in node.names] if isinstance(node, ast.Import) else []
+        if isinstance(node, ast.ImportFrom):
+            names = [node.module or ""]
+        if "subprocess" in names:
+            yield node, "imports subprocess"
+
+
+def counted_time(module: Module) -> Found:
+    """One deadline goes through a run: no parameter is a number of seconds."""
+    if not module.is_of_drivers or module.name_in_package() == "system.processes":
+        return
+    for node in ast.walk(module.tree):
+        if isinstance(node, (ast.FunctionDef, ast.AsyncFunctionDef)):
+            for name in sorted(parameters_of(node) & {"timeout", "seconds", "time_limit"}):
+                yield node, f"{node.name} has a parameter {name}"
+
+
+def hidden_import(module: Module) -> Found:
+    """Imports stand at the head of a module, but for optional packages below `try`."""
+    if not module.is_of_drivers:
+        return
+    for node in ast.walk(module.tree):
+        if isinstance(node, ast.ImportFrom) and node.level and module.places.get(node, "-") != "-":
+            yield node, f"imports {node.module or '.'} in a function"
+
+
+# ---- texts that others wrote
+
+
+def regular_expression(module: Module) -> Found:
+    """A regular expression sees one line or word, and cannot match one place in two ways."""
+    if not module.is_of_drivers:
+        return
+    for node in ast.walk(module.tree):
+        if isinstance(node, ast.Attribute) and ast.unparse(node) in (
+            "re.S",
+            "re.M",
+            "re.DOTALL",
+            "re.MULTILINE",
+        ):
+            yield node, f"{ast.unparse(node)}: an expression over several lines"
+        if isinstance(node, ast.Call) and ast.unparse(node.func).startswith("re.") and node.args:
+            pattern = node.args[0]
+            if isinstance(pattern, ast.Constant) and isinstance(pattern.value, (str, bytes)):
+                value = (
+                    pattern.value
+                    if isinstance(pattern.value, str)
+                    else pattern.value.decode("latin-1")
+                )
+                if repeats_within(parsed(value)):
+                    yield node, f"a repetition in a repetition: {value!r}"
+
+
+def parsed(pattern: str) -> object:
+    try:
+        return regular_expressions.parse(pattern)
+    except (re.error, ValueError):
+        return ()
+
+
+def repeats_within(part: object, is_repeated: bool = False) -> bool:
+    """Whether something without end is repeated without end."""
+    if isinstance(part, regular_expressions.SubPattern):
+        return any(repeats_within(part[at], is_repeated) for at in range(len(part)))
+    if not isinstance(part, (tuple, list)):
+        return False
+    if len(part) == 2 and str(part[0]) in ("MAX_REPEAT", "MIN_REPEAT"):
+        _, most, inner = part[1]
+        has_no_end = most == regular_expressions.MAXREPEAT
+        return (has_no_end and is_repeated) or repeats_within(inner, is_repeated or has_no_end)
+    return any(repeats_within(item, is_repeated) for item in part)
+
+
+RULES: dict[str, Rule] = {
+    "packed": packed,
+    "multiplied": multiplied,
+    "nested-conditional": nested_conditional,
+    "boolean-argument": boolean_argument,
+    "long-function": long_function,
+    "long-module": long_module,
+    "undocumented": undocumented,
+    "unreal-argument": unreal_argument,
+    "exception-class": exception_class,
+    "printing": printing,
+    "writing": writing,
+    "starting": starting,
+    "counted-time": counted_time,
+    "hidden-import": hidden_import,
+    "regular-expression": regular_expression,
+}
+
+
+# ---- files
+
+
+def places_of(tree: ast.Module) -> dict[ast.AST, str]:
+    """Of each node the function or class in which it stands (a function or class itself: its own name)."""
+    places: dict[ast.AST, str] = {}
+
+    def visit(node: ast.AST, place: str) -> None:
+        for child in ast.iter_child_nodes(node):
+            inner = place
+            if isinstance(child, Defined):
+                inner = child.name if place == "-" else f"{place}.{child.name}"
+                if isinstance(node, (ast.FunctionDef, ast.AsyncFunctionDef)):
+                    inner = f"{place}.<{child.name}>"
+            places[child] = inner
+            visit(child, inner)
+
+    visit(tree, "-")
+    return places
+
+
+def module_of(path: Path) -> Module:
+    text = path.read_text(encoding="utf-8")
+    tree = ast.parse(text, filename=str(path))
+    return Module(str(path.relative_to(TOP)), text, tree, places_of(tree))
+
+
+def is_python(path: Path) -> bool:
+    """By its name, or by its first line where its name has no end; a template (`@name@`) is none."""
+    if path.suffix == ".py":
+        return True
+    if path.suffix or not path.is_file():
+        return False
+    with open(path, "rb") as file:
+        start = file.read(400)
+    return bool(SHEBANG.match(start)) and not TEMPLATE.search(start)
+
+
+def all_python() -> list[Path]:
+    """All that git knows, or would add."""
+    words = ["git", "ls-files", "--cached", "--others", "--exclude-standard"]
+    names = subprocess.run(
+        words, cwd=TOP, capture_output=True, text=True, check=True
+    ).stdout.splitlines()
+    return [
+        TOP / name for name in sorted(set(names)) if (TOP / name).exists() and is_python(TOP / name)
+    ]
+
+
+def findings(paths: list[Path]) -> Iterator[Finding]:
+    for path in paths:
+        module = module_of(path)
+        for name, rule in RULES.items():
+            yield from (module.finding(name, node, text) for node, text in rule(module))
+
+
+def excepted() -> Counter[str]:
+    """The lines of the list, without comments."""
+    lines = EXCEPTIONS.read_text(encoding="utf-8").splitlines() if EXCEPTIONS.exists() else []
+    return Counter(
+        line.partition("#")[0].strip() for line in lines if line.partition("#")[0].strip()
+    )
+
+
+def main(words: list[str]) -> int:
+    if words[:1] in (["-h"], ["--help"]):
+        print(__doc__)
+        return 0
+    if words == ["--rules"]:
+        print(*(f"{name}: {rule.__doc__}" for name, rule in RULES.items()), sep="\n")
+        return 0
+    found = list(findings([Path(word).resolve() for word in words] if words else all_python()))
+    allowed = excepted()
+    needed = {finding.key() for finding in found}
+    wrong = [finding for finding in found if finding.key() not in allowed]
+    for finding in wrong:
+        print(f"{finding.path}:{finding.line}: {finding.place}: {finding.text} [{finding.rule}]")
+    unneeded: Optional[list[str]] = None if words else sorted(set(allowed) - needed)
+    for line in unneeded or []:
+        print(f"{EXCEPTIONS.relative_to(TOP)}: nothing needs any more: {line}")
+    print(f"style: {len(wrong)} wrong, {len(found) - len(wrong)} excepted")
+    return 1 if wrong or unneeded else 0
+
+
+if __name__ == "__main__":
+    sys.exit(main(sys.argv[1:]))
