@@ -5,6 +5,7 @@ from __future__ import annotations
 
 import os
 from fractions import Fraction
+from pathlib import Path
 from typing import NamedTuple
 
 from .program import verdict as verdicts
@@ -16,8 +17,9 @@ from .certify.pool import pool_of
 from .certify.text import answer_lines
 from .certify.watch import Watch
 from .system.codes import Code
-from .system.errors import DeadlineExceeded
-from .files import Places
+from .system.errors import DeadlineExceeded, FileFault, FileStays
+from .system.files import OutputFiles
+from .formats.file_kinds import model_kind_of_start
 from .job import Job
 from .miss import ROUNDING, miss
 from .sol import numbers_of
@@ -319,19 +321,17 @@ def keep(
     bridge: Bridge, nl: str, maximise: bool, overwrite: bool, source: str, line: str, target: str
 ) -> Kept:
     """The certificate in the file `source`, whose verdict is the line, at `target`, where nothing stands that stays."""
+    data = Path(source).read_bytes()
+    reads = [nl, bridge.shown.get(nl, nl)]
     try:
-        with open(source, "rb") as f:
-            data = f.read()
-        Places([nl, bridge.shown.get(nl, nl)], overwrite).write(target, data)
-    except OSError as fault:
-        proves = (
-            older(bridge, nl, maximise, line, target) if isinstance(fault, FileExistsError) else ""
-        )
+        OutputFiles(reads, model_kind_of_start, overwrite=overwrite).write(target, data)
+    except FileFault as fault:
+        proves = older(bridge, nl, maximise, line, target) if isinstance(fault, FileStays) else ""
         if proves:
             return Kept(
                 f"{target} stays as it is: it proves `{proves}`; overwrite=1 replaces it", target
             )
-        return Kept(f"the certificate is not kept: {target}: {fault.strerror}", None, True)
+        return Kept(f"the certificate is not kept: {target}: {fault.reason}", None, True)
     return Kept(f"{target} is written: the certificate of `{line}`, {len(data)} bytes", target)
 
 

@@ -6,7 +6,6 @@ import contextlib
 import os
 import shutil
 import sys
-import tempfile
 from typing import Iterator, Sequence
 
 from . import VERSION, console, interface, minizinc, sol, solvers
@@ -21,8 +20,9 @@ from .system.errors import (
     RunInterrupted,
     WrongOption,
 )
-from .files import Places, fill, own_folder
+from .formats.file_kinds import model_kind_of_start
 from .formats.source import Source, Workspace, missing_source, read_model
+from .system.files import OutputFiles, new_folder_in, private_folder, write_new
 from .system.processes import SIGNALS, Interrupted
 from .job import Clock
 from .options import EXAMPLE, MODEL, USAGE, Option, Options, Words, words_of
@@ -127,8 +127,7 @@ class Run:
     def remove_older(self) -> None:
         """Where the model is missing an answer stays: it is of no run that could be."""
         if os.path.isfile(self.nl) and os.access(self.nl, os.R_OK):
-            with writing(self.sol):
-                Places([self.nl]).remove(self.sol)
+            OutputFiles([self.nl], model_kind_of_start).remove(self.sol)
 
     def writes(self) -> bool:
         return self.words.ampl or self.words.save or bool(self.options.wantsol & 1)
@@ -157,9 +156,9 @@ class Run:
         bridge.shown[self.nl] = self.model.name
         solver_path = "" if self.options.only else self.find_solver()
         with SIGNALS.deferred():
-            with writing(self.options.keep):  # the folder for files in between, this run's alone
-                self.kept_in = own_folder(self.options.keep, self.name) if self.options.keep else ""
-            folder = self.kept_in or tempfile.mkdtemp(prefix=self.name + "-")
+            if self.options.keep:  # the folder for files in between, this run's alone
+                self.kept_in = new_folder_in(self.options.keep, self.name)
+            folder = self.kept_in or private_folder(self.name + "-")
             try:
                 with SIGNALS.delivered(), writing(folder):
                     return self.make_solving(
@@ -198,7 +197,7 @@ class Run:
             if self.writes():
                 self.put(data)
             if self.kept_in:
-                fill(os.path.join(self.kept_in, "bridge.sol"), data)
+                write_new(os.path.join(self.kept_in, "bridge.sol"), data)
         if self.words.ampl:
             return ExitStatus.DONE
         if result.kept is not None and result.kept.failed:
@@ -229,13 +228,14 @@ class Run:
         if not values:
             return f"{path} is not written: there are no values"
         data = sol.solution(path, values, self.pairs("duals"))
-        with writing(path):
-            Places([self.nl, self.model.name], bool(self.options.overwrite)).write(path, data)
+        reads = [self.nl, self.model.name]
+        overwrite = bool(self.options.overwrite)
+        OutputFiles(reads, model_kind_of_start, overwrite=overwrite).write(path, data)
         return f"{path} is written"
 
     def put(self, data: bytes) -> None:
-        with writing(self.sol), SIGNALS.deferred():
-            Places([self.nl], overwrite=True).write(self.sol, data)
+        with SIGNALS.deferred():
+            OutputFiles([self.nl], model_kind_of_start, overwrite=True).write(self.sol, data)
             self.is_put = True
 
     def failed(self, fault: BridgeError) -> int:

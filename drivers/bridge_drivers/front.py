@@ -15,7 +15,7 @@ from . import VERSION, commands, console, interface
 from .program import reasons, refusal
 from .program.bridge import BESIDE, PACKAGE, built, find, is_plain, sum_of
 from .system.codes import ExitStatus
-from .system.errors import BridgeError, FileAction, FileFault, NotStarted
+from .system.errors import BridgeError, NotStarted
 from .commands import COMMANDS, NAME, VERDICTS, WORDS
 from .formats.file_kinds import is_mps_file, is_packed_file, start_of_file
 from .formats.source import Workspace, is_stream, name_of_model, read_source
@@ -251,10 +251,7 @@ def import_into(call: Call) -> Report:
     with interface.asked(told, "") as (bridge, workspace):
         path = plain(workspace, "MPS", call.rest[0])
         bridge.shown[path] = call.rest[0]
-        try:
-            told.say(imported(bridge, path, call.rest[1], call.overwrite))
-        except OSError as fault:
-            raise FileFault.of(fault, call.rest[1], FileAction.WRITE) from None
+        told.say(imported(bridge, path, call.rest[1], call.overwrite))
     return told
 
 

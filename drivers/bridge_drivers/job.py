@@ -11,7 +11,7 @@ import threading
 import time
 from typing import Any, Callable, Mapping, NamedTuple, Sequence, TypeVar
 
-from .files import fill
+from .system.files import write_new
 from .system.processes import SIGNALS, signal_group, with_child
 from .options import Options
 from .model.linear_program import Program, given
@@ -87,7 +87,7 @@ class Job:
         return os.path.join(self.folder, name)
 
     def write(self, name: str, data: bytes) -> str:
-        return fill(self.path(name), data)
+        return write_new(self.path(name), data)
 
     def run(self, argv: Sequence[str], log: str = LOG) -> Ran:
         """One run in the folder, whose paths become plain names; killed a tenth and 5 seconds after `timelim`."""

@@ -8,9 +8,10 @@ from typing import NamedTuple, Sequence
 
 from .program.bridge import Bridge, Refused, Reply
 from .system.codes import ExitStatus
-from .files import Places, fill
+from .formats.file_kinds import model_kind_of_start
 from .formats.numbers import read_fraction
 from .mps_reader import Text
+from .system.files import OutputFiles, write_new
 from .model.linear_program import Program, program_of
 
 FREE, FIXED = "free", "fixed"
@@ -83,7 +84,7 @@ def judged(bridge: Bridge, path: str, probe: str, read: Reading) -> Program:
     is no linear program, or the proved program judges none of MPS files."""
     program = program_of(read.text)
     bridge.spelled = {"verify": VERIFIES[read.form]}
-    reply = bridge.call("verify", path, fill(probe, PROBE))
+    reply = bridge.call("verify", path, write_new(probe, PROBE))
     if reply.status in (ExitStatus.DONE, ExitStatus.FAILED):
         return program
     words = bridge.in_full(("verify", path, probe))
@@ -127,7 +128,7 @@ def imported(bridge: Bridge, mps: str, nl: str, overwrite: bool = False) -> str:
             for end, names in ((".row", rows), (".col", columns))
         },
     }
-    places = Places([mps], overwrite)
+    places = OutputFiles([mps], model_kind_of_start, overwrite=overwrite)
     for act in (places.check, places.write):
         for path, data in texts.items():
             act(path, data)

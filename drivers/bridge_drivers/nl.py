@@ -12,7 +12,7 @@ import re
 import struct
 from typing import Any, Iterable, NamedTuple
 
-from .files import fill
+from .system.files import write_new
 from .system.errors import Damaged, ModelRefused
 from .names import Names, comment_of
 from .texts import tables
@@ -83,7 +83,7 @@ def prepared(path: str, target: str, shorter: bool, is_told: bool = True) -> tup
         text, count = shortest_numbers(data)
         if not count:
             return path, []
-        return fill(target, text), [
+        return write_new(target, text), [
             f"{count} numbers of the .nl file were read in their shortest spelling"
         ]
     try:
@@ -91,7 +91,9 @@ def prepared(path: str, target: str, shorter: bool, is_told: bool = True) -> tup
     except (struct.error, IndexError, ValueError) as fault:
         reason = f"the binary .nl file ends too soon or is damaged ({fault})"
         raise Damaged(path, reason) from None
-    return fill(target, text), ["the binary .nl file was turned into text, which is not proved"]
+    return write_new(target, text), [
+        "the binary .nl file was turned into text, which is not proved"
+    ]
 
 
 def shortest(x: float) -> str:

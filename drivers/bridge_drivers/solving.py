@@ -25,7 +25,8 @@ from .system.errors import (
     UnusableAnswer,
     WrongOption,
 )
-from .files import Places
+from .formats.file_kinds import model_kind_of_start
+from .system.files import OutputFiles
 from .formats.source import Source
 from .system.processes import Interrupted
 from .job import ANSWERS, Clock, Job
@@ -169,7 +170,8 @@ class Solving:
     def only_written(self, program: Program) -> Result:
         """With only=mps: the text that the solver reads, beside the model, and how it is called with it."""
         o, solver, path = self.options, self.solver, f"{self.model.stub}.{self.solver.name}.mps"
-        Places([self.nl], bool(o.overwrite)).write(path, solver.text(given(program, bool(o.relax))))
+        outputs = OutputFiles([self.nl], model_kind_of_start, overwrite=bool(o.overwrite))
+        outputs.write(path, solver.text(given(program, bool(o.relax))))
         return Result(
             Code.LIMIT,
             [

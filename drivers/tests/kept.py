@@ -4,21 +4,19 @@ stays always, by whatever path, and so does a certificate that says more; and wh
 from __future__ import annotations
 
 import os
-import sys
 import unittest
 from fractions import Fraction as F
 from pathlib import Path
 from unittest import mock
 
-from support import DRIVERS, NEEDS_PROGRAM, Case, ended
+from support import NEEDS_PROGRAM, Case
 from models import MODELS, rows_of
 
-from bridge_drivers import files, solvers
+from bridge_drivers import solvers
 from bridge_drivers.program import verdict as verdicts
 from bridge_drivers.program.bridge import Bridge, Reply
 from bridge_drivers.system.errors import DeadlineExceeded
 from bridge_drivers.certificates import Kept, keep
-from bridge_drivers.files import Places, own_folder
 from bridge_drivers.model.linear_program import Program
 from bridge_drivers.program.verdict import Said
 
@@ -164,93 +162,8 @@ class Certificates(Case):
         self.assertIn("it may not be written", kept.line)
         self.assertEqual(sorted(os.listdir(self.folder)), ["source", "stub.certificate", "stub.nl"])
 
-    def test_standard_output(self) -> None:
-        """Where it is a file, the certificate is added to it."""
-        code = (
-            "import sys; from bridge_drivers.files import write; print('before'); "
-            "write('/dev/stdout', open(sys.argv[1], 'rb').read()); print('behind')"
-        )
-        self.put(OPTIMAL, ".certificate")
-        with open(self.stub, "wb") as out:
-            ended(
-                [sys.executable, "-c", code, self.target],
-                capture_output=False,
-                stdout=out,
-                cwd=DRIVERS,
-            )
-        self.assertEqual(self.bytes_of(), b"before\n" + OPTIMAL + b"behind\n")
 
-    def test_links_and_modes(self) -> None:
-        """A link stays one, and a file keeps its mode."""
-        real = Path(self.folder, "real")
-        real.touch(0o640)
-        os.symlink(real, self.target)
-        self.assertIsNotNone(self.keep("optimal 17", "").path)
-        self.assertTrue(os.path.islink(self.target))
-        self.assertEqual((real.stat().st_mode & 0o777, real.read_bytes()), (0o640, OPTIMAL))
-
-    def test_interrupts_wait(self) -> None:
-        """A signal while it is written comes after that."""
-        seen: list[bool] = []
-        with mock.patch("os.replace", lambda *words: seen.append(files.SIGNALS.is_deferring)):
-            self.keep("optimal 17", "")
-        self.assertEqual(seen, [True])
-
-    def test_faults_without_a_file(self) -> None:
-        for words, name in (
-            (("the disk is full",), "the file"),
-            (("the disk is full", "another"), "another"),
-        ):
-            with self.assertRaises(OSError) as caught, files.naming("the file"):
-                raise OSError(28, *words)
-            self.assertEqual(caught.exception.filename, name)
-
-
-class Rule(Case):
-    def place(self, end: str) -> str:
-        return self.stub + end
-
-    def test_what_stays(self) -> None:
-        """By what stands there, and whether overwrite=1 is said."""
-        for text, end in ((b"model", ".nl"), (OLDER, ".other"), (b"", ".empty"), (b"new", ".same")):
-            self.put(text, end)
-        os.symlink(self.place(".nl"), self.place(".link"))
-        os.link(self.place(".nl"), self.place(".hard"))
-        os.symlink(self.place(".none"), self.place(".dangling"))
-        for ends, stays, always in (
-            ((".nl", ".link", ".hard"), True, True),
-            ((".other",), True, False),
-            ((".empty", ".same", ".new", ".dangling"), False, False),
-        ):
-            for end, overwrite in ((end, overwrite) for end in ends for overwrite in (False, True)):
-                places = Places([self.place(".nl"), self.place(".gone")], overwrite)
-                wanted = always if overwrite else stays
-                if wanted:
-                    with self.assertRaises(FileExistsError):
-                        places.write(self.place(end), b"new")
-                else:
-                    places.write(self.place(end), b"new")
-                    self.assertEqual(self.bytes_of(end), b"new")
-        self.assertEqual(self.bytes_of(".nl"), b"model")
-        with self.assertRaises(FileExistsError):
-            Places([self.place(".nl")]).remove(self.place(".link"))
-
-    def test_nothing_beside_is_lost(self) -> None:
-        """A name that a new file could have while it is written."""
-        self.put(OLDER, f".sol.{os.getpid()}.part")
-        Places([]).write(self.place(".sol"), b"new")
-        self.assertEqual(
-            (self.bytes_of(".sol"), self.bytes_of(f".sol.{os.getpid()}.part")), (b"new", OLDER)
-        )
-        self.assertEqual(len(os.listdir(self.folder)), 2)
-
-    def test_folders(self) -> None:
-        kept = os.path.join(self.folder, "a", "b")
-        self.assertEqual([own_folder(kept, "x"), own_folder(kept, "x")], [kept, kept])
-        for number in (1, 2):
-            Path(kept, "file").write_bytes(OLDER)
-            self.assertEqual(own_folder(kept, "x"), os.path.join(kept, f"x-{number}"))
-
+class Folders(Case):
     @NEEDS_PROGRAM
     def test_kept_folders(self) -> None:
         """Also the folder of the model, with files of each name that a run writes."""

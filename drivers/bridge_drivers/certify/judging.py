@@ -23,7 +23,7 @@ from .watch import Watch
 from ..exact.dual_bound import Multipliers, bit_width, dual_bound, fits_certificate
 from ..system.errors import DeadlineExceeded
 from ..program.bridge import Bridge, Refused
-from ..files import naming
+from ..system.files import new_file
 from ..model.linear_program import Program
 
 WITHOUT = "not proved: "
@@ -150,7 +150,7 @@ class Judging:
         """Writes the lines, and a tree from its file; asks `bridge verify`."""
         written(self.path, lines)
         if tree is not None:
-            with naming(self.path), open(self.path, "ab") as f, open(tree, "rb") as source:
+            with new_file(self.path, append=True) as f, open(tree, "rb") as source:
                 shutil.copyfileobj(source, f)
         self.bridge.limit = self.watch.for_verdict(1.0 if tree is None else TREE)
         try:

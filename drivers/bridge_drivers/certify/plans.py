@@ -23,7 +23,7 @@ from .short import trivial
 from .spine import Maker, ProvedCut, Spined, Value
 from .watch import Paused, Stopped, Watch
 from ..exact.tree import Tree
-from ..files import naming
+from ..system.files import new_text
 
 SLICE, SPARE = 0.1, 1.0  # seconds of a search at a time; those that are left for its bound
 RESERVE = 0.93  # of the time, for plans; the rest is for a bound
@@ -78,7 +78,7 @@ class Plan:
 
 def written(path: str, lines: Iterator[str]) -> int:
     """Writes lines as they come; how many bytes."""
-    with naming(path), open(path, "w", encoding="ascii") as f:
+    with new_text(path) as f:
         return sum(f.write(line + "\n") for line in lines)
 
 

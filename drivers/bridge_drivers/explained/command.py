@@ -9,7 +9,9 @@ from ..program.bridge import Refused
 from ..model.integer_form import UnsupportedModel
 from ..pipeline.row_factors import whole_form
 from ..system.codes import ExitStatus
-from ..files import Places
+from ..formats.file_kinds import model_kind_of_start
+from ..system.errors import FileFault
+from ..system.files import OutputFiles
 from ..inputs import Subject
 from ..interface import Report
 from ..printable import in_a_line
@@ -120,13 +122,14 @@ def explained(model: Subject, files: Files, report: Report) -> None:
     report.take_line(verdict)
     report.status = ExitStatus.DONE if told.holds else ExitStatus.FAILED
     lines = [*map(in_a_line, told.lines()), *model.notes]
-    places = Places([model.given.path, model.given.name, files.certificate], files.overwrite)
+    reads = [model.given.path, model.given.name, files.certificate]
+    outputs = OutputFiles(reads, model_kind_of_start, overwrite=files.overwrite)
     for path, text in ((files.html, told.page), (files.svg, told.picture)):
         if path:
             try:
-                places.write(path, text().encode("utf-8", "backslashreplace"))
+                outputs.write(path, text().encode("utf-8", "backslashreplace"))
                 lines.append(f"{path} is written")
-            except OSError as fault:
+            except FileFault as fault:
                 report.status = ExitStatus.UNWRITTEN
-                lines.append(f"{path} is not written: {fault.strerror or fault}")
+                lines.append(f"{path} is not written: {fault.reason}")
     report.lines, report.explained = lines, told.object()

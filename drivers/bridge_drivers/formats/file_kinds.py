@@ -19,8 +19,18 @@ BYTE_ORDER_MARKS = (b"\xff\xfe", b"\xfe\xff")  # of UTF-16
 MODEL_ENDS = (".nl", ".mps")
 OTHER_MODEL_ENDS = (".nl.gz", ".mps", ".lp", ".mod", ".mzn")  # looked for beside a stub
 MPS_FIRST_WORD = re.compile(rb"(?:NAME|OBJSENSE|ROWS)\b")  # of one line
+NL_FIRST_LINE = re.compile(rb"[gb]\d[ \t0-9]*(?:#.*)?")
+NL_SECOND_LINE = re.compile(rb"[ \t]+\d")  # how it begins
 LP_FIRST_WORD = re.compile(rb"(?:min|max)(?:imi[sz]e|imum)?[:\s]", re.IGNORECASE)
 LP_LINE_COMMENTS = (b"\\", b"//")
+
+
+class ModelKind(enum.Enum):
+    """What a text is that is a model."""
+
+    NL = "an .nl file"
+    MPS = "an MPS file"
+    LP = "an LP file"
 
 
 class Packing(enum.Enum):
@@ -152,6 +162,22 @@ def is_lp_start(start: bytes) -> bool:
             break
         at = end + 1
     return LP_FIRST_WORD.match(start, at) is not None
+
+
+def is_nl_start(start: bytes) -> bool:
+    """Whether a text begins with the first two lines of an .nl file, of text or binary."""
+    first, _, rest = start.partition(b"\n")
+    is_first = NL_FIRST_LINE.fullmatch(first.rstrip(b"\r")) is not None
+    return is_first and NL_SECOND_LINE.match(rest) is not None
+
+
+def model_kind_of_start(start: bytes) -> Optional[ModelKind]:
+    """The kind of a model by its first bytes; None where they are of no model."""
+    if is_nl_start(start):
+        return ModelKind.NL
+    if is_mps_start(start):
+        return ModelKind.MPS
+    return ModelKind.LP if is_lp_start(start) else None
 
 
 def kind_of_start(start: bytes) -> Optional[FileKind]:

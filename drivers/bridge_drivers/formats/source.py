@@ -16,13 +16,13 @@ import os
 import re
 import shutil
 import sys
-import tempfile
 import zlib
 from dataclasses import dataclass, field, replace
 from typing import BinaryIO, Iterator, NamedTuple, Optional, Sequence, Tuple
 
 from ..system.errors import Damaged, NoModel, TooLarge
 from . import file_kinds
+from ..system.files import new_file, private_folder
 from .mps_repair import repair_mps
 
 STANDARD_INPUT = re.compile(r"-|/dev/stdin|(?:/dev|/proc/self)/fd/\d+")
@@ -112,7 +112,7 @@ class Workspace:
 
     def new_path(self) -> str:
         """The path of a file that is not there yet."""
-        self.folder = self.folder or tempfile.mkdtemp(prefix="nl-bridge-")
+        self.folder = self.folder or private_folder("nl-bridge-")
         self.count += 1
         return os.path.join(self.folder, f"given{self.count}")
 
@@ -245,7 +245,7 @@ def _copied(
     digest = hashlib.sha256()
     size = 0
     start = b""
-    with open(path, "xb") as copy:
+    with new_file(path) as copy:
         for piece in iter(lambda: text.read(PIECE), b""):
             assert piece is not None
             size += len(piece)

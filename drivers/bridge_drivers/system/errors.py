@@ -120,7 +120,14 @@ class FileFault(BridgeError):
     @staticmethod
     def of(fault: OSError, path: str, action: FileAction) -> FileFault:
         """A fault of the system; `path` is told where it has no file of its own."""
-        return FileFault(str(fault.filename or path), str(fault.strerror), action)
+        return FileFault(str(fault.filename or path), fault.strerror or str(fault), action)
+
+
+class FileStays(FileFault):
+    """What stands at a place is not replaced, and nothing is written there."""
+
+    def __init__(self, path: str, reason: str) -> None:
+        super().__init__(path, reason, FileAction.WRITE)
 
 
 class NoModel(FileFault):

@@ -135,3 +135,22 @@ def test_a_hostile_file_beside_a_model(tmp_path: Path) -> None:
     (tmp_path / "m.lp").write_bytes(b"/**/" * 2000 + b"x")
     assert kind_of_file(str(tmp_path / "m.lp")) is LP
     assert file_kinds.KIND_OF_END[".mps"] is MPS
+
+
+@pytest.mark.parametrize(
+    "start, kind",
+    [
+        (b"g3 1 1 0\t# problem knap\n 3 1 1 0 0\t# vars\n", file_kinds.ModelKind.NL),
+        (b"g3 1 1 0\r\n 3 1 1 0 0\r\n", file_kinds.ModelKind.NL),
+        (b"b3 1 1 0\n 3 1 1 0 0\n", file_kinds.ModelKind.NL),
+        (b"g3 5\nb1 7\n", None),  # values of variables
+        (b"g3 1 1 0\n", None),
+        (b"* made by hand\nNAME knap\n", file_kinds.ModelKind.MPS),
+        (b"max: 3x;\n", file_kinds.ModelKind.LP),
+        (b"certificate 1\n", None),
+        (b"<svg>", None),
+        (b"", None),
+    ],
+)
+def test_a_model_is_known_by_its_start(start: bytes, kind: object) -> None:
+    assert file_kinds.model_kind_of_start(start) is kind

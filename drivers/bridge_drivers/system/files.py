@@ -1,0 +1,300 @@
+"""Writes files whole or not at all, and decides what may be replaced.
+
+No other module opens a file for writing. There are two kinds of files:
+
+- An **output** is what the user asked for, at a place of the user's. `OutputFiles` writes it: under
+  another name beside its place, with its final permissions before its first byte, and then renamed.
+  What stands there is replaced only by the rules of `OutputFiles`.
+- A file of **this run's own** stands in a private folder. `write_new` and the functions beside it
+  write it in its place.
+"""
+
+from __future__ import annotations
+
+import contextlib
+import enum
+import errno
+import itertools
+import os
+import re
+import shutil
+import stat
+import sys
+import tempfile
+from pathlib import Path
+from typing import BinaryIO, Callable, Iterator, Sequence, TextIO
+
+from .errors import FileAction, FileFault, FileStays
+from .processes import SIGNALS
+
+ANYONE_MAY_WRITE = 0o222  # the bits of a mode that let someone write
+MODE_OF_NEW_FILES = 0o666  # less the mask of the process
+LOOKED_AT = 4096  # bytes of a file's start that tell its kind
+OPEN_FILE = re.compile(r"/dev/std(?P<name>out|err)|/(?:dev|proc/self)/fd/(?P<number>\d+)")
+
+KindOfStart = Callable[[bytes], object]  # of a file's first bytes; None where they tell no kind
+
+
+class WhyItStays(enum.Enum):
+    """Why what stands at a place is not replaced."""
+
+    IS_READ = "it is what this command reads"
+    STANDS = "it stands there, and this run did not make it; overwrite=1 replaces it"
+    IS_MODEL = "it is a model, and what would be written is none of its kind"
+    DANGLES = "it is a symbolic link to nothing"
+
+
+class OutputFiles:
+    """What one run may write.
+
+    - What the run reads is never replaced, by whatever path.
+    - A model is replaced only by a model of the same kind.
+    - What else stands there is replaced with `overwrite` alone, unless nothing is lost: it is
+      empty, or has the same bytes already.
+    - Nothing is written through a symbolic link that leads nowhere.
+
+    Args:
+        reads: The paths of what the run reads.
+        model_kind: The kind of a model by its first bytes; None where they are of no model.
+        overwrite: What stands at a place may be replaced.
+    """
+
+    def __init__(
+        self, reads: Sequence[str], model_kind: KindOfStart, *, overwrite: bool = False
+    ) -> None:
+        self.reads = reads
+        self.model_kind = model_kind
+        self.overwrite = overwrite
+
+    def check(self, target: str, data: bytes) -> None:
+        """Whether these bytes may stand there.
+
+        Raises:
+            FileStays: What stands there stays.
+        """
+        why = self._why_it_stays(target, data)
+        if why is not None:
+            raise FileStays(target, why.value)
+
+    def write(self, target: str, data: bytes) -> None:
+        """Writes a file whole or not at all; what is no plain file is added to.
+
+        Raises:
+            FileStays: What stands there stays.
+            FileFault: It cannot be written.
+        """
+        self.check(target, data)
+        with _as_file_fault(target):
+            if is_stream(target):
+                with open_to_append(target) as out:
+                    out.write(data)
+            else:
+                _write_whole(target, data, may_replace=os.path.exists(target))
+
+    def remove(self, target: str) -> None:
+        """Removes an older output, where there is one.
+
+        Raises:
+            FileStays: It is what this run reads, or a model.
+            FileFault: It cannot be removed.
+        """
+        if self._is_read(target):
+            raise FileStays(target, WhyItStays.IS_READ.value)
+        if os.path.isfile(target) and self.model_kind(start_of(target)) is not None:
+            raise FileStays(target, WhyItStays.IS_MODEL.value)
+        with _as_file_fault(target), contextlib.suppress(FileNotFoundError):
+            os.unlink(target)
+
+    def _is_read(self, target: str) -> bool:
+        return os.path.exists(target) and any(
+            os.path.exists(path) and os.path.samefile(path, target) for path in self.reads
+        )
+
+    def _why_it_stays(self, target: str, data: bytes) -> WhyItStays | None:
+        """None where the bytes may be written."""
+        if self._is_read(target):
+            return WhyItStays.IS_READ
+        if os.path.islink(target) and not os.path.exists(target):
+            return WhyItStays.DANGLES
+        if is_stream(target) or not os.path.isfile(target) or _holds(target, data):
+            return None
+        if not self.overwrite:
+            return WhyItStays.STANDS
+        kind = self.model_kind(start_of(target))
+        is_other = kind is not None and kind != self.model_kind(data[:LOOKED_AT])
+        return WhyItStays.IS_MODEL if is_other else None
+
+
+def start_of(path: str) -> bytes:
+    """The first bytes of a file; none where it cannot be read."""
+    try:
+        with open(path, "rb") as file:
+            return file.read(LOOKED_AT)
+    except OSError:
+        return b""
+
+
+def is_stream(path: str) -> bool:
+    """Whether what stands there is added to: a device, a pipe, or a file that this process has open.
+
+    `/dev/stdout` and its kin are streams also where they lead to a plain file.
+    """
+    return os.path.exists(path) and (
+        not os.path.isfile(path) or OPEN_FILE.fullmatch(os.path.abspath(path)) is not None
+    )
+
+
+def open_to_append(path: str) -> BinaryIO:
+    """Opens a stream behind what it has.
+
+    Where this process has it open, its own place in it goes on: what was printed before stands
+    before, and what is printed later behind.
+    """
+    found = OPEN_FILE.fullmatch(os.path.abspath(path))
+    if found is None:
+        return open(path, "ab")
+    sys.stdout.flush()
+    number = found["number"] or {"out": 1, "err": 2}[found["name"]]
+    return os.fdopen(os.dup(int(number)), "wb")
+
+
+def private_folder(prefix: str) -> str:
+    """Makes a folder that only this user can look into; whoever calls removes it."""
+    return tempfile.mkdtemp(prefix=prefix)
+
+
+def new_folder_in(folder: str, name: str) -> str:
+    """A folder that a run has to itself: this one where nothing is in it, else a new one below.
+
+    Raises:
+        FileFault: It cannot be made.
+    """
+    with _as_file_fault(folder):
+        os.makedirs(folder, exist_ok=True)
+        if not os.listdir(folder):
+            return folder
+        for number in itertools.count(1):
+            own = os.path.join(folder, f"{name}-{number}")
+            with contextlib.suppress(FileExistsError):
+                os.mkdir(own)
+                return own
+    raise AssertionError("numbers do not end")
+
+
+def write_new(path: str, data: BinaryIO | bytes) -> str:
+    """Writes a file of this run's own; its path. An OSError names it."""
+    with new_file(path) as out:
+        if isinstance(data, bytes):
+            out.write(data)
+        else:
+            shutil.copyfileobj(data, out)
+    return path
+
+
+@contextlib.contextmanager
+def new_file(path: str, *, append: bool = False) -> Iterator[BinaryIO]:
+    """A file of this run's own, from its start or behind what it has. An OSError names it."""
+    with _named_fault(path), open(path, "ab" if append else "wb") as out:
+        yield out
+
+
+@contextlib.contextmanager
+def new_text(path: str) -> Iterator[TextIO]:
+    """A file of this run's own that holds ASCII. An OSError names it."""
+    with _named_fault(path), open(path, "w", encoding="ascii") as out:
+        yield out
+
+
+def _holds(target: str, data: bytes) -> bool:
+    """Whether nothing is lost where these bytes replace a file: it is empty, or has them already."""
+    size = os.path.getsize(target)
+    return size == 0 or size == len(data) and Path(target).read_bytes() == data
+
+
+def _write_whole(target: str, data: bytes, *, may_replace: bool) -> None:
+    """A file stands at its place at once or not at all. One that nobody may write stays.
+
+    A link stays a link: what it leads to is replaced. Where nothing stood there when the run
+    looked, what came since is not replaced.
+    """
+    if os.path.isdir(target):
+        raise IsADirectoryError(errno.EISDIR, os.strerror(errno.EISDIR), target)
+    place = os.path.realpath(target)
+    mode = stat.S_IMODE(os.stat(place).st_mode) if may_replace else None
+    if mode is not None and not (mode & ANYONE_MAY_WRITE and os.access(place, os.W_OK)):
+        raise PermissionError(errno.EACCES, "it may not be written", target)
+    with SIGNALS.deferred():
+        part = ""
+        try:
+            with _new_part_file(place, mode) as out:
+                part = out.name
+                out.write(data)
+                out.flush()
+                os.fsync(out.fileno())
+            if may_replace:
+                os.replace(part, place)
+            else:
+                _put_where_nothing_stands(part, place)
+        except OSError as fault:
+            fault.filename = target
+            fault.filename2 = None
+            raise
+        finally:
+            with contextlib.suppress(OSError):
+                os.unlink(part)
+
+
+def _new_part_file(place: str, mode: int | None) -> BinaryIO:
+    """A new file beside a place, which was not there, with the mode that it will have.
+
+    Args:
+        mode: Of what it will replace; None where it replaces nothing.
+    """
+    bits = MODE_OF_NEW_FILES if mode is None else mode & MODE_OF_NEW_FILES
+
+    def opener(path: str, flags: int) -> int:
+        return os.open(path, flags | getattr(os, "O_NOFOLLOW", 0), bits)
+
+    for number in itertools.count(os.getpid()):
+        with contextlib.suppress(FileExistsError):
+            file = open(f"{place}.{number}.part", "xb", opener=opener)
+            if mode is not None:
+                os.chmod(file.fileno(), mode)
+            return file
+    raise AssertionError("numbers do not end")
+
+
+def _put_where_nothing_stands(part: str, place: str) -> None:
+    """Gives a file its name, unless another file has got it in the meantime.
+
+    A hard link does both at once; where the file system has none it is looked for first.
+    """
+    try:
+        os.link(part, place)
+    except FileExistsError:
+        raise
+    except OSError:
+        if os.path.lexists(place):
+            raise FileExistsError(errno.EEXIST, WhyItStays.STANDS.value, place) from None
+        os.rename(part, place)
+
+
+@contextlib.contextmanager
+def _named_fault(path: str) -> Iterator[None]:
+    """A fault of writing, such as a full disk, has no file of its own: it gets this one."""
+    try:
+        yield
+    except OSError as fault:
+        if fault.filename is None:
+            fault.filename = path
+        raise
+
+
+@contextlib.contextmanager
+def _as_file_fault(path: str) -> Iterator[None]:
+    try:
+        yield
+    except FileExistsError as fault:
+        raise FileStays(path, WhyItStays.STANDS.value) from fault
+    except OSError as fault:
+        raise FileFault.of(fault, path, FileAction.WRITE) from fault
