@@ -13,7 +13,7 @@ from typing import Callable, Iterator, NoReturn, Sequence, TextIO, cast
 from .program import verdict as verdicts
 from .system.codes import ExitStatus
 from .system.processes import SIGNALS, Interrupted
-from .printable import printable
+from .system.text import printable
 
 GREEN, YELLOW, RED = 32, 33, 31
 PROVED = ("yes ", "proved")  # verdicts of `check` and `prove`

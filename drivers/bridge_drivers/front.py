@@ -22,7 +22,8 @@ from .formats.source import Workspace, is_stream, name_of_model, read_source
 from .interface import Report
 from .system.processes import with_child
 from .mps_file import imported
-from .printable import near
+from .options import OTHER_NAMES
+from .system.text import did_you_mean
 
 if TYPE_CHECKING:
     from .driver import Driver
@@ -38,7 +39,7 @@ class BadWords(Exception):
     """Words that no command takes; `word` and `known`: what may have been meant."""
 
     def __init__(self, text: str, word: str = "", known: Iterable[str] = ()) -> None:
-        super().__init__(f"{text};{near(word, known)}" if word else f"{text};")
+        super().__init__(f"{text};{did_you_mean(word, known, OTHER_NAMES)}" if word else f"{text};")
 
 
 class Call(NamedTuple):

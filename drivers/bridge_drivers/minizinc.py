@@ -11,7 +11,7 @@ import os
 import re
 import stat
 
-from .printable import in_a_line
+from .system.text import one_line
 
 PROGRAM = b"minizinc"
 VERBOSE = (b"-v", b"--verbose")
@@ -46,5 +46,5 @@ def tell(line: str, is_error: bool = False) -> None:
     with contextlib.suppress(OSError), open(os.open(path, flags), "wb", buffering=0) as out:
         out.write(
             room_in(parent, out.fileno())
-            + f"% {in_a_line(line)}\n".encode("utf-8", "surrogateescape")
+            + f"% {one_line(line)}\n".encode("utf-8", "surrogateescape")
         )

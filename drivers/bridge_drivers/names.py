@@ -6,7 +6,7 @@ import contextlib
 import re
 from pathlib import Path
 
-from .printable import in_a_line
+from .system.text import one_line
 
 COMMENT = re.compile(rb"(?:^|[ \t])#[ \t]*(\S.*)")
 
@@ -14,7 +14,7 @@ COMMENT = re.compile(rb"(?:^|[ \t])#[ \t]*(\S.*)")
 def comment_of(line: bytes) -> str:
     """What stands behind the mark # of an .nl line."""
     found = COMMENT.search(line.rstrip(b"\r\n"))
-    return in_a_line(found.group(1).decode("utf-8", "surrogateescape").strip()) if found else ""
+    return one_line(found.group(1).decode("utf-8", "surrogateescape").strip()) if found else ""
 
 
 def with_name(thing: str, name: str) -> str:
@@ -40,7 +40,7 @@ class Names:
             with contextlib.suppress(OSError):
                 text = Path(self.stub + end).read_bytes() if self.stub else text
             lines = map(str.strip, text.decode("utf-8", "surrogateescape").split("\n"))
-            self.lists[end] = [in_a_line(line) for line in lines if line]
+            self.lists[end] = [one_line(line) for line in lines if line]
         names = self.lists[end]
         return names[number] if 0 <= number < len(names) else ""
 

@@ -7,12 +7,31 @@ import re
 import shlex
 import textwrap
 from dataclasses import dataclass, field
-from typing import Iterable, Sequence, TypeVar, Union, cast
+from typing import Iterable, Mapping, Sequence, TypeVar, Union, cast
 
 from .system.errors import WrongOption
-from .printable import either, near
+from .system.text import alternatives, did_you_mean
 from .texts import parts
 
+# what other programs call it, by what it is called here
+OTHER_NAMES: Mapping[str, str] = {
+    other: ours
+    for ours, others in {
+        "mipgap": ("gap", "gaprel", "ratio", "tolerance"),
+        "timelim": ("timeout", "time", "seconds", "limit"),
+        "wantsol=8": ("quiet", "silent"),
+        "outlev=1": ("verbose", "log"),
+        "certificate": ("o", "out", "output"),
+        "wantsol=2": ("print", "values", "solution"),
+        "prove": ("optimal", "certify"),
+        "objno": ("objective",),
+        "keep": ("tmp",),
+        "explain": ("solve",),
+        "export": ("convert",),
+        "verify": ("judge",),
+    }.items()
+    for other in others
+}
 USAGE, MODEL, EXAMPLE = parts("usage.txt").values()
 MODEL = MODEL.rstrip("\n")
 NAMED = re.compile(r"[A-Za-z]\w*=")
@@ -25,7 +44,7 @@ class Text:
     """A text of any kind, called by what it is. `known` are all that it may be, where they are few."""
 
     def __init__(self, called: str = "a text", known: Sequence[str] = ()) -> None:
-        self.called, self.known = either(known) if known else called, known
+        self.called, self.known = alternatives(known) if known else called, known
 
     def __call__(self, word: str) -> Value:
         if self.known and word not in self.known:
@@ -206,7 +225,7 @@ class Options:
         name = name.lstrip("-").lower()
         if name not in self.known:
             raise WrongOption(
-                f"unknown option {name};{near(name, self.known)} -= lists the options"
+                f"unknown option {name};{did_you_mean(name, self.known, OTHER_NAMES)} -= lists the options"
             )
         return self.known[name]
 

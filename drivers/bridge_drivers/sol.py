@@ -8,7 +8,7 @@ import json
 from typing import Iterable, Iterator, List, Sequence, Tuple
 
 from .nl import header
-from .printable import in_a_line
+from .system.text import one_line
 
 MARK = b"\nOptions\n"
 SCREEN = 20  # lines of values that are printed without asking
@@ -29,12 +29,12 @@ def bare(nl: str, code: int, objective: int, message: Sequence[str]) -> bytes:
         "0",
         f"objno {objective} {code}",
     ]
-    return encoded([*map(in_a_line, message), *lines])
+    return encoded([*map(one_line, message), *lines])
 
 
 def with_message(sol: bytes, message: Sequence[str]) -> bytes:
     """The same .sol under another message; an empty line ends it."""
-    return encoded(list(map(in_a_line, message))) + sol[sol.index(MARK) :]
+    return encoded(list(map(one_line, message))) + sol[sol.index(MARK) :]
 
 
 def numbers_of(sol: bytes) -> tuple[list[str], list[str]]:

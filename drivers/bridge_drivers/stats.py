@@ -15,7 +15,7 @@ from typing import Collection, Union
 from .inputs import Subject
 from .mps_reader import OBJECTIVE
 from .names import Names, with_name
-from .printable import some
+from .system.text import first_of
 from .model.linear_program import TIED, TIED_ROW, Program
 from .pipeline.row_factors import factors_of
 from .terms import entries_of
@@ -185,7 +185,9 @@ def lines_of(f: Figures, factors: dict[str, str], names: Names) -> list[str]:
             "cbc and clp from 1e25, to lp_solve from 1e30"
         )
     for head, what, items in (("not doubles   ", " numbers", lost), ("scaled rows   ", "", scaled)):
-        lines.append(head + (f"{len(items)}{what}: {some(items, MOST_NAMED)}" if items else "none"))
+        lines.append(
+            head + (f"{len(items)}{what}: {first_of(items, MOST_NAMED)}" if items else "none")
+        )
     return lines
 
 

@@ -40,7 +40,7 @@ from bridge_drivers.explained.command import Explaining, Files
 from bridge_drivers.explained.picture import MOST_DEPTH, MOST_SHOWN, Picture
 from bridge_drivers.formats.source import Source
 from bridge_drivers.inputs import Subject
-from bridge_drivers.printable import printable
+from bridge_drivers.system.text import printable
 
 PAGE = Path(DRIVERS, "PYTHON.md")
 BROWSER = shutil.which("chromium") or shutil.which("google-chrome")

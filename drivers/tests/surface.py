@@ -23,9 +23,9 @@ from bridge_drivers.program.bridge import Refused, Reply
 from bridge_drivers.certify.command import Command
 from bridge_drivers.driver import Driver
 from bridge_drivers.names import Names
-from bridge_drivers.printable import near
+from bridge_drivers.system.text import did_you_mean
 from bridge_drivers.nl import expression
-from bridge_drivers.options import Option, Options, Range, words_of
+from bridge_drivers.options import OTHER_NAMES, Option, Options, Range, words_of
 from bridge_drivers.system.errors import WrongOption
 
 ASK = """source {folder}/completion
@@ -105,8 +105,10 @@ class Words(unittest.TestCase):
         for word, meant in rows_of("surface", "near"):
             with self.assertRaisesRegex(WrongOption, f"did you mean `{meant}`\\?"):
                 Command("cbc").options.take([word + "=1"])
-        self.assertEqual(near("veryfy", commands.WORDS), " did you mean `verify`?")
-        self.assertEqual(near("gap", commands.WORDS), "")
+        self.assertEqual(
+            did_you_mean("veryfy", commands.WORDS, OTHER_NAMES), " did you mean `verify`?"
+        )
+        self.assertEqual(did_you_mean("gap", commands.WORDS, OTHER_NAMES), "")
         for unknown in (["foo"], ["foo=1"], ["-foo"], ["timelim=1", "foo", "2"]):
             self.refused("^unknown option foo; -= lists the options$", *unknown)
         self.refused("^no value for timelim$", "timelim")

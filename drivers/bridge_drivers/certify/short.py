@@ -25,7 +25,7 @@ from ..exact.dual_bound import (
     has_needed_bound,
 )
 from ..exact.leaf_proofs import repaired_bound, rounded
-from ..printable import counted
+from ..system.text import counted
 
 PLACES = (9, 8, 7, 6, 5)  # decimals of a point
 MOST_PLACES = 14  # digits of its largest value

@@ -14,7 +14,7 @@ from ..system.errors import FileFault
 from ..system.files import OutputFiles
 from ..inputs import Subject
 from ..interface import Report
-from ..printable import in_a_line
+from ..system.text import one_line
 from .bounds import Bounds
 from .page import text_of
 from .picture import Picture
@@ -121,7 +121,7 @@ def explained(model: Subject, files: Files, report: Report) -> None:
     told = Explaining(model, files, verdict, verdicts.read(verdict) is not None)
     report.take_line(verdict)
     report.status = ExitStatus.DONE if told.holds else ExitStatus.FAILED
-    lines = [*map(in_a_line, told.lines()), *model.notes]
+    lines = [*map(one_line, told.lines()), *model.notes]
     reads = [model.given.path, model.given.name, files.certificate]
     outputs = OutputFiles(reads, model_kind_of_start, overwrite=files.overwrite)
     for path, text in ((files.html, told.page), (files.svg, told.picture)):

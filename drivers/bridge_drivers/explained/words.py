@@ -9,7 +9,7 @@ from typing import Mapping, Sequence
 
 from ..program import verdict as verdicts
 from ..names import Names
-from ..printable import counted, some
+from ..system.text import counted, first_of
 from ..formats.numbers import exact_decimal, nearest_double
 from ..program.verdict import Said, decimal, share
 from .bounds import Bounds, Term, total
@@ -137,7 +137,7 @@ class Wording:
 
     def values(self, point: Mapping[int, Fraction]) -> str:
         texts = [f"{self.column(j)} {value}" for j, value in point.items()]
-        return (some(texts, MOST_LISTED) or "all 0") + ("; the others 0" if texts else "")
+        return (first_of(texts, MOST_LISTED) or "all 0") + ("; the others 0" if texts else "")
 
     def lines(self) -> list[str]:
         """What the certificate is made of, and which rows its leaves use, and how often."""

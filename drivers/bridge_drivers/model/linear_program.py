@@ -16,7 +16,7 @@ from typing import Iterator, Sequence
 from ..formats.numbers import read_fraction
 from ..mps_reader import MARKS, OBJECTIVE, OTHER, Text
 from ..names import Names
-from ..printable import in_a_line, some
+from ..system.text import first_of, one_line
 from ..terms import Terms, entries_of, terms_of
 
 TIED, TIED_ROW = "z", "zdef"
@@ -251,7 +251,7 @@ def notes_of(read: Text) -> list[str]:
     below = [shown(read.columns[j]) for j in read.without_low()]
     told = (
         [
-            f"whole columns without bounds go from 0 on: {some(bare, MOST_NAMED)}; cbc and "
+            f"whole columns without bounds go from 0 on: {first_of(bare, MOST_NAMED)}; cbc and "
             "glpsol, where they read the file, take 0 and 1 for their bounds"
         ]
         if bare
@@ -259,9 +259,9 @@ def notes_of(read: Text) -> list[str]:
     )
     return told + [
         "columns with an upper bound below 0 and no lower one have no lower end: "
-        + some(below, MOST_NAMED)
+        + first_of(below, MOST_NAMED)
     ] * bool(below)
 
 
 def shown(name: bytes) -> str:
-    return in_a_line(name.decode("utf-8", "surrogateescape"))
+    return one_line(name.decode("utf-8", "surrogateescape"))

@@ -6,7 +6,7 @@ import re
 import textwrap
 from typing import Iterable, Mapping, NamedTuple, Sequence
 
-from ..printable import either, near
+from ..system.text import alternatives, did_you_mean
 from ..texts import tables
 
 OPCODE = re.compile(r"refused opcode (\d+)$")
@@ -115,7 +115,7 @@ def fault(path: str, number: int, reason: str) -> str:
             word,
             "semi-continuous columns are not read"
             if known in ("SC", "SI")
-            else "not " + either(KINDS),
+            else "not " + alternatives(KINDS),
         )
     if reason == "unknown row":
         return unknown(line.words[-2:0:-2][::-1], line.rows)
@@ -126,7 +126,7 @@ def fault(path: str, number: int, reason: str) -> str:
 
 
 def of(word: str, text: str, known: Iterable[str] = ()) -> str:
-    meant = near(word, known)
+    meant = did_you_mean(word, known)
     return f"`{word}`: {text}" + (f";{meant}" if meant else "")
 
 

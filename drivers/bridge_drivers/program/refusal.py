@@ -17,7 +17,7 @@ from .reasons import OPCODE, meaning_of
 from ..formats import file_kinds
 from ..names import Names, comment_of, with_name
 from ..nl import expression as expression_of
-from ..printable import in_a_line, printable
+from ..system.text import one_line, printable
 
 TOLD = re.compile(
     r"refused (?:file (\d+) ?)?(?:(line|row|column|objective) (\d+)|program)?: (.*)", re.S
@@ -180,7 +180,7 @@ class Refusal:
             *(counts_of(self.files[0]) if self.is_model else (None, None)),
         )
         self.segment: Segment | None = None
-        self.line = in_a_line(self.text())
+        self.line = one_line(self.text())
 
     def file(self) -> str:
         """As it is shown; nothing where it is not known which one it is."""

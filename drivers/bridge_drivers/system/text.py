@@ -1,0 +1,78 @@
+"""Words as they are told: what a terminal would obey is escaped; lists, counts, and near words."""
+
+from __future__ import annotations
+
+import difflib
+import itertools
+import re
+from typing import Iterable, Mapping, Sequence
+
+# of C0 all but the tab and the line's end, DEL, C1, and single bytes that stand for C1
+CONTROLS = re.compile("[\x00-\x08\x0b-\x1f\x7f-\x9f\udc80-\udc9f]")
+LINE_CONTROLS = re.compile("[\t\n]")
+MOST_NAMES = 1000  # that a word is compared with: a comparison takes some microseconds
+LONGEST_WORD = 100  # characters; a comparison takes time by the product of two lengths
+LEAST_LIKENESS = 0.7  # of 1, as difflib counts it: less is another word
+
+
+def printable(text: str) -> str:
+    """The text with its controls as `\\x1b`, which a terminal shows and does not obey.
+
+    Ends of lines and tabs stay.
+    """
+    return CONTROLS.sub(_escaped, text)
+
+
+def one_line(text: str) -> str:
+    """The same of a word or a line, in which ends of lines and tabs are escaped too."""
+    return LINE_CONTROLS.sub(_escaped, printable(text))
+
+
+def alternatives(words: Sequence[str]) -> str:
+    """`a, b or c`."""
+    if len(words) < 2:
+        return "".join(words)
+    return f"{', '.join(words[:-1])} or {words[-1]}"
+
+
+def first_of(items: Sequence[str], most: int) -> str:
+    """The first items of a list, and how many more there are."""
+    more = len(items) - most
+    return ", ".join(items[:most]) + (f" and {more} more" if more > 0 else "")
+
+
+def counted(count: int, thing: str) -> str:
+    """`1 row`, `2 rows`, `3 bases`."""
+    if count == 1:
+        return f"{count} {thing}"
+    return f"{count} {thing}{'es' if thing.endswith('s') else 's'}"
+
+
+def nearest(word: str, known: Iterable[str]) -> str:
+    """The known word that was probably meant; nothing where none is near.
+
+    Args:
+        known: Of which only the first `MOST_NAMES` are looked at, and none that is long.
+    """
+    if len(word) > LONGEST_WORD:
+        return ""
+    names = [name for name in itertools.islice(known, MOST_NAMES) if len(name) <= LONGEST_WORD]
+    return "".join(difflib.get_close_matches(word, names, 1, LEAST_LIKENESS))
+
+
+def did_you_mean(word: str, known: Iterable[str], other_names: Mapping[str, str] = {}) -> str:
+    """` did you mean `prove`?`, or nothing.
+
+    Args:
+        other_names: By what other programs call something, what it is called here; a value may
+            stand behind an equals sign.
+    """
+    names = list(known)
+    meant = other_names.get(word, "")
+    if meant.partition("=")[0] not in names:
+        meant = nearest(word, names)
+    return f" did you mean `{meant}`?" if meant else ""
+
+
+def _escaped(found: re.Match[str]) -> str:
+    return f"\\x{ord(found.group()) & 0xff:02x}"
