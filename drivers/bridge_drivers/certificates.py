@@ -13,7 +13,7 @@ from .answer import Answer
 from .program.bridge import Bridge, Refused
 from .exact import clp
 from .certify.claims import WITHOUT, Certifying, Given, Verdict, certified
-from .certify.pool import pool_of
+from .exact.worker_pools import open_pool
 from .certify.text import answer_lines
 from .certify.watch import Watch
 from .system.codes import Code
@@ -118,7 +118,7 @@ class Certifier:
         if not proves:
             seconds = min(max(size / LARGE, ONE_LEAF), seconds)
         watch = Watch(seconds, self.job.clock.progress, not proves)
-        pool = pool_of(options.jobs, options.cluster) if proves else None
+        pool = open_pool(options.jobs, options.cluster) if proves else None
         work = Certifying(
             self.bridge,
             self.nl,

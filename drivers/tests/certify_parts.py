@@ -295,7 +295,7 @@ class Forecasts(TestCase):
     """Which plan goes on, and what else there is time for."""
 
     def plan(self, share: float, spent: float) -> Plan:
-        return Plan("", [], SimpleNamespace(share=lambda: share), spent)
+        return Plan("", [], SimpleNamespace(proved_share=lambda: share), spent)
 
     def plans(self) -> Plans:
         """After ten seconds; no plan has a tree."""

@@ -24,12 +24,13 @@ from unittest import mock
 from certify_search import SECONDS, Certified
 from support import HERE, PROGRAM
 from bridge_drivers.program.bridge import Bridge
-from bridge_drivers.certify import crowd, pool as pools, text
+from bridge_drivers.certify import text
 from bridge_drivers.certify.claims import Certifying, Verdict, certified
-from bridge_drivers.certify.parts import Better
-from bridge_drivers.certify.plans import Plans
-from bridge_drivers.certify.pool import Pool, Processes, pool_of
-from bridge_drivers.certify.watch import Paused, Stopped, Watch
+from bridge_drivers.certify.plans import Better, Plans
+from bridge_drivers.certify.watch import Watch
+from bridge_drivers.exact import parallel, worker_pools
+from bridge_drivers.exact.worker_pools import ProcessPool, WorkerPool, open_pool
+from bridge_drivers.system.errors import SearchEnded, SearchPaused
 from bridge_drivers.system.processes import SIGNALS, Interrupted
 from bridge_drivers.model.linear_program import Program
 from models import nl, real, whole
@@ -38,7 +39,7 @@ import families
 LONG = 200.0  # seconds for processes to start, on a busy machine
 
 
-class Here(Pool):
+class Here(WorkerPool):
     """Works at once, on a copy of what it is given."""
 
     portions = 0
@@ -48,9 +49,9 @@ class Here(Pool):
         future: Future = Future()
         try:
             future.set_result(
-                pickle.loads(pickle.dumps(pools.work(pickle.loads(pickle.dumps(given)))))
+                pickle.loads(pickle.dumps(worker_pools.work(pickle.loads(pickle.dumps(given)))))
             )
-        except (Stopped, Better) as fault:
+        except SearchEnded as fault:
             future.set_exception(pickle.loads(pickle.dumps(fault)))
         return future
 
@@ -63,7 +64,7 @@ class Counting(Watch):
     def look(self, nodes: int, until: float) -> None:
         self.looks += 1
         if self.looks > 5:
-            raise Paused("looks")
+            raise SearchPaused("looks")
 
 
 def random_model(rng: random.Random, mixed: bool) -> bytes:
@@ -85,13 +86,13 @@ def random_model(rng: random.Random, mixed: bool) -> bytes:
 class Pooled(Certified):
     @contextlib.contextmanager
     def few(self, nodes: int = 3) -> Iterator[None]:
-        with self.at_home(nodes), mock.patch("bridge_drivers.certify.pool.Watch", Counting):
+        with self.at_home(nodes), mock.patch("bridge_drivers.exact.worker_pools.Watch", Counting):
             yield
 
     def at_home(self, nodes: int = 3):
-        return mock.patch("bridge_drivers.certify.crowd.AT_HOME", nodes)
+        return mock.patch("bridge_drivers.exact.parallel.NODES_BEFORE_PARALLEL", nodes)
 
-    def pooled(self, pool: Pool, found: Verdict, better: int = 0) -> tuple[Certifying, Plans]:
+    def pooled(self, pool: WorkerPool, found: Verdict, better: int = 0) -> tuple[Certifying, Plans]:
         """The plans for the value of what was found, or a worse one, by a pool."""
         work, plans = self.plans(self.bytes_of(".nl"), found.value - better)
         plans.pool = pool
@@ -115,7 +116,7 @@ class Pooled(Certified):
         head = text.head("optimal", 0, None, found.point)
         self.assertEqual(work.judged(head, plans.best.path).line, found.line)
 
-    def searched(self, pool: Pool, found: Verdict | None = None) -> None:
+    def searched(self, pool: WorkerPool, found: Verdict | None = None) -> None:
         """The verdict is that of one process."""
         self.addCleanup(pool.close)
         found = found or self.found(random_model(random.Random(11), False))
@@ -175,7 +176,7 @@ class Portions(Pooled):
             self.assertGreater(pool.portions, 0)
 
 
-def killing(given: pools.Portion) -> pools.Outcome:
+def killing(given: worker_pools.WorkUnit) -> worker_pools.UnitResult:
     os.kill(os.getpid(), signal.SIGKILL)
     raise AssertionError
 
@@ -184,7 +185,7 @@ class OfThisMachine(Pooled):
     def test_processes(self) -> None:
         """One is killed: its portion is worked by another. Where all are, this process goes on alone, and says so."""
         for kills in (0, 1, 99):
-            pool, left = Processes(2), [kills]
+            pool, left = ProcessPool(2), [kills]
             submit = pool.executor
 
             def submitted():
@@ -203,7 +204,7 @@ class OfThisMachine(Pooled):
 
     def test_no_processes(self) -> None:
         """Where none can be started this process goes on alone, and says so."""
-        pool = Processes(2)
+        pool = ProcessPool(2)
         with mock.patch(
             "os.fork", side_effect=BlockingIOError("no more processes")
         ), self.at_home():
@@ -212,8 +213,8 @@ class OfThisMachine(Pooled):
 
     def test_spawned(self) -> None:
         """Where processes start anew, as on other systems."""
-        pool = Processes(2)
-        with mock.patch.object(pools, "START", "spawn"), self.at_home():
+        pool = ProcessPool(2)
+        with mock.patch.object(worker_pools, "START_METHOD", "spawn"), self.at_home():
             self.searched(pool)
         self.assertEqual(pool.fault, "")
 
@@ -296,7 +297,7 @@ class OfACluster(Pooled):
         """The verdict of one process, with a worker that lacks the package, which is told; after an interrupt; and
         where another worker dies."""
         address, workers = self.cluster(PACKAGE, PACKAGE, self.folder)
-        pool = pool_of(0, address)
+        pool = open_pool(0, address)
         self.assertEqual((pool.workers, pool.fault), (2, ""))
         self.assertRegex(pool.note, "^1 of 3 workers of the cluster lack bridge_drivers")
         with self.at_home(), mock.patch.object(pool, "submit", wraps=pool.submit) as submit:
@@ -317,8 +318,8 @@ class OfACluster(Pooled):
 class WithoutACluster(Pooled):
     def test_no_scheduler(self) -> None:
         """It is told, and this process goes on alone."""
-        with mock.patch.object(pools, "CONNECT", 0.5):
-            pool = pool_of(0, "tcp://127.0.0.1:9")
+        with mock.patch.object(worker_pools, "CONNECT_SECONDS", 0.5):
+            pool = open_pool(0, "tcp://127.0.0.1:9")
         self.assertRegex(pool.fault, "^no scheduler of Dask at tcp:|^cluster= needs Dask")
         self.searched(pool)
 
@@ -339,8 +340,8 @@ def goes(pid: int) -> bool:
 def long(path: str, folder: str) -> None:
     """A long search by two processes, as a driver makes it."""
     SIGNALS.install()
-    crowd.AT_HOME = 3
-    bridge, pool = Bridge(PROGRAM, lambda argv: None), Processes(2)
+    parallel.NODES_BEFORE_PARALLEL = 3
+    bridge, pool = Bridge(PROGRAM, lambda argv: None), ProcessPool(2)
     work = Certifying(
         bridge, path, folder, Program(bridge.text("export", path)), 0, Watch(600.0), pool=pool
     )

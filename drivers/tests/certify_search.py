@@ -21,12 +21,11 @@ from bridge_drivers.program.bridge import Bridge
 from bridge_drivers.system.errors import DeadlineExceeded
 from bridge_drivers.certify import text
 from bridge_drivers.certify.claims import Certifying, Given, Verdict, certified
-from bridge_drivers.certify.crowd import Crowd
-from bridge_drivers.certify.parts import Better
-from bridge_drivers.certify.plans import Plans
-from bridge_drivers.certify.search import Search
+from bridge_drivers.certify.plans import Better, Plans
 from bridge_drivers.certify.short import trivial
 from bridge_drivers.certify.watch import Over, Watch
+from bridge_drivers.exact.parallel import ParallelSearch
+from bridge_drivers.exact.search import BranchAndBound
 from bridge_drivers.model.linear_program import Program
 import families
 from models import BINARY, CLAIMED, MODELS, nl, real, whole
@@ -93,7 +92,8 @@ class Torn(Certified):
             gone += event == "line"
             if gone > line:
                 work.watch.over(0, None)
-            return traced if "certify" in frame.f_code.co_filename else None
+            path = frame.f_code.co_filename
+            return traced if "certify" in path or "exact" in path else None
 
         self.addCleanup(sys.settrace, None)
         sys.settrace(traced)
@@ -213,7 +213,7 @@ class Models(Certified):
             verdict = self.claimed(name, "point", Given(x), proves=False)
             self.assertEqual(verdict.line, f"optimal {CLAIMED[name].value}")
         given = Given(KNAP)
-        with mock.patch("bridge_drivers.certify.search.MOST_DEPTH", -1):
+        with mock.patch("bridge_drivers.exact.search.MOST_DEPTH", -1):
             for bounds, line in ((False, "feasible 17"), (True, "within 19 17")):
                 self.assertEqual(
                     self.claimed("knap", "point", given, proves=False, bounds=bounds).line, line
@@ -329,7 +329,9 @@ class Spines(Certified):
         """It has that of both parts; and nothing is told below what bounds of columns say."""
         for name in ("mixed", "lots"):
             work, plans = self.stopped(name, 2)
-            with mock.patch.object(Search, "own_bound", lambda search, above: above.base):
+            with mock.patch.object(
+                BranchAndBound, "_bound_of_node", lambda search, branch: branch.bound
+            ):
                 bound = self.bound(work, plans)
             least = trivial(work.model)
             self.assertTrue(least is None or least <= bound)
@@ -338,13 +340,13 @@ class Spines(Certified):
     def test_looser_bound(self) -> None:
         """A bound that does not close is lowered."""
         work, plans = self.stopped("lots", 4)
-        ended, tries = Crowd.ended_at, []
+        ended, tries = ParallelSearch.finish_at_cutoff, []
 
-        def ending(search, goal):
-            tries.append(goal.target)
-            return None if len(tries) < 2 else ended(search, goal)
+        def ending(search, cutoff):
+            tries.append(cutoff.value)
+            return None if len(tries) < 2 else ended(search, cutoff)
 
-        with mock.patch.object(Crowd, "ended_at", ending):
+        with mock.patch.object(ParallelSearch, "finish_at_cutoff", ending):
             self.assertIsNotNone(self.bound(work, plans))
         self.assertEqual(sorted(tries, reverse=True), tries)
 
@@ -352,10 +354,10 @@ class Spines(Certified):
 class Limits(Certified):
     def test_within(self) -> None:
         """One text for the point and the bound where the time is over."""
-        made, look = CLAIMED["eqknap"].text, Search.look
+        made, look = CLAIMED["eqknap"].text, BranchAndBound.check_limits
 
-        def looking(search: Search) -> None:
-            if search.nodes > 3 and search.aim.target is not None:
+        def looking(search: BranchAndBound) -> None:
+            if search.nodes > 3 and search.cutoff.value is not None:
                 work.watch.is_stopped = True
             look(search)
 
@@ -364,7 +366,7 @@ class Limits(Certified):
             (self.found(made).point, r"^within \d+ 14$"),
         ):
             work = self.work(made)
-            with mock.patch.object(Search, "look", looking):
+            with mock.patch.object(BranchAndBound, "check_limits", looking):
                 self.assertRegex(certified(work, "point", Given(point)).line, line)
 
     def test_a_step_that_never_looks_at_the_clock(self) -> None:
@@ -375,13 +377,13 @@ class Limits(Certified):
                 time.sleep(0.01)
 
         for part, claim, given, lines in (
-            ("contradictions.parity", "infeasible", None, "not proved: time"),
-            ("crowd.Crowd.resume", "point", KNAP, r"within \S+ 17"),
-            ("plans.Plans.bounded", "point", KNAP, r"(optimal|within \S+) 17"),
+            ("certify.contradictions.parity", "infeasible", None, "not proved: time"),
+            ("exact.parallel.ParallelSearch.resume", "point", KNAP, r"within \S+ 17"),
+            ("certify.plans.Plans.bounded", "point", KNAP, r"(optimal|within \S+) 17"),
         ):
             work = self.work(CLAIMED["knap"].text)
             work.watch, start = Watch(1.0), time.monotonic()
-            with mock.patch("bridge_drivers.certify." + part, endless):
+            with mock.patch("bridge_drivers." + part, endless):
                 verdict = certified(work, claim, Given(given))
             self.assertLess(time.monotonic() - start, 30)
             self.assertRegex(verdict.line, f"^{lines}$", part)
@@ -399,8 +401,8 @@ class Limits(Certified):
 
     def test_a_tree_that_is_too_deep(self) -> None:
         """The point stays, with the bound of the relaxation."""
-        with mock.patch("bridge_drivers.certify.search.MOST_DEPTH", -1), mock.patch.object(
-            Search, "best_bound", lambda *_: -math.inf
+        with mock.patch("bridge_drivers.exact.search.MOST_DEPTH", -1), mock.patch.object(
+            BranchAndBound, "close_and_bound", lambda *_: -math.inf
         ):
             self.assertRegex(
                 self.claimed("eqknap", "point", Given([F(2), F(7), F(5)])).line, r"^within \S+ 14$"
@@ -424,9 +426,9 @@ class Limits(Certified):
 
     def test_interrupt_and_progress(self) -> None:
         """An interrupt ends the search and no more; lines of progress where it takes long."""
-        lines, look = list[str](), Search.look
+        lines, look = list[str](), BranchAndBound.check_limits
 
-        def looking(search: Search) -> None:
+        def looking(search: BranchAndBound) -> None:
             search.watch.told -= 6
             lines.append(search.watch.progress.line())
             if search.nodes >= 5:
@@ -435,7 +437,7 @@ class Limits(Certified):
 
         old = signal.signal(signal.SIGINT, signal.default_int_handler)
         try:
-            with mock.patch.object(Search, "look", looking):
+            with mock.patch.object(BranchAndBound, "check_limits", looking):
                 verdict = self.claimed("eqknap", "infeasible")
             self.assertEqual(signal.getsignal(signal.SIGINT), signal.default_int_handler)
         finally:

@@ -15,10 +15,11 @@ from ..exact.clp import Clp, ClpNotInstalled, LpStatus
 from .contradictions import Contradicting
 from .judging import NO_POINT, WITHOUT, Bound, Given, Verdict, wide_note
 from ..model.integer_form import Box, Point, UnsupportedModel
-from .parts import Better
-from .plans import Plans
+from .plans import Better, Plans
 from ..exact.linear_systems import NotSolved, TooManyBits
-from .watch import KEPT, Over, Stopped
+from .watch import KEPT, Over
+from ..exact.search import ImprovedIncumbent
+from ..system.errors import SearchEnded
 from ..program.bridge import Refused
 from ..exact.dual_bound import DOUBLES_NOTE, MultiplierKind, fits_certificate, is_optimal_in_doubles
 from ..exact.leaf_proofs import LeafProof, LeafProver, basis_duals
@@ -243,11 +244,11 @@ class Certifying(Contradicting):
             near = points.loosened(self.model, x, frees)
             try:
                 until = self.watch.spent() + self.watch.left() / 4
-                self.shared(near).resume(until, MOST_MENDED)
-            except Better as better:
-                return better.point
-            except (ClpNotInstalled, Stopped):
-                pass
+                found = self.shared(near).resume(until, MOST_MENDED)
+            except (ClpNotInstalled, SearchEnded):
+                continue
+            if isinstance(found, ImprovedIncumbent):
+                return found.point
         return None
 
     def without_exact(self, x: Sequence[float | Fraction], by: Fraction) -> Verdict:
@@ -415,7 +416,7 @@ def certified(work: Certifying, claim: str, given: Given = Given()) -> Verdict:
                 return found._replace(is_open=work.is_open())
     except Refused as fault:
         return Verdict(WITHOUT + fault.line())
-    except (UnsupportedModel, ClpNotInstalled, Stopped, Over) as fault:
+    except (UnsupportedModel, ClpNotInstalled, SearchEnded, Over) as fault:
         return Verdict(WITHOUT + str(fault))
     finally:
         Clp.restrict(math.inf)

@@ -11,8 +11,9 @@ from .equations import hollow, parity
 from .judging import WITHOUT, Given, Judging, Verdict
 from ..exact.relaxation import relaxation
 from ..model.integer_form import IntegerProgram, Point
-from .parts import Better
-from .watch import Stopped
+from .plans import Better
+from ..system.errors import SearchEnded
+from ..exact.search import ImprovedIncumbent
 from ..exact.dual_bound import MultiplierKind
 from ..exact.leaf_proofs import from_fractions
 
@@ -31,7 +32,7 @@ class Contradicting(Judging):
             if self.linear and simplex.is_small(self.model):
                 yield from self.by_simplex()
             yield self.contradiction()
-        except (ClpNotInstalled, Stopped) as fault:
+        except (ClpNotInstalled, SearchEnded) as fault:
             yield from self.in_the_end()
             yield Verdict(f"{WITHOUT}{fault}")
         except Better as better:
@@ -57,7 +58,7 @@ class Contradicting(Judging):
         else:
             plans.run_plain()
         if plans.best is None:
-            raise Stopped(self.watch.why(plans.going[0].told.partition(": ")[2]))
+            raise SearchEnded(self.watch.why(plans.going[0].told.partition(": ")[2]))
         return self.by_tree(plans.best)
 
     def in_the_end(self) -> Iterator[Verdict]:
@@ -74,7 +75,7 @@ class Contradicting(Judging):
         self.watch.progress.tell("the simplex method in fractions")
         try:
             ended = self.ended(self.model, given)
-        except Stopped as fault:
+        except SearchEnded as fault:
             yield Verdict(f"{WITHOUT}{fault}")
             return
         point, is_infeasible = ended.point, ended.claim == "infeasible"
@@ -148,12 +149,10 @@ class Contradicting(Judging):
                 )
             return self.ended(p).point if found is None and simplex.is_small(p) else found
         try:
-            self.shared(p).resume(self.watch.spent() + self.watch.left())
-        except Better as better:
-            return better.point
-        except Stopped:
+            ended = self.shared(p).resume(self.watch.spent() + self.watch.left())
+        except SearchEnded:
             return None
-        return None
+        return ended.point if isinstance(ended, ImprovedIncumbent) else None
 
 
 def short_of_rays(p: IntegerProgram) -> bool:

@@ -11,15 +11,15 @@ from typing import Callable, Iterator, Mapping, NamedTuple, Sequence
 
 from . import points, text
 from ..exact.clp import Basis, Clp, LpStatus, library
-from .crowd import Crowd
 from ..exact.relaxation import relaxation
 from ..pipeline.row_factors import whole_form
 from ..model.integer_form import Box, IntegerProgram, Point
 from .plans import Plans, Shaped, written
-from .pool import Pool, Problem
 from .short import shortened
 from .text import Naming
 from .watch import Watch
+from ..exact.parallel import ParallelSearch
+from ..exact.worker_pools import SearchProblem, WorkerPool
 from ..exact.dual_bound import Multipliers, bit_width, dual_bound, fits_certificate
 from ..system.errors import DeadlineExceeded
 from ..program.bridge import Bridge, Refused
@@ -105,7 +105,7 @@ class Judging:
         relaxed: bool = False,
         bounds: bool = False,
         shortens: bool = False,
-        pool: Pool | None = None,
+        pool: WorkerPool | None = None,
     ) -> None:
         self.bridge, self.nl, self.folder, self.objective = bridge, nl, folder, objective
         self.watch, self.proves, self.relaxed, self.bounded = watch, proves, relaxed, bounds
@@ -123,9 +123,9 @@ class Judging:
     def plans_for(self, p: IntegerProgram, value: Fraction | None) -> Plans:
         return Plans(p, value, self.exact, self.folder, self.watch, self.shortens, self.pool)
 
-    def shared(self, p: IntegerProgram) -> Crowd:
+    def shared(self, p: IntegerProgram) -> ParallelSearch:
         """The search for a point."""
-        return Crowd(Problem(p), self.exact, self.watch, self.pool)
+        return ParallelSearch(SearchProblem(p), self.exact, self.watch, self.pool)
 
     def load(self) -> None:
         if not hasattr(self, "model"):

@@ -14,14 +14,15 @@ from dataclasses import dataclass
 from fractions import Fraction
 from typing import Iterator, NamedTuple, Sequence
 
-from .crowd import Crowd
 from .directions import directions
 from ..model.integer_form import IntegerProgram, Row
-from .pool import Pool, Problem
-from .search import MOST_NODES, Exact
 from .short import trivial
 from .spine import Maker, ProvedCut, Spined, Value
-from .watch import Paused, Stopped, Watch
+from .watch import Watch
+from ..exact.parallel import ParallelSearch
+from ..exact.search import MOST_NODES, ExactPoint, ImprovedIncumbent
+from ..exact.worker_pools import SearchProblem, WorkerPool
+from ..system.errors import SearchEnded, SearchPaused
 from ..exact.tree import Tree
 from ..system.files import new_text
 
@@ -46,6 +47,12 @@ WORTH = 2.0  # of the share of a gap that is left: that of the time
 KINDS = {"lemma": ("row",), "clique": ("row", "clique")}
 
 
+class Better(Exception):
+    def __init__(self, found: ImprovedIncumbent) -> None:
+        super().__init__(found)
+        self.point, self.value = found
+
+
 class Shaped(NamedTuple):
     """A tree's text in a file, its nodes and rows of the spine, and its plan."""
 
@@ -62,7 +69,7 @@ class Plan:
 
     name: str
     rows: Sequence[ProvedCut]
-    search: Crowd
+    search: ParallelSearch
     spent: float = 0.0
     guessed: float = math.inf  # seconds that it takes, before it says so itself
     factor: float = 1.0  # by which forecasts were too low
@@ -71,7 +78,7 @@ class Plan:
 
     def expected(self) -> float:
         """Seconds that are left, by the share of the tree that is closed."""
-        closed = self.search.share()
+        closed = self.search.proved_share()
         rest = self.spent * (1 - closed) / closed if closed else self.guessed
         return max(rest, TINY) * self.factor
 
@@ -90,11 +97,11 @@ class Plans:
         self,
         model: IntegerProgram,
         value: Fraction | None,
-        exact: Exact,
+        exact: ExactPoint,
         folder: str,
         watch: Watch,
         shortens: bool = False,
-        pool: Pool | None = None,
+        pool: WorkerPool | None = None,
     ) -> None:
         self.model, self.exact, self.folder, self.watch = model, exact, folder, watch
         self.shortens, self.pool = shortens, pool
@@ -127,8 +134,10 @@ class Plans:
             *(Row(added.coefficients) for added in self.value.added),
             *(row.added() for row in rows),
         ]
-        problem = Problem(self.model, above, forms, self.value.goal)
-        self.going.append(Plan(name, rows, Crowd(problem, self.exact, self.watch, self.pool)))
+        problem = SearchProblem(self.model, above, forms, self.value.goal)
+        self.going.append(
+            Plan(name, rows, ParallelSearch(problem, self.exact, self.watch, self.pool))
+        )
         return self.going[-1]
 
     def goes(self, plan: Plan, seconds: float, most: int = MOST_NODES) -> bool:
@@ -138,8 +147,10 @@ class Plans:
         began = self.watch.spent()
         try:
             tree = plan.search.resume(self.until(seconds), most)
-        except Stopped as fault:
-            plan.told, plan.is_dead = f"{plan.name}: {fault}", not isinstance(fault, Paused)
+            if isinstance(tree, ImprovedIncumbent):
+                raise Better(tree)
+        except SearchEnded as fault:
+            plan.told, plan.is_dead = f"{plan.name}: {fault}", not isinstance(fault, SearchPaused)
             return False
         finally:
             plan.spent += self.watch.spent() - began
@@ -152,7 +163,7 @@ class Plans:
         return True
 
     def shaped(self, plan: Plan, value: Value, tree: Tree, name: str) -> Shaped:
-        spined = Spined(self.model, plan.search.search.model, value, plan.rows, tree)
+        spined = Spined(self.model, plan.search.search.program, value, plan.rows, tree)
         path = os.path.join(self.folder, name + ".tree")
         return Shaped(
             path, written(path, spined.lines()), spined.nodes(), len(spined.kept), plan.name
@@ -252,7 +263,7 @@ class Plans:
         """The one search of a run without `proves`: of no bound that might be lost with its time is told, and on a busy
         machine some is left for it."""
         plan = self.begun("plain")
-        plan.search.tells = False
+        plan.search.reports_progress = False
         while self.left() > 0 and self.watch.until_over() > SPARE and not plan.is_dead:
             self.goes(plan, SLICE)
 
@@ -273,17 +284,17 @@ class Plans:
 
     def stands_at(self) -> float:
         """What a search that is stopped has told: no point is better."""
-        return max((plan.search.bound() for plan in self.going), default=-math.inf)
+        return max((plan.search.dual_bound for plan in self.going), default=-math.inf)
 
     def bounded(self) -> tuple[Fraction, str] | None:
         """A value that no point is better than, which the stopped searches have, with the file of its tree: the best
         that closes. That search can not go on."""
-        for plan in sorted(self.going, key=lambda plan: -plan.search.bound()):
-            bound = plan.search.best_bound()
+        for plan in sorted(self.going, key=lambda plan: -plan.search.dual_bound):
+            bound = plan.search.close_and_bound()
             for room in LOOSER if bound > -math.inf else ():
                 low = self.rounded(bound - room * max(1.0, abs(bound)))
                 value = Value(self.model, low, self.step)
-                tree = plan.search.ended_at(value.goal)
+                tree = plan.search.finish_at_cutoff(value.goal)
                 if tree is not None:
                     self.going.remove(plan)
                     return low, self.shaped(plan, value, tree, f"bound by {plan.name}").path

@@ -15,13 +15,14 @@ from . import text
 from ..exact.clp import Clp, LpStatus
 from ..exact.relaxation import relaxation
 from ..model.integer_form import IntegerProgram, ObjectiveLattice, Row
-from .parts import Better
-from .search import Goal, Search
 from .text import Naming
-from .watch import Stopped, Watch
+from .watch import Watch
 from ..exact.dual_bound import MultiplierKind
 from ..exact.mir import MIRCut, MIRProof, prove_mir_cut
 from ..exact.mir_separation import MIRSeparator
+from ..exact.fathoming import Cutoff
+from ..exact.search import BranchAndBound, ImprovedIncumbent
+from ..system.errors import SearchEnded
 from ..exact.tree import Tree, node_count, rows_used
 
 ROUNDS = 30
@@ -136,10 +137,10 @@ class Value:
         self, model: IntegerProgram, value: Fraction | None, step: ObjectiveLattice | None
     ) -> None:
         self.value, self.step, self.at = value, step, 0
-        self.goal = Goal(value)
+        self.goal = Cutoff(value)
         if step is not None and value is not None:
             self.at = math.ceil((value - model.constant_fraction) / step.spacing) - 1
-            self.goal = Goal(value - step.spacing, True)
+            self.goal = Cutoff(value - step.spacing, True)
         self.added = [] if step is None else [Row(step.coefficients, None, self.at)]
 
 
@@ -148,7 +149,7 @@ class Maker:
 
     def __init__(self, model: IntegerProgram, value: Value, watch: Watch) -> None:
         self.model, self.value, self.watch = model, value, watch
-        self.goal = math.inf if value.goal.target is None else float(value.goal.target)
+        self.goal = math.inf if value.goal.value is None else float(value.goal.value)
         self.base = -math.inf  # of the last relaxation
         self.stalled = STALLED if any(model.costs) else ROUNDS
 
@@ -253,12 +254,15 @@ class Maker:
             *(row.added() for row in rows),
             Row(cut.coefficients, cut.rhs + 1),
         ]
-        search = Search(self.model.with_rows(added), Goal(None), self.watch, strong=4)
-        search.until, search.most = self.watch.spent() + BEYOND_SECONDS, BEYOND_NODES
+        search = BranchAndBound(
+            self.model.with_rows(added), Cutoff(None), self.watch, strong_candidates=4
+        )
+        search.until, search.most_nodes = self.watch.spent() + BEYOND_SECONDS, BEYOND_NODES
         try:
-            return search.worked().tree
-        except (Stopped, Better):
+            found = search.run()
+        except SearchEnded:
             return None
+        return None if isinstance(found, ImprovedIncumbent) else found.tree
 
 
 def key(terms: Mapping[int, int], at: int) -> object:

@@ -10,20 +10,13 @@ from typing import Callable, ContextManager, Iterator
 
 from ..system.processes import SIGNALS
 from ..progress import Progress, detailed
+from ..system.errors import SearchEnded, SearchPaused
 
 EVERY = 0.5  # seconds between what is told of the progress
 GRACE = 5.0  # seconds past the limit and a tenth of it, when all has ended
 KEPT = 2.5  # seconds of them, for what is known when the limit comes
 LEAST = 0.1  # seconds that a call of `bridge verify` has
 AGAIN = 1.0  # seconds after which a step that goes on is told once more
-
-
-class Stopped(Exception):
-    """A search ended without a tree; the text says why."""
-
-
-class Paused(Stopped):
-    """The time or the nodes that it had are over: it can go on."""
 
 
 class Over(Exception):
@@ -78,13 +71,13 @@ class Watch:
         return left if self.of_processor else min(self.left(), left)
 
     def look(self, nodes: int, until: float) -> None:
-        """At each node: Paused after the limit or `until` (in seconds of this watch), Stopped after an interrupt."""
+        """At each node: SearchPaused after the limit or `until` (in seconds of this watch), SearchEnded after an interrupt."""
         if self.is_stopped:
-            raise Stopped("interrupted")
+            raise SearchEnded("interrupted")
         if self.is_ending:
-            raise Paused("the process ends")
+            raise SearchPaused("the process ends")
         if self.spent() > until or self.left() < 0:
-            raise Paused(f"time ({nodes} nodes)")
+            raise SearchPaused(f"time ({nodes} nodes)")
 
     def why(self, told: str) -> str:
         """Why a search has no tree: what it told last, or an interrupt, which came while another one went on."""

@@ -1,0 +1,214 @@
+"""Proofs that a node has no point better than the cutoff, as leaves of the tree.
+
+A leaf is fathomed by dual multipliers whose bound reaches the cutoff, or by Farkas multipliers,
+which prove that the node has no point at all (`dual_bound`). What the bound has beyond the cutoff
+is used up: bounds of branches are given back where the file's own bound will do, so that the leaf
+rests on fewer branches, and then multipliers are left out that it does not need.
+"""
+
+from __future__ import annotations
+
+from fractions import Fraction
+from typing import Callable, List, Mapping, NamedTuple, Optional, Sequence, Tuple
+
+from ..model.integer_form import Box, IntegerProgram
+from .clp import Clp, LpStatus
+from .dual_bound import MultiplierKind, Multipliers
+from .leaf_proofs import LeafProof, LeafProver, basis_duals, phase_one_duals
+from .node import Node, ProvedSubtree
+from .relaxation import PHASE_ONE_TOLERANCE, phase_one
+from .tree import EmptyDomain, leaf_of
+
+LEAST_INFEASIBILITY = 1e-9  # of phase one, for a contradiction
+SMALLEST_INFEASIBILITY = 1e-14  # the same where nothing else is left to try
+MOST_ENTRIES_BY_ROW = 10**6  # rows times columns of a program whose single rows are tried
+
+ExactDuals = Callable[
+    [IntegerProgram, Sequence[int], Sequence[int]], Optional[Mapping[int, Fraction]]
+]
+
+
+class Cutoff(NamedTuple):
+    """What the leaves of a search must show.
+
+    Attributes:
+        value: The bound that duals must reach, minimised; None: there is to be no point at all.
+        is_strict: Whether the bound must exceed it.
+    """
+
+    value: Optional[Fraction]
+    is_strict: bool = False
+
+    def is_improved_by(self, objective: Fraction) -> bool:
+        """Whether a point of this objective should not be there."""
+        if self.value is None:
+            return True
+        return objective < self.value or self.is_strict and objective == self.value
+
+
+class BoundUse(NamedTuple):
+    """A bound that a branch gave and that a leaf rests on.
+
+    Attributes:
+        depth: Of the branch.
+        column: Or form.
+        reduced_cost: Of the column; of a form its multiplier. Above 0 it rests on the lower bound.
+    """
+
+    depth: int
+    column: int
+    reduced_cost: int
+
+
+class Fathomer:
+    """Finds leaves for the node where a search stands."""
+
+    def __init__(self, node: Node, cutoff: Cutoff) -> None:
+        self.node = node
+        self.program = node.program
+        self._phase_one: Optional[Clp] = None
+        self.set_cutoff(cutoff)
+
+    def set_cutoff(self, cutoff: Cutoff) -> None:
+        """For the leaves from here on."""
+        self.cutoff = cutoff
+        self.prover = LeafProver(self.program, cutoff.value, cutoff.is_strict)
+
+    def by_duals(self) -> Optional[ProvedSubtree]:
+        """By the duals of the relaxation that was solved last."""
+        proof = self._proof_of(self.node.clp, MultiplierKind.DUAL, basis_duals)
+        return None if proof is None else self._proved(proof)
+
+    def by_farkas(self) -> Optional[ProvedSubtree]:
+        """By Farkas multipliers: a ray of CLP, in either sign, else those of phase one."""
+        ray = self.node.clp.farkas_multipliers()
+        for sign in (1, -1):
+            multipliers = {row: sign * v for row, v in enumerate(ray)}
+            proof = self.prover.prove_from_doubles(
+                multipliers, MultiplierKind.FARKAS, self.node.box
+            )
+            if proof is not None:
+                return self._proved(proof)
+        return self.by_phase_one()
+
+    def by_row(self) -> Optional[ProvedSubtree]:
+        """By a single row that no point of the box satisfies."""
+        program = self.program
+        if program.m * program.n > MOST_ENTRIES_BY_ROW:
+            return None
+        for row in range(program.m):
+            for bound, sign in ((program.row_lower[row], 1), (program.row_upper[row], -1)):
+                if bound is None:
+                    continue
+                multipliers = Multipliers({row: sign}, 1, MultiplierKind.FARKAS)
+                proof = self.prover.prove(multipliers, self.node.box)
+                if proof is not None:
+                    return self._proved(proof)
+        return None
+
+    def by_phase_one(self, least: float = LEAST_INFEASIBILITY) -> Optional[ProvedSubtree]:
+        """By the duals of phase one, which minimises by how much rows are violated.
+
+        Args:
+            least: The violation, in the rows' units, from which on it is taken for one.
+        """
+        clp = self._phase_one_in_node()
+        clp.set_tolerance(min(PHASE_ONE_TOLERANCE, least))
+        if clp.solve() is not LpStatus.OPTIMAL or clp.objective() < least:
+            return None
+        proof = self._proof_of(clp, MultiplierKind.FARKAS, phase_one_duals)
+        return None if proof is None else self._proved(proof)
+
+    def empty_domain(self, column: int) -> ProvedSubtree:
+        """Of an integer column with no integer between its bounds.
+
+        Multipliers do not see that, a split disjunction on the column does.
+        """
+        upper = self.node.box.upper[column]
+        assert upper is not None
+        depths = [part[column] for part in self.node.bound_depths]
+        return ProvedSubtree(
+            [EmptyDomain(column, upper // self.program.bound_scale)],
+            frozenset(depth for depth in depths if depth is not None),
+        )
+
+    def _phase_one_in_node(self) -> Clp:
+        """The program of phase one, under the node's bounds."""
+        node, program = self.node, self.program
+        if self._phase_one is None:
+            self._phase_one = phase_one(program)
+        lower, upper = ([program.bound_as_double(bound) for bound in part] for part in node.box)
+        for column in range(program.n):
+            self._phase_one.set_bounds(column, lower[column], upper[column])
+        for form in node.forms:
+            self._phase_one.set_row_bounds(form - program.n, lower[form], upper[form])
+        return self._phase_one
+
+    def _proof_of(
+        self, clp: Clp, kind: MultiplierKind, exact_duals: ExactDuals
+    ) -> Optional[LeafProof]:
+        """By CLP's duals, else by the exact ones of its basis."""
+        duals = dict(enumerate(clp.duals()))
+        proof = self.prover.prove_from_doubles(duals, kind, self.node.box)
+        if proof is not None:
+            return proof
+        exact = exact_duals(self.program, *clp.basis())
+        return self.prover.prove_from_fractions(exact, kind, self.node.box)
+
+    def _proved(self, proof: LeafProof) -> ProvedSubtree:
+        """The node by its leaf, which rests on as few branches as the proof's surplus allows."""
+        program = self.program
+        kept, surplus = self._without_needless_bounds(proof)
+        box = Box(*(self._own_unless(kept, is_upper) for is_upper in (0, 1)))
+        proof = self.prover.sparsified(proof._replace(surplus=surplus), box)
+        added = (row for row in proof.multipliers.numerators if row >= program.constraint_count)
+        depths = {use.depth for use in self._bounds_used(proof)}
+        return ProvedSubtree([leaf_of(proof.multipliers, added)], frozenset(kept & depths))
+
+    def _without_needless_bounds(self, proof: LeafProof) -> Tuple[set[int], int]:
+        """The branches that a proof rests on, when it spends its surplus on the file's own bounds.
+
+        A column whose bound goes back to the file's own one lowers the dual bound by its reduced
+        cost times the difference. The deepest branches are given back first.
+
+        Returns:
+            The depths of the branches, and the surplus that is left.
+        """
+        program, surplus = self.program, proof.surplus
+        used = self._bounds_used(proof)
+        kept = {use.depth for use in used}
+        for depth, column, reduced_cost in sorted(used, reverse=True):
+            if column >= program.n:
+                continue
+            lower_or_upper = 0 if reduced_cost > 0 else 1
+            own = (program.lower, program.upper)[lower_or_upper][column]
+            bound = self.node.box[lower_or_upper][column]
+            if own is None or bound is None:
+                continue
+            loss = reduced_cost * (bound - own)
+            if loss <= surplus:
+                surplus -= loss
+                kept.discard(depth)
+        return kept, surplus
+
+    def _own_unless(self, kept: set[int], is_upper: int) -> List[Optional[int]]:
+        """The columns' bounds: the node's where one of these branches gave it, else the file's."""
+        own_bounds = (self.program.lower, self.program.upper)[is_upper]
+        node_bounds, depths = self.node.box[is_upper], self.node.bound_depths[is_upper]
+        return [
+            bound if depth in kept else own
+            for bound, depth, own in zip(node_bounds, depths, own_bounds)
+        ]
+
+    def _bounds_used(self, proof: LeafProof) -> List[BoundUse]:
+        """The bounds of branches that a leaf rests on."""
+        lower_depths, upper_depths = self.node.bound_depths
+        n, numerators = self.program.n, proof.multipliers.numerators
+        used = [(j, cost) for j, cost in enumerate(proof.reduced_costs) if cost]
+        used += [(j, numerators[j - n]) for j in self.node.forms if j - n in numerators]
+        found = []
+        for column, cost in used:
+            depth = lower_depths[column] if cost > 0 else upper_depths[column]
+            if depth is not None:
+                found.append(BoundUse(depth, column, cost))
+        return found

@@ -1,0 +1,359 @@
+"""One search by several processes: units of it are worked for some seconds each, by a pure function
+that a `concurrent.futures.Executor` runs.
+
+A unit is what is left below some branches, with the nodes that are open in it. Where there are
+fewer units than are wanted, the widest subtree of one that comes back, in which nobody is, becomes
+a unit of its own. What is proved comes together here: a branching node whose proof does not rest on
+one of its branches falls away, with what is worked of the sibling.
+"""
+
+from __future__ import annotations
+
+import math
+import pickle
+import time
+import weakref
+from concurrent.futures import FIRST_COMPLETED, Future, wait
+from dataclasses import dataclass
+from functools import cached_property
+from typing import Callable, Dict, List, Optional, Union
+
+from ..certify.watch import Watch
+from ..system.errors import SearchEnded, SearchPaused
+from .fathoming import Cutoff
+from .node import Branch, OpenNode, ProvedSubtree, join, least_open_bound
+from .search import MOST_NODES, ExactPoint, ImprovedIncumbent
+from .tree import RemoteSubtree, Tree, node_count, with_remote
+from .worker_pools import PoolFailed, SearchProblem, UnitResult, WorkerPool, WorkUnit
+
+NODES_BEFORE_PARALLEL = 100  # that this process works first: small trees start no process
+WAITING_UNITS = 2  # for each process, so that none is idle
+LEAST_UNIT_SECONDS = 0.2
+MOST_UNIT_SECONDS = 5.0
+UNIT_SHARE = 0.1  # of the seconds of the search so far
+POLL_SECONDS = 0.2  # between looks at the limits
+MOST_FAULTS = 3  # of processes with one subtree, before this process goes on alone
+GRACE_SECONDS = 1.0  # more for units that are worked when the time is over
+
+Found = Union[ProvedSubtree, ImprovedIncumbent]
+
+
+@dataclass(eq=False)
+class Subtree:
+    """A part of the tree that is not proved.
+
+    Attributes:
+        place: The directions of the branches that lead to it from the root, as digits.
+        open_nodes: Those in it that were worked partly.
+        bound: The dual bound of the node above it.
+        seconds: That it gets at least.
+        faults: Processes that died with it in a row.
+        is_dropped: Whether nothing rests on it any more.
+    """
+
+    place: str
+    open_nodes: List[OpenNode]
+    bound: float = -math.inf
+    seconds: float = 0.0
+    faults: int = 0
+    is_dropped: bool = False
+
+    def dual_bound(self) -> float:
+        return least_open_bound(self.open_nodes, self.bound)
+
+
+class ParallelSearch:
+    """One search, which this process begins and a pool goes on with, where there is one.
+
+    Attributes:
+        search: What this process works; it also closes what is left for a bound.
+        branches: By place, the branching nodes between the root and the subtrees.
+        proved: By place, subtrees that are proved; all of the tree is at "".
+        waiting: Subtrees that nobody works; the last is worked next.
+        running: Those that the pool works.
+        reports_progress: Whether the watch is told of it.
+    """
+
+    def __init__(
+        self,
+        problem: SearchProblem,
+        exact_point: ExactPoint,
+        watch: Watch,
+        pool: Optional[WorkerPool] = None,
+    ) -> None:
+        self.problem = problem
+        self.watch = watch
+        self.pool = pool or WorkerPool(0)
+        self.search = problem.search(watch, exact_point)
+        this: ParallelSearch = weakref.proxy(self)  # so that CLP's memory is free with the last use
+        self.search.on_node = lambda: this.report_progress()
+        self.reports_progress = True
+        self.running: Dict[Future[UnitResult], Subtree] = {}
+        self.waiting = [Subtree("", [])]
+        self.branches: Dict[str, Branch] = {}
+        self.proved: Dict[str, ProvedSubtree] = {}
+        self.began = time.monotonic()
+
+    @cached_property
+    def packed_problem(self) -> bytes:
+        return pickle.dumps(self.problem, pickle.HIGHEST_PROTOCOL)
+
+    @property
+    def dual_bound(self) -> float:
+        """That of what is not proved, as it was last seen: no better point is there, minimised."""
+        return min((subtree.dual_bound() for subtree in self.subtrees()), default=math.inf)
+
+    def resume(
+        self, until: float = math.inf, most_nodes: int = MOST_NODES
+    ) -> Union[Tree, ImprovedIncumbent]:
+        """Goes on, until a second of the watch or a count of nodes.
+
+        Returns:
+            The whole tree, or a point that is better than the cutoff.
+
+        Raises:
+            SearchPaused: It can go on.
+            SearchEnded: It cannot.
+        """
+        search, is_alone = self.search, not self.pool.workers
+        search.until = until
+        search.most_nodes = most_nodes if is_alone else min(most_nodes, NODES_BEFORE_PARALLEL)
+        if is_alone or search.nodes < NODES_BEFORE_PARALLEL:
+            try:
+                return self._run_here(search.run)
+            except SearchPaused:
+                is_over = most_nodes <= NODES_BEFORE_PARALLEL or self.watch.spent() >= until
+                if is_alone or is_over:
+                    raise
+        search.most_nodes = most_nodes
+        try:
+            return self._run_in_pool(until)
+        except PoolFailed as fault:
+            self.pool.failed(fault)
+        return self._run_here(search.run)
+
+    def subtrees(self) -> List[Subtree]:
+        """What is not proved."""
+        return [*self.waiting, *self.running.values()]
+
+    def close_and_bound(self) -> float:
+        """The least dual bound of what waits, each open node solved once more.
+
+        The search stands elsewhere then, and can still end at another cutoff.
+        """
+
+        def bound(subtree: Subtree) -> float:
+            self.search.node.move_to(self._path(subtree.place), subtree.open_nodes)
+            return self.search.close_and_bound()
+
+        return min(map(bound, self.waiting), default=math.inf)
+
+    def finish_at_cutoff(self, cutoff: Cutoff) -> Optional[Tree]:
+        """The tree for a cutoff that is not better, where few nodes more are enough.
+
+        All that goes on afterwards is for that cutoff.
+        """
+        try:
+            found = self._run_here(lambda: self.search.finish_at_cutoff(cutoff))
+        except SearchEnded:
+            return None
+        return None if isinstance(found, ImprovedIncumbent) else found
+
+    def proved_share(self) -> float:
+        """The share of the tree that is proved, where both branches of a node count alike."""
+        open_nodes = (
+            (len(subtree.place) + depth, node)
+            for subtree in self.subtrees()
+            for depth, node in enumerate(subtree.open_nodes, 1)
+        )
+        return sum(0.5 ** len(place) for place in self.proved) + sum(
+            0.5**depth for depth, node in open_nodes if node.sibling is not None
+        )
+
+    def report_progress(self) -> None:
+        """Tells the watch of nodes, open nodes and the bound."""
+        if not self.reports_progress:
+            return
+        open_nodes = sum(1 + len(subtree.open_nodes) for subtree in self.subtrees())
+        known = {"nodes": float(self.search.nodes), "open": float(open_nodes)}
+        if self.search.cutoff.value is not None:
+            known["bound"] = self.search.program.sign * self.dual_bound
+        self.watch.tell(**known)
+
+    def _run_here(self, run: Callable[[], Found]) -> Union[Tree, ImprovedIncumbent]:
+        """By this process, one subtree after the other."""
+        while "" not in self.proved:
+            subtree = self.waiting[-1]
+            self.search.node.move_to(self._path(subtree.place), subtree.open_nodes)
+            subtree.open_nodes = self.search.node.open_nodes  # which change as it is worked
+            found = run()
+            if isinstance(found, ImprovedIncumbent):
+                return found
+            with self.watch.held():
+                self.waiting.pop()
+                self._close(subtree.place, found)
+        return self.proved[""].tree
+
+    def _run_in_pool(self, until: float) -> Union[Tree, ImprovedIncumbent]:
+        """By the pool; what is still worked when it ends goes back to where it was."""
+        improved = None
+        try:
+            while "" not in self.proved and improved is None:
+                self.search.check_limits()
+                self._submit_units(until)
+                improved = self._collect(POLL_SECONDS)
+        except SearchPaused:
+            while self.running and improved is None and self.watch.spent() < until + GRACE_SECONDS:
+                improved = self._collect(POLL_SECONDS)
+            if "" not in self.proved and improved is None:
+                raise
+        finally:
+            self._withdraw()
+        return self.proved[""].tree if improved is None else improved
+
+    def _path(self, place: str) -> List[Branch]:
+        """The branches that lead to a place."""
+        return [
+            self.branches[place[:depth]]._replace(direction=int(direction))
+            for depth, direction in enumerate(place)
+        ]
+
+    def _split_subtree(self, subtree: Subtree) -> bool:
+        """Makes its widest part in which nobody is a subtree of its own; whether there is one."""
+        while subtree.open_nodes:
+            branch, sibling = subtree.open_nodes[0]
+            place = subtree.place
+            beside = f"{place}{1 - branch.direction}"
+            self.branches[place] = branch
+            subtree.place = f"{place}{branch.direction}"
+            subtree.bound = branch.bound
+            subtree.open_nodes = subtree.open_nodes[1:]
+            if sibling is None:
+                self.waiting.append(Subtree(beside, [], branch.bound))
+                return True
+            self.proved[beside] = sibling
+        return False
+
+    def _close(self, place: str, proved: ProvedSubtree) -> None:
+        """A subtree is proved, and whatever is proved by it."""
+        while place:
+            above, direction = place[:-1], int(place[-1])
+            depth, sibling = len(above), self.proved.get(f"{above}{1 - direction}")
+            if depth in proved.needed_depths:
+                if sibling is None:
+                    break
+                branch = self.branches[above]._replace(direction=direction)
+                is_needed = depth in sibling.needed_depths
+                proved = join(branch, depth, proved, sibling) if is_needed else sibling
+            self._drop(above)
+            place = above
+        self.proved[place] = proved
+
+    def _drop(self, place: str) -> None:
+        """All that stands at a place and below it."""
+        self.branches = {at: v for at, v in self.branches.items() if not at.startswith(place)}
+        self.proved = {at: v for at, v in self.proved.items() if not at.startswith(place)}
+        for subtree in self.subtrees():
+            subtree.is_dropped = subtree.is_dropped or subtree.place.startswith(place)
+        self.waiting = [subtree for subtree in self.waiting if not subtree.is_dropped]
+        for future, subtree in self.running.items():
+            if subtree.is_dropped:
+                future.cancel()
+
+    def _submit_units(self, until: float) -> None:
+        """So that each process has a unit, and some wait: the least bounds first, then the widest."""
+
+        def rank(subtree: Subtree) -> tuple[float, int]:
+            return subtree.dual_bound(), len(subtree.place)
+
+        wanted = self.pool.workers * (1 + WAITING_UNITS) - len(self.running)
+        divisible = sorted(self.waiting, key=rank)
+        while len(self.waiting) < wanted and divisible:
+            if not self._split_subtree(divisible[0]):
+                divisible.pop(0)
+        self.waiting.sort(key=rank, reverse=True)
+        while self.waiting and len(self.running) < self.pool.workers:
+            future = self.pool.submit(self._unit(self.waiting[-1], until))
+            self.running[future] = self.waiting.pop()
+
+    def _unit(self, subtree: Subtree, until: float) -> WorkUnit:
+        seconds = max(UNIT_SHARE * (time.monotonic() - self.began), LEAST_UNIT_SECONDS)
+        seconds = max(min(seconds, MOST_UNIT_SECONDS), subtree.seconds)
+        seconds = min(seconds, max(until - self.watch.spent(), 0.0))
+        open_nodes = [
+            node if node.sibling is None else OpenNode(node.branch, _remote(key, node.sibling))
+            for key, node in enumerate(subtree.open_nodes)
+        ]
+        pseudocosts = self.search.branching.pseudocosts
+        path = self._path(subtree.place)
+        return WorkUnit(self.packed_problem, path, open_nodes, pseudocosts, seconds)
+
+    def _collect(self, seconds: float) -> Optional[ImprovedIncumbent]:
+        """Takes what ends within these seconds; a better point where one was found."""
+        ended = wait(self.running, seconds, FIRST_COMPLETED).done
+        with self.watch.held():
+            for future in ended:
+                subtree = self.running.pop(future)
+                if future.cancelled() or subtree.is_dropped:
+                    continue
+                self.waiting.append(subtree)  # until it is known to be proved
+                improved = self._take(subtree, future)
+                if improved is not None:
+                    return improved
+        return None
+
+    def _take(self, subtree: Subtree, future: Future[UnitResult]) -> Optional[ImprovedIncumbent]:
+        """What a unit made of its subtree. Where its process died it is worked again.
+
+        Raises:
+            SearchEnded: The unit cannot be worked.
+            PoolFailed: Too many processes died with it.
+        """
+        try:
+            result = future.result()
+        except SearchEnded:
+            raise
+        except Exception as fault:  # whatever a process elsewhere ends by
+            subtree.faults += 1
+            if subtree.faults > MOST_FAULTS:
+                words = str(fault) or type(fault).__name__
+                raise PoolFailed(f"processes of the search fail ({words})") from None
+            return None
+        if result.improved is not None:
+            return result.improved
+        self.search.nodes += result.nodes
+        self.search.branching.pseudocosts = result.pseudocosts
+        kept = {
+            key: node.sibling.tree
+            for key, node in enumerate(subtree.open_nodes)
+            if node.sibling is not None
+        }
+        subtree.open_nodes = [
+            node if node.sibling is None else OpenNode(node.branch, _here(node.sibling, kept))
+            for node in result.open_nodes
+        ]
+        subtree.seconds = 0.0 if result.nodes else 2 * max(subtree.seconds, LEAST_UNIT_SECONDS)
+        subtree.faults = 0
+        if result.proved is not None:
+            self.waiting.remove(subtree)
+            self._close(subtree.place, _here(result.proved, kept))
+        return None
+
+    def _withdraw(self) -> None:
+        """Ends what is still worked; its subtrees wait again."""
+        if self.running:
+            self.pool.stop()
+        with self.watch.held():
+            self.waiting += [s for s in self.running.values() if not s.is_dropped]
+            while self.running:
+                self.running.popitem()[0].cancel()
+
+
+def _remote(key: int, proved: ProvedSubtree) -> ProvedSubtree:
+    """What stands for a proved subtree in another process."""
+    return proved._replace(tree=[RemoteSubtree(key, node_count(proved.tree))])
+
+
+def _here(proved: ProvedSubtree, kept: Dict[int, Tree]) -> ProvedSubtree:
+    """A proof of another process, with the subtrees that were kept here."""
+    return proved._replace(tree=with_remote(proved.tree, kept))

@@ -1,0 +1,379 @@
+"""Branch and bound, depth first, whose tree is the certificate.
+
+Each node is fathomed by a leaf that is judged exactly, or branched on. Branches that no leaf below
+them rests on are left out of the tree, with what stands in their siblings.
+"""
+
+from __future__ import annotations
+
+import math
+from fractions import Fraction
+from typing import Callable, Dict, List, NamedTuple, Optional, Sequence, Union
+
+from ..model.integer_form import IntegerProgram, Point
+from ..certify.points import vertex
+from ..certify.watch import Watch
+from ..system.errors import NodeLimit, SearchEnded
+from .branching import LEAST_GAP, STRONG_CANDIDATES, PseudocostBranching, Relaxed
+from .clp import LpStatus
+from .fathoming import SMALLEST_INFEASIBILITY, Cutoff, Fathomer
+from .node import DOWN, Branch, Node, OpenNode, ProvedSubtree, join, least_open_bound
+from .tree import node_count
+
+INTEGRALITY_TOLERANCE = 1e-6  # how far from an integer a value counts as one
+ROUNDING_TOLERANCE = Fraction(1, 10**9)  # below an integer a value branches as if it were that
+LARGEST_EXACT_INTEGER = 2.0**53  # from here on doubles do not hold each integer
+CUTOFF_TOLERANCE = 1e-7  # of the cutoff: from that near a leaf is tried
+MOST_NODES = 2**22  # that the judge takes
+MOST_DEPTH = 3000
+LEAST_RELAXATION_SECONDS = 0.1
+NODES_TO_FINISH = 30  # beyond two for each open node, when a search ends at another cutoff
+
+ExactPoint = Callable[[Sequence[float]], Optional[Point]]
+
+
+class ImprovedIncumbent(NamedTuple):
+    """An exact point that the cutoff says is not there.
+
+    Attributes:
+        value: Its objective, minimised.
+    """
+
+    point: Point
+    value: Fraction
+
+
+def no_point(x: Sequence[float]) -> Optional[Point]:
+    """For a search that is after a proof alone."""
+    return None
+
+
+class BranchAndBound:
+    """One search, which can pause at any node and go on.
+
+    Attributes:
+        nodes: Of the tree so far.
+        until: The second of the watch at which it pauses.
+        most_nodes: At which it pauses; at MOST_NODES it fails.
+        on_node: Called at nodes that are due to be told of.
+    """
+
+    def __init__(
+        self,
+        program: IntegerProgram,
+        cutoff: Cutoff,
+        watch: Watch,
+        exact_point: ExactPoint = no_point,
+        forms: int = 0,
+        strong_candidates: int = STRONG_CANDIDATES,
+    ) -> None:
+        """
+        Args:
+            exact_point: Makes an exact point of a relaxation's values, where one is near them.
+            forms: How many of the program's last rows are integer forms to branch on.
+        """
+        self.program = program
+        self.watch = watch
+        self.exact_point = exact_point
+        self.node = Node(program, cutoff.value is not None, forms)
+        self.fathomer = Fathomer(self.node, cutoff)
+        self.branching = PseudocostBranching(strong_candidates)
+        self.nodes = 0
+        self.until = math.inf
+        self.most_nodes = MOST_NODES
+        self.most_depth = float(MOST_DEPTH)
+        self.on_node: Optional[Callable[[], None]] = None
+
+    @property
+    def cutoff(self) -> Cutoff:
+        return self.fathomer.cutoff
+
+    @property
+    def cutoff_value(self) -> float:
+        """In doubles; infinite where there is to be no point."""
+        return math.inf if self.cutoff.value is None else float(self.cutoff.value)
+
+    @property
+    def dual_bound(self) -> float:
+        """What no point of the open nodes is better than, by their relaxations, minimised."""
+        path = self.node.path
+        return least_open_bound(self.node.open_nodes, path[-1].bound if path else -math.inf)
+
+    def run(self) -> Union[ProvedSubtree, ImprovedIncumbent]:
+        """Searches the subtree that `node` was moved to, from where it stands.
+
+        Returns:
+            The proof of the subtree, or a point that is better than the cutoff. After a point the
+            search stands where it found it.
+
+        Raises:
+            SearchPaused: Its seconds or nodes are over; it can go on.
+            SearchEnded: It cannot.
+        """
+        while True:
+            found = self.solve_node(self.node.last_branch())
+            if isinstance(found, ImprovedIncumbent):
+                return found
+            if isinstance(found, Branch):
+                self.nodes += 1
+                self.node.open_nodes.append(OpenNode(found))
+                self.node.apply(found)
+                continue
+            self.nodes += node_count(found.tree)
+            proved = self._backtrack(found)
+            if proved is not None:
+                return proved
+
+    def _backtrack(self, proved: ProvedSubtree) -> Optional[ProvedSubtree]:
+        """Joins what is proved, upwards, until a sibling is still to be searched.
+
+        A branch that the proof does not rest on falls away: then it proves the node above too.
+
+        Returns:
+            The whole subtree; None where the search now stands in a sibling.
+        """
+        node = self.node
+        while node.open_nodes:
+            branch, sibling = node.open_nodes.pop()
+            node.undo()
+            depth = node.depth
+            if depth not in proved.needed_depths:
+                self.nodes -= 1 + (node_count(sibling.tree) if sibling is not None else 0)
+            elif sibling is not None:
+                proved = join(branch, depth, proved, sibling)
+            else:
+                branch = branch.sibling()
+                node.open_nodes.append(OpenNode(branch, proved))
+                node.clp.restore_basis(branch.basis)
+                node.apply(branch)
+                return None
+        return proved
+
+    def solve_node(
+        self, branch: Optional[Branch]
+    ) -> Union[Branch, ProvedSubtree, ImprovedIncumbent]:
+        """The node's relaxation, and what follows from it.
+
+        Args:
+            branch: That leads to the node; None at the root.
+
+        Returns:
+            The branch to search first, or the node's proof, or a better point.
+        """
+        self.check_limits()
+        changed = range(self.program.n) if branch is None else [branch.column]
+        column = self.node.column_without_integers(changed)
+        if column is not None:
+            return self.fathomer.empty_domain(column)
+        self.node.clp.seconds = max(self.until - self.watch.spent(), LEAST_RELAXATION_SECONDS)
+        state = LpStatus.OTHER
+        for by_primal in (False, True):
+            state = self.node.clp.solve(by_primal=by_primal)
+            proved = self.fathomer.by_farkas() if state is LpStatus.INFEASIBLE else None
+            if proved is not None:
+                return proved
+            if state is LpStatus.OPTIMAL:
+                return self._after_optimum(branch)
+        if state is LpStatus.INFEASIBLE:  # which cannot be proved: CLP's tolerances may be all
+            x = [self.node.nearest_to_zero(j) for j in range(self.program.n)]
+            return self._branch_or_fathom(x, self.cutoff_value, state)
+        self.watch.look(self.nodes, self.until)  # CLP stops where the time is over
+        raise SearchEnded(f"a relaxation is {state.name.lower()}")
+
+    def _after_optimum(
+        self, branch: Optional[Branch]
+    ) -> Union[Branch, ProvedSubtree, ImprovedIncumbent]:
+        """At a relaxation that has an optimum."""
+        bound = self.node.relaxation_bound()
+        if branch is not None:
+            gain, distance = bound - branch.bound, branch.distance()
+            self.branching.pseudocosts.learn(branch.column, branch.direction, gain, distance)
+        cutoff = self.cutoff_value
+        if bound >= cutoff - CUTOFF_TOLERANCE * max(1.0, abs(cutoff)):
+            proved = self.fathomer.by_duals()
+            if proved is not None:
+                return proved
+        return self._branch_or_fathom(self.node.clp.values(), bound, LpStatus.OPTIMAL)
+
+    def check_limits(self) -> None:
+        """Raises SearchEnded where the search may not go on."""
+        self.watch.look(self.nodes, self.until)
+        if self.nodes >= self.most_nodes:
+            if self.most_nodes < MOST_NODES:
+                raise NodeLimit(self.most_nodes)
+            raise SearchEnded(f"more than {self.most_nodes} nodes")
+        if self.node.depth > self.most_depth:
+            raise SearchEnded("the tree is too deep")
+        if self.on_node is not None and self.watch.is_due():
+            self.on_node()
+
+    def close_and_bound(self) -> float:
+        """The least dual bound of what is open, each solved once more; this ends the search.
+
+        A node whose relaxation has no optimum has the bound of the node above it; the root may have
+        none, which is minus infinity.
+        """
+        node = self.node
+        least = self._bound_of_node(node.last_branch())
+        while node.open_nodes:
+            branch, sibling = node.open_nodes.pop()
+            node.undo()
+            if sibling is None:
+                node.clp.restore_basis(branch.basis)
+                with node.trying(branch.sibling()):
+                    least = min(least, self._bound_of_node(branch))
+        return least
+
+    def _bound_of_node(self, branch: Optional[Branch]) -> float:
+        if self.node.column_without_integers(range(self.program.n)) is not None:
+            return math.inf
+        state = self.node.clp.solve()
+        if state is LpStatus.OPTIMAL:
+            return self.node.relaxation_bound()
+        if state is LpStatus.INFEASIBLE and self.fathomer.by_farkas() is not None:
+            return math.inf
+        return -math.inf if branch is None else branch.bound
+
+    def finish_at_cutoff(self, cutoff: Cutoff) -> Union[ProvedSubtree, ImprovedIncumbent]:
+        """What is left, at a cutoff that is not better, each open node by few nodes.
+
+        What is proved already holds for that cutoff too. The time does not count.
+
+        Raises:
+            SearchEnded: Where few nodes are not enough.
+        """
+        self.fathomer.set_cutoff(cutoff)
+        self.watch, self.until, self.on_node = Watch(0.0), math.inf, None
+        self.most_depth = math.inf
+        self.most_nodes = self.nodes + 2 * len(self.node.open_nodes) + NODES_TO_FINISH
+        return self.run()
+
+    def _branch_or_fathom(
+        self, x: Sequence[float], bound: float, state: LpStatus
+    ) -> Union[Branch, ProvedSubtree, ImprovedIncumbent]:
+        """A branching on what is not integer, else what is left to do with an integer point.
+
+        Args:
+            x: Values of columns.
+            bound: The dual bound of the node, minimised.
+            state: Of the relaxation that x is of.
+        """
+        if state is LpStatus.OPTIMAL and self._has_large_integers(x):
+            x = self._exact_values(x)
+        values = self._with_forms(x)
+        distances = {
+            j: abs(v - round(v))
+            for j, v in values.items()
+            if j >= self.program.n or self.program.is_integer[j]
+        }
+        fractional = [j for j, distance in distances.items() if distance > INTEGRALITY_TOLERANCE]
+        if fractional and fractional[0] < self.program.n:
+            relaxed = Relaxed(values, bound, max(self.cutoff_value - bound, LEAST_GAP))
+            column, direction = self.branching.choose(self.node, relaxed, fractional)
+            return self._branch(column, values[column], direction, bound)
+        if state is LpStatus.OPTIMAL:
+            improved = self._improved_incumbent(x)
+            if improved is not None:
+                return improved
+        return self._fathom_integer_point(x, distances, bound, state)
+
+    def _fathom_integer_point(
+        self, x: Sequence[float], distances: Dict[int, float], bound: float, state: LpStatus
+    ) -> Union[Branch, ProvedSubtree, ImprovedIncumbent]:
+        """Where all integer columns are integer in x, and there is no better point.
+
+        CLP's tolerances may hide that there is none, and so may what it calls infeasible. So
+        columns are branched on that are not fixed, until multipliers show it.
+        """
+        proved = self.fathomer.by_phase_one()
+        if proved is not None:
+            return proved
+        column = self._unfixed_column(distances)
+        if column is not None:
+            return self._branch(column, x[column], DOWN, bound)
+        if state is not LpStatus.OPTIMAL:
+            improved = self._improved_incumbent(x)
+            if improved is not None:
+                return improved
+        proved = self.fathomer.by_row()
+        if proved is None:
+            proved = self.fathomer.by_phase_one(SMALLEST_INFEASIBILITY)
+        if proved is None:
+            raise SearchEnded("a leaf does not close")
+        return proved
+
+    def _has_large_integers(self, x: Sequence[float]) -> bool:
+        return any(
+            is_integer and abs(v) >= LARGEST_EXACT_INTEGER
+            for v, is_integer in zip(x, self.program.is_integer)
+        )
+
+    def _exact_values(self, x: Sequence[float]) -> Sequence[float]:
+        """The vertex of the basis in fractions, else x with exact bounds where it is at these."""
+        n, node = self.program.n, self.node
+        linear = self.program.with_bounds(node.box.lower[:n], node.box.upper[:n])
+        linear = linear.with_integers([False] * n)
+        found = vertex(linear, node.clp.basis(), x)
+        if found is not None:
+            return found  # type: ignore[return-value]
+        at_bounds: List[Union[float, Fraction]] = [
+            next((end for end in linear.finite_bounds(j) if float(end) == v), v)
+            for j, v in enumerate(x)
+        ]
+        return at_bounds  # type: ignore[return-value]
+
+    def _with_forms(self, x: Sequence[float]) -> Dict[int, float]:
+        """Values of the columns, and of the forms behind them."""
+        values = dict(enumerate(x))
+        for form in self.node.forms:
+            entries = self.node.entries(form)
+            values[form] = sum(a // self.program.row_scale * x[k] for k, a in entries)
+        return values
+
+    def _improved_incumbent(self, x: Sequence[float]) -> Optional[ImprovedIncumbent]:
+        """The exact point at x, where it is one that should not be there."""
+        program = self.program
+        if all(program.is_integer):
+            point: Optional[Point] = [Fraction(round(v)) for v in x]
+        else:
+            point = self.exact_point(x)
+        if point is None or not program.is_feasible(point):
+            return None
+        value = program.value(point)
+        return ImprovedIncumbent(point, value) if self.cutoff.is_improved_by(value) else None
+
+    def _unfixed_column(self, distances: Dict[int, float]) -> Optional[int]:
+        """An integer column that is not fixed.
+
+        The one that is farthest from an integer, then one with a cost, then the one with the
+        nearest bounds: the others are rounded by what it is.
+        """
+        lower, upper = self.node.box
+
+        def rank(column: int) -> tuple[float, bool, float]:
+            low, high = lower[column], upper[column]
+            width = math.inf if low is None or high is None else float(high - low)
+            return distances[column], bool(self.program.cost_fractions[column]), -width
+
+        unfixed = [
+            j
+            for j in distances
+            if j < self.program.n and (lower[j] is None or lower[j] != upper[j])
+        ]
+        return max(unfixed, key=rank) if unfixed else None
+
+    def _branch(self, column: int, value: float, direction: int, bound: float) -> Branch:
+        """Of which one part may be empty, but never both.
+
+        Bounds of integer columns need not be integers. So the two branches meet where both have
+        room as far as that goes.
+        """
+        low, high = self.node.box.lower[column], self.node.box.upper[column]
+        unit = self.program.bound_scale
+        at = math.floor(value + ROUNDING_TOLERANCE)
+        if column < self.program.n:
+            if high is not None:
+                at = min(at, -(-high // unit) - 1)
+            if low is not None:
+                at = max(at, low // unit)
+        return Branch(column, at, direction, float(value), bound, self.node.clp.saved_basis())

@@ -1,0 +1,318 @@
+"""Units of a search, and the processes that work them: of this machine, or of a Dask cluster.
+
+A unit is what is left of one subtree, as values that a process anywhere works for some seconds.
+Nothing but the values counts: whoever gets the same unit may work it, and the searches that a
+process keeps only save it the reading of the program.
+"""
+
+from __future__ import annotations
+
+import contextlib
+import importlib
+import multiprocessing
+import os
+import pickle
+import signal
+import sys
+import threading
+from concurrent.futures import BrokenExecutor, Executor, Future, ProcessPoolExecutor
+from multiprocessing import connection
+from typing import Any, Dict, Iterable, Iterator, List, NamedTuple, Optional, Sequence
+
+from .. import VERSION
+from ..certify import points
+from ..certify.watch import Watch
+from ..model.integer_form import IntegerProgram, Point, Row
+from ..system.errors import SearchEnded, SearchPaused
+from ..system.processes import HANDLED_SIGNALS, SIGNALS
+from .branching import Pseudocosts, PseudocostBranching
+from .clp import library
+from .fathoming import Cutoff
+from .node import Branch, OpenNode, ProvedSubtree
+from .search import BranchAndBound, ExactPoint, ImprovedIncumbent
+
+# how processes start: `fork` takes 3 ms for each, `spawn` 100 to 300
+START_METHOD = "fork" if sys.platform == "linux" else None
+GRACE_SECONDS = 1.0  # that a unit has to end when its process is ended
+CONNECT_SECONDS = 10.0  # for a scheduler to answer
+EXACT_POINT_SECONDS = 30.0
+MOST_CACHED_SEARCHES = 2  # of one process
+
+
+class SearchProblem(NamedTuple):
+    """What all units of a search share.
+
+    Attributes:
+        program: The file's.
+        cuts: Rows below it.
+        forms: Integer forms to branch on, by column.
+        cutoff: What leaves must show.
+    """
+
+    program: IntegerProgram
+    cuts: Sequence[Row] = ()
+    forms: Sequence[Dict[int, int]] = ()
+    cutoff: Cutoff = Cutoff(None)
+
+    def search(self, watch: Watch, exact_point: Optional[ExactPoint] = None) -> BranchAndBound:
+        """A search of all of it, at its root."""
+        searched = self.program.with_rows([*self.cuts, *map(Row, self.forms)])
+
+        def near(x: Sequence[float]) -> Optional[Point]:
+            return points.whole_point(self.program, x, EXACT_POINT_SECONDS)
+
+        return BranchAndBound(searched, self.cutoff, watch, exact_point or near, len(self.forms))
+
+
+class WorkUnit(NamedTuple):
+    """What is left of a subtree, for some seconds.
+
+    Attributes:
+        problem: The pickled SearchProblem.
+        path: The branches above the subtree, from the root.
+        open_nodes: Those in it that were worked partly. What is proved of their siblings is
+            replaced by a RemoteSubtree.
+        pseudocosts: Of the whole search so far.
+    """
+
+    problem: bytes
+    path: Sequence[Branch]
+    open_nodes: Sequence[OpenNode]
+    pseudocosts: Pseudocosts
+    seconds: float
+
+
+class UnitResult(NamedTuple):
+    """What some seconds made of a unit.
+
+    Attributes:
+        proved: The subtree, where all of it is proved.
+        open_nodes: Else what is left of it.
+        improved: A better point, where one was found; then the unit is as it was before.
+        nodes: How many nodes more the subtree has.
+    """
+
+    proved: Optional[ProvedSubtree]
+    open_nodes: List[OpenNode]
+    pseudocosts: Pseudocosts
+    nodes: int
+    improved: Optional[ImprovedIncumbent] = None
+
+
+# searches of the last problems of this process by their pickled problem, but for those at work
+_search_cache: Dict[bytes, BranchAndBound] = {}
+
+
+def work(unit: WorkUnit) -> UnitResult:
+    """Works a unit; in a process of a pool.
+
+    A search that found a point, or failed, is not kept.
+
+    Raises:
+        SearchEnded: The search cannot go on.
+    """
+    search = _search_cache.pop(unit.problem, None)
+    if search is None:
+        search = pickle.loads(unit.problem).search(Watch(0.0))
+    search.watch, search.until, search.nodes = Watch(0.0), unit.seconds, 0
+    strong_candidates = search.branching.strong_candidates
+    search.branching = PseudocostBranching(strong_candidates, unit.pseudocosts)
+    search.node.move_to(unit.path, unit.open_nodes)
+    found = None
+    with contextlib.suppress(SearchPaused):
+        found = search.run()
+    pseudocosts = search.branching.pseudocosts
+    if isinstance(found, ImprovedIncumbent):
+        return UnitResult(None, [], pseudocosts, search.nodes, found)
+    while len(_search_cache) >= MOST_CACHED_SEARCHES:
+        _search_cache.pop(next(iter(_search_cache)))
+    _search_cache[unit.problem] = search
+    return UnitResult(found, search.node.open_nodes, pseudocosts, search.nodes)
+
+
+class PoolFailed(SearchEnded):
+    """The pool does not work; the search can go on without it."""
+
+
+class WorkerPool:
+    """Works some units at once.
+
+    Attributes:
+        workers: How many at once; 0 where the pool failed.
+        fault: Why it failed.
+        note: Why not all of it works.
+    """
+
+    def __init__(self, workers: int, fault: str = "") -> None:
+        self.workers = workers
+        self.fault = fault
+        self.note = ""
+        self._started: Optional[Executor] = None
+
+    def failed(self, fault: PoolFailed) -> None:
+        """From here on there are no workers."""
+        self.workers = 0
+        self.fault = str(fault)
+        self.stop()
+
+    def executor(self) -> Executor:
+        assert self._started is not None
+        return self._started
+
+    def submit(self, unit: WorkUnit) -> Future[UnitResult]:
+        """Where all processes have ended, others are started.
+
+        Raises:
+            PoolFailed: None can be started.
+        """
+        try:
+            return self.executor().submit(work, unit)
+        except BrokenExecutor:
+            self.stop()
+        return self.executor().submit(work, unit)
+
+    def stop(self) -> None:
+        """Ends what is worked, as far as that goes."""
+
+    def close(self) -> None:
+        self.stop()
+
+
+class ProcessPool(WorkerPool):
+    """Processes of this machine, started as there is work; they end with this one."""
+
+    _started: Optional[ProcessPoolExecutor]
+    _end_line: Any  # a word that is sent there ends all of them
+
+    def executor(self) -> Executor:
+        if self._started is None:
+            context = multiprocessing.get_context(START_METHOD)
+            end, self._end_line = context.Pipe(duplex=False)
+            self._started = ProcessPoolExecutor(self.workers, context, start_worker, (end,))
+        return self._started
+
+    def submit(self, unit: WorkUnit) -> Future[UnitResult]:
+        with signals_blocked():  # a process begins with them blocked
+            try:
+                return super().submit(unit)
+            except (ImportError, NotImplementedError, OSError) as fault:
+                raise PoolFailed(f"no processes for the search ({fault})") from None
+
+    def stop(self) -> None:
+        if self._started is None:
+            return
+        with SIGNALS.deferred():
+            started, self._started = self._started, None
+            with contextlib.suppress(OSError):
+                self._end_line.send_bytes(b"end")
+            started.shutdown(wait=True, cancel_futures=True)
+            self._end_line.close()
+
+
+class DaskPool(WorkerPool):
+    """Those workers of a cluster that have this package and CLP.
+
+    What they have begun they end, some seconds after it is not wanted any more.
+
+    Args:
+        address: Of the scheduler.
+
+    Raises:
+        PoolFailed: There is no package, no scheduler, or no worker that can search.
+    """
+
+    def __init__(self, address: str) -> None:
+        try:
+            distributed: Any = importlib.import_module("distributed")
+            self.client = distributed.Client(address, timeout=CONNECT_SECONDS)
+        except ImportError:
+            raise PoolFailed(
+                "cluster= needs Dask's package distributed (Debian: apt install "
+                "python3-distributed)"
+            ) from None
+        except (OSError, ValueError) as fault:
+            raise PoolFailed(f"no scheduler of Dask at {address} ({fault})") from None
+        versions = self.client.run(worker_version, on_error="return")
+        fit = [worker for worker, version in versions.items() if version == VERSION]
+        super().__init__(sum(self.client.nthreads(fit).values()) if fit else 0)
+        if len(fit) < len(versions):
+            self.note = (
+                f"{len(versions) - len(fit)} of {len(versions)} workers of the cluster lack "
+                f"bridge_drivers {VERSION} or CLP's library"
+            )
+        if not fit:
+            self.client.close()
+            raise PoolFailed(self.note or f"the scheduler of Dask at {address} has no workers")
+        self._started = self.client.get_executor(pure=False, workers=fit)
+
+    def close(self) -> None:
+        self.client.close()
+
+
+def worker_version() -> str:
+    """What a worker of a cluster says that can search: its version."""
+    return VERSION if library() is not None else ""
+
+
+def open_pool(jobs: int, address: str) -> Optional[WorkerPool]:
+    """The pool that a run asks for.
+
+    Args:
+        jobs: Processes of this machine; 0: as many as this process may use processors.
+        address: Of a scheduler of Dask, in place of these; "" for none.
+
+    Returns:
+        None where this process searches alone. A cluster that cannot be had is a pool with a fault.
+    """
+    if address:
+        try:
+            return DaskPool(address)
+        except PoolFailed as fault:
+            return WorkerPool(0, str(fault))
+    jobs = jobs or usable_processors()
+    return ProcessPool(jobs) if jobs > 1 else None
+
+
+def usable_processors() -> int:
+    if hasattr(os, "sched_getaffinity"):
+        return len(os.sched_getaffinity(0))
+    return os.cpu_count() or 1
+
+
+@contextlib.contextmanager
+def signals_blocked() -> Iterator[None]:
+    """Signals wait in the block, also in processes that are started in it."""
+    old = set_signal_mask("SIG_BLOCK", HANDLED_SIGNALS)
+    try:
+        yield
+    finally:
+        set_signal_mask("SIG_SETMASK", old)
+
+
+def set_signal_mask(how: str, numbers: Iterable[int]) -> Iterable[int]:
+    """The mask that was there before; empty where a system has no masks."""
+    if not hasattr(signal, "pthread_sigmask"):
+        return ()
+    return signal.pthread_sigmask(getattr(signal, how), numbers)
+
+
+def start_worker(end: connection.Connection) -> None:
+    """Begins a process: it ends by its parent's word, or with its parent.
+
+    What a terminal sends is the parent's.
+    """
+    for number in HANDLED_SIGNALS:
+        is_end = number == signal.SIGTERM
+        signal.signal(number, signal.SIG_DFL if is_end else signal.SIG_IGN)
+    set_signal_mask("SIG_UNBLOCK", HANDLED_SIGNALS)
+    threading.Thread(target=_end_with_parent, args=(end,), daemon=True).start()
+
+
+def _end_with_parent(end: connection.Connection) -> None:
+    """The unit pauses; where that takes long, or nobody waits for it, it is broken off."""
+    parent = multiprocessing.parent_process()
+    assert parent is not None
+    if connection.wait([end, parent.sentinel]) == [end]:
+        Watch.is_ending = True
+        threading.Event().wait(GRACE_SECONDS)
+    os._exit(1)
