@@ -4,11 +4,12 @@ from __future__ import annotations
 
 from typing import Iterable
 
-from bridge_drivers import commands, solvers
+from bridge_drivers import commands
 from bridge_drivers.certify.command import OPTIONS
 from bridge_drivers.commands import STATUS_TEXTS
 from bridge_drivers.completion import DASHED
-from bridge_drivers.options import COMMON, Option
+from bridge_drivers.options import COMMON, Option, own_options
+from bridge_drivers.solvers import SOLVERS
 
 
 def roff(text: str) -> str:
@@ -38,8 +39,8 @@ def drivers_options() -> list[Option]:
     """The common ones, and those of some drivers, with whose they are."""
     own: dict[str, list[str]] = {}
     found = {option.name: option for option in COMMON}
-    for name in solvers.NAMES:
-        for option in solvers.load(name).options:
+    for name in SOLVERS:
+        for option in own_options(name):
             own.setdefault(option.name, []).append("bridge-" + name)
             found[option.name] = Option(
                 option.name,

@@ -5,10 +5,11 @@ from __future__ import annotations
 import os
 from typing import Mapping
 
-from . import commands, solvers
+from . import commands
 from .certify.command import OPTIONS
 from .commands import SHELLS
-from .options import COMMON, FILE, FOLDER, Option, Options
+from .options import COMMON, FILE, FOLDER, Option, Options, own_options
+from .solvers import SOLVERS
 from .texts import text
 
 DASHED = {
@@ -24,7 +25,7 @@ ENDS = [end + packed for end in (".nl", ".mps") for packed in ("", ".gz", ".bz2"
 
 def tables() -> dict[str, Mapping[str, Option]]:
     """The options of each command."""
-    found = {f"bridge-{name}": Options(solvers.load(name).options).known for name in solvers.NAMES}
+    found = {f"bridge-{name}": Options(own_options(name)).known for name in SOLVERS}
     every = {o.name: o for known in found.values() for o in known.values()}
     found["bridge-certify"] = {**every, **{o.name: o for o in OPTIONS}}
     return {command: dict(sorted(known.items())) for command, known in sorted(found.items())}

@@ -6,6 +6,7 @@ from __future__ import annotations
 
 import contextlib
 import gc
+import logging
 import os
 import sys
 from typing import Callable, Iterator, NoReturn, Sequence, TextIO, cast
@@ -17,6 +18,8 @@ from .system.text import printable
 
 GREEN, YELLOW, RED = 32, 33, 31
 PROVED = ("yes ", "proved")  # verdicts of `check` and `prove`
+LOGGER = logging.getLogger("bridge_drivers")
+SOLVER_LOGGER = LOGGER.getChild("solver")  # the lines of a solver's log, with their ends
 COLLECTED = (200_000, 20, 50)  # a run makes millions of objects, of which few go in circles
 
 
@@ -50,6 +53,33 @@ class Output(Shown):
     def flush(self) -> None:
         with guarded():
             self.stream.flush()
+
+
+class OutputHandler(logging.Handler):
+    """Puts what the library logs on standard output; lines of a solver's log have their own ends."""
+
+    def emit(self, record: logging.LogRecord) -> None:
+        end = "" if record.name == SOLVER_LOGGER.name else "\n"
+        sys.stdout.write(record.getMessage() + end)
+        if end:
+            sys.stdout.flush()
+
+
+@contextlib.contextmanager
+def logged(outlev: int) -> Iterator[None]:
+    """What the library logs in the block is told: from 1 a solver's log, from 2 also commands and times."""
+    if not outlev:
+        yield
+        return
+    handler = OutputHandler()
+    level = LOGGER.level
+    LOGGER.addHandler(handler)
+    LOGGER.setLevel(logging.DEBUG if outlev >= 2 else logging.INFO)
+    try:
+        yield
+    finally:
+        LOGGER.setLevel(level)
+        LOGGER.removeHandler(handler)
 
 
 def raw(stream: TextIO, text: str) -> None:

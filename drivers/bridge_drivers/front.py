@@ -154,7 +154,7 @@ def helped_driver(topic: str) -> str:
     from .driver import Driver
 
     name = topic.removeprefix("bridge-")
-    if topic != name and name in solvers.NAMES:
+    if topic != name and name in solvers.SOLVERS:
         return Driver(name).told("-?")
     known = certifier().options.known
     return (
@@ -171,7 +171,7 @@ def certifier() -> Driver:
     from . import solvers
     from .certify.command import Command
 
-    return Command(solvers.NAMES[0])
+    return Command(next(iter(solvers.SOLVERS)))
 
 
 def shown(call: Call) -> int:

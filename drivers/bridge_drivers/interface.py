@@ -31,8 +31,10 @@ from .system.errors import (
 )
 from .formats.source import Source, Workspace, read_source
 from .inputs import Subject, subject
-from .options import Options, Words, words_of
-from .ruling import code_of_error
+from .options import Options, Words, own_options, words_of
+from .pipeline.outcome import code_of_error
+from .pipeline.outputs import named_duals, named_reduced_costs, named_values
+from .solvers import SOLVERS
 from .formats.numbers import nearest_double
 from .program.verdict import Said
 
@@ -133,7 +135,7 @@ class Report:
 def reported(driver: Driver, argv: Sequence[str]) -> int:
     """The exit status of a driver's call; with json=1, also where other words are wrong, what it
     tells goes into an object, and what else it prints nowhere, or to standard error."""
-    asked, options = words_of(argv), Options(driver.solver.options)
+    asked, options = words_of(argv), Options(own_options(driver.solver.name))
     try:
         options.environment(driver.name)
         options.take(asked.options)
@@ -155,14 +157,20 @@ def fill(told: Report, run: Run) -> None:
         told.say(f"{run.name}: {run.fault.text}")
         stopped = isinstance(run.fault, RunInterrupted)
         told.code = None if stopped else int(code_of_error(run.fault))
-    elif run.result is not None:
-        result = run.result
-        told.code, told.lines, told.text = int(result.code), result.lines, result.lines[-1]
-        told.take(result.said)
-        told.certificate = result.kept.path if result.kept else None
-        told.values, told.duals, told.costs = map(
-            run.numbers, ("values", "duals", "costs"), (2, 4, 4)
-        )
+    elif run.outcome is not None:
+        outcome, wanted = run.outcome, run.options.wantsol
+        answer = outcome.answer
+        told.code, told.lines, told.text = int(outcome.code), outcome.lines, outcome.lines[-1]
+        told.take(outcome.said)
+        told.certificate = outcome.stored.path if outcome.stored else None
+        if answer is None:
+            return
+        if wanted & 2 and answer.values is not None:
+            told.values = dict(named_values(answer))
+        if wanted & 4 and answer.duals is not None:
+            told.duals = dict(named_duals(answer))
+        if wanted & 4 and answer.reduced_costs is not None:
+            told.costs = dict(named_reduced_costs(answer))
 
 
 def error_of_refusal(fault: Refused) -> BridgeError:
@@ -252,11 +260,9 @@ def solved(
     **given: object,
 ) -> Report:
     """By the words of these options that are given; values of both kinds are wanted."""
-    from .solvers import NAMES
-
     told = Report(command)
-    if solver not in NAMES:
-        error = WrongOption(f"no driver of {solver}: {', '.join(NAMES)}")
+    if solver not in SOLVERS:
+        error = WrongOption(f"no driver of {solver}: {', '.join(SOLVERS)}")
         told.code = int(code_of_error(error))
         told.say(error.text, error.status)
         raise with_report(error, told)

@@ -10,6 +10,9 @@ from dataclasses import dataclass, field
 from typing import Iterable, Mapping, Sequence, TypeVar, Union, cast
 
 from .system.errors import WrongOption
+from .pipeline.settings import CertificateSettings, OutputSettings, Settings
+from .solvers import SOLVERS
+from .solvers.settings import SolverOption, SolverSettings
 from .system.text import alternatives, did_you_mean
 from .texts import parts
 
@@ -251,6 +254,75 @@ class Options:
             except ValueError:
                 raise WrongOption(f"{name}: a quote does not end") from None
             self.take(words)
+
+    def is_said(self, name: str) -> bool:
+        """Whether an option was given, as what it is anyway too."""
+        return any(word.startswith(name + "=") for word in self.given)
+
+    def settings(self, solver: str) -> Settings:
+        """What these options ask of a run by a solver.
+
+        Raises:
+            WrongOption: A quote of `extra` does not end.
+        """
+        try:
+            arguments = shlex.split(self.extra)
+        except ValueError:
+            raise WrongOption("extra: a quote does not end") from None
+        asked = SolverSettings(
+            relax=bool(self.relax),
+            mip_gap=float(self.own.get("mipgap", 0.0)),
+            threads=int(self.own.get("threads", 0)),
+            exact_check=bool(self.own.get("xcheck", 0)),
+            shows_log=bool(self.outlev),
+            arguments=arguments,
+        )
+        certificate = CertificateSettings(
+            check=bool(self.check),
+            prove=bool(self.prove or self.strict),
+            strict=bool(self.strict),
+            bound=bool(self.bound),
+            shorten=bool(self.shorten),
+            processes=self.jobs,
+            cluster=self.cluster,
+            path=self.certificate,
+            overwrite=bool(self.overwrite),
+        )
+        return Settings(
+            solver=solver,
+            solver_path=self.solver,
+            bridge=self.bridge,
+            solver_settings=asked,
+            time_limit=self.timelim,
+            certificate=certificate,
+            objective=self.objno - 1,
+            round_integers=bool(self.round),
+            shortest_numbers=bool(self.shortest) if self.is_said("shortest") else None,
+            mps_form=self.format,
+            keep_folder=self.keep,
+            makes_sol=self.is_written,
+            refuses_unclear=bool(self.failexit),
+            shows_faults=self.outlev >= 2,
+        )
+
+    def outputs(self) -> OutputSettings:
+        """The files that these options ask for beside the certificate."""
+        return OutputSettings(self.is_written, self.solution, bool(self.overwrite))
+
+
+# options that some solvers have beside the common ones
+OF_SOLVERS: Mapping[SolverOption, Option] = {
+    SolverOption.MIP_GAP: Option("mipgap", 0.0, SHARE, "relative gap at which the search stops"),
+    SolverOption.THREADS: Option("threads", 0, int, "threads of the search"),
+    SolverOption.EXACT_CHECK: Option(
+        "xcheck", 0, SWITCH, "1: glpsol checks its final basis in exact arithmetic"
+    ),
+}
+
+
+def own_options(solver: str) -> list[Option]:
+    """The options of a driver that others do not have."""
+    return [OF_SOLVERS[option] for option in SOLVERS[solver].options]
 
 
 COMMON: Sequence[Option] = [o for o in vars(Options).values() if isinstance(o, Option)]

@@ -16,7 +16,7 @@ from typing import Any, Iterable, Mapping, Sequence
 
 import pulp
 
-from . import solvers
+from .solvers import SOLVERS
 from .interface import Report, solve
 from .system.errors import BridgeError
 
@@ -83,7 +83,7 @@ class BridgeCmd(pulp.LpSolver_CMD):
     def available(self) -> str | bool:
         """The path of the driver's solver, or False."""
         name = self.solver()
-        return name in solvers.NAMES and solvers.load(name).place() or False
+        return name in SOLVERS and SOLVERS[name].find() or False
 
     def actualSolve(self, lp: pulp.LpProblem) -> int:
         """Solves, and assigns values, duals and reduced costs where there are any. Answers PuLP's

@@ -16,7 +16,7 @@ from bridge_drivers import solvers
 from bridge_drivers.program import verdict as verdicts
 from bridge_drivers.program.bridge import Bridge, Reply
 from bridge_drivers.system.errors import DeadlineExceeded
-from bridge_drivers.certificates import Kept, keep
+from bridge_drivers.pipeline.stored_certificate import CertificateStore, StoredCertificate
 from bridge_drivers.model.linear_program import Program
 from bridge_drivers.program.verdict import Said
 
@@ -84,7 +84,7 @@ class Certificates(Case):
 
     def keep(
         self, line: str, says: "str | None", overwrite: bool = False, target: str = ""
-    ) -> Kept:
+    ) -> StoredCertificate:
         """Nothing is said in time where it says None."""
         bridge, source = Bridge([], lambda argv: None), Path(self.folder, "source")
         self.put(b"model")
@@ -96,9 +96,8 @@ class Certificates(Case):
             else DeadlineExceeded("verify")
         )
         with mock.patch.object(bridge, "call", side_effect=[reply]):
-            return keep(
-                bridge, self.stub + ".nl", True, overwrite, str(source), line, target or self.target
-            )
+            store = CertificateStore(bridge, self.stub + ".nl", maximise=True, overwrite=overwrite)
+            return store.store(str(source), line, target or self.target)
 
     @property
     def target(self) -> str:
@@ -111,7 +110,7 @@ class Certificates(Case):
             self.put(older, ".certificate")
             kept = self.keep(line, says)
             self.assertEqual(
-                (self.bytes_of(".certificate") == older, kept.path, kept.failed),
+                (self.bytes_of(".certificate") == older, kept.path, kept.has_failed),
                 (True, self.target if proves else None, not proves),
                 kept.line,
             )
@@ -134,7 +133,8 @@ class Certificates(Case):
             self.put(there, ".certificate")
             kept = self.keep("optimal 17", says)
             self.assertEqual(
-                (kept.failed, self.bytes_of(".certificate")), (stays, there if stays else OPTIMAL)
+                (kept.has_failed, self.bytes_of(".certificate")),
+                (stays, there if stays else OPTIMAL),
             )
             self.assertIn(
                 STANDS
@@ -153,12 +153,12 @@ class Certificates(Case):
         ):
             self.assertEqual(
                 self.keep("optimal 17", "", target=target),
-                Kept(f"the certificate is not kept: {target}: {why}", None, True),
+                StoredCertificate(f"the certificate is not kept: {target}: {why}", None, True),
             )
         self.put(OPTIMAL[:-8], ".certificate")
         os.chmod(self.target, 0o444)
         kept = self.keep("optimal 17", "", True)
-        self.assertEqual((kept.failed, self.bytes_of(".certificate")), (True, OPTIMAL[:-8]))
+        self.assertEqual((kept.has_failed, self.bytes_of(".certificate")), (True, OPTIMAL[:-8]))
         self.assertIn("it may not be written", kept.line)
         self.assertEqual(sorted(os.listdir(self.folder)), ["source", "stub.certificate", "stub.nl"])
 
@@ -176,7 +176,7 @@ class Folders(Case):
             "certificate",
             "stub.mps",
         )
-        for driver in solvers.NAMES:
+        for driver in solvers.SOLVERS:
             with self.subTest(driver=driver):
                 self.put(MODELS["product"].text)
                 for name in names:

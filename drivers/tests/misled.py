@@ -29,10 +29,11 @@ sys.path[:0] = [os.path.dirname(os.path.abspath(__file__))]
 from misleading import Misleading  # noqa: E402
 from misleading_kinds import EACH, models  # noqa: E402
 from support import Sol  # noqa: E402
-from bridge_drivers import certificates, solvers  # noqa: E402
-from bridge_drivers.system.codes import Code  # noqa: E402
+from bridge_drivers import solvers  # noqa: E402
 from bridge_drivers.driver import Driver  # noqa: E402
-from bridge_drivers.solving import Solving  # noqa: E402
+from bridge_drivers.pipeline import certification  # noqa: E402
+from bridge_drivers.pipeline.solve import AnsweredRun  # noqa: E402
+from bridge_drivers.solvers.base import SolverStatus  # noqa: E402
 
 OWN = {"second": "1", "each": str(EACH), "time": "10", "workers": "4", "log": os.devnull}
 
@@ -46,19 +47,26 @@ class Judged(NamedTuple):
     last: str = ""
 
 
-class Noting(Solving):
+class Noting:
     """Notes what the solver itself answered."""
 
     own: Any = None
 
-    def answered(self, job: Any) -> Any:
-        found = super().answered(job)
-        Noting.own = found.outcome
-        return found
+    def __init__(self) -> None:
+        self.answer = AnsweredRun.answer
 
+    def __enter__(self) -> None:
+        answer = self.answer
 
-class NotingDriver(Driver):
-    make_solving = Noting
+        def noted(run: AnsweredRun) -> Any:
+            found = answer(run)
+            Noting.own = found.found
+            return found
+
+        AnsweredRun.answer = noted  # type: ignore[method-assign]
+
+    def __exit__(self, *fault: object) -> None:
+        AnsweredRun.answer = self.answer  # type: ignore[method-assign]
 
 
 def judged(folder: str, driver: str, model: Misleading, options: list[str]) -> Judged:
@@ -67,7 +75,8 @@ def judged(folder: str, driver: str, model: Misleading, options: list[str]) -> J
     with open(stub + ".nl", "wb") as f:
         f.write(model.text())
     Noting.own = None
-    status = NotingDriver(driver).main([stub, "-AMPL", "-e", *options])
+    with Noting():
+        status = Driver(driver).main([stub, "-AMPL", "-e", *options])
     if status != 0:
         return Judged(-1, f"it ended with {status}")
     sol = Sol(stub + ".sol")
@@ -98,23 +107,23 @@ def lost(model: Misleading, sol: Sol) -> str:
     if own is None:
         return ""
     if (
-        own.code == Code.INFEASIBLE
+        own.status is SolverStatus.INFEASIBLE
         and model.best is None
         and sol.code != 200
-        or own.code == Code.UNBOUNDED
+        or own.status is SolverStatus.UNBOUNDED
         and model.is_endless
         and sol.code != 300
     ):
         return f"it said so ({last})"
-    if own.code == Code.SOLVED and own.values is not None and sol.code != 0:
-        point = [F(own.values[f"x{j}"]) for j in range(len(model.columns))]
+    if own.status is SolverStatus.OPTIMAL and own.values is not None and sol.code != 0:
+        point = [F(own.values[j]) for j in range(len(model.columns))]
         point = [F(round(v)) if kind == "I" else v for v, (kind, _, _) in zip(point, model.columns)]
         return f"its point is optimal ({last})" if model.is_exact(point) else ""
     return ""
 
 
 def takes(driver: str, model: Misleading) -> bool:
-    return solvers.load(driver).integers or model.is_linear()
+    return solvers.SOLVERS[driver].takes_integers or model.is_linear()
 
 
 def main() -> int:
@@ -123,8 +132,8 @@ def main() -> int:
     own = {name: given.pop(name, value) for name, value in OWN.items()}
     ways = [given.pop("prove")] if "prove" in given else ["0", "1"]
     options = [f"timelim={own['time']}", *(f"{name}={value}" for name, value in given.items())]
-    certificates.ONE_LEAF = float(own["second"])
-    kinds = [w for w in words if w not in solvers.NAMES]
+    certification.ONE_LEAF_SECONDS = float(own["second"])
+    kinds = [w for w in words if w not in solvers.SOLVERS]
     chosen = [
         m for m in models(int(own["each"])) if not kinds or m.name.rstrip("0123456789") in kinds
     ]
@@ -137,8 +146,8 @@ def main() -> int:
     with open(own["log"], "a+", encoding="utf-8") as log:
         log.seek(0)
         known = {key: Judged(*found) for key, *found in map(json.loads, log)}
-        for driver in [w for w in words if w in solvers.NAMES] or solvers.NAMES:
-            for way in ways if solvers.load(driver).place() else ():
+        for driver in [w for w in words if w in solvers.SOLVERS] or solvers.SOLVERS:
+            for way in ways if solvers.SOLVERS[driver].find() else ():
                 wrong += run(
                     driver,
                     [m for m in chosen if takes(driver, m)],

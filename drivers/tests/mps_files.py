@@ -20,7 +20,7 @@ from bridge_drivers.model.linear_program import program_of
 from models import BOTH, FIXED, MODELS, MPS, rows_of
 from plain import Plain, random_text
 
-SOLVERS = [name for name in solvers.NAMES if solvers.load(name).place()]
+SOLVERS = [name for name in solvers.SOLVERS if solvers.SOLVERS[name].find()]
 FAULTY = "NAME t\nROWS\n N o\n L cap\nCOLUMNS\n x o 1\n x cap 2\nRHS\n RHS cap 9\nBOUNDS\n UP b x 4\nENDATA\n"
 BLANK = FIXED.replace("    ONE       COST", "    MY ONE    COST")
 SEEDS = 150

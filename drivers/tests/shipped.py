@@ -43,7 +43,7 @@ from bridge_drivers import VERSION, commands, front, solvers
 from bridge_drivers.certify.command import OPTIONS
 from bridge_drivers.system.codes import ExitStatus
 from bridge_drivers.commands import STATUS_TEXTS
-from bridge_drivers.options import COMMON
+from bridge_drivers.options import COMMON, own_options
 
 DOCUMENTS = (
     "README.md",
@@ -82,7 +82,7 @@ class Tables(unittest.TestCase):
     def test_options_that_are_named(self) -> None:
         """Words `name=..` of documents are options, and the README has each option in its table."""
         known = {o.name for o in (*COMMON, *OPTIONS)}
-        known |= {o.name for name in solvers.NAMES for o in solvers.load(name).options}
+        known |= {o.name for name in solvers.SOLVERS for o in own_options(name)}
         for name in DOCUMENTS[1:4]:
             for word in re.findall(r"`([a-z]+)=[^`]*`", text_of(name)):
                 self.assertIn(word, known | {"name"}, name)

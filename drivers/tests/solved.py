@@ -20,14 +20,8 @@ from support import (
     ended,
     needs,
 )
-from bridge_drivers import certificates, solvers
-from bridge_drivers.answer import Answer
-from bridge_drivers.certify.claims import Verdict
-from bridge_drivers.system.codes import Code
-from bridge_drivers.options import Options
-from bridge_drivers.model.linear_program import Program
-from bridge_drivers.settled import Facts, Settled, settled
-from bridge_drivers.solvers.base import Outcome
+from bridge_drivers import solvers
+from bridge_drivers.pipeline import certification
 from models import FAR, FOLDER, MODELS, is_solved, rows_of
 import misled
 import stored
@@ -35,17 +29,6 @@ import stored
 LOOSE = ("lp_solve",)  # prints six digits
 CLOSE = F(1, 10**6)
 EACH_MISLED = 1  # models of a kind
-WHOLE = (
-    b"NAME nl\nOBJSENSE\n MAX\nROWS\n N obj\n L c0\nCOLUMNS\n M0 'MARKER' 'INTORG'\n"
-    b" x0 obj 1\n x0 c0 1\n M1 'MARKER' 'INTEND'\nRHS\n RHS c0 9\nENDATA\n"
-)
-PROGRAMS = {
-    "whole": WHOLE,
-    "small": WHOLE.replace(b"x0 obj 1", b"x0 obj 1e-9"),
-    "linear": WHOLE.replace(b" M0 'MARKER' 'INTORG'\n", b"").replace(
-        b" M1 'MARKER' 'INTEND'\n", b""
-    ),
-}
 
 
 class Judging(Case):
@@ -53,7 +36,7 @@ class Judging(Case):
 
     def judge(self, driver: str, name: str) -> None:
         model, sol = MODELS[name], self.sol()
-        if not model.linear and not solvers.load(driver).integers:
+        if not model.linear and not solvers.SOLVERS[driver].takes_integers:
             self.assertEqual(sol.code, 505, sol.text)
             self.assertIn("takes no integer variables", sol.text)
             return
@@ -113,7 +96,7 @@ class Judging(Case):
 @NEEDS_PROGRAM
 class StoredRuns(Judging):
     def test_all(self) -> None:
-        for driver in solvers.NAMES:
+        for driver in solvers.SOLVERS:
             runs = stored.runs(driver)
             self.assertLessEqual(
                 {n for n in MODELS if is_solved(n) and MODELS[n].linear}, set(runs), driver
@@ -125,7 +108,7 @@ class StoredRuns(Judging):
                     for n in MODELS
                     if not is_solved(n)
                     or not MODELS[n].linear
-                    and not solvers.load(driver).integers
+                    and not solvers.SOLVERS[driver].takes_integers
                 ),
             ]:
                 with self.subTest(driver=driver, model=name):
@@ -133,22 +116,6 @@ class StoredRuns(Judging):
                     done = self.replay(driver, name, self.stub, "-AMPL", *MODELS[name].options)
                     self.assertEqual(done.returncode, 0, done.stderr)
                     self.judge(driver, name)
-
-    def test_reduced_costs(self) -> None:
-        """Those that duals of a certificate leave."""
-        program = Program(
-            b"NAME nl\nROWS\n N obj\n L c0\nCOLUMNS\n x0 obj 2\n x0 c0 3\n x1 c0 -1\nENDATA\n"
-        )
-        answer = Answer(program, Outcome(Code.SOLVED, "", {"x0": 0, "x1": 0}), Options())
-        moved = answer.at([0, 0], {"c0": F(1, 2)}, Code.SOLVED, False)
-        self.assertEqual(moved.costs, {"x0": "0.5", "x1": "0.5"})
-
-    def test_long_numbers(self) -> None:
-        """COIN is given no more digits than it can hold."""
-        text, long = "NAME nl\nROWS\n N obj\nCOLUMNS\n x0 obj {}\nENDATA\n", "0.1" + "0" * 19
-        for number, wanted in ((long, long), (long + "15", "0.1"), (f"-{long}15e-9", "-1e-10")):
-            got = solvers.load("cbc").text(Program(text.format(number).encode())).decode()
-            self.assertIn(f" x0 obj {wanted}\n", got)
 
 
 class EndToEnd(Judging):
@@ -164,7 +131,7 @@ class EndToEnd(Judging):
 
     def only(self, driver: str) -> None:
         """The command that `only=mps` prints can be run as it stands, and solves."""
-        model = "product" if solvers.load(driver).integers else "diet"
+        model = "product" if solvers.SOLVERS[driver].takes_integers else "diet"
         lines = self.driven(driver, MODELS[model].text, "only=mps", "-e").stdout.split("\n")
         self.assertEqual(len(lines), 3, lines)
         again = ended(["sh", "-c", lines[1]], cwd=self.folder)
@@ -173,7 +140,7 @@ class EndToEnd(Judging):
 
     def far(self, driver: str) -> None:
         """Sides and bounds that a solver takes for none: a line says so."""
-        solver = solvers.load(driver)
+        solver = solvers.SOLVERS[driver]
         for name, text in FAR.items():
             self.driven(driver, text, "-AMPL", "-e")
             size, sol = 10**29 if name == "near" else 10**30, self.sol()
@@ -188,7 +155,7 @@ class EndToEnd(Judging):
             if not misled.takes(driver, model):
                 continue
             with self.subTest(model=model.name):
-                with mock.patch.object(certificates, "ONE_LEAF", 30.0):  # a busy machine
+                with mock.patch.object(certification, "ONE_LEAF_SECONDS", 30.0):  # a busy machine
                     found = misled.judged(self.folder, driver, model, ["timelim=10"])
                 self.assertEqual((found.wrong, found.lost), ("", ""), found.code)
 
@@ -202,40 +169,12 @@ def add(method: str, *words: str, wanted: tuple = ()) -> None:
     )
 
 
-for DRIVER in solvers.NAMES:
+for DRIVER in solvers.SOLVERS:
     add("only", DRIVER)
     add("far", DRIVER)
     add("misled", DRIVER, wanted=("clp",))
     for NAME in MODELS:
         add("solves", DRIVER, NAME)
-
-
-class Table(Case):
-    """What is passed on beside each claim that is proved: code, point and words, by `tables/settled.txt`."""
-
-    def settled(self, program: str, code: str, value: str, gap: str, line: str) -> Settled:
-        """The answer's value is `-` where it has none; the claim's is its last word, but of a bound."""
-        outcome = Outcome(
-            Code[code], "told", None if value == "-" else {"x0": float(value)}, is_gap=bool(gap)
-        )
-        at = None if line.startswith(("bound", "not")) else F(line.split()[-1])
-        point = None if at is None else [at * 10**9 if program == "small" else at]
-        verdict = Verdict(line, point, None if line.startswith("not") else "kept", "", at)
-        return settled(
-            Answer(Program(PROGRAMS[program]), outcome, Options()),
-            verdict,
-            Facts(gap=float(gap or 0)),
-        )
-
-    def test_table(self) -> None:
-        for row in rows_of("settled"):
-            found, (code, value, kind, words, lacks) = self.settled(*row[:5]), row[5:]
-            values, passed = found.answer.values, found.answer.outcome.code
-            told = found.code.name, found.kind, found.text or "", found.lacks
-            self.assertEqual(told, (code, kind, words, lacks), row)
-            self.assertEqual(
-                (passed.name, values), (code, None if value == "-" else {"x0": value}), row
-            )
 
 
 class Calls(Case):

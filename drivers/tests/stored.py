@@ -26,7 +26,7 @@ sys.path[:0] = [os.path.join(HERE, ".."), HERE]
 
 from bridge_drivers import solvers  # noqa: E402
 from bridge_drivers.system.codes import ExitStatus  # noqa: E402
-from bridge_drivers.job import ANSWERS  # noqa: E402
+from bridge_drivers.solvers.run import ANSWER_PREFIX  # noqa: E402
 from families import BINARY, drawn, listed, program  # noqa: E402
 from models import MODELS, is_solved, real, rows_of  # noqa: E402
 
@@ -124,7 +124,7 @@ def run(driver: str, text: bytes, options: Sequence[str], interrupt: float = 0.0
     files = {
         name: content(answer)
         for name, answer in data.items()
-        if name.startswith(ANSWERS) and not name.endswith((".mps", ".log"))
+        if name.startswith(ANSWER_PREFIX) and not name.endswith((".mps", ".log"))
     }
     return {
         "options": list(options),
@@ -135,7 +135,7 @@ def run(driver: str, text: bytes, options: Sequence[str], interrupt: float = 0.0
 
 
 def main() -> None:
-    wanted = sys.argv[1:] or [*solvers.NAMES, "statuses"]
+    wanted = sys.argv[1:] or [*solvers.SOLVERS, "statuses"]
     if "statuses" in wanted:
         names = [name for name in STOPPED if name in wanted]
         new = {
@@ -144,9 +144,9 @@ def main() -> None:
             if name in (names or STOPPED)
         }
         save("statuses", {**(runs("statuses") if names else {}), **new})
-    for driver in (name for name in wanted if name in solvers.NAMES):
-        solver = solvers.load(driver)
-        if solver.place() is None:
+    for driver in (name for name in wanted if name in solvers.SOLVERS):
+        solver = solvers.SOLVERS[driver]
+        if solver.find() is None:
             print(f"{driver}: not installed, its stored runs stay")
             continue
         save(
@@ -154,7 +154,7 @@ def main() -> None:
             {
                 name: run(driver, model.text, model.options)
                 for name, model in MODELS.items()
-                if is_solved(name) and (model.linear or solver.integers)
+                if is_solved(name) and (model.linear or solver.takes_integers)
             },
         )
 

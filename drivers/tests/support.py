@@ -34,8 +34,8 @@ from bridge_drivers.program.bridge import BESIDE, Bridge, Reply, find  # noqa: E
 from bridge_drivers.certify import simplex  # noqa: E402
 from bridge_drivers.exact import clp  # noqa: E402
 from bridge_drivers.driver import Driver  # noqa: E402
-from bridge_drivers.job import LOG, Job, Ran  # noqa: E402
-from bridge_drivers.solving import Solving  # noqa: E402
+from bridge_drivers.pipeline.solve import SolveRun  # noqa: E402
+from bridge_drivers.solvers.run import ANSWER_PREFIX, LOG_NAME, Finished, SolverRun  # noqa: E402
 from models import MODELS, MPS, rows_of  # noqa: E402
 import stored  # noqa: E402
 
@@ -117,13 +117,13 @@ def knows(command: str) -> bool:
 
 
 HAS_CLP = clp.library() is not None
-FIRST = next((name for name in solvers.NAMES if solvers.load(name).place()), "")
+FIRST = next((name for name in solvers.SOLVERS if solvers.SOLVERS[name].find()), "")
 LACKS = {
     "program": "" if knows("verify") else "no bridge that knows `verify`",
     "mps": "" if knows("verify_mps") else "no bridge that knows `verify_mps`",
     "clp": "" if HAS_CLP else "no library of CLP",
     "solver": "" if FIRST else "no solver",
-    **{name: "" if solvers.load(name).place() else f"no {name}" for name in solvers.NAMES},
+    **{name: "" if solvers.SOLVERS[name].find() else f"no {name}" for name in solvers.SOLVERS},
 }
 
 
@@ -241,35 +241,34 @@ class Injected(Bridge):
         return super().call(*words)
 
 
-class Replay(Job):
-    """A job whose solver is a stored run; `argv` is what would have been called."""
+class Replay(SolverRun):
+    """A run whose solver is a stored one; `argv` is what would have been called."""
 
     run_of: dict = {}
     argv: list[str] = []
 
-    def run(self, argv, log=LOG):
+    def start(self, argv: Sequence[str]) -> Finished:
         type(self).argv = list(argv)
-        start = "answer." if log == LOG else log[:-3]
-        stored.put(self.run_of["files"], self.folder, start)
-        text = "\n".join(self.run_of["logs"].get(log, []))
+        return super().start(argv)
+
+    def run_process(self, argv: Sequence[str]) -> Finished:
+        stored.put(self.run_of["files"], self.folder, ANSWER_PREFIX)
         self.is_interrupted = bool(self.run_of.get("interrupted"))
-        if log == LOG:
-            self.log = text
-        return Ran(0, text, False)
+        return Finished(0, "\n".join(self.run_of["logs"].get(LOG_NAME, [])), False)
 
 
-class OfflineSolving(Solving):
-    make_job = Replay
+class OfflineRun(SolveRun):
+    solver_run_class = Replay
+
+    def find_bridge(self) -> Bridge:
+        return Injected(PROGRAM, self.monitor.command_starts)
+
+    def find_solver(self) -> str:
+        return "/stored/" + self.solver.executable
 
 
 class OfflineDriver(Driver):
-    make_solving = OfflineSolving
-
-    def find_bridge(self) -> Bridge:
-        return Injected(PROGRAM, self.clock.note)
-
-    def find_solver(self) -> str:
-        return "/stored/" + self.solver.program
+    solve_run_class = OfflineRun
 
 
 def faults(value: Any, rule: dict[str, Any], place: str = "$") -> list[str]:

@@ -75,7 +75,7 @@ class Help(unittest.TestCase):
         self.assertEqual(called(lambda: front.command([])), (3, "", commands.usage()))
 
     def test_of_each_driver(self) -> None:
-        for name in (*solvers.NAMES, "certify"):
+        for name in (*solvers.SOLVERS, "certify"):
             driver = Command("cbc") if name == "certify" else Driver(name)
             out = self.same(
                 *(
@@ -117,7 +117,7 @@ class Words(unittest.TestCase):
         """bridge-certify takes them, too; a default is in its range, and what is not is told with what is."""
         every = [
             (name, option)
-            for name in solvers.NAMES
+            for name in solvers.SOLVERS
             for option in Driver(name).options.known.values()
         ]
         for name, option in every:

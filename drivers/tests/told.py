@@ -6,26 +6,25 @@ from __future__ import annotations
 
 import contextlib
 import copy
-import glob
 import json
 import os
 import re
-import unittest
 from fractions import Fraction as F
 from unittest import mock
 
-from support import NEEDS_CLP, NEEDS_PROGRAM, Case, Injected, Reply, bridge, content, ended
+from support import NEEDS_CLP, NEEDS_PROGRAM, Case, Injected, Reply, bridge, content
 from bridge_drivers import sol, solvers
+from bridge_drivers.pipeline.answer import CODE_OF_STATUS
+from bridge_drivers.pipeline.certification import AnswerCertifier
 from bridge_drivers.program import verdict as verdicts
-from bridge_drivers.certificates import Certifier
 from bridge_drivers.certify.claims import Certifying, Verdict, certified
 from bridge_drivers.certify.plans import Plans
 from bridge_drivers.certify.watch import Over, Watch
 from bridge_drivers.system.codes import Code, ExitStatus
 from bridge_drivers.model.linear_program import Program
 from bridge_drivers.progress import Progress, detailed
-from bridge_drivers.solvers import statuses
-from bridge_drivers.solvers.statuses import Says
+from bridge_drivers.solvers import coin, esolver, glpsol, highs, lp_solve
+from bridge_drivers.solvers.base import SolverStatus, ToldStatus
 from families import made
 from models import MODELS, rows_of, text_of
 from stored import STOPPED
@@ -33,12 +32,12 @@ import stored
 
 LIBRARIES = "/usr/lib/x86_64-linux-gnu/"
 TABLES = {
-    "cbc": statuses.COIN,
-    "clp": statuses.COIN,
-    "lp_solve": statuses.LP_SOLVE,
-    "glpsol": statuses.GLPK,
-    "highs": statuses.HIGHS,
-    "esolver": statuses.ESOLVER,
+    "cbc": coin.STATUSES,
+    "clp": coin.STATUSES,
+    "lp_solve": lp_solve.STATUSES,
+    "glpsol": glpsol.LOG_STATUSES,
+    "highs": highs.STATUSES,
+    "esolver": esolver.STATUSES,
 }
 VALUES = "Actual values of the variables:"
 REPORTS = {  # sentences of GLPK that say no status of an answer
@@ -65,90 +64,12 @@ FAMILIES = (
 NUMBER = re.compile(r"\b(incumbent|bound) (\S+?)(?:,|$)")
 
 
-def words_of(table: "list[Says] | tuple[Says, ...]") -> set[str]:
-    return {row.words for row in table}
-
-
-class Strings(unittest.TestCase):
-    """The tables have each status that is in the programs."""
-
-    def strings(self, *patterns: str) -> list[str]:
-        """The texts of programs that end with a 0."""
-        found = [path for pattern in patterns for path in sorted(glob.glob(pattern))[:1]]
-        if not found:
-            self.skipTest("a solver's library is not there")
-        return [
-            text.decode("ascii").strip()
-            for path in found
-            for text in re.findall(rb"[\x20-\x7e\n]{2,}(?=\x00)", open(path, "rb").read())
-        ]
-
-    def between(self, path: str, first: str, last: str) -> set[str]:
-        texts = self.strings(path)
-        start = texts.index(first)
-        return {
-            text
-            for text in texts[start : texts.index(last, start) + 1]
-            if text[0].isalpha() or text[0] == "("
-        }
-
-    def test_coin(self) -> None:
-        """One block of texts, from the first status to the last."""
-        known, gap = words_of(statuses.COIN), "(within gap tolerance)"
-        for name in ("libCbcSolver.so.3", "libClpSolver.so.1"):
-            texts = self.between(LIBRARIES + name, "Optimal", "Status unknown")
-            self.assertLessEqual(texts - {gap}, known, name)
-            self.assertTrue(gap not in texts or f"Optimal {gap}" in known)
-
-    def test_lp_solve(self) -> None:
-        """What stands after a run, in the order of its codes."""
-        texts = self.between("/usr/bin/lp_solve", "Suboptimal solution", "lp_solve failed")
-        self.assertEqual(texts, words_of(statuses.LP_SOLVE))
-
-    def test_glpk(self) -> None:
-        pattern = r"[A-Z][A-Z ;]+(SOLUTION|TERMINATED|APPLICATION|FOUND|PREPROCESSOR)"
-        texts = {
-            text for text in self.strings(LIBRARIES + "libglpk.so.*") if re.fullmatch(pattern, text)
-        }
-        self.assertEqual(texts - REPORTS, words_of(statuses.GLPK))
-
-    def test_highs(self) -> None:
-        code = (
-            "import json, scipy.optimize._highs._highs_constants as c; print(json.dumps({k: "
-            "int(getattr(c, k)) for k in dir(c) if k.startswith('MODEL_STATUS')}))"
-        )
-        done = ended(["/usr/bin/python3", "-c", code])
-        if done.returncode:
-            self.skipTest("no SciPy that tells HiGHS's statuses")
-        codes = {
-            "INFEASIBLE": Code.INFEASIBLE,
-            "OPTIMAL": Code.SOLVED,
-            "UNBOUNDED": Code.UNBOUNDED,
-            "REACHED_TIME_LIMIT": Code.LIMIT,
-            "UNBOUNDED_OR_INFEASIBLE": Code.INFEASIBLE_OR_UNBOUNDED,
-            "REACHED_ITERATION_LIMIT": Code.LIMIT,
-        }
-        for name, number in json.loads(done.stdout).items():
-            row = statuses.row_of(statuses.HIGHS, str(number))
-            self.assertIsNotNone(row, name)
-            self.assertEqual(
-                row.code, codes.get(name.removeprefix("MODEL_STATUS_"), row.code), name
-            )
-
-    def test_esolver(self) -> None:
-        found = [
-            re.fullmatch(r"status =? ?([A-Z_]+)|([A-Z_]+) \(ending now\)", text)
-            for text in self.strings("/usr/bin/esolver", LIBRARIES + "libqsopt_ex.so.*")
-        ]
-        self.assertEqual({at[1] or at[2] for at in found if at}, words_of(statuses.ESOLVER))
-
-
-def changed(driver: str, run: dict, row: Says, has_point: bool) -> dict:
+def changed(driver: str, run: dict, row: ToldStatus, has_point: bool) -> dict:
     """The stored run of a model with another status, by the solver's format."""
     run = copy.deepcopy(run)
     files, log = run["files"], run["logs"]["solver.log"]
     if driver in ("cbc", "clp"):
-        end = "" if has_point else " " + statuses.NO_POINT
+        end = "" if has_point else " " + coin.NO_POINT
         files["answer.txt"][0] = f"{row.words}{end} - objective value 17.0"
     elif driver == "lp_solve":
         run["logs"]["solver.log"] = [
@@ -188,7 +109,7 @@ class Each(Case):
 
     def test_each_row(self) -> None:
         for driver, table in TABLES.items():
-            model = "knap" if solvers.load(driver).integers else "diet"
+            model = "knap" if solvers.SOLVERS[driver].takes_integers else "diet"
             run = stored.runs(driver)[model]
             for row in table:
                 for has_point in (True, False):
@@ -199,19 +120,19 @@ class Each(Case):
                         self.assertEqual(code, self.wanted(driver, row, has_point), line)
 
     @staticmethod
-    def wanted(driver: str, row: Says, has_point: bool) -> int:
+    def wanted(driver: str, row: ToldStatus, has_point: bool) -> int:
         """A point is a point, whatever the status; without one little is an answer."""
         if driver == "esolver":
-            has_point = row.code == Code.SOLVED
-        if row.code == Code.LIMIT:
+            has_point = row.status is SolverStatus.OPTIMAL
+        if row.status is SolverStatus.LIMIT:
             return Code.LIMIT_WITH_POINT if has_point else Code.LIMIT
-        if row.code in (Code.UNSURE, Code.NO_ANSWER):
+        if row.status in (SolverStatus.FEASIBLE, SolverStatus.NO_ANSWER):
             return Code.UNSURE if has_point else Code.NO_ANSWER
-        return row.code
+        return CODE_OF_STATUS[row.status]
 
     def test_unknown_ones(self) -> None:
         """A status of no table, with a point: judged, and told in its own words."""
-        row = Says("Quite done", Code.UNSURE, "")
+        row = ToldStatus("Quite done", SolverStatus.FEASIBLE, "")
         for driver in ("cbc", "clp", "lp_solve", "highs", "glpsol"):
             model = "diet" if driver == "clp" else "knap"
             run = changed(driver, stored.runs(driver)[model], row, True)
@@ -223,12 +144,12 @@ class Each(Case):
             self.assertIn(f"a point, and it ended with `{told.get(driver, 'Quite done')}`", line)
 
     def test_letters_of_glpk(self) -> None:
-        for row in statuses.GLPK_FILE:
+        for row in glpsol.FILE_STATUSES:
             model, old = ("knap", " o ") if len(row.words) == 1 else ("diet", " f f ")
             run = copy.deepcopy(stored.runs("glpsol")[model])
             lettered(run["files"], old, f" {' '.join(row.words)} ")
             code, line = self.code_of("glpsol", model, run)
-            has_point = row.words[0] in "of" or row.code == Code.UNSURE
+            has_point = row.words[0] in "of" or row.status is SolverStatus.FEASIBLE
             self.assertEqual(code, self.wanted("glpsol", row, has_point), (row, line))
 
     def test_real_ones(self) -> None:
@@ -269,7 +190,7 @@ class Claims(Case):
         self.put(MODELS["knap"].text)
         for line, status, code in (("within 19 17", 7, 100), ("optimal 17", 0, 0)):
             verdict = Verdict(line, [F(1), F(1), F(0)], "kept", value=F(17))
-            with mock.patch.object(Certifier, "verdict", lambda *_: verdict):
+            with mock.patch.object(AnswerCertifier, "certify", lambda *_: verdict):
                 ended = self.replay("cbc", "knap", self.stub, "strict=1", "-s")
                 self.assertEqual((ended.returncode, self.sol().code), (status, code))
 
@@ -298,16 +219,17 @@ class Claims(Case):
             (("prove=1",), 60.0),
             (("prove=1", "timelim=7"), 7.0),
         ):
-            with mock.patch("bridge_drivers.certificates.Watch", wraps=Watch) as made:
+            with mock.patch("bridge_drivers.pipeline.certification.Watch", wraps=Watch) as made:
                 self.last("cbc", "product", *words)
             self.assertEqual(made.call_args.args[0], seconds, words)
 
     def test_a_large_answer_as_it_stands(self) -> None:
         """Where the time of its certificate is over: where it is none itself, that is told."""
         late = mock.patch(
-            "bridge_drivers.certificates.certified", lambda *_: Verdict("not proved: time")
+            "bridge_drivers.pipeline.certification.certified",
+            lambda *_: Verdict("not proved: time"),
         )
-        with mock.patch("bridge_drivers.certificates.LARGE", 1), late:
+        with mock.patch("bridge_drivers.pipeline.certification.LARGE_PROGRAM", 1), late:
             self.assertEqual(self.last("lp_solve", "diet"), "optimal 22/5")
             self.of_words(["answer=x0 4 => x0 3", "solves", "lp_solve", "diet"])
             self.assertEqual(self.sol().message[-1], "not proved: time")

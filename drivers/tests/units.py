@@ -39,8 +39,8 @@ class Texts(Case):
             (p.maximise, p.costs, p.objective_rhs), (True, {"x0": "2", "x2": "5"}, "-3")
         )
         self.assertEqual(p.at([1, 9, 0.5, 9]).value, 7.5)
-        self.assertTrue(solvers.load("cbc").text(p).startswith(b"NAME nl FREE\nOBJSENSE"))
-        self.assertNotIn(b"OBJSENSE", solvers.load("glpsol").text(p))
+        self.assertTrue(solvers.SOLVERS["cbc"].mps_text(p).startswith(b"NAME nl FREE\nOBJSENSE"))
+        self.assertNotIn(b"OBJSENSE", solvers.SOLVERS["glpsol"].mps_text(p))
         empty = Program(b"NAME nl\nROWS\n N obj\nCOLUMNS\nRHS\nENDATA\n")
         self.assertEqual((empty.columns, empty.constraints, empty.whole), ([], [], set()))
 
@@ -239,7 +239,7 @@ class Shown(Case):
         """What solvers tell, in the objective's own sense."""
         for name, sense, line, known in rows_of("units", "log"):
             text = f"NAME nl\nOBJSENSE\n {sense.upper()}\nROWS\n N obj\nCOLUMNS\nRHS\nENDATA\n"
-            told = solvers.load(name).said(line, Program(text.encode()))
+            told = solvers.SOLVERS[name].progress_of_line(line, Program(text.encode()))
             pairs = (word.split("=") for word in known.split())
             self.assertEqual(told, {key: float(value) for key, value in pairs}, line)
 

@@ -9,12 +9,13 @@ import sys
 import time
 from typing import Sequence
 
-from .. import console, interface, solvers
+from .. import console, interface
 from ..system.codes import ExitStatus
 from ..system.errors import BridgeError, WrongOption
 from ..driver import Driver, Run
 from ..options import AMOUNT, FILE, SWITCH, Option, Options, Text
-from ..solving import Result
+from ..pipeline.solve import Outcome
+from ..solvers import SOLVERS
 
 NAME = "bridge-certify"
 OPTIONS = (
@@ -24,7 +25,7 @@ OPTIONS = (
         FILE,
         "where the certificate is written; - is standard output (MODEL.certificate)",
     ),
-    Option("driver", "cbc", Text(known=solvers.NAMES), "the driver that finds a point"),
+    Option("driver", "cbc", Text(known=tuple(SOLVERS)), "the driver that finds a point"),
     Option("prove", 1, SWITCH, "0: as a driver without prove=1"),
     Option("stats", 0, SWITCH, "1: a line of figures"),
     Option(
@@ -48,11 +49,11 @@ EXAMPLE = "\nexample: {name} mix timelim=60 certificate=mix.certificate\n"
 class Finding(Run):
     """A run whose answer is certified; it writes no .sol."""
 
-    own_options = OPTIONS
+    further_options = OPTIONS
 
     def __init__(self, name: str) -> None:
         super().__init__(name)
-        self.name = self.clock.name = self.clock.progress.name = NAME
+        self.name = self.monitor.name = self.monitor.progress.name = NAME
 
     def take_options(self) -> None:
         if self.words.ampl or self.words.save:
@@ -62,10 +63,10 @@ class Finding(Run):
     def writes(self) -> bool:
         return False
 
-    def deliver(self, result: Result) -> ExitStatus:
+    def deliver(self, outcome: Outcome) -> ExitStatus:
         """Where nothing is proved, nothing is done."""
-        status = super().deliver(result)
-        is_vain = status in (ExitStatus.DONE, ExitStatus.NOT_SETTLED) and result.lines[
+        status = super().deliver(outcome)
+        is_vain = status in (ExitStatus.DONE, ExitStatus.NOT_SETTLED) and outcome.lines[
             -1
         ].startswith("not pr")
         return ExitStatus.FAILED if is_vain else status
@@ -87,16 +88,16 @@ class Command(Finding, Driver):
         kept = given or self.model.stub + ".certificate"
         self.options.certificate = self.workspace.new_path() if self.is_quiet else kept
 
-    def lines(self, result: Result) -> list[str]:
+    def message_of(self, outcome: Outcome) -> list[str]:
         """Where it is kept is not told of standard output."""
-        kept = result.kept.line if result.kept and self.is_quiet else None
-        return [line for line in super().lines(result) if line != kept]
+        stored = outcome.stored.line if outcome.stored and self.is_quiet else None
+        return [line for line in outcome.lines if line != stored]
 
-    def deliver(self, result: Result) -> ExitStatus:
-        status = super().deliver(result)
-        if self.options.own["stats"] and result.figures:
+    def deliver(self, outcome: Outcome) -> ExitStatus:
+        status = super().deliver(outcome)
+        if self.options.own["stats"] and outcome.figures:
             print(
-                f"{result.figures}; {time.process_time():.2f} s of the search",
+                f"{outcome.figures}; {time.process_time():.2f} s of the search",
                 file=sys.stderr if self.is_quiet else sys.stdout,
             )
         if self.is_quiet and os.path.exists(self.options.certificate):
@@ -120,7 +121,7 @@ def run(argv: Sequence[str]) -> int:
     try:
         command = Command(solver_of(argv))
     except WrongOption as fault:
-        return Command(solvers.NAMES[0]).failed(fault)
+        return Command(next(iter(SOLVERS))).failed(fault)
     return interface.reported(command, argv)
 
 

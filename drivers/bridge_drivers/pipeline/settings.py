@@ -45,7 +45,8 @@ class Settings:
         solver: The name of the solver, a key of `solvers.SOLVERS`.
         solver_path: Its executable, where that is not on the PATH.
         bridge: The words that start the proved program; "" looks for it.
-        solver_settings: What the solver is asked.
+        solver_settings: What the solver is asked; its limit of time is set by `time_limit`.
+        time_limit: Seconds of the solver, and again of the search for a certificate; 0 for no limit.
         certificate: What is asked of the search for a certificate.
         objective: Which objective of the model, from 0.
         round_integers: Values of integer variables within 1e-5 of a whole number become that number.
@@ -53,6 +54,7 @@ class Settings:
             the same double. None is the same as False, but a note tells what else could be had.
         mps_form: `free` or `fixed`: how the lines of an MPS file are read; "" tries both.
         keep_folder: Where the files in between are kept; "" for nowhere.
+        makes_sol: The values are passed on as a .sol, which messages then name.
         refuses_unclear: That a solver says "infeasible or unbounded" is no answer.
         shows_faults: An exception that is a fault of this package is raised as it is.
     """
@@ -61,12 +63,14 @@ class Settings:
     solver_path: str = ""
     bridge: str = ""
     solver_settings: SolverSettings = field(default_factory=SolverSettings)
+    time_limit: float = 0.0
     certificate: CertificateSettings = field(default_factory=CertificateSettings)
     objective: int = 0
     round_integers: bool = True
     shortest_numbers: Optional[bool] = None
     mps_form: str = ""
     keep_folder: str = ""
+    makes_sol: bool = False
     refuses_unclear: bool = False
     shows_faults: bool = False
 

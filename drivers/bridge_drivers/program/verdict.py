@@ -9,13 +9,13 @@ from math import gcd
 from typing import NamedTuple
 
 from ..model.linear_program import Program
-from ..ruling import FINAL
 from ..formats.numbers import decimals_over_common_denominator, exact_decimal
 
 LINE = re.compile(
     r"(?:(optimal|feasible|bound) (\S+)|within (\S+) (\S+)|(infeasible|unbounded))"
     r"(?: of objective (\d+))?"
 )
+FINAL = ("optimal", "infeasible", "unbounded")  # claims that end the question
 MOST_PLACES = 15  # digits of a decimal that is told in full
 
 

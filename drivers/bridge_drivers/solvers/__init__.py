@@ -1,17 +1,16 @@
-"""The solvers by name. A module has its solvers in SOLVERS, and the name of the one where it has one."""
+"""The solvers, by the names of their drivers."""
 
 from __future__ import annotations
 
-import importlib
+from typing import Mapping
 
 from .base import Solver
+from .coin import Cbc, Clp
+from .esolver import Esolver
+from .glpsol import Glpsol
+from .highs import Highs
+from .lp_solve import LpSolve
 
-NAMES = ("cbc", "clp", "glpsol", "highs", "esolver", "lp_solve")
-MODULES = {"cbc": "coin", "clp": "coin"}
-
-
-def load(name: str) -> Solver:
-    found: tuple[Solver, ...] = importlib.import_module(
-        f"{__name__}.{MODULES.get(name, name)}"
-    ).SOLVERS
-    return next(solver for solver in found if solver.name == name)
+SOLVERS: Mapping[str, Solver] = {
+    solver.name: solver for solver in (Cbc(), Clp(), Glpsol(), Highs(), Esolver(), LpSolve())
+}

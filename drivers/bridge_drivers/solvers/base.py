@@ -1,166 +1,249 @@
-"""What a solver's module answers, and what it is given."""
+"""What a solver is, and what it answers."""
 
 from __future__ import annotations
 
 import contextlib
-import math
+import enum
 import re
 import shutil
 from dataclasses import dataclass, field
-from typing import TYPE_CHECKING, Mapping, Sequence
+from typing import NamedTuple, Sequence
 
-from ..system.codes import Code
-from ..options import SHARE, Option
+from ..model.linear_program import Program
+from ..system.errors import UnclearAnswer
 from ..formats.numbers import Number
-from .statuses import TIME, Says
+from .run import Finished, SolverRun
+from .settings import SolverOption, SolverSettings
 
-if TYPE_CHECKING:
-    from ..job import Job, Ran
-    from ..model.linear_program import Program
-
-BASIC, SUPERBASIC, LOWER, UPPER, EQUAL = 1, 2, 3, 4, 5  # AMPL's statuses of the basis
-GAP = Option("mipgap", 0.0, SHARE, "relative gap at which the search stops")
-LONGEST = 200  # of a line of a log that is told
-NONE_YET = 1e40  # what stands for an incumbent where there is none
+LONGEST_LOG_LINE = 200  # characters of it that are told
+NO_INCUMBENT = 1e40  # the size from which a number of a log stands for none
+TIME_LIMIT = "the time limit"
+OPTIMAL_SOLUTION = "optimal solution"
+GAP_SOLUTION = "solution within the gap"
 
 
-class Unclear(Exception):
-    """The solver's answer was not understood, or there is none."""
+class BasisStatus(enum.IntEnum):
+    """Where a column or row stands in a basis, in AMPL's numbers (the suffix `sstatus`)."""
+
+    BASIC = 1
+    SUPERBASIC = 2
+    AT_LOWER = 3
+    AT_UPPER = 4
+    EQUAL = 5
+
+
+class SolverStatus(enum.Enum):
+    """What a solver says of a program. It is believed in nothing: see `pipeline.outcome`."""
+
+    OPTIMAL = "optimal"
+    FEASIBLE = "feasible"  # a point, of which little else is said
+    INFEASIBLE = "infeasible"
+    INFEASIBLE_OR_UNBOUNDED = "infeasible or unbounded"
+    UNBOUNDED = "unbounded"
+    LIMIT_WITH_POINT = "limit with a point"
+    LIMIT = "limit"
+    NO_ANSWER = "no answer"
+
+    def has_point(self) -> bool:
+        points = (SolverStatus.OPTIMAL, SolverStatus.FEASIBLE, SolverStatus.LIMIT_WITH_POINT)
+        return self in points
+
+
+class ToldStatus(NamedTuple):
+    """One status as a solver words it.
+
+    Attributes:
+        words: The solver's own words, letters or number.
+        status: What they mean where nothing else is known.
+        text: What a message says; of a limit, which one.
+        is_gap: A gap that was asked for is reached.
+    """
+
+    words: str
+    status: SolverStatus
+    text: str
+    is_gap: bool = False
 
 
 @dataclass
-class Outcome:
-    """What a solver answered, its values by name of column or row. The code is what its status says by itself, `text`
-    says it in words, `is_gap` that the search stopped at a gap that was asked for. `duals` and `costs` are rates of
-    change of the objective, for both senses, as AMPL wants them. The basis is in AMPL's statuses, for all of both.
+class SolverAnswer:
+    """What a solver answered. Numbers stand in the order of the program's columns and rows.
+
+    Attributes:
+        status: What the solver says of the program.
+        text: The same in words.
+        values: One for each column.
+        duals: One for each row: rates of change of the objective in its own sense, as AMPL wants them.
+        reduced_costs: One for each column, as the duals.
+        column_basis: One for each column.
+        row_basis: One for each row.
+        objective: As the solver computed it.
+        notes: Lines for the message.
+        is_gap: The search stopped at a gap that was asked for.
     """
 
-    code: Code
+    status: SolverStatus
     text: str
-    values: Mapping[str, Number] | None = None
-    duals: Mapping[str, Number] | None = None
-    costs: Mapping[str, Number] | None = None
-    column_basis: Mapping[str, int] | None = None
-    row_basis: Mapping[str, int] | None = None
+    values: Sequence[Number] | None = None
+    duals: Sequence[Number] | None = None
+    reduced_costs: Sequence[Number] | None = None
+    column_basis: Sequence[int] | None = None
+    row_basis: Sequence[int] | None = None
     objective: Number | None = None
     notes: list[str] = field(default_factory=list)
     is_gap: bool = False
 
-    def has_point(self) -> bool:
-        return self.code in (Code.SOLVED, Code.UNSURE, Code.LIMIT_WITH_POINT)
-
 
 class Solver:
-    """A solver. `solve` writes the model as it reads it, runs it, and reads its answer."""
+    """A solver. `solve` writes the program as it reads it, runs it, and reads its answer.
 
-    name = ""  # of the driver, without bridge-
-    program = ""  # the executable
-    package = ""  # Debian's, that has it
-    title = ""  # in messages
-    integers = True  # takes integer columns
-    again = ""  # how it is asked where an answer is not good
-    options: Sequence[Option] = ()  # its own
-    flags: Mapping[str, str] = {}  # its words for what is asked for
-    version = ""  # a pattern whose one group is the version in the log
-    lines: Sequence[str] = ()  # patterns of its log, with groups as `detailed` names them
-    infinite = ""  # the size from which sides and bounds are none to it
+    Attributes:
+        name: That of its driver without `bridge-`.
+        executable: The name of its program.
+        package: Debian's package that has it.
+        title: Its name in messages.
+        takes_integers: Whether it takes integer columns.
+        retry_words: How it is asked once more where an answer is not usable; "" where it is not.
+        options: The settings that it takes beside those that all take.
+        version_pattern: Matches a line of its log; the one group is the version.
+        progress_patterns: Match lines of its log; the names of groups say what a number is.
+        infinite: The size from which it takes sides and bounds for none, as a text; "" where no
+            number is so large.
+    """
 
-    def named(self, log: str) -> str:
-        """The title, with the version where the log has it."""
-        found = re.search(self.version, log) if self.version else None
-        return f"{self.title} {found[1]}" if found else self.title
+    name = ""
+    executable = ""
+    package = ""
+    title = ""
+    takes_integers = True
+    retry_words = ""
+    options: Sequence[SolverOption] = ()
+    version_pattern = ""
+    progress_patterns: Sequence[str] = ()
+    infinite = ""
 
-    def far_notes(self, program: Program) -> list[str]:
-        """A line where the program has sides or bounds that are none to this solver."""
-        count = program.far(float(self.infinite)) if self.infinite else 0
-        ends = "side or bound" if count == 1 else "sides or bounds"
-        return (
-            [
-                f"the model has {count} {ends} from {self.infinite} on, which {self.title} may "
-                "take for none"
-            ]
-            if count
-            else []
-        )
+    def solve(self, run: SolverRun) -> SolverAnswer:
+        """The answer of one run.
 
-    def solve(self, job: Job) -> Outcome:
+        Raises:
+            UnclearAnswer: There is none, or it is not understood.
+            ValueError, LookupError, ArithmeticError: The answer is not in the form that it should have.
+            OSError: The solver cannot be started, or its files cannot be written.
+        """
         raise NotImplementedError
 
-    def asked(self, job: Job) -> list[str]:
-        """Its words for all that is asked for, and the user's. `seconds` are those of `timelim` as a whole number."""
-        o = job.options
-        said: dict[str, object] = {
-            **o.own,
-            "timelim": o.timelim,
-            "seconds": math.ceil(o.timelim),
-            "relax": o.relax,
-            "again": job.again,
-        }
-        words = [form.format(said[name]) for name, form in self.flags.items() if said[name]]
-        return [*" ".join(words).split(), *job.extra]
+    def arguments(self, settings: SolverSettings, *, is_retry: bool = False) -> list[str]:
+        """The solver's words for what is asked, and the user's own behind them."""
+        return list(settings.arguments)
 
-    def said(self, line: str, program: Program) -> dict[str, float]:
-        """What a line of its log says, by the names of the patterns' groups."""
-        known: dict[str, float] = {}
-        found = next(filter(None, (re.search(pattern, line) for pattern in self.lines)), None)
-        for name, text in found.groupdict().items() if found else ():
-            with contextlib.suppress(ValueError):  # it is no number
-                known[name] = float(text)
-        return {name: value for name, value in known.items() if abs(value) < NONE_YET}
+    def find(self, named: str = "") -> str | None:
+        """The path of the executable: the named one, or the one on the PATH."""
+        return shutil.which(named or self.executable)
 
-    def place(self, named: str = "") -> str | None:
-        """The executable: the named one, or one on the PATH."""
-        return shutil.which(named or self.program)
-
-    def text(self, program: Program) -> bytes:
+    def mps_text(self, program: Program) -> bytes:
+        """The program as MPS that this solver reads rightly."""
         return program.text
 
-    def reading(self, program: Program, path: str) -> list[str]:
-        """The words by which the solver reads that text and solves it."""
+    def reading_arguments(self, program: Program, path: str) -> list[str]:
+        """The words by which the solver reads the MPS file at a path and solves it."""
         return [path]
 
-    def command(self, program: Program, path: str, named: str) -> list[str]:
-        """All words of that, as one types them; `named` is the executable, where one is named."""
-        return [named or self.program, *self.reading(program, path)]
+    def command_line(self, program: Program, path: str, named: str = "") -> list[str]:
+        """How one calls it by hand on the MPS file at a path."""
+        return [named or self.executable, *self.reading_arguments(program, path)]
+
+    def title_with_version(self, log: str) -> str:
+        """The title, with the version where the log tells it."""
+        found = re.search(self.version_pattern, log) if self.version_pattern else None
+        return f"{self.title} {found[1]}" if found else self.title
+
+    def huge_notes(self, program: Program) -> list[str]:
+        """A line where the program has sides or bounds that this solver may take for none."""
+        count = program.far(float(self.infinite)) if self.infinite else 0
+        if not count:
+            return []
+        ends = "side or bound" if count == 1 else "sides or bounds"
+        return [
+            f"the model has {count} {ends} from {self.infinite} on, which {self.title} may "
+            "take for none"
+        ]
+
+    def progress_of_line(self, line: str, program: Program) -> dict[str, float]:
+        """The numbers that a line of the log tells, by the names of the patterns' groups."""
+        matches = (re.search(pattern, line) for pattern in self.progress_patterns)
+        found = next(filter(None, matches), None)
+        if found is None:
+            return {}
+        known: dict[str, float] = {}
+        for name, text in found.groupdict().items():
+            with contextlib.suppress(ValueError):  # a word where a number could be
+                known[name] = float(text)
+        return {name: value for name, value in known.items() if abs(value) < NO_INCUMBENT}
 
 
-def stopped(why: str, has_point: bool = False) -> Outcome:
-    return Outcome(
-        Code.LIMIT_WITH_POINT if has_point else Code.LIMIT,
-        f"stopped at {why} {'with' if has_point else 'without'} a feasible solution",
-    )
+def status_of(told: Sequence[ToldStatus], words: str) -> ToldStatus | None:
+    """The status of these words, in capitals or not; None of words that no solver of ours is known to say."""
+    wanted = words.strip().lower()
+    return next((one for one in told if one.words.lower() == wanted), None)
 
 
-def without_answer(ran: Ran, pattern: str) -> Outcome:
-    """Of a run that wrote none: at its limit, else Unclear, with the first line of its log that has the pattern."""
-    if ran.killed:
-        return stopped(TIME)
-    lines = [line.strip() for line in ran.log.splitlines() if line.strip()]
-    last = f"; its last words: {lines[-1][:LONGEST]}" if lines else ""
-    raise Unclear(
-        next(
-            (line for line in lines if re.search(pattern, line, re.I)), "it wrote no answer" + last
-        )
-    )
+def status_in_log(told: Sequence[ToldStatus], log: str) -> ToldStatus | None:
+    """The first status whose words stand in a log."""
+    return next((one for one in told if one.words in log), None)
 
 
-def outcome(says: Says | None, status: str, has_point: bool) -> Outcome:
-    """Of a status. One that is not known, or that says little, is a point where there is one; else Unclear."""
-    if says is None or says.code in (Code.UNSURE, Code.NO_ANSWER):
+def limit_answer(why: str, *, has_point: bool = False) -> SolverAnswer:
+    """The answer of a solver that a limit stopped."""
+    status = SolverStatus.LIMIT_WITH_POINT if has_point else SolverStatus.LIMIT
+    ending = "with" if has_point else "without"
+    return SolverAnswer(status, f"stopped at {why} {ending} a feasible solution")
+
+
+def answer_without_file(finished: Finished, fault_pattern: str) -> SolverAnswer:
+    """The answer of a run that wrote none: that of its limit, where it was killed at it.
+
+    Raises:
+        UnclearAnswer: It ended by itself; with the first line of its log that has the pattern.
+    """
+    if finished.is_killed:
+        return limit_answer(TIME_LIMIT)
+    lines = [line.strip() for line in finished.log.splitlines() if line.strip()]
+    faults = (line for line in lines if re.search(fault_pattern, line, re.IGNORECASE))
+    last = f"; its last words: {lines[-1][:LONGEST_LOG_LINE]}" if lines else ""
+    raise UnclearAnswer(next(faults, "it wrote no answer" + last))
+
+
+def answer_of_status(told: ToldStatus | None, words: str, *, has_point: bool) -> SolverAnswer:
+    """The answer, still without numbers, of a status that the solver words so.
+
+    A status that is not known (None), or that says little, is a point where there is one.
+
+    Raises:
+        UnclearAnswer: There is none.
+    """
+    says_little = (SolverStatus.FEASIBLE, SolverStatus.NO_ANSWER)
+    if told is None or told.status in says_little:
         if not has_point:
-            raise Unclear(f"it ended with `{status}`")
-        if says is not None and says.is_gap:
-            return Outcome(says.code, says.text, is_gap=True)
-        return Outcome(Code.UNSURE, f"a point, and it ended with `{status}`")
-    if says.code == Code.LIMIT:
-        return stopped(says.text, has_point)
-    return Outcome(says.code, says.text)
+            raise UnclearAnswer(f"it ended with `{words}`")
+        if told is not None and told.is_gap:
+            return SolverAnswer(told.status, told.text, is_gap=True)
+        return SolverAnswer(SolverStatus.FEASIBLE, f"a point, and it ended with `{words}`")
+    if told.status is SolverStatus.LIMIT:
+        return limit_answer(told.text, has_point=has_point)
+    return SolverAnswer(told.status, told.text)
+
+
+def within_gap(answer: SolverAnswer) -> None:
+    """Makes of an optimal answer one that a gap may have ended."""
+    answer.status = SolverStatus.FEASIBLE
+    answer.text = GAP_SOLUTION
+    answer.is_gap = True
 
 
 def read_lines(path: str) -> list[str] | None:
-    """The lines of an answer, None where the solver wrote none."""
+    """The lines of an answer; None where the solver wrote none."""
     try:
-        with open(path, encoding="utf-8", errors="replace") as f:
-            return f.read().splitlines()
+        with open(path, encoding="utf-8", errors="replace") as file:
+            return file.read().splitlines()
     except FileNotFoundError:
         return None

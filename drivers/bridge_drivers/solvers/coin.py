@@ -1,45 +1,75 @@
-"""CBC, COIN-OR's branch and cut, for mixed integer programs, and CLP, its simplex, which relaxes integer columns
-without a word. Both read with CoinUtils and save answers as CLP does."""
+"""CBC, COIN-OR's branch and cut, for mixed integer programs, and CLP, its simplex method.
+
+CLP relaxes integer columns without a word. Both read MPS by CoinUtils, and save answers as CLP does.
+"""
 
 from __future__ import annotations
 
 import os
-import re
 import struct
 from array import array
-from typing import TYPE_CHECKING
+from typing import NamedTuple
 
-from ..system.codes import Code
-from ..options import Option
-from ..model.named_values import NamedValues
+from ..model.linear_program import Program
+from ..system.errors import UnclearAnswer
 from .base import (
-    BASIC,
-    EQUAL,
-    GAP,
-    LOWER,
-    UPPER,
-    Outcome,
+    GAP_SOLUTION,
+    OPTIMAL_SOLUTION,
+    TIME_LIMIT,
     Solver,
-    Unclear,
-    outcome,
+    SolverAnswer,
+    SolverStatus,
+    ToldStatus,
+    answer_of_status,
+    answer_without_file,
     read_lines,
-    without_answer,
+    status_of,
 )
-from .statuses import COIN, NO_POINT, row_of
+from .mps_basis import read_mps_basis
+from .run import Finished, SolverRun
+from .settings import SolverOption, SolverSettings
 
-if TYPE_CHECKING:
-    from ..job import Job, Ran
-    from ..model.linear_program import Program
+# the first line of -solution, up to the objective
+STATUSES = (
+    ToldStatus("Optimal", SolverStatus.OPTIMAL, OPTIMAL_SOLUTION),
+    ToldStatus("Optimal (within gap tolerance)", SolverStatus.FEASIBLE, GAP_SOLUTION, True),
+    ToldStatus("Infeasible", SolverStatus.INFEASIBLE, "infeasible"),
+    ToldStatus("Integer infeasible", SolverStatus.INFEASIBLE, "integer infeasible"),
+    ToldStatus("Unbounded", SolverStatus.UNBOUNDED, "unbounded"),
+    ToldStatus("Stopped on time", SolverStatus.LIMIT, TIME_LIMIT),
+    ToldStatus(
+        "Stopped on iterations",
+        SolverStatus.LIMIT,
+        "the limit of iterations, nodes or solutions",
+    ),
+    ToldStatus(
+        "Stopped on iterations or time", SolverStatus.LIMIT, "the limit of iterations or time"
+    ),
+    ToldStatus("Stopped on difficulties", SolverStatus.FEASIBLE, "stopped on difficulties"),
+    ToldStatus("Stopped on ctrl-c", SolverStatus.LIMIT, "an interrupt"),
+    ToldStatus("Status unknown", SolverStatus.FEASIBLE, "status unknown"),
+)
+NO_POINT = "(no integer solution - continuous used)"  # behind a status of CBC
+MOST_DIGITS = 22  # of a number that CoinUtils reads rightly
+AS_ZEROS = bytes.maketrans(b".123456789", b"0" * 10)
+WRITTEN_NAME = b"NAME nl\n"  # the first line of an exported program
+FREE_NAME = b"NAME nl FREE\n"
+FAULT_PATTERN = r"Bad image|No match|Unknown|Unable to open|errors? on input|infeasible bound"
 
-LEAST_LONG = 23
-LONG = re.compile(rb"(?<= )[-+]?[\d.]{%d,}(?:[eE]\S+)?$" % LEAST_LONG, re.M)
-ZEROS = bytes.maketrans(b".123456789", b"0" * 10)  # all that stand in such numbers
-COMPLAINT = r"Bad image|No match|Unknown|Unable to open|errors? on input|infeasible bound"
+
+class SavedSolution(NamedTuple):
+    """Doubles of -saveSolution, in the order of the program's columns and rows."""
+
+    values: array[float]
+    duals: array[float]
+    reduced_costs: array[float]
 
 
 class Coin(Solver):
+    """What CBC and CLP have in common."""
+
     infinite = "1e25"  # of upper bounds; of others 1e30
-    lines = (
+    progress_patterns = (
         r"Cbc0010I After (?P<nodes>\d+) nodes, (?P<open>\d+) on tree, (?P<incumbent>\S+) best "
         r"solution, best possible (?P<bound>\S+)",
         r"Cbc0012I Integer solution of (?P<incumbent>\S+) found",
@@ -47,136 +77,143 @@ class Coin(Solver):
         r"Clp0006I +(?P<iterations>\d+) +Obj (?P<objective>\S+)",
     )
 
-    def said(self, line: str, program: Program) -> dict[str, float]:
+    def progress_of_line(self, line: str, program: Program) -> dict[str, float]:
         """CBC minimises, and tells of what it minimises."""
-        known = super().said(line, program)
-        sign = -1.0 if program.maximise and "Cbc00" in line else 1.0
-        return {
-            name: sign * value if name in ("incumbent", "bound") else value
-            for name, value in known.items()
-        }
+        known = super().progress_of_line(line, program)
+        if program.maximise and "Cbc00" in line:
+            for name in ("incumbent", "bound"):
+                if name in known:
+                    known[name] = -known[name]
+        return known
 
-    def solve(self, job: Job) -> Outcome:
-        """CoinUtils ignores OBJSENSE."""
-        path, relaxed = job.write("coin.mps", self.text(job.given)), job.options.relax
-        solves = "-initialSolve" if relaxed and self.integers else "-solve"
-        basis = [] if job.program.whole and not relaxed else ["-basisOut", job.path("answer.bas")]
-        return self.answer(
-            job,
-            job.run(
-                [
-                    job.solver,
-                    path,
-                    *(["-max"] if job.program.maximise else []),
-                    *self.asked(job),
-                    solves,
-                    "-solution",
-                    job.path("answer.txt"),
-                    "-saveSolution",
-                    job.path("answer.bin"),
-                    *basis,
-                    "-quit",
-                ]
-            ),
-        )
+    def solve(self, run: SolverRun) -> SolverAnswer:
+        """CoinUtils ignores OBJSENSE: a maximum is asked for by a word."""
+        path = run.write("coin.mps", self.mps_text(run.written))
+        command = "-solve"
+        if run.settings.relax and self.takes_integers:
+            command = "-initialSolve"
+        words = [run.executable, path]
+        if run.program.maximise:
+            words.append("-max")
+        words += self.arguments(run.settings, is_retry=run.is_retry)
+        words += [command, "-solution", run.path("answer.txt")]
+        words += ["-saveSolution", run.path("answer.bin")]
+        if run.is_continuous():
+            words += ["-basisOut", run.path("answer.bas")]
+        return read_answer(run, run.start([*words, "-quit"]))
 
-    def text(self, program: Program) -> bytes:
-        """To CoinUtils a `NAME nl` line means fixed columns, and it does not take all numbers of more than 22 digits:
-        they are doubles here."""
-        text = b"NAME nl FREE\n" + program.text[len(b"NAME nl\n") :]
-        if b"0" * LEAST_LONG not in text.translate(ZEROS):
+    def mps_text(self, program: Program) -> bytes:
+        """To CoinUtils a line `NAME nl` means fixed columns; and numbers of more digits than it reads are doubles."""
+        text = FREE_NAME + program.text[len(WRITTEN_NAME) :]
+        if b"0" * (MOST_DIGITS + 1) not in text.translate(AS_ZEROS):
             return text
-        return LONG.sub(lambda found: repr(float(found.group())).encode(), text)
+        return b"\n".join(map(_with_double, text.split(b"\n")))
 
-    def reading(self, program: Program, path: str) -> list[str]:
-        return [path, *(["-max"] if program.maximise else []), "-solve", "-solution", "stdout"]
-
-    @staticmethod
-    def saved(
-        program: Program, path: str
-    ) -> tuple[NamedValues[float], NamedValues[float], NamedValues[float]]:
-        """Values, duals and reduced costs in the doubles of -saveSolution (-solution prints 8 digits): two ints, rows
-        and columns, the objective, row activities, row duals, columns, reduced costs."""
-        try:
-            with open(path, "rb") as f:
-                data = f.read()
-        except FileNotFoundError:
-            raise Unclear("no saved answer") from None
-        rows, columns = len(program.constraints), len(program.columns)
-        if len(data) != 16 + 16 * (rows + columns) or struct.unpack("=ii", data[:8]) != (
-            rows,
-            columns,
-        ):
-            raise Unclear("the saved answer is of another model")
-        doubles, at = array("d", data[8:]), 1 + 2 * rows
-        return (
-            NamedValues(program.columns, doubles[at : at + columns]),
-            NamedValues(program.constraints, doubles[1 + rows : at]),
-            NamedValues(program.columns, doubles[at + columns :]),
-        )
-
-    def answer(self, job: Job, ran: Ran) -> Outcome:
-        """The outcome, whose status is the first line of -solution."""
-        lines = read_lines(job.path("answer.txt"))
-        if not lines:
-            return without_answer(ran, COMPLAINT)
-        status, _, figure = lines[0].strip().partition(" - objective value ")
-        has_point = NO_POINT not in status and os.path.exists(job.path("answer.bin"))
-        status = status.replace(NO_POINT, "").strip()
-        found = outcome(row_of(COIN, status), status, has_point)
-        if (
-            status.lower() == "integer infeasible"
-            and "infeasible or unbounded" in ran.log
-            and "Continuous objective value is" not in ran.log
-        ):
-            return Outcome(Code.INFEASIBLE_OR_UNBOUNDED, "infeasible or unbounded")
-        if found.has_point():
-            found.values, duals, costs = self.saved(job.program, job.path("answer.bin"))
-            found.objective = float(figure) if figure else None
-            if found.code == Code.SOLVED and (not job.program.whole or job.options.relax):
-                found.duals, found.costs = duals, costs
-                found.column_basis, found.row_basis = basis(job.program, job.path("answer.bas"))
-        return found
+    def reading_arguments(self, program: Program, path: str) -> list[str]:
+        sense = ["-max"] if program.maximise else []
+        return [path, *sense, "-solve", "-solution", "stdout"]
 
 
 class Cbc(Coin):
-    name, program, title, package = "cbc", "cbc", "CBC", "coinor-cbc"
-    again = "without preprocessing"
-    version = r"Version: (\S+)"
-    options = (GAP, Option("threads", 0, int, "threads of the search"))
-    flags = {
-        "timelim": "-timeMode elapsed -sec {:g}",
-        "mipgap": "-ratio {:g}",
-        "threads": "-threads {}",
-        "again": "-preprocess off -presolve off",
-    }
+    name = "cbc"
+    executable = "cbc"
+    title = "CBC"
+    package = "coinor-cbc"
+    retry_words = "without preprocessing"
+    version_pattern = r"Version: (\S+)"
+    options = (SolverOption.MIP_GAP, SolverOption.THREADS)
+
+    def arguments(self, settings: SolverSettings, *, is_retry: bool = False) -> list[str]:
+        words = []
+        if settings.time_limit:
+            words += ["-timeMode", "elapsed", "-sec", f"{settings.time_limit:g}"]
+        if settings.mip_gap:
+            words += ["-ratio", f"{settings.mip_gap:g}"]
+        if settings.threads:
+            words += ["-threads", str(settings.threads)]
+        if is_retry:
+            words += ["-preprocess", "off", "-presolve", "off"]
+        return [*words, *settings.arguments]
 
 
 class Clp(Coin):
-    name, program, title, package = "clp", "clp", "CLP", "coinor-clp"
-    again = "without its presolve"
-    version = r"Coin LP version ([0-9.]+)"
-    integers = False
-    flags = {"timelim": "-sec {:g}", "again": "-presolve off"}
+    name = "clp"
+    executable = "clp"
+    title = "CLP"
+    package = "coinor-clp"
+    retry_words = "without its presolve"
+    version_pattern = r"Coin LP version ([0-9.]+)"
+    takes_integers = False
+
+    def arguments(self, settings: SolverSettings, *, is_retry: bool = False) -> list[str]:
+        words = []
+        if settings.time_limit:
+            words += ["-sec", f"{settings.time_limit:g}"]
+        if is_retry:
+            words += ["-presolve", "off"]
+        return [*words, *settings.arguments]
 
 
-def basis(program: Program, path: str) -> tuple[NamedValues[int] | None, NamedValues[int] | None]:
-    """AMPL's statuses of an MPS basis: columns at their lower side and rows basic, but for the lines of the file, whose
-    letters U and L say where a row off the basis is, if its kind does not."""
-    lines = read_lines(path)
-    if lines is None:
-        return None, None
-    moved: dict[str, int] = {}
-    for words in (line.split() for line in lines if line.startswith(" ") and line.strip()):
-        if words[0] in ("XU", "XL"):
-            moved[words[1]], side = BASIC, UPPER if words[0] == "XU" else LOWER
-            moved[words[2]] = {"E": EQUAL, "L": UPPER}.get(program.kinds.get(words[2], ""), side)
-        elif words[0] in ("BS", "UL"):
-            moved[words[1]] = BASIC if words[0] == "BS" else UPPER
-    return (
-        NamedValues(program.columns, [moved.get(name, LOWER) for name in program.columns]),
-        NamedValues(program.constraints, [moved.get(name, BASIC) for name in program.constraints]),
+def _with_double(line: bytes) -> bytes:
+    """A line whose last number is a double where CoinUtils would not read all its digits."""
+    start, blank, number = line.rpartition(b" ")
+    mantissa = number.lstrip(b"+-").lower().partition(b"e")[0]
+    if not blank or len(mantissa) <= MOST_DIGITS or mantissa.strip(b".0123456789"):
+        return line
+    return start + blank + repr(float(number)).encode()
+
+
+def read_saved_solution(program: Program, path: str) -> SavedSolution:
+    """The doubles of -saveSolution; what -solution prints has eight digits.
+
+    The file has two ints, the numbers of rows and columns, then doubles: the objective, the activities
+    of rows, their duals, the values of columns, their reduced costs.
+
+    Raises:
+        UnclearAnswer: There is no file, or it is of another program.
+    """
+    try:
+        with open(path, "rb") as file:
+            data = file.read()
+    except FileNotFoundError:
+        raise UnclearAnswer("no saved answer") from None
+    rows, columns = len(program.constraints), len(program.columns)
+    is_of_program = struct.pack("=ii", rows, columns) == data[:8]
+    if len(data) != 16 + 16 * (rows + columns) or not is_of_program:
+        raise UnclearAnswer("the saved answer is of another model")
+    doubles = array("d", data[8:])
+    first_column = 1 + 2 * rows
+    first_cost = first_column + columns
+    return SavedSolution(
+        doubles[first_column:first_cost], doubles[1 + rows : first_column], doubles[first_cost:]
     )
 
 
-SOLVERS = (Cbc(), Clp())
+def read_answer(run: SolverRun, finished: Finished) -> SolverAnswer:
+    """The answer, whose status is the first line of -solution."""
+    lines = read_lines(run.path("answer.txt"))
+    if not lines:
+        return answer_without_file(finished, FAULT_PATTERN)
+    status, _, objective = lines[0].strip().partition(" - objective value ")
+    has_point = NO_POINT not in status and os.path.exists(run.path("answer.bin"))
+    status = status.replace(NO_POINT, "").strip()
+    answer = answer_of_status(status_of(STATUSES, status), status, has_point=has_point)
+    if status.lower() == "integer infeasible" and is_undecided(finished.log):
+        status_either = SolverStatus.INFEASIBLE_OR_UNBOUNDED
+        return SolverAnswer(status_either, "infeasible or unbounded")
+    if answer.status.has_point():
+        saved = read_saved_solution(run.program, run.path("answer.bin"))
+        answer.values = saved.values
+        answer.objective = float(objective) if objective else None
+        if answer.status is SolverStatus.OPTIMAL and run.is_continuous():
+            answer.duals = saved.duals
+            answer.reduced_costs = saved.reduced_costs
+            basis = read_mps_basis(run.program, run.path("answer.bas"))
+            if basis is not None:
+                answer.column_basis, answer.row_basis = basis
+    return answer
+
+
+def is_undecided(log: str) -> bool:
+    """Whether CBC's preprocessing says that the relaxation is infeasible or unbounded, and nothing else was solved."""
+    return "infeasible or unbounded" in log and "Continuous objective value is" not in log

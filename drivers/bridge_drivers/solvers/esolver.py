@@ -1,56 +1,94 @@
-"""QSopt_ex's esolver: linear programs in exact rational arithmetic. It relaxes integer columns
-without a word, prints only what is not 0, and ignores the RHS of the objective row."""
+"""QSopt_ex's esolver: linear programs in exact rational arithmetic.
+
+It relaxes integer columns without a word, prints only what is not 0, and ignores the side of the
+objective row.
+"""
 
 from __future__ import annotations
 
 from fractions import Fraction
+from typing import NamedTuple, Sequence
 
-from ..system.codes import Code
-from ..job import Job
 from ..model.linear_program import Program
-from ..model.named_values import NamedValues
-from .base import Outcome, Solver, outcome, read_lines, stopped, without_answer
-from .coin import basis
-from .statuses import ESOLVER, OPTIMAL, TIME, row_in, row_of
+from .base import (
+    OPTIMAL_SOLUTION,
+    TIME_LIMIT,
+    Solver,
+    SolverAnswer,
+    SolverStatus,
+    ToldStatus,
+    answer_of_status,
+    answer_without_file,
+    limit_answer,
+    read_lines,
+    status_in_log,
+    status_of,
+)
+from .mps_basis import read_mps_basis
+from .run import SolverRun
+from .settings import SolverSettings
 
-SECTIONS = ("VARS", "REDUCED COST", "PI", "SLACK")
-Numbers = NamedValues[Fraction]
+# the last word of the first line of its answer; the limits also in its log
+STATUSES = (
+    ToldStatus("OPTIMAL", SolverStatus.OPTIMAL, OPTIMAL_SOLUTION),
+    ToldStatus("INFEASIBLE", SolverStatus.INFEASIBLE, "infeasible"),
+    ToldStatus("UNBOUNDED", SolverStatus.UNBOUNDED, "unbounded"),
+    ToldStatus("UNDEFINED", SolverStatus.NO_ANSWER, "undefined"),
+    ToldStatus("NOT_SOLVED", SolverStatus.NO_ANSWER, "not solved"),
+    ToldStatus("TIME_LIMIT_REACHED", SolverStatus.LIMIT, TIME_LIMIT),
+    ToldStatus("MEMORY_LIMIT_REACHED", SolverStatus.LIMIT, "the memory limit"),
+    ToldStatus("USER_INTERRUPT", SolverStatus.LIMIT, "an interrupt"),
+)
+VALUES = "VARS"
+REDUCED_COSTS = "REDUCED COST"
+DUALS = "PI"
+SLACKS = "SLACK"
+SECTIONS = (VALUES, REDUCED_COSTS, DUALS, SLACKS)  # headings of its answer
+ZERO = Fraction(0)
+
+
+class ReadValues(NamedTuple):
+    """The numbers of an answer, in the order of the program's columns and rows."""
+
+    objective: Fraction
+    values: list[Fraction]
+    reduced_costs: list[Fraction]
+    duals: list[Fraction]
 
 
 class Esolver(Solver):
-    name, program, title, package = "esolver", "esolver", "QSopt_ex", "qsopt-ex"
-    version = r"Using QSopt_ex (\S+)"
-    integers = False
-    flags = {"timelim": "-R {:g}"}
+    name = "esolver"
+    executable = "esolver"
+    title = "QSopt_ex"
+    package = "qsopt-ex"
+    version_pattern = r"Using QSopt_ex (\S+)"
+    takes_integers = False
 
-    def solve(self, job: Job) -> Outcome:
-        p, out, basis_file = job.program, job.path("answer.sol"), job.path("answer.bas")
-        path = job.write("esolver.mps", self.text(job.given))
-        ran = job.run([job.solver, *self.asked(job), "-O", out, "-b", basis_file, path])
-        lines = read_lines(out)
+    def arguments(self, settings: SolverSettings, *, is_retry: bool = False) -> list[str]:
+        limit = ["-R", f"{settings.time_limit:g}"] if settings.time_limit else []
+        return [*limit, *settings.arguments]
+
+    def solve(self, run: SolverRun) -> SolverAnswer:
+        solution = run.path("answer.sol")
+        basis_file = run.path("answer.bas")
+        path = run.write("esolver.mps", self.mps_text(run.written))
+        words = [*self.arguments(run.settings), "-O", solution, "-b", basis_file, path]
+        finished = run.start([run.executable, *words])
+        lines = read_lines(solution)
         if lines is None:
-            return stopped(TIME) if row_in(ESOLVER, ran.log) else without_answer(ran, "error")
-        says = row_of(ESOLVER, "".join("".join(lines[:1]).split()[-1:]))  # of `status OPTIMAL`
-        if says is None or says.code != Code.SOLVED:
-            if (ran.killed or job.options.timelim) and (
-                says is None or says.code == Code.NO_ANSWER
-            ):
-                return stopped("a limit")
-            return outcome(says, "".join(lines[:1]), False)
-        value, values, costs, duals = parsed(p, lines)
-        columns, rows = basis(p, basis_file)
-        return Outcome(
-            Code.SOLVED,
-            OPTIMAL,
-            values,
-            duals,
-            costs,
-            columns,
-            rows,
-            value - Fraction(p.objective_rhs),
-        )
+            if status_in_log(STATUSES, finished.log):
+                return limit_answer(TIME_LIMIT)
+            return answer_without_file(finished, "error")
+        head = "".join(lines[:1])  # `status OPTIMAL`
+        told = status_of(STATUSES, "".join(head.split()[-1:]))
+        if told is not None and told.status is SolverStatus.OPTIMAL:
+            return optimal_answer(run.program, lines, basis_file)
+        is_limited = finished.is_killed or bool(run.settings.time_limit)
+        if is_limited and (told is None or told.status is SolverStatus.NO_ANSWER):
+            return limit_answer("a limit")
+        return answer_of_status(told, head, has_point=False)
 
-    def text(self, program: Program) -> bytes:
+    def mps_text(self, program: Program) -> bytes:
         """With a row and a column where there are none: without them it is a `Data Error`."""
         text = program.text
         if not program.constraints:
@@ -60,25 +98,43 @@ class Esolver(Solver):
         return text
 
 
-def parsed(program: Program, lines: list[str]) -> tuple[Fraction, Numbers, Numbers, Numbers]:
-    """The line `Value = p/q`, and values, reduced costs and duals of the lines `NAME = p/q`, 0 where none is."""
-    parts: dict[str, dict[str, Fraction]] = {name: {} for name in SECTIONS}
-    zero, value, part = Fraction(0), Fraction(0), None
-    for line in lines:
-        word, equal, figure = line.strip().partition(" = ")
-        if not equal:
-            part = parts.get(word.rstrip(":"), part)
-        elif word == "Value":
-            value = Fraction(figure)
-        elif part is not None:
-            part[word] = Fraction(figure)
-    values, costs, duals = (
-        NamedValues(names, [part.get(name, zero) for name in names])
-        for names, part in zip(
-            (program.columns, program.columns, program.constraints), parts.values()
-        )
+def optimal_answer(program: Program, lines: Sequence[str], basis_file: str) -> SolverAnswer:
+    """Exact numbers; the objective with the constant that esolver leaves out."""
+    read = read_values(program, lines)
+    answer = SolverAnswer(
+        SolverStatus.OPTIMAL,
+        OPTIMAL_SOLUTION,
+        read.values,
+        read.duals,
+        read.reduced_costs,
+        objective=read.objective - Fraction(program.objective_rhs),
     )
-    return value, values, costs, duals
+    basis = read_mps_basis(program, basis_file)
+    if basis is not None:
+        answer.column_basis, answer.row_basis = basis
+    return answer
 
 
-SOLVERS = (Esolver(),)
+def read_values(program: Program, lines: Sequence[str]) -> ReadValues:
+    """The line `Value = p/q`, and the lines `NAME = p/q` below each heading; what has no line is 0."""
+    sections: dict[str, dict[str, Fraction]] = {name: {} for name in SECTIONS}
+    section: dict[str, Fraction] | None = None
+    objective = ZERO
+    for line in lines:
+        word, equals, number = line.strip().partition(" = ")
+        if not equals:
+            section = sections.get(word.rstrip(":"), section)
+        elif word == "Value":
+            objective = Fraction(number)
+        elif section is not None:
+            section[word] = Fraction(number)
+
+    def listed(heading: str, names: Sequence[str]) -> list[Fraction]:
+        return [sections[heading].get(name, ZERO) for name in names]
+
+    return ReadValues(
+        objective,
+        listed(VALUES, program.columns),
+        listed(REDUCED_COSTS, program.columns),
+        listed(DUALS, program.constraints),
+    )

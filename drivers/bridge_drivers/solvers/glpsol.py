@@ -2,118 +2,203 @@
 
 from __future__ import annotations
 
-from ..system.codes import Code
-from ..job import Job, Ran
-from ..options import SWITCH, Option
-from ..model.linear_program import Program
-from .base import (
-    BASIC,
-    EQUAL,
-    GAP,
-    LOWER,
-    SUPERBASIC,
-    UPPER,
-    Outcome,
-    Solver,
-    Unclear,
-    outcome,
-    read_lines,
-    without_answer,
-)
-from .statuses import GLPK, GLPK_FILE, OPTIMAL, row_in, row_of
+import math
+from typing import Sequence
 
-LETTERS = {"b": BASIC, "l": LOWER, "u": UPPER, "f": SUPERBASIC, "s": EQUAL}
+from ..model.linear_program import Program
+from ..system.errors import UnclearAnswer
+from .base import (
+    GAP_SOLUTION,
+    OPTIMAL_SOLUTION,
+    TIME_LIMIT,
+    BasisStatus,
+    Solver,
+    SolverAnswer,
+    SolverStatus,
+    ToldStatus,
+    answer_of_status,
+    answer_without_file,
+    read_lines,
+    status_in_log,
+    status_of,
+)
+from .run import Finished, SolverRun
+from .settings import SolverOption, SolverSettings
+
+# sentences of its log
+LOG_STATUSES = (
+    ToldStatus("LP HAS NO PRIMAL FEASIBLE SOLUTION", SolverStatus.INFEASIBLE, "infeasible"),
+    ToldStatus("PROBLEM HAS NO PRIMAL FEASIBLE SOLUTION", SolverStatus.INFEASIBLE, "infeasible"),
+    ToldStatus("PROBLEM HAS NO FEASIBLE SOLUTION", SolverStatus.INFEASIBLE, "infeasible"),
+    ToldStatus(
+        "PROBLEM HAS NO INTEGER FEASIBLE SOLUTION", SolverStatus.INFEASIBLE, "integer infeasible"
+    ),
+    ToldStatus("LP HAS UNBOUNDED PRIMAL SOLUTION", SolverStatus.UNBOUNDED, "unbounded"),
+    ToldStatus("PROBLEM HAS UNBOUNDED SOLUTION", SolverStatus.UNBOUNDED, "unbounded"),
+    ToldStatus(
+        "LP HAS NO DUAL FEASIBLE SOLUTION",
+        SolverStatus.INFEASIBLE_OR_UNBOUNDED,
+        "infeasible or unbounded",
+    ),
+    ToldStatus(
+        "PROBLEM HAS NO DUAL FEASIBLE SOLUTION",
+        SolverStatus.INFEASIBLE_OR_UNBOUNDED,
+        "infeasible or unbounded",
+    ),
+    ToldStatus(
+        "LP RELAXATION HAS NO DUAL FEASIBLE SOLUTION",
+        SolverStatus.INFEASIBLE_OR_UNBOUNDED,
+        "infeasible or unbounded",
+    ),
+    ToldStatus(
+        "RELATIVE MIP GAP TOLERANCE REACHED; SEARCH TERMINATED",
+        SolverStatus.FEASIBLE,
+        GAP_SOLUTION,
+        True,
+    ),
+    ToldStatus("TIME LIMIT EXCEEDED; SEARCH TERMINATED", SolverStatus.LIMIT, TIME_LIMIT),
+    ToldStatus(
+        "ITERATION LIMIT EXCEEDED; SEARCH TERMINATED", SolverStatus.LIMIT, "the iteration limit"
+    ),
+    ToldStatus(
+        "ITERATIONS LIMIT EXCEEDED; SEARCH TERMINATED", SolverStatus.LIMIT, "the iteration limit"
+    ),
+    ToldStatus("SEARCH TERMINATED BY APPLICATION", SolverStatus.LIMIT, "an interrupt"),
+    ToldStatus("NO CONVERGENCE; SEARCH TERMINATED", SolverStatus.FEASIBLE, "no convergence"),
+    ToldStatus(
+        "NUMERIC INSTABILITY; SEARCH TERMINATED", SolverStatus.FEASIBLE, "numeric instability"
+    ),
+)
+# letters of its file: of a basic solution those of the primal and the dual one, of a MIP one letter
+FILE_STATUSES = (
+    ToldStatus("ff", SolverStatus.OPTIMAL, OPTIMAL_SOLUTION),
+    ToldStatus("o", SolverStatus.OPTIMAL, OPTIMAL_SOLUTION),
+    ToldStatus("f", SolverStatus.LIMIT, "a limit"),
+    ToldStatus("n", SolverStatus.INFEASIBLE, "infeasible"),
+    ToldStatus("nf", SolverStatus.INFEASIBLE, "infeasible"),
+    ToldStatus("nu", SolverStatus.INFEASIBLE, "infeasible"),
+    ToldStatus("nn", SolverStatus.INFEASIBLE, "infeasible"),
+    ToldStatus("ni", SolverStatus.INFEASIBLE, "infeasible"),
+    ToldStatus("fn", SolverStatus.UNBOUNDED, "unbounded"),
+    *(
+        ToldStatus(letters, SolverStatus.FEASIBLE, f"status `{letters}`")
+        for letters in ("fu", "fi", "iu", "if", "ii", "in")
+    ),
+    *(
+        ToldStatus(letters, SolverStatus.NO_ANSWER, "undefined")
+        for letters in ("u", "uu", "uf", "ui", "un")
+    ),
+)
+BASIS_LETTERS = {
+    "b": BasisStatus.BASIC,
+    "l": BasisStatus.AT_LOWER,
+    "u": BasisStatus.AT_UPPER,
+    "f": BasisStatus.SUPERBASIC,
+    "s": BasisStatus.EQUAL,
+}
+FAULT_PATTERN = r"glpsol\.mps:|glp_\w+:"
 
 
 class Glpsol(Solver):
-    name, program, title, package = "glpsol", "glpsol", "GLPK", "glpk-utils"
-    again = "without its presolve, its basis checked exactly"
-    lines = (
+    name = "glpsol"
+    executable = "glpsol"
+    title = "GLPK"
+    package = "glpk-utils"
+    retry_words = "without its presolve, its basis checked exactly"
+    version_pattern = r"GLPSOL.*?Solver,? v?(\S+)"
+    options = (SolverOption.MIP_GAP, SolverOption.EXACT_CHECK)
+    progress_patterns = (
         r"^\+ *(?P<iterations>\d+): (?:mip =|>>>>>) +(?P<incumbent>\S+) +[<>]= +(?P<bound>\S+) .*\((?P<open>\d+);",
         r"^\+ *(?P<iterations>\d+): mip = +not found yet +[<>]= +(?P<bound>\S+) .*\((?P<open>\d+);",
         r"^[ *#] *(?P<iterations>\d+): obj = +(?P<objective>\S+)",
     )
-    version = r"GLPSOL.*?Solver,? v?(\S+)"
-    flags = {
-        "relax": "--nomip",
-        "seconds": "--tmlim {}",
-        "mipgap": "--mipgap {:g}",
-        "xcheck": "--xcheck",
-        "again": "--nopresol",
-    }
-    options = (
-        GAP,
-        Option("xcheck", 0, SWITCH, "1: glpsol checks its final basis in exact arithmetic"),
-    )
 
-    def solve(self, job: Job) -> Outcome:
-        words = self.reading(job.program, job.write("glpsol.mps", self.text(job.given)))
-        checks = ["--xcheck"] if job.again and not job.options.own["xcheck"] else []
-        return answer(
-            job,
-            job.run([job.solver, *words, "-w", job.path("answer.txt"), *checks, *self.asked(job)]),
-        )
+    def arguments(self, settings: SolverSettings, *, is_retry: bool = False) -> list[str]:
+        """Its time limit is a whole number of seconds."""
+        words = []
+        if settings.relax:
+            words.append("--nomip")
+        if settings.time_limit:
+            words += ["--tmlim", str(math.ceil(settings.time_limit))]
+        if settings.mip_gap:
+            words += ["--mipgap", f"{settings.mip_gap:g}"]
+        if settings.exact_check:
+            words.append("--xcheck")
+        if is_retry:
+            words.append("--nopresol")
+        return [*words, *settings.arguments]
 
-    def text(self, program: Program) -> bytes:
-        """Without OBJSENSE, an error to glpsol, and with minus the RHS of the objective row, which it adds."""
-        text, old = program.text.replace(b"OBJSENSE\n MAX\n", b"", 1), program.objective_rhs
-        new = "0" if old == "0" else old[1:] if old.startswith("-") else "-" + old
-        return text.replace(f"\n RHS obj {old}\n".encode(), f"\n RHS obj {new}\n".encode(), 1)
+    def solve(self, run: SolverRun) -> SolverAnswer:
+        path = run.write("glpsol.mps", self.mps_text(run.written))
+        words = [*self.reading_arguments(run.program, path), "-w", run.path("answer.txt")]
+        if run.is_retry and not run.settings.exact_check:
+            words.append("--xcheck")
+        words += self.arguments(run.settings, is_retry=run.is_retry)
+        return read_answer(run, run.start([run.executable, *words]))
 
-    def reading(self, program: Program, path: str) -> list[str]:
+    def mps_text(self, program: Program) -> bytes:
+        """Without OBJSENSE, which is an error to it, and with minus the side of the objective row, which it adds."""
+        text = program.text.replace(b"OBJSENSE\n MAX\n", b"", 1)
+        side = program.objective_rhs
+        negated = "-" + side
+        if side == "0":
+            negated = "0"
+        elif side.startswith("-"):
+            negated = side[1:]
+        return text.replace(f"\n RHS obj {side}\n".encode(), f"\n RHS obj {negated}\n".encode(), 1)
+
+    def reading_arguments(self, program: Program, path: str) -> list[str]:
         return ["--freemps", path, "--max" if program.maximise else "--min"]
 
 
-def answer(job: Job, ran: Ran) -> Outcome:
+def read_answer(run: SolverRun, finished: Finished) -> SolverAnswer:
     """By the file where it says optimal, else by the log."""
-    says, lines = row_in(GLPK, ran.log), read_lines(job.path("answer.txt"))
+    told = status_in_log(LOG_STATUSES, finished.log)
+    lines = read_lines(run.path("answer.txt"))
     if lines is None:
-        if says is not None and not ran.killed:
-            return outcome(says, says.words, False)
-        return without_answer(ran, r"glpsol\.mps:|glp_\w+:")
-    words = [line.split() for line in lines]
-    head = next((w for w in words if w[:1] == ["s"]), None)
+        if told is not None and not finished.is_killed:
+            return answer_of_status(told, told.words, has_point=False)
+        return answer_without_file(finished, FAULT_PATTERN)
+    head = next((line.split() for line in lines if line.startswith("s ")), None)
     if head is None:
-        raise Unclear("no status line")
-    is_whole = head[1] == "mip"
-    status = head[4] if is_whole else head[4] + head[5]  # mip: one letter; bas: primal and dual
-    of_file = row_of(GLPK_FILE, status)
-    has_point = of_file is None or of_file.code in (Code.SOLVED, Code.UNSURE, Code.LIMIT)
-    if of_file is None or of_file.code != Code.SOLVED:
-        of_file = says or of_file
-    found = outcome(of_file, of_file.words if of_file else status, has_point)
-    if found.code == Code.SOLVED and not is_whole:
-        return basic_answer(job.program, words, float(head[-1]))
-    if found.has_point():
-        found.objective = float(head[-1])
-        found.values = {
-            job.program.columns[int(w[1]) - 1]: float(w[-1 if is_whole else 3])
-            for w in words
-            if w[:1] == ["j"]
-        }
-    return found
+        raise UnclearAnswer("no status line")
+    is_mip = head[1] == "mip"
+    letters = head[4] if is_mip else head[4] + head[5]
+    of_file = status_of(FILE_STATUSES, letters)
+    points = (SolverStatus.OPTIMAL, SolverStatus.FEASIBLE, SolverStatus.LIMIT)
+    has_point = of_file is None or of_file.status in points
+    if of_file is None or of_file.status is not SolverStatus.OPTIMAL:
+        of_file = told or of_file
+    words = of_file.words if of_file else letters
+    answer = answer_of_status(of_file, words, has_point=has_point)
+    if answer.status.has_point():
+        answer.objective = float(head[-1])
+        if answer.status is SolverStatus.OPTIMAL and not is_mip:
+            read_basic_solution(run.program, lines, answer)
+        else:
+            columns = _records(lines, "j ", len(run.program.columns))
+            place = -1 if is_mip else 3
+            answer.values = [float(words[place]) for words in columns]
+    return answer
 
 
-def basic_answer(program: Program, words: list[list[str]], objective: float) -> Outcome:
-    """Lines `i ROW letter activity dual` and `j COLUMN letter value cost`."""
-    rows, columns = (
-        [
-            (names[int(w[1]) - 1], LETTERS[w[2]], float(w[3]), float(w[4]))
-            for w in words
-            if w[:1] == [kind]
-        ]
-        for kind, names in (("i", program.constraints), ("j", program.columns))
-    )
-    return Outcome(
-        Code.SOLVED,
-        OPTIMAL,
-        {name: at for name, _, at, _ in columns},
-        {name: y for name, _, _, y in rows},
-        {name: cost for name, _, _, cost in columns},
-        {name: side for name, side, *_ in columns},
-        {name: side for name, side, *_ in rows},
-        objective,
-    )
+def read_basic_solution(program: Program, lines: Sequence[str], answer: SolverAnswer) -> None:
+    """Lines `i ROW letter activity dual` and `j COLUMN letter value cost` into an answer."""
+    rows = _records(lines, "i ", len(program.constraints))
+    columns = _records(lines, "j ", len(program.columns))
+    answer.values = [float(words[3]) for words in columns]
+    answer.duals = [float(words[4]) for words in rows]
+    answer.reduced_costs = [float(words[4]) for words in columns]
+    answer.column_basis = [BASIS_LETTERS[words[2]] for words in columns]
+    answer.row_basis = [BASIS_LETTERS[words[2]] for words in rows]
 
 
-SOLVERS = (Glpsol(),)
+def _records(lines: Sequence[str], start: str, count: int) -> list[list[str]]:
+    """The words of the lines of one kind, in the order of their numbers, from 1 to `count`."""
+    records = [line.split() for line in lines if line.startswith(start)]
+    numbers = [int(words[1]) for words in records]
+    if numbers != list(range(1, count + 1)):
+        records = [words for _, words in sorted(zip(numbers, records))]
+        if sorted(numbers) != list(range(1, count + 1)):
+            raise UnclearAnswer("not all columns and rows have a value")
+    return records

@@ -1,4 +1,4 @@
-"""HiGHS, as SciPy has it: mixed integer programs. It runs in a python3 of its own, Debian's first."""
+"""HiGHS, as SciPy has it: mixed integer programs. It runs in a Python of its own, Debian's first."""
 
 from __future__ import annotations
 
@@ -7,86 +7,131 @@ import os
 import re
 import shutil
 import subprocess
-from typing import Any
+from typing import Mapping
 
-from ..system.codes import Code
-from ..job import Job
 from ..model.linear_program import Program
-from .base import GAP, Outcome, Solver, Unclear, outcome, read_lines, without_answer
-from .statuses import HIGHS, row_of
+from ..system.errors import UnclearAnswer
+from .base import (
+    OPTIMAL_SOLUTION,
+    TIME_LIMIT,
+    Solver,
+    SolverAnswer,
+    SolverStatus,
+    ToldStatus,
+    answer_of_status,
+    answer_without_file,
+    read_lines,
+    status_of,
+    within_gap,
+)
+from .run import SolverRun
+from .settings import SolverOption
 
+# the numbers of HiGHS's model statuses, which stand in SciPy's message
+STATUSES = (
+    ToldStatus("0", SolverStatus.NO_ANSWER, "not set"),
+    ToldStatus("1", SolverStatus.NO_ANSWER, "load error"),
+    ToldStatus("3", SolverStatus.NO_ANSWER, "presolve error"),
+    ToldStatus("4", SolverStatus.FEASIBLE, "solve error"),
+    ToldStatus("5", SolverStatus.FEASIBLE, "postsolve error"),
+    ToldStatus("6", SolverStatus.FEASIBLE, "empty model"),
+    ToldStatus("15", SolverStatus.FEASIBLE, "unknown"),
+    ToldStatus("7", SolverStatus.OPTIMAL, OPTIMAL_SOLUTION),
+    ToldStatus("2", SolverStatus.INFEASIBLE, "infeasible"),
+    ToldStatus("8", SolverStatus.INFEASIBLE, "infeasible"),
+    ToldStatus("9", SolverStatus.INFEASIBLE_OR_UNBOUNDED, "infeasible or unbounded"),
+    ToldStatus("10", SolverStatus.UNBOUNDED, "unbounded"),
+    ToldStatus("11", SolverStatus.LIMIT, "a bound of the objective"),
+    ToldStatus("12", SolverStatus.LIMIT, "a target of the objective"),
+    ToldStatus("13", SolverStatus.LIMIT, TIME_LIMIT),
+    ToldStatus("14", SolverStatus.LIMIT, "the iteration limit"),
+    ToldStatus("16", SolverStatus.LIMIT, "the limit of solutions"),
+    ToldStatus("17", SolverStatus.LIMIT, "an interrupt"),
+)
+OF_SCIPY = {0: "7", 1: "13", 2: "8", 3: "10"}  # SciPy's own statuses, as those of HiGHS
 PLACES = ("/usr/bin/python3", "python3")
 SCRIPT = os.path.join(os.path.dirname(os.path.abspath(__file__)), "highs_script.py")
-SCIPY = {0: "7", 1: "13", 2: "8", 3: "10"}  # its statuses, as HiGHS's
-CLOSED = 1e-9  # a gap that is none
-LOOKS = "import importlib.util as u, sys; sys.exit(u.find_spec('scipy') is None)"
+CLOSED_GAP = 1e-9  # a relative gap up to which there is none
+LOOKS_FOR_SCIPY = "import importlib.util as u, sys; sys.exit(u.find_spec('scipy') is None)"
+STATUS_OF_HIGHS = re.compile(r"HiGHS Status (\d+)")
 
 
 class Highs(Solver):
-    name, program, title = "highs", "a python3 with SciPy", "HiGHS of SciPy"
+    name = "highs"
+    executable = "a python3 with SciPy"
     package = "python3-scipy"
-    version = r"HiGHS of SciPy (\S+)"
-    again = "without presolve"
+    title = "HiGHS of SciPy"
+    version_pattern = r"HiGHS of SciPy (\S+)"
+    retry_words = "without presolve"
     infinite = "1e20"
-    options = (GAP,)
+    options = (SolverOption.MIP_GAP,)
 
-    def place(self, named: str = "") -> str | None:
+    def find(self, named: str = "") -> str | None:
+        """A Python that has SciPy."""
         for word in (named,) if named else PLACES:
             path = shutil.which(word)
             if path and has_scipy(path):
                 return path
         return None
 
-    def command(self, program: Program, path: str, named: str) -> list[str]:
-        return [self.place(named) or PLACES[0], SCRIPT, path]
+    def command_line(self, program: Program, path: str, named: str = "") -> list[str]:
+        return [self.find(named) or PLACES[0], SCRIPT, path]
 
-    def solve(self, job: Job) -> Outcome:
-        options, p = job.options, job.program
-        if not p.columns:
-            raise Unclear("it takes no program without columns")
-        words = json.dumps(
-            {
-                "mipgap": options.own["mipgap"],
-                "seconds": options.timelim,
-                "relax": bool(options.relax),
-                "presolve": not job.again,
-                "disp": bool(options.outlev),
-            }
-        )
-        path, target = job.write("highs.mps", self.text(job.given)), job.path("answer.json")
-        ran = job.run([job.solver, SCRIPT, path, target, words])
+    def solve(self, run: SolverRun) -> SolverAnswer:
+        if not run.program.columns:
+            raise UnclearAnswer("it takes no program without columns")
+        words = {
+            "mipgap": run.settings.mip_gap,
+            "seconds": run.settings.time_limit,
+            "relax": run.settings.relax,
+            "presolve": not run.is_retry,
+            "disp": run.settings.shows_log,
+        }
+        path = run.write("highs.mps", self.mps_text(run.written))
+        target = run.path("answer.json")
+        finished = run.start([run.executable, SCRIPT, path, target, json.dumps(words)])
         lines = read_lines(target)
-        return (
-            without_answer(ran, "Error") if lines is None else answered(job, json.loads(lines[0]))
-        )
+        if lines is None:
+            return answer_without_file(finished, "Error")
+        return read_answer(run, json.loads(lines[0]))
 
 
 def has_scipy(path: str) -> bool:
+    """Whether the Python at a path has SciPy."""
     try:
-        return subprocess.run([path, "-c", LOOKS], capture_output=True).returncode == 0
+        done = subprocess.run([path, "-c", LOOKS_FOR_SCIPY], capture_output=True, check=False)
     except OSError:
         return False
+    return done.returncode == 0
 
 
-def answered(job: Job, answer: dict[str, Any]) -> Outcome:
-    """By HiGHS's own status, whose number is in SciPy's message, else by SciPy's."""
-    p, message = job.program, answer["message"].strip().split("\n")[0]
-    own = re.search(r"HiGHS Status (\d+)", answer["message"])
-    number = own.group(1) if own else SCIPY.get(answer["status"], "")
-    values = answer["values"] and dict(zip(p.columns, answer["values"]))
-    found = outcome(row_of(HIGHS, number), message, bool(values))
-    if not found.has_point():
-        return found
-    found.values, duals, costs = values, answer.get("duals"), answer.get("costs")
-    found.duals = duals and dict(zip(p.constraints, duals))
-    found.costs = costs and dict(zip(p.columns, costs))
-    if (
-        found.code == Code.SOLVED
-        and job.options.own["mipgap"]
-        and (answer.get("gap") or 0.0) > CLOSED
-    ):
-        found.code, found.text, found.is_gap = Code.UNSURE, "solution within the gap", True
+def read_answer(run: SolverRun, told: Mapping[str, object]) -> SolverAnswer:
+    """By HiGHS's own status, whose number stands in SciPy's message, else by SciPy's.
+
+    `told` is the object that `highs_script` writes.
+    """
+    message = str(told["message"])
+    own = STATUS_OF_HIGHS.search(message)
+    number = own[1] if own else OF_SCIPY.get(int(str(told["status"])), "")
+    values = _numbers(told, "values", len(run.program.columns))
+    first_line = message.strip().split("\n")[0]
+    answer = answer_of_status(status_of(STATUSES, number), first_line, has_point=bool(values))
+    if not answer.status.has_point():
+        return answer
+    answer.values = values
+    answer.duals = _numbers(told, "duals", len(run.program.constraints))
+    answer.reduced_costs = _numbers(told, "costs", len(run.program.columns))
+    is_optimal = answer.status is SolverStatus.OPTIMAL
+    if is_optimal and run.settings.mip_gap and float(str(told.get("gap") or 0)) > CLOSED_GAP:
+        within_gap(answer)
+    return answer
+
+
+def _numbers(told: Mapping[str, object], key: str, count: int) -> list[float] | None:
+    """A list of so many doubles; None where there is none."""
+    found = told.get(key)
+    if found is None:
+        return None
+    if not isinstance(found, list) or len(found) != count:
+        raise UnclearAnswer(f"{key}: {count} numbers are wanted")
     return found
-
-
-SOLVERS = (Highs(),)

@@ -1,88 +1,177 @@
-"""lp_solve: mixed integer programs. Its printed answers have six digits, and 1e30 is infinite: in
-what it prints too, so that a column at 1e30 may have no end."""
+"""lp_solve: mixed integer programs.
+
+Its printed answers have six digits. 1e30 is infinite to it, in what it prints too, so that a column at
+1e30 may have no end.
+"""
 
 from __future__ import annotations
 
-from ..system.codes import Code
-from ..job import Job
-from ..model.linear_program import Program
-from .base import GAP, Outcome, Solver, Unclear, outcome, stopped, without_answer
-from .statuses import LP_SOLVE, OPTIMAL, TIME, Says, row_in
+import math
+from typing import Mapping, NamedTuple, Sequence
 
+from ..model.linear_program import Program
+from ..system.errors import UnclearAnswer
+from .base import (
+    OPTIMAL_SOLUTION,
+    TIME_LIMIT,
+    Solver,
+    SolverAnswer,
+    SolverStatus,
+    ToldStatus,
+    answer_of_status,
+    answer_without_file,
+    limit_answer,
+    status_in_log,
+    within_gap,
+)
+from .run import Finished, SolverRun
+from .settings import SolverOption, SolverSettings
+
+SUBOPTIMAL = "Suboptimal solution"
+# lines of their own, before the values
+STATUSES = (
+    ToldStatus("This problem is infeasible", SolverStatus.INFEASIBLE, "infeasible"),
+    ToldStatus("This problem is unbounded", SolverStatus.UNBOUNDED, "unbounded"),
+    ToldStatus(SUBOPTIMAL, SolverStatus.FEASIBLE, "suboptimal solution"),
+    ToldStatus("Presolved solution", SolverStatus.FEASIBLE, "presolved solution"),
+    ToldStatus("Timeout", SolverStatus.LIMIT, TIME_LIMIT),
+    ToldStatus("User aborted", SolverStatus.LIMIT, "an interrupt"),
+    ToldStatus("Accuracy error", SolverStatus.FEASIBLE, "accuracy error"),
+    ToldStatus("Out of memory", SolverStatus.NO_ANSWER, "out of memory"),
+    ToldStatus("The B&B routine failed", SolverStatus.NO_ANSWER, "the B&B routine failed"),
+    ToldStatus("lp_solve failed", SolverStatus.NO_ANSWER, "lp_solve failed"),
+)
+OPTIMAL = ToldStatus("", SolverStatus.OPTIMAL, OPTIMAL_SOLUTION)  # values, and no words before them
 INFINITE = 1e30
 OBJECTIVE = "Value of objective function:"
-TO_GAPS = {"-g", "-ga", "-gr", "-f"}  # words with which it stops at a gap, and does not say so
-SOLVED, SUBOPTIMAL = Says("", Code.SOLVED, OPTIMAL), "Suboptimal solution"
+VALUES = "Actual values of the variables"
+ROWS = "Actual values of the constraints"
+DUALS = "Dual"
+GAP_WORDS = frozenset(
+    ("-g", "-ga", "-gr", "-f")
+)  # with which it stops at a gap, and does not say so
+
+
+class ReadValues(NamedTuple):
+    """Numbers by name of column; rates of change by name of row or column."""
+
+    values: Mapping[str, float]
+    rates: Mapping[str, float]
 
 
 class LpSolve(Solver):
-    name, program, title, package = "lp_solve", "lp_solve", "lp_solve", "lp-solve"
-    again = "without scaling"
+    name = "lp_solve"
+    executable = "lp_solve"
+    title = "lp_solve"
+    package = "lp-solve"
+    retry_words = "without scaling"
     infinite = "1e30"
-    options = (GAP,)
-    flags = {"relax": "-noint", "mipgap": "-gr {:g}", "again": "-s0", "seconds": "-timeout {}"}
+    options = (SolverOption.MIP_GAP,)
 
-    def solve(self, job: Job) -> Outcome:
-        options, p = job.options, job.program
-        words = [*self.reading(p, job.write("lp_solve.mps", job.given.text)), *self.asked(job)]
-        ran = job.run([job.solver, *words])
-        head, heading, _ = ran.log.partition("\nActual values of the variables:\n")
-        told = [line.strip() for line in head.splitlines() if line.strip()]
-        objective = [line for line in told if line.startswith(OBJECTIVE)]
-        says = row_in(LP_SOLVE, head) or (SOLVED if heading else None)
-        if says is None:
-            return (
-                stopped("a limit") if ran.killed or options.timelim else without_answer(ran, r"\S")
-            )
-        if says.words == SUBOPTIMAL and options.timelim:
-            says = says._replace(code=Code.LIMIT, text=TIME)
-        odd = [line for line in told if line not in objective and says is SOLVED and not job.extra]
-        found = outcome(None if odd else says, odd[0] if odd else says.words, bool(heading))
-        if not found.has_point():
-            return found
-        found.objective = float([*objective, "0"][0].split()[-1])
-        values, rates = parsed(ran.log)
-        if set(values) != set(p.columns):
-            raise Unclear("not all columns have a value")
-        if abs(found.objective) >= INFINITE and has_no_end(p, values):
-            return Outcome(Code.UNBOUNDED, "unbounded")
-        found.values = values
-        found.notes.append("lp_solve prints six digits")
-        duals = {name: y for name, y in rates.items() if name in p.kinds}
-        costs = {name: d for name, d in rates.items() if name not in p.kinds}
-        is_whole = bool(p.whole) and not options.relax
-        if found.code == Code.SOLVED and not is_whole and set(duals) == set(p.constraints):
-            found.duals, found.costs = duals, costs
-        if found.code == Code.SOLVED and is_whole and TO_GAPS.intersection(words):
-            found.code, found.text, found.is_gap = Code.UNSURE, "solution within the gap", True
-        return found
+    def arguments(self, settings: SolverSettings, *, is_retry: bool = False) -> list[str]:
+        """Its time limit is a whole number of seconds."""
+        words = []
+        if settings.relax:
+            words.append("-noint")
+        if settings.mip_gap:
+            words += ["-gr", f"{settings.mip_gap:g}"]
+        if is_retry:
+            words.append("-s0")
+        if settings.time_limit:
+            words += ["-timeout", str(math.ceil(settings.time_limit))]
+        return [*words, *settings.arguments]
 
-    def reading(self, program: Program, path: str) -> list[str]:
-        """Without -mps_negobjconst it adds the RHS of the objective row."""
+    def solve(self, run: SolverRun) -> SolverAnswer:
+        path = run.write("lp_solve.mps", run.written.text)
+        words = self.reading_arguments(run.program, path)
+        words += self.arguments(run.settings, is_retry=run.is_retry)
+        finished = run.start([run.executable, *words])
+        head, heading, _ = finished.log.partition(f"\n{VALUES}:\n")
+        told = status_in_log(STATUSES, head) or (OPTIMAL if heading else None)
+        if told is None:
+            if finished.is_killed or run.settings.time_limit:
+                return limit_answer("a limit")
+            return answer_without_file(finished, r"\S")
+        answer = answer_of_head(run, told, head, has_point=bool(heading))
+        if not answer.status.has_point():
+            return answer
+        return read_answer(run, answer, finished, stops_at_gap=bool(GAP_WORDS.intersection(words)))
+
+    def reading_arguments(self, program: Program, path: str) -> list[str]:
+        """Without -mps_negobjconst it adds the side of the objective row."""
         return ["-fmps", path, "-S4", "-mps_negobjconst"]
 
 
-def has_no_end(program: Program, values: dict[str, float]) -> bool:
+def answer_of_head(run: SolverRun, told: ToldStatus, head: str, *, has_point: bool) -> SolverAnswer:
+    """The status and objective of what stands before the values.
+
+    What lp_solve calls suboptimal is an answer at a limit where there is one. A line before the values
+    that is none of its statuses speaks against `optimal`, unless the user's own words may have made it.
+    """
+    lines = [line.strip() for line in head.splitlines() if line.strip()]
+    objectives = [line for line in lines if line.startswith(OBJECTIVE)]
+    if told.words == SUBOPTIMAL and run.settings.time_limit:
+        told = told._replace(status=SolverStatus.LIMIT, text=TIME_LIMIT)
+    odd = []
+    if told is OPTIMAL and not run.settings.arguments:
+        odd = [line for line in lines if line not in objectives]
+    if odd:
+        answer = answer_of_status(None, odd[0], has_point=has_point)
+    else:
+        answer = answer_of_status(told, told.words, has_point=has_point)
+    if answer.status.has_point():
+        answer.objective = float(objectives[0].split()[-1]) if objectives else 0.0
+    return answer
+
+
+def read_answer(
+    run: SolverRun, answer: SolverAnswer, finished: Finished, *, stops_at_gap: bool
+) -> SolverAnswer:
+    """An answer with its numbers."""
+    program = run.program
+    read = read_values(finished.log)
+    if set(read.values) != set(program.columns):
+        raise UnclearAnswer("not all columns have a value")
+    values = [read.values[name] for name in program.columns]
+    assert answer.objective is not None
+    if abs(float(answer.objective)) >= INFINITE and is_at_infinity(program, values):
+        return SolverAnswer(SolverStatus.UNBOUNDED, "unbounded")
+    answer.values = values
+    answer.notes.append("lp_solve prints six digits")
+    if answer.status is not SolverStatus.OPTIMAL:
+        return answer
+    if run.is_continuous():
+        duals = [read.rates[name] for name in program.constraints if name in read.rates]
+        if len(duals) == len(program.constraints):
+            answer.duals = duals
+            answer.reduced_costs = [read.rates[name] for name in program.columns]
+    elif stops_at_gap:
+        within_gap(answer)
+    return answer
+
+
+def is_at_infinity(program: Program, values: Sequence[float]) -> bool:
     """Whether a column at 1e30 is at no bound of its own."""
-    far = [name for name, value in values.items() if abs(value) >= INFINITE]
-    ends = dict(zip(program.columns, zip(*program.read.bounds()))) if far else {}
-    return any(values[name] not in [float(end) for end in ends[name] if end] for name in far)
+    lower, upper = program.bounds()
+    return any(
+        abs(value) >= INFINITE and value not in (low, high)
+        for value, low, high in zip(values, lower, upper)
+    )
 
 
-def parsed(log: str) -> tuple[dict[str, float], dict[str, float]]:
-    """The lines `NAME NUMBER ..` below the headings of values and of duals, with costs, to an empty line."""
-    values, duals, part = dict[str, float](), dict[str, float](), None
+def read_values(log: str) -> ReadValues:
+    """The lines `NAME NUMBER ..` below the headings of values and of duals, each to an empty line."""
+    values: dict[str, float] = {}
+    rates: dict[str, float] = {}
+    section: dict[str, float] | None = None
     for line in log.splitlines():
         words = line.split()
-        if line.startswith("Actual values of the variables"):
-            part = values
-        elif not words or line.startswith("Actual values of the constraints"):
-            part = None
-        elif words[0] == "Dual":
-            part = duals
-        elif part is not None and len(words) >= 2:
-            part[words[0]] = float(words[1])
-    return values, duals
-
-
-SOLVERS = (LpSolve(),)
+        if line.startswith(VALUES):
+            section = values
+        elif not words or line.startswith(ROWS):
+            section = None
+        elif words[0] == DUALS:
+            section = rates
+        elif section is not None and len(words) >= 2:
+            section[words[0]] = float(words[1])
+    return ReadValues(values, rates)

@@ -183,6 +183,10 @@ class SolverFailed(BridgeError):
         return f"{self.solver}: {self.reason}"
 
 
+class UnclearAnswer(BridgeError):
+    """What a solver wrote is no answer, or is not understood; `UnusableAnswer` says so of a run."""
+
+
 class UnusableAnswer(SolverFailed):
     """The solver's answer is missing or makes no sense; `ended_by` names the signal that ended it."""
 

@@ -6,7 +6,7 @@ import errno
 import pickle
 
 import pytest
-from bridge_drivers.ruling import CODES_OF_ERRORS, code_of_error
+from bridge_drivers.pipeline.outcome import CODES_OF_ERRORS, code_of_error
 from bridge_drivers.system import errors
 from bridge_drivers.system.codes import Code, ExitStatus
 

@@ -1,0 +1,273 @@
+"""A solver's answer in decimals that the proved program reads, and the text that `bridge return` takes."""
+
+from __future__ import annotations
+
+import copy
+from dataclasses import replace
+from fractions import Fraction
+from functools import cached_property
+from itertools import islice
+from typing import Iterable, Iterator, Mapping, Sequence
+
+from ..system.codes import Code
+from ..miss import NONE, Miss, miss, missing
+from ..model.linear_program import Objective, Program
+from ..solvers.base import SolverAnswer, SolverStatus
+from ..formats.numbers import Number, decimals, nearest_double, require_finite
+from ..model.named_values import NamedValues
+from .settings import Settings
+
+NEAR_WHOLE = 1e-5  # from a whole number: so near, a value of an integer column is meant to be it
+NEAR_DUAL = 1e-7  # of a dual or of 1: so near, a proved dual is the solver's
+LONGEST_FRACTION = 40  # characters of an objective that is told as a fraction
+LINES_AT_ONCE = 1 << 14
+
+CODE_OF_STATUS: Mapping[SolverStatus, Code] = {
+    SolverStatus.OPTIMAL: Code.SOLVED,
+    SolverStatus.FEASIBLE: Code.UNSURE,
+    SolverStatus.INFEASIBLE: Code.INFEASIBLE,
+    SolverStatus.INFEASIBLE_OR_UNBOUNDED: Code.INFEASIBLE_OR_UNBOUNDED,
+    SolverStatus.UNBOUNDED: Code.UNBOUNDED,
+    SolverStatus.LIMIT_WITH_POINT: Code.LIMIT_WITH_POINT,
+    SolverStatus.LIMIT: Code.LIMIT,
+    SolverStatus.NO_ANSWER: Code.NO_ANSWER,
+}  # the code of a status where nothing else is known
+
+
+class Answer:
+    """An answer in decimals, with the code that it is passed on with.
+
+    Attributes:
+        program: The program that it answers.
+        found: What the solver answered, or what is passed on in its place.
+        settings: Those of the run.
+        code: At first that of the solver's status.
+        values: One text for each column; None without a point.
+        duals: One text for each row; None where there are none.
+        reduced_costs: Numbers, one for each column; None where there are none.
+        rounded_values: How many values are only the nearest decimals of fractions.
+        rounded_duals: How many duals are.
+        distances: Of the integer columns that are not near a whole number, how far they are from one.
+        near_whole: The columns whose values are meant to be whole numbers.
+    """
+
+    def __init__(self, program: Program, found: SolverAnswer, settings: Settings) -> None:
+        self.program = program
+        self.found = found
+        self.settings = settings
+        self.code = CODE_OF_STATUS[found.status]
+        self.values: Sequence[str] | None = None
+        self.duals: Sequence[str] | None = None
+        self.reduced_costs: Sequence[Number] | None = None
+        self.rounded_values = 0
+        self.rounded_duals = 0
+        self.distances: list[float] = []
+        rounds = settings.round_integers and not settings.solver_settings.relax
+        self.near_whole = program.whole if rounds else set()
+        if found.values is not None:
+            self.values, self.rounded_values = decimals(self._with_integers(found.values))
+        if found.duals is not None:
+            self.duals, self.rounded_duals = decimals(found.duals)
+        if found.reduced_costs is not None:
+            self.reduced_costs = require_finite(found.reduced_costs)
+
+    @property
+    def is_continuous(self) -> bool:
+        """Whether no column had to be a whole number."""
+        return not self.program.whole or self.settings.solver_settings.relax
+
+    @property
+    def reduced_cost_texts(self) -> Sequence[str] | None:
+        """They are checked by nothing, exact or not."""
+        costs = self.reduced_costs
+        return None if costs is None else decimals(costs)[0]
+
+    @cached_property
+    def doubles(self) -> list[float]:
+        """The values that are written, one for each column; none without a point."""
+        texts = self.values or []
+        known = {text: float(text) for text in set(texts)}
+        return list(map(known.__getitem__, texts))
+
+    @cached_property
+    def objective_terms(self) -> Objective:
+        """The objective in doubles at the values that are written."""
+        return self.program.at(self.doubles)
+
+    @cached_property
+    def residual(self) -> Miss:
+        """By how much the values that are written miss the program, where they miss it most."""
+        if self.distances:
+            return missing(max(self.distances), "a whole number")
+        if self.values is None:
+            return NONE
+        return miss(self.program, NamedValues(self.program.columns, self.values), self.near_whole)
+
+    def is_usable(self) -> bool:
+        """Whether it says what the program is, and does not miss it by much."""
+        is_clear = self.code != Code.INFEASIBLE_OR_UNBOUNDED
+        return is_clear and not self.residual.is_much()
+
+    def notes(self) -> list[str]:
+        """Lines on values that are not what they should be."""
+        notes = []
+        if self.distances:
+            count = len(self.distances)
+            notes.append(
+                f"{count} integer variables are not within {NEAR_WHOLE:g} of a whole number"
+            )
+        rounded = self.rounded_values + self.rounded_duals
+        if rounded:
+            notes.append(
+                f"{rounded} exact values have no decimal of at most 38 digits; "
+                "the nearest ones are written"
+            )
+        return notes
+
+    def objective_text(self) -> str | None:
+        """The objective for a message; None without a point.
+
+        The solver's own fraction, else a double of ten digits at the values that are written.
+        """
+        if self.values is None:
+            return None
+        objective = self.found.objective
+        if not isinstance(objective, Fraction):
+            return f"{self.objective_terms.value:.10g}"
+        text = str(objective)
+        if len(text) <= LONGEST_FRACTION:
+            return text
+        double = nearest_double(objective)
+        near = "beyond doubles" if double is None else f"{double:.17g}"
+        return f"{near} (a fraction of {len(text)} digits)"
+
+    def with_code(self, code: Code) -> Answer:
+        other = copy.copy(self)
+        other.code = code
+        return other
+
+    def without_point(self, code: Code) -> Answer:
+        """Nothing but a code."""
+        other = Answer(
+            self.program, SolverAnswer(self.found.status, self.found.text), self.settings
+        )
+        other.code = code
+        return other
+
+    def without_duals(self) -> Answer:
+        """The same values, basis aside: no duals and no reduced costs."""
+        return self.with_duals(None)
+
+    def with_duals(self, duals: Sequence[str] | None) -> Answer:
+        """The same values with other duals, and without reduced costs."""
+        other = copy.copy(self)
+        other.__dict__.pop("_body", None)
+        other.duals = duals
+        other.reduced_costs = None
+        other.rounded_duals = 0
+        return other
+
+    def moved_near(
+        self, values: Sequence[Number], duals: Mapping[int, Fraction], code: Code
+    ) -> Answer:
+        """At values near its own, where its duals, reduced costs and basis still stand.
+
+        The proved duals, by row, take the place of its own where they are near all of them.
+        """
+        found = replace(self.found, values=values, objective=None)
+        own = found.duals
+        if duals and own is not None and _are_near(duals, own):
+            found.duals = [duals.get(row, dual) for row, dual in enumerate(own)]
+        other = Answer(self.program, replace(found, reduced_costs=None), self.settings)
+        other.found = found
+        other.reduced_costs = self.reduced_costs
+        other.code = code
+        return other if self.duals is not None else other.without_duals()
+
+    def moved_to(
+        self, values: Sequence[Number], duals: Mapping[int, Fraction], code: Code
+    ) -> Answer:
+        """At other values, with the proved duals where there is one for each row, and what they leave of the costs."""
+        has_duals = len(duals) == len(self.program.constraints) and self.is_continuous
+        given = [duals[row] for row in sorted(duals)] if has_duals else None
+        found = replace(
+            self.found,
+            values=values,
+            duals=given,
+            reduced_costs=None if given is None else exact_reduced_costs(self.program, given),
+            objective=None,
+            column_basis=None,
+            row_basis=None,
+        )
+        return Answer(self.program, found, self.settings).with_code(code)
+
+    def text(self, message: Sequence[str]) -> bytes:
+        """What `bridge return` reads: the code, the message, and the numbers."""
+        lines = [
+            "answer 1",
+            f"status {int(self.code)}",
+            f"objno {self.settings.objective}",
+            *(f"message {line}" for line in message),
+        ]
+        return ("\n".join(lines) + "\n").encode() + self._body
+
+    def _with_integers(self, values: Sequence[Number]) -> Sequence[Number]:
+        """The values, integer columns at the whole numbers that they are near."""
+        if not self.near_whole:
+            return values
+        found = list(values)
+        for column, is_whole in enumerate(self.program.read.whole):
+            value = values[column]
+            if is_whole and abs(float(value)) < float("inf"):
+                nearest = round(value)
+                distance = abs(float(nearest - value))
+                if distance <= NEAR_WHOLE:
+                    found[column] = nearest
+                else:
+                    self.distances.append(distance)
+        return found
+
+    @cached_property
+    def _body(self) -> bytes:
+        """The lines of the numbers."""
+        columns, rows = self.program.columns, self.program.constraints
+        parts: list[Iterator[bytes]] = []
+        if self.values is not None:
+            parts.append(_lines("col %s %s\n", zip(columns, self.values)))
+        if self.duals is not None:
+            parts.append(_lines("row %s %s\n", zip(rows, self.duals)))
+        costs = self.reduced_cost_texts
+        if costs:
+            known = [pair for pair in zip(columns, costs) if pair[1] != "0"]
+            parts.append(_lines("suffix 4 rc %s %s\n", known or [(columns[0], costs[0])]))
+        basis = self.found.column_basis, self.found.row_basis
+        if basis[0] and basis[1] is not None and costs is not None:
+            parts.append(_lines("suffix 0 sstatus %s %d\n", zip(columns, basis[0])))
+            parts.append(_lines("suffix 1 sstatus %s %d\n", zip(rows, basis[1])))
+        return b"".join(piece for part in parts for piece in part)
+
+
+def exact_reduced_costs(program: Program, duals: Sequence[Fraction]) -> list[Fraction]:
+    """What duals, one for each row, leave of the costs: c - A'y."""
+    numbers = list(map(Fraction, map(bytes.decode, program.read.numbers)))
+    costs = [Fraction(0)] * len(program.columns)
+    for column, number in zip(*program.objective):
+        costs[column] = numbers[number]
+    for row, column, number in zip(*program.read.entries()):
+        if row >= 0 and duals[row]:
+            costs[column] -= duals[row] * numbers[number]
+    return costs
+
+
+def _are_near(duals: Mapping[int, Fraction], own: Sequence[Number]) -> bool:
+    return all(
+        abs(float(dual) - float(own[row])) <= NEAR_DUAL * max(1.0, abs(float(dual)))
+        for row, dual in duals.items()
+    )
+
+
+def _lines(form: str, pairs: Iterable[tuple[str, object]]) -> Iterator[bytes]:
+    """Lines of one form, many at once."""
+    left = iter(pairs)
+    while part := list(islice(left, LINES_AT_ONCE)):
+        yield "".join(map(form.__mod__, part)).encode()

@@ -1,0 +1,353 @@
+"""What is claimed and proved of an answer, and what is told of that.
+
+The last line of a message is the verdict of `bridge verify`, word for word, or `not proved: ..`. Nothing
+in it rests on this package: the certificate is a text about the model's file.
+"""
+
+from __future__ import annotations
+
+from fractions import Fraction
+from typing import Mapping, NamedTuple
+
+from ..exact import clp
+from ..exact.worker_pools import open_pool
+from ..certify.claims import WITHOUT, Certifying, Given, Verdict, certified
+from ..certify.text import answer_lines
+from ..certify.watch import Watch
+from ..miss import ROUNDING, miss
+from ..model.linear_program import TIED, TIED_ROW
+from ..program import verdict as verdicts
+from ..program.bridge import Bridge, Refused
+from ..program.verdict import Said
+from ..sol import numbers_of
+from ..solvers.base import BasisStatus, SolverStatus
+from ..solvers.run import SolverRun
+from ..formats.numbers import decimal, decimal_or_fraction
+from ..model.named_values import NamedValues
+from .answer import Answer
+from .monitor import Monitor
+from .settings import CERTIFICATE_SECONDS, Settings
+from .stored_certificate import CertificateStore, StoredCertificate
+
+ONE_LEAF_SECONDS = 1.0  # of a search without prove=1
+LARGE_PROGRAM = 400_000  # bytes of an exported program that have a second each
+LEAST_SHARE = 1e-15  # of the largest term: less is not told by doubles
+PLACES = 9  # decimals that doubles are rounded to, where they do not pass as they are
+NO_SEARCH = (
+    "prove=1 needs the library of CLP, which is not there (Debian: apt install coinor-libclp1)"
+)
+POINT = "point"
+CLAIM_OF_STATUS: Mapping[SolverStatus, str] = {
+    SolverStatus.OPTIMAL: POINT,
+    SolverStatus.FEASIBLE: POINT,
+    SolverStatus.LIMIT_WITH_POINT: POINT,
+    SolverStatus.INFEASIBLE: "infeasible",
+    SolverStatus.UNBOUNDED: "unbounded",
+    SolverStatus.INFEASIBLE_OR_UNBOUNDED: "either",
+    SolverStatus.LIMIT: "nothing",
+}  # what is tried first
+
+
+class Returned(NamedTuple):
+    """An answer with its .sol, which is empty of an MPS file."""
+
+    answer: Answer
+    sol: bytes
+
+
+class WrittenNumbers(NamedTuple):
+    """Values and duals as texts, in the order of the file's variables and constraints."""
+
+    values: list[str]
+    duals: list[str]
+
+
+class AnswerCertifier:
+    """Asks the proved program about answers to one model.
+
+    Attributes:
+        bridge: The proved program.
+        model: The path of the model as the proved program reads it.
+        run: The solver's run, with the program and a folder for files.
+        settings: Those of the whole run.
+        monitor: Is told what goes on.
+        is_mps: The model is an MPS file, of which no .sol is made: values are judged by a certificate.
+        is_relaxed: Integer variables are relaxed.
+        is_interrupted: The search for a certificate was ended by the user.
+        pool_note: A line on the processes that searched.
+    """
+
+    def __init__(
+        self, bridge: Bridge, model: str, run: SolverRun, settings: Settings, monitor: Monitor
+    ) -> None:
+        self.bridge = bridge
+        self.model = model
+        self.run = run
+        self.settings = settings
+        self.monitor = monitor
+        self.program = run.program
+        self.is_mps = not run.program.is_exported
+        self.is_relaxed = bool(run.program.whole) and run.settings.relax
+        self.is_interrupted = False
+        self.pool_note = ""
+        self.store = CertificateStore(
+            bridge,
+            model,
+            maximise=run.program.maximise,
+            overwrite=settings.certificate.overwrite,
+        )
+
+    def returned(
+        self, answer: Answer, lines: list[str], name: str = "bridge", place: int = 0
+    ) -> Returned:
+        """An answer and its .sol by `bridge return`.
+
+        Where its duals are too wide it is without them, and a line says so, at `place` of the lines.
+
+        Raises:
+            Refused: The proved program does not take it.
+        """
+        if self.is_mps:
+            return Returned(answer, b"")
+        text = self.run.write(name + ".txt", answer.text(lines))
+        try:
+            with self.monitor.timing("return"):
+                sol = self.bridge.text("return", self.model, text)
+        except Refused as fault:
+            if answer.duals is None or not fault.told.endswith("dual too wide"):
+                raise
+            lines.insert(place, f"duals are left out: {fault.line()}")
+            return self.returned(answer.without_duals(), lines, name, place)
+        self.run.write(name + ".sol", sol)
+        return Returned(answer, sol)
+
+    def checked(self, answer: Answer) -> str:
+        """What the proved program says of the values that are passed on, in words.
+
+        `bridge check` of the .sol wants duals: where there are none, zeros ask for feasibility alone.
+        """
+        command, name = "check", "bridge.sol"
+        try:
+            if self.is_mps:
+                command, name = "verify", "values.certificate"
+                lines = answer_lines(self.numbers(answer).values, [], 0)
+                self.run.write(name, ("\n".join(lines) + "\n").encode())
+            elif answer.duals is None or not self.run.is_continuous():
+                name, zeros = "check.sol", ["0"] * len(self.program.constraints)
+                self.returned(answer.with_duals(zeros), [], "check")
+            with self.monitor.timing("check"):
+                verdict = self.bridge.verdict(command, self.model, self.run.path(name))
+        except Refused as fault:
+            return fault.line().removeprefix(self.run.path(name) + ": ")
+        word, *rest = verdict.split()
+        if self.is_mps and word == "variable":
+            return f"{self.named_part('column', int(rest[0]))} is not whole"
+        if self.is_mps and word == "feasible":
+            verdict = f"yes {rest[0]}"
+        return self.check_words(verdict, has_duals=name == "bridge.sol")
+
+    def certify(self, answer: Answer) -> Verdict:
+        """What is proved by a search.
+
+        It has the time limit, and without `prove` a second of it, or more by the size of the program.
+        Where a large program has no certificate then, the answer is tried as it stands.
+        """
+        settings = self.settings.certificate
+        proves = settings.prove and not self.run.is_interrupted
+        size = len(self.program.text)
+        seconds = self.settings.time_limit or CERTIFICATE_SECONDS
+        if not proves:
+            seconds = min(max(size / LARGE_PROGRAM, ONE_LEAF_SECONDS), seconds)
+        watch = Watch(seconds, self.monitor.progress, not proves)
+        pool = open_pool(settings.processes, settings.cluster) if proves else None
+        work = Certifying(
+            self.bridge,
+            self.model,
+            self.run.folder,
+            self.program,
+            self.settings.objective,
+            watch,
+            proves,
+            self.is_relaxed,
+            settings.bound,
+            settings.shorten,
+            pool,
+        )
+        claim = CLAIM_OF_STATUS[answer.found.status]
+        try:
+            with self.monitor.timing("certify"):
+                verdict = certified(work, claim, self.answer_by_place(answer))
+        finally:
+            if pool is not None:
+                pool.close()
+                self.pool_note = pool.note
+                if pool.fault:
+                    self.pool_note = "the search went on in one process: " + pool.fault
+        self.is_interrupted = watch.is_stopped
+        is_open = claim == POINT and not self.is_relaxed and not verdict.is_proved()
+        if is_open and size > LARGE_PROGRAM:
+            stands = self.from_answer_itself(work, answer)
+            if stands.is_proved():
+                return stands._replace(
+                    by_doubles=verdict.by_doubles, note=verdict.note, is_open=verdict.is_open
+                )
+        return verdict
+
+    def from_answer_itself(self, work: Certifying, answer: Answer) -> Verdict:
+        """The .sol's values and duals are the certificate, or the same numbers in fewer digits."""
+        try:
+            numbers = self.numbers(answer)
+            verdict = work.verified(answer_lines(*numbers, work.objective))
+            if verdict.is_proved():
+                return verdict
+            values, duals = (
+                [decimal(round(float(text), PLACES))[0] for text in texts] for texts in numbers
+            )
+            second = work.verified(answer_lines(values, duals, work.objective))
+        except Refused as fault:
+            return Verdict(WITHOUT + fault.line())
+        if not second.is_proved():
+            return verdict
+        return second._replace(point=list(map(Fraction, values)))
+
+    def numbers(self, answer: Answer) -> WrittenNumbers:
+        """The values and duals of an answer as they are written, duals of linear programs alone."""
+        if self.is_mps:
+            values, duals = list(answer.values or ()), list(answer.duals or ())
+        else:
+            duals, values = numbers_of(self.returned(answer, [], "numbers").sol)
+        return WrittenNumbers(values, duals if self.run.is_continuous() else [])
+
+    def answer_by_place(self, answer: Answer) -> Given:
+        """The answer for the search: the solver's numbers, those of integer columns as they are written.
+
+        The column and the row that stand for a nonlinear objective's value are left out.
+        """
+        program, found = self.program, answer.found
+        count = len(program.columns) - (program.columns[-1:] == [TIED])
+        rows = [row for row, name in enumerate(program.constraints) if name != TIED_ROW]
+        numbers = {row: int(program.constraints[row][1:]) for row in rows}
+        values: list[float | Fraction] | None = None
+        if found.values is not None and answer.values is not None:
+            exact_or_double = (float, Fraction)
+            values = [v if type(v) in exact_or_double else float(v) for v in found.values[:count]]
+            if program.whole and not self.is_relaxed:
+                marked = zip(answer.values, program.read.whole, values)
+                values = [Fraction(text) if is_whole else v for text, is_whole, v in marked]
+        duals = None
+        if found.duals is not None:
+            duals = {number: found.duals[row] for row, number in numbers.items()}
+        basis = None
+        if found.column_basis is not None and found.row_basis is not None:
+            columns = enumerate(found.column_basis[:count])
+            basis = clp.Basis(
+                [column for column, status in columns if status == BasisStatus.BASIC],
+                [numbers[row] for row in rows if found.row_basis[row] != BasisStatus.BASIC],
+            )
+        return Given(values, duals, basis)
+
+    def closing_lines(
+        self, verdict: Verdict, said: Said | None, stored: StoredCertificate | None
+    ) -> list[str]:
+        """The last lines of a message.
+
+        A search that was asked for and cannot be made is told as `not proved`, with what is proved
+        without it.
+        """
+        settings = self.settings.certificate
+        lines = [*self.claim_words(said, verdict.note), self.pool_note]
+        last = verdict.line
+        is_settled = said is not None and said.is_settled()
+        if settings.prove and settings.check and clp.library() is None and not is_settled:
+            lines.append(NO_SEARCH)
+            if said is not None:
+                last = f"{WITHOUT}there was no search; without it: {last}"
+        if stored is not None:
+            lines.append(stored.line)
+        return [line for line in (*lines, verdict.note, last) if line]
+
+    def stored(self, verdict: Verdict) -> StoredCertificate | None:
+        """Keeps the accepted certificate where one is wanted; None where none is."""
+        target = self.settings.certificate.path
+        if not target:
+            return None
+        if verdict.path is None:
+            return self.store.without_certificate(target)
+        return self.store.store(verdict.path, verdict.line, target)
+
+    def check_line(self, answer: Answer, verdict: Verdict, told: str) -> str:
+        """The line on what the proved program says of the values that are passed on, `told`.
+
+        Where the values round a proved point, what they miss is told as rounding, and why they say
+        another thing than an exact optimum.
+        """
+        if told.endswith(" is broken"):
+            assert answer.values is not None
+            told = self.broken_words(answer, verdict, told)
+        said = verdicts.read(verdict.line)
+        rounded = []
+        if answer.rounded_values:
+            rounded.append("values")
+        if answer.rounded_duals:
+            rounded.append("duals")
+        is_optimal = said is not None and said.word == "optimal"
+        if said is not None and is_optimal and rounded:
+            if told.split()[-1:] != [decimal_or_fraction(str(said.value))]:
+                told += f"; the exact {' and '.join(rounded)} are rounded to decimals in it"
+        is_sol = self.settings.makes_sol and not self.is_mps
+        return f"bridge check of the {'.sol' if is_sol else 'values'}: {told}"
+
+    def broken_words(self, answer: Answer, verdict: Verdict, told: str) -> str:
+        """By how much the values miss what they break."""
+        values = NamedValues(self.program.columns, answer.values or [])
+        share = max(miss(self.program, values).share, LEAST_SHARE)
+        by = f"missed by more than {share:.2g} of its largest term"
+        if verdict.is_proved() and verdict.point is not None and answer.rounded_values:
+            return f"it has the exact point in decimals; no row or bound is {by}"
+        if share <= ROUNDING:
+            return f"no row or bound is {by}, which is rounding"
+        return f"{told}; no row or bound is {by}"
+
+    def claim_words(self, said: Said | None, note: str = "") -> list[str]:
+        """The claim in words, where it says more than its line. `note` says why no more is proved."""
+        if said is None or said.is_settled():
+            return []
+        steps = None if self.is_relaxed else verdicts.multiples(self.program)
+        text = verdicts.in_words(said, self.program.maximise, steps)
+        if said.word == "feasible" and self.run.is_continuous():
+            text += "" if note else "; no bound was found that says how good it is"
+        elif said.word == "feasible":
+            text += "; the search for a better one did not end"
+            if not self.settings.certificate.prove:
+                text += ": prove=1 goes on"
+        return ["in words: " + text]
+
+    def check_words(self, verdict: str, *, has_duals: bool) -> str:
+        """A verdict of `bridge check` in words; without duals what values alone can break."""
+        words = verdict.split()
+        is_broken = words[-1] == "broken" or verdict.startswith("too wide at row ")
+        has_value = words[0] in ("yes", "gap")
+        if not has_duals and not is_broken and (has_value or words[0] in ("bound", "too")):
+            return "feasible" + (
+                f", objective exactly {decimal_or_fraction(words[1])}" if has_value else ""
+            )
+        if has_value:
+            return " ".join([words[0], *map(decimal_or_fraction, words[1:])])
+        if words[0] not in ("row", "bound"):
+            return f"exact values do not fit 128 bits ({verdict})"
+        part = self.named_part(words[0], int(words[1]))
+        if words[-1] == "broken":
+            return f"{part if words[0] == 'row' else f'a bound of {part}'} is broken"
+        if words[0] == "row":
+            return f"the dual of {part} has the wrong sign"
+        return f"the reduced cost of {part} has no bound to rest on"
+
+    def named_part(self, kind: str, number: int) -> str:
+        """A constraint (of the kind `row`) or variable, by its name where there is one."""
+        names = self.program.names
+        return names.constraint(number) if kind == "row" else names.variable(number)
+
+    def named_place(self, exported: str) -> str:
+        """A row or column of the exported text."""
+        kind, digits = "row" if exported.startswith("c") else "column", exported[1:]
+        return self.named_part(kind, int(digits)) if digits.isdigit() else "the objective's row"

@@ -1,0 +1,170 @@
+"""The one place where a code is decided: what was found of a model and of an answer to it, and the code
+that this earns. drivers/CODES.md is the same in words, and a test goes through every pair of them."""
+
+from __future__ import annotations
+
+import enum
+from typing import NamedTuple, Sequence
+
+from ..program.verdict import FINAL
+from ..system import errors
+from ..system.codes import Code
+
+NO_BOUND = "no bound is proved"
+BOUND_AWAY = "the bound that is proved is away from it"
+NOT_STRICT = "not proved, as strict=1 wants it"
+POINT_CODES = (Code.SOLVED, Code.UNSURE, Code.LIMIT_WITH_POINT)  # of an answer that has a point
+
+
+class Violation(enum.Enum):
+    """What the answer's own values miss of the model."""
+
+    NOTHING = "nothing"  # or the rounding of a row's own terms
+    LITTLE = "little"
+    MUCH = "much"  # so much that they are no point
+
+
+class PointSource(enum.Enum):
+    """Whose point is passed on."""
+
+    NONE = "none"
+    ANSWER = "answer"
+    PROVED = "proved"
+
+
+class Findings(NamedTuple):
+    """What is known of a model and of an answer to it.
+
+    Attributes:
+        said: What the solver's status says by itself.
+        claim: The first word of what is proved of the model; "" where nothing is.
+        is_continuous: There are no integer variables, or they are relaxed.
+        is_gap: The solver stopped at a gap that was asked for.
+        kind: What the proved point is beside the answer: `a`, `a better` or `another`; "" where it is the
+            same up to the digits that are printed.
+        has_other_objective: It is the same so, and has another objective all the same.
+        is_bound_met: The proved bound is at the objective of the proved point, or of the answer where none
+            is proved, up to 1e-6.
+        is_within_gap: It is as near to it as the gap that was asked for.
+        violation: What the answer's own values miss.
+        beats_bound: The answer is better than the bound that is proved.
+        is_contradicted: No point has the answer's values of integer variables.
+        is_met_in_doubles: The answer's duals in doubles, rounded to the safe side, say as much as
+            `is_bound_met`.
+        is_ray_open: The time ended before it was known whether there is a ray.
+        is_checked: The proved program was asked.
+        is_strict: What is not proved is not solved.
+    """
+
+    said: Code
+    claim: str = ""
+    is_continuous: bool = False
+    is_gap: bool = False
+    kind: str = ""
+    has_other_objective: bool = False
+    is_bound_met: bool = False
+    is_within_gap: bool = False
+    violation: Violation = Violation.NOTHING
+    beats_bound: bool = False
+    is_contradicted: bool = False
+    is_met_in_doubles: bool = False
+    is_ray_open: bool = False
+    is_checked: bool = True
+    is_strict: bool = False
+
+
+class Ruling(NamedTuple):
+    """A code, and whose point is passed on with it.
+
+    Attributes:
+        code: What is earned.
+        source: Whose point is passed on.
+        shortfall: What code 0 is not earned for; "" of other codes, and where the solver did not claim it.
+    """
+
+    code: Code
+    source: PointSource = PointSource.NONE
+    shortfall: str = ""
+
+
+# of each kind of error its code; the first class that an error is of counts
+CODES_OF_ERRORS: Sequence[tuple[type[errors.BridgeError], Code]] = (
+    (errors.TakesNoIntegers, Code.TAKES_NO_INTEGERS),
+    (errors.ModelRefused, Code.REFUSED),
+    (errors.ProgramFailed, Code.REFUSED),
+    (errors.WrongOption, Code.BAD_OPTION),
+    (errors.NotInstalled, Code.NOT_FOUND),
+    (errors.FileFault, Code.FILE),
+    (errors.SolverFailed, Code.NO_ANSWER),
+    (errors.NotReturned, Code.NOT_RETURNED),
+    (errors.RunInterrupted, Code.STOPPED),
+    (errors.BridgeError, Code.FAULT),
+)
+
+
+def code_of_error(error: errors.BridgeError) -> Code:
+    """AMPL's code of a run that ended by this error."""
+    return next(code for kind, code in CODES_OF_ERRORS if isinstance(error, kind))
+
+
+def decide(findings: Findings) -> Ruling:
+    """By what is proved, whatever the solver said; else by its answer."""
+    ruling = _by_claim(findings)
+    if findings.is_strict and findings.claim not in FINAL:
+        return Ruling(Code.UNSURE, ruling.source, NOT_STRICT)
+    return ruling
+
+
+def _by_claim(found: Findings) -> Ruling:
+    if found.claim == "infeasible":
+        return Ruling(Code.INFEASIBLE)
+    if found.claim == "unbounded":
+        return Ruling(Code.UNBOUNDED)
+    if found.claim == "optimal":
+        return Ruling(Code.SOLVED, PointSource.PROVED)
+    if found.claim in ("feasible", "within"):
+        return _of_proved_point(found)
+    if found.said in POINT_CODES:
+        return _of_answer(found)
+    if found.said == Code.UNBOUNDED and found.claim == "bound":
+        return Ruling(Code.LIMIT)
+    return Ruling(found.said)
+
+
+def _of_proved_point(found: Findings) -> Ruling:
+    """A point is proved, and not that it is optimal."""
+    proved = PointSource.PROVED
+    if (found.is_continuous and found.is_bound_met) or (found.is_gap and found.is_within_gap):
+        return Ruling(Code.SOLVED, proved)
+    if found.said in (Code.LIMIT, Code.LIMIT_WITH_POINT):
+        return Ruling(Code.LIMIT_WITH_POINT, proved)
+    if found.kind or found.said != Code.SOLVED:
+        return Ruling(Code.UNSURE, proved, "the gap is not proved" if found.is_gap else "")
+    if found.has_other_objective:
+        return Ruling(Code.UNSURE, proved, "its digits are not those of an exact point")
+    if found.is_met_in_doubles:
+        return Ruling(Code.SOLVED, proved)
+    has_end = found.claim == "within" or not found.is_ray_open
+    if not found.is_continuous and has_end:
+        return Ruling(Code.SOLVED, proved)
+    return Ruling(Code.UNSURE, proved, BOUND_AWAY if found.claim == "within" else NO_BOUND)
+
+
+def _of_answer(found: Findings) -> Ruling:
+    """No point is proved; the answer has one."""
+    answer = PointSource.ANSWER
+    if found.violation is Violation.MUCH:
+        if found.said == Code.LIMIT_WITH_POINT:
+            return Ruling(Code.LIMIT)
+        return Ruling(Code.UNSURE, answer, "its point misses the model")
+    if found.beats_bound:
+        return Ruling(Code.UNSURE, answer, "it is better than what is possible")
+    if found.said != Code.SOLVED or not found.is_checked:
+        return Ruling(found.said, answer)
+    if found.is_contradicted or not found.is_continuous:
+        return Ruling(Code.UNSURE, answer, "no exact point has its whole values")
+    if found.violation is Violation.LITTLE:
+        return Ruling(Code.UNSURE, answer, "no exact point is near it")
+    if found.is_bound_met or found.is_met_in_doubles:
+        return Ruling(Code.SOLVED, answer)
+    return Ruling(Code.UNSURE, answer, BOUND_AWAY if found.claim == "bound" else NO_BOUND)

@@ -1,0 +1,119 @@
+"""The numbers of an outcome by the names of the file, and the files that are made of an outcome."""
+
+from __future__ import annotations
+
+import os
+from typing import List, Sequence, Tuple
+
+from .. import sol
+from ..formats.file_kinds import model_kind_of_start
+from ..formats.source import Source
+from ..system.files import OutputFiles, write_new
+from ..system.processes import SIGNALS
+from ..system.codes import ExitStatus
+from .answer import Answer
+from .settings import OutputSettings
+from .solve import Outcome
+
+NamedTexts = List[Tuple[str, str]]  # a name and a decimal each, in the order of the file
+
+
+def named_values(answer: Answer | None) -> NamedTexts:
+    """The values of the file's variables."""
+    return _by_column(answer, answer.values if answer else None)
+
+
+def named_reduced_costs(answer: Answer | None) -> NamedTexts:
+    """The reduced costs of the file's variables."""
+    return _by_column(answer, answer.reduced_cost_texts if answer else None)
+
+
+def named_duals(answer: Answer | None) -> NamedTexts:
+    """The duals of the file's constraints."""
+    if answer is None or answer.duals is None:
+        return []
+    name_of = answer.program.names.row
+    has_names = bool(name_of(0))
+    return [
+        ((name_of(int(name[1:])) if has_names else "") or name, text)
+        for name, text in zip(answer.program.constraints, answer.duals)
+        if name[1:].isdigit()
+    ]
+
+
+def _by_column(answer: Answer | None, texts: Sequence[str] | None) -> NamedTexts:
+    """Not of the column that stands for the value of a nonlinear objective."""
+    if answer is None or texts is None:
+        return []
+    name_of = answer.program.names.column
+    has_names = bool(name_of(0))
+    return [
+        ((name_of(int(name[1:])) if has_names else "") or name, text)
+        for name, text in zip(answer.program.columns, texts)
+        if name[1:].isdigit()
+    ]
+
+
+def write_outputs(
+    outcome: Outcome, source: Source, outputs: OutputSettings, objective: int = 0
+) -> None:
+    """Writes the files that are asked for; each is written whole or not at all.
+
+    A line on the solution's file goes into the message before the .sol, which has the message, is made.
+
+    Args:
+        outcome: What is written.
+        source: The model; its .sol stands beside it.
+        outputs: Which files are asked for.
+        objective: Which objective the .sol is of, from 0.
+
+    Raises:
+        FileFault: A file cannot be written.
+    """
+    if outputs.solution:
+        outcome.lines.insert(1, write_solution(outcome, source, outputs))
+    if source.is_mps:
+        return
+    data = sol_data(outcome, source, objective)
+    if outputs.sol:
+        write_sol(source, data)
+    if outcome.kept_folder:
+        write_new(os.path.join(outcome.kept_folder, "bridge.sol"), data)
+
+
+def sol_data(outcome: Outcome, source: Source, objective: int) -> bytes:
+    """The .sol with the whole message."""
+    if outcome.sol is not None:
+        return sol.with_message(outcome.sol, outcome.lines)
+    return sol.bare(source.path, outcome.code, objective, outcome.lines)
+
+
+def write_sol(source: Source, data: bytes) -> None:
+    """Puts a .sol beside its model; an older one is replaced."""
+    with SIGNALS.deferred():
+        files = OutputFiles([source.path], model_kind_of_start, overwrite=True)
+        files.write(source.stub + ".sol", data)
+
+
+def remove_older_sol(source: Source) -> None:
+    """An older .sol must not pass for that of a run; where the model cannot be read it stays."""
+    if os.path.isfile(source.path) and os.access(source.path, os.R_OK):
+        OutputFiles([source.path], model_kind_of_start).remove(source.stub + ".sol")
+
+
+def write_solution(outcome: Outcome, source: Source, outputs: OutputSettings) -> str:
+    """Names and values, and duals where there are any; a line on that."""
+    path, values = outputs.solution, named_values(outcome.answer)
+    if not values:
+        return f"{path} is not written: there are no values"
+    data = sol.solution(path, values, named_duals(outcome.answer))
+    reads = [source.path, source.name]
+    OutputFiles(reads, model_kind_of_start, overwrite=outputs.overwrite).write(path, data)
+    return f"{path} is written"
+
+
+def exit_status(outcome: Outcome) -> ExitStatus:
+    """How a command ends that had this outcome."""
+    if outcome.stored is not None and outcome.stored.has_failed:
+        return ExitStatus.UNWRITTEN
+    return ExitStatus.DONE if outcome.is_final else ExitStatus.NOT_SETTLED

@@ -1,0 +1,250 @@
+"""What is passed on: the code, the point and the objective of an answer beside what was proved of the
+model. A proved claim holds whatever the solver said, and nothing contradicts it."""
+
+from __future__ import annotations
+
+import math
+from fractions import Fraction
+from typing import Mapping, NamedTuple, Sequence
+
+from ..certify.claims import Verdict
+from ..system.codes import Code
+from ..miss import NONE, OWN, ROUNDING, Miss
+from ..model.linear_program import TIED, Objective
+from ..program import verdict as verdicts
+from ..program.verdict import Said
+from ..formats.numbers import nearest_double
+from .answer import Answer
+from .outcome import NOT_STRICT, Findings, PointSource, Ruling, Violation, decide
+
+RELATIVE_DIFFERENCE = 1e-6  # of the largest term or the sum: between unequal objectives
+RELATIVE_GAP = Fraction(1, 10**6)  # of the objective: a bound that is at it
+PRINTED_DIGITS = 1e-5  # of values that are the same: a solver may print six digits
+WORDS: Mapping[Code, str] = {
+    Code.SOLVED: "optimal solution",
+    Code.UNSURE: "feasible solution",
+    Code.INFEASIBLE: "infeasible",
+    Code.UNBOUNDED: "unbounded",
+    Code.LIMIT_WITH_POINT: "stopped with a feasible solution",
+    Code.LIMIT: "stopped without a feasible solution",
+}
+WORDS_OF_GAP = "solution within the gap that was asked for"
+
+
+class RunFacts(NamedTuple):
+    """What decides on a code beside the answer and the verdict.
+
+    Attributes:
+        residual: What the answer's own values miss.
+        gap: The relative gap that was asked for.
+        is_checked: The proved program was asked.
+        is_strict: What is not proved is not solved.
+    """
+
+    residual: Miss = NONE
+    gap: float = 0.0
+    is_checked: bool = True
+    is_strict: bool = False
+
+
+class Resolution(NamedTuple):
+    """What is passed on.
+
+    Attributes:
+        code: Its code.
+        answer: Its numbers.
+        text: The code in words; None where the solver's own words hold.
+        kind: What the point is beside the solver's: `a`, `a better`, `another`; "" where it is the same.
+        shortfall: What code 0 is not earned for.
+    """
+
+    code: Code
+    answer: Answer
+    text: str | None = None
+    kind: str = ""
+    shortfall: str = ""
+
+
+class ProvedPoint(NamedTuple):
+    """A point that is proved.
+
+    Attributes:
+        values: By column.
+        objective: The terms of the objective at it, in doubles.
+        has_other_objective: Than the answer has.
+        kind: What it is beside the answer, as in `Resolution`.
+    """
+
+    values: Sequence[Fraction]
+    objective: Objective
+    has_other_objective: bool
+    kind: str
+
+
+def resolve(answer: Answer, verdict: Verdict, facts: RunFacts = RunFacts()) -> Resolution:
+    """What is passed on, by the ruling on all that was found."""
+    proved = proved_point(answer, verdict)
+    ruling = decide(findings_of(answer, verdict, facts, proved))
+    code, shortfall = ruling.code, ruling.shortfall
+    if ruling.source is PointSource.PROVED and proved is not None:
+        return _at_proved_point(answer, verdict, proved, ruling)
+    if ruling.source is PointSource.ANSWER:
+        text = NOT_STRICT if shortfall == NOT_STRICT else None
+        return Resolution(code, answer.with_code(code), text, "", shortfall)
+    if code == Code.UNSURE:
+        return Resolution(code, answer.with_code(code), shortfall)
+    if answer.values is None and answer.code == code:
+        return Resolution(code, answer)
+    return Resolution(code, answer.without_point(code), WORDS[code])
+
+
+def findings_of(
+    answer: Answer, verdict: Verdict, facts: RunFacts, proved: ProvedPoint | None
+) -> Findings:
+    """What decides on the code."""
+    said = verdicts.read(verdict.line) if verdict.is_proved() else None
+    is_mixed = bool(answer.program.whole)
+    is_same = proved is not None and not proved.kind
+    return Findings(
+        said=answer.code,
+        claim=verdict.claim(),
+        is_continuous=answer.is_continuous,
+        is_gap=answer.found.is_gap,
+        kind=proved.kind if proved else "",
+        has_other_objective=is_mixed
+        and is_same
+        and proved is not None
+        and proved.has_other_objective,
+        is_bound_met=said is not None and meets_bound(answer, proved, said),
+        is_within_gap=said is not None and is_within(said, facts.gap),
+        violation=violation_of(answer, facts.residual),
+        beats_bound=said is not None
+        and said.word == "bound"
+        and beats_proved_bound(answer, said.bound),
+        is_contradicted=verdict.contradicted,
+        is_met_in_doubles=verdict.by_doubles,
+        is_ray_open=verdict.is_open,
+        is_checked=facts.is_checked,
+        is_strict=facts.is_strict,
+    )
+
+
+def violation_of(answer: Answer, residual: Miss) -> Violation:
+    """How much a residual is. Rows of integer columns are to be met but for far less than others."""
+    if residual.is_much():
+        return Violation.MUCH
+    rounding = OWN if answer.is_continuous else ROUNDING
+    return Violation.LITTLE if residual.share > rounding else Violation.NOTHING
+
+
+def meets_bound(answer: Answer, proved: ProvedPoint | None, said: Said) -> bool:
+    """Whether the proved bound is at the objective of the proved point, else of the answer.
+
+    They may be apart by 1e-6 of the objective, of 1, or of the sum of the sizes of its terms.
+    """
+    if said.bound is None or said.bound == said.value:
+        return said.bound is not None
+    if proved is not None and said.value is not None:
+        value, objective = said.value, proved.objective
+    elif answer.values is not None and math.isfinite(answer.objective_terms.value):
+        value, objective = Fraction(answer.objective_terms.value), answer.objective_terms
+    else:
+        return False
+    terms = Fraction(objective.total) if objective.total < math.inf else Fraction(0)
+    return abs(said.bound - value) <= RELATIVE_GAP * max(abs(value), Fraction(1), terms)
+
+
+def is_within(said: Said, gap: float) -> bool:
+    """Whether the bound is as near to the point's objective as a relative gap that was asked for."""
+    if said.bound is None or said.value is None:
+        return False
+    return abs(said.bound - said.value) <= Fraction(gap) * max(abs(said.bound), abs(said.value))
+
+
+def proved_point(answer: Answer, verdict: Verdict) -> ProvedPoint | None:
+    """The point of a verdict beside an answer; None where the verdict has none."""
+    if not verdict.is_proved() or verdict.point is None:
+        return None
+    program = answer.program
+    values: Sequence[Fraction] = verdict.point
+    if program.columns[-1:] == [TIED] and verdict.value is not None:
+        values = [*values, verdict.value]
+    doubles = nearest_doubles(values)
+    objective = program.at(doubles)
+    if answer.values is None:
+        return ProvedPoint(values, objective, False, "a")
+    is_apart = have_other_values(answer.objective_terms, objective)
+    kind = kind_beside(answer, doubles, objective) if is_apart else ""
+    return ProvedPoint(values, objective, is_apart, kind)
+
+
+def proved_duals(answer: Answer, verdict: Verdict) -> dict[int, Fraction]:
+    """The duals of a certificate of one leaf, by row."""
+    if not verdict.duals:
+        return {}
+    rows = enumerate(answer.program.constraints)
+    numbers = {row: int(name[1:]) for row, name in rows if name[1:].isdigit()}
+    return {
+        row: verdict.duals[number] for row, number in numbers.items() if number in verdict.duals
+    }
+
+
+def kind_beside(answer: Answer, doubles: Sequence[float], objective: Objective) -> str:
+    """What a point of another objective is beside the answer.
+
+    "" where each value is the same up to the digits that solvers print.
+    """
+    pairs = zip(doubles, answer.doubles)
+    if all(abs(v - old) <= PRINTED_DIGITS * max(abs(v), abs(old)) for v, old in pairs):
+        return ""
+    is_more = objective.value > answer.objective_terms.value
+    return "a better" if is_more == answer.program.maximise else "another"
+
+
+def have_other_values(old: Objective, new: Objective) -> bool:
+    """Whether two objectives are not the same in doubles."""
+    size = max(old.largest, new.largest, abs(old.value))
+    return abs(old.value - new.value) > RELATIVE_DIFFERENCE * size
+
+
+def beats_proved_bound(answer: Answer, bound: Fraction | None) -> bool:
+    """Whether the answer is better than what was proved to be the best."""
+    if answer.values is None or bound is None:
+        return False
+    own, limit = answer.objective_terms, double_or_infinite(bound)
+    surplus = own.value - limit if answer.program.maximise else limit - own.value
+    return surplus > RELATIVE_DIFFERENCE * max(own.largest, abs(limit))
+
+
+def double_or_infinite(value: Fraction) -> float:
+    """The nearest double; infinite beyond doubles."""
+    double = nearest_double(value)
+    if double is not None:
+        return double
+    return math.inf if value > 0 else -math.inf
+
+
+def nearest_doubles(values: Sequence[Fraction]) -> list[float]:
+    """The same of many. Each object is looked at once: most stand many times."""
+    objects = {id(value): value for value in values}
+    known = {place: double_or_infinite(value) for place, value in objects.items()}
+    return [known[id(value)] for value in values]
+
+
+def _at_proved_point(
+    answer: Answer, verdict: Verdict, proved: ProvedPoint, ruling: Ruling
+) -> Resolution:
+    """At the point that was proved. A solver's `optimal` stands beside one that is feasible with the same objective."""
+    code, kind, shortfall = ruling.code, proved.kind, ruling.shortfall
+    duals = proved_duals(answer, verdict) if code == Code.SOLVED else {}
+    if kind:
+        moved = answer.moved_to(proved.values, duals, code)
+    else:
+        moved = answer.moved_near(proved.values, duals, code)
+    if shortfall == NOT_STRICT:
+        return Resolution(code, moved, NOT_STRICT, kind, shortfall)
+    keeps_words = code == answer.code or bool(shortfall) or answer.found.is_gap
+    if not kind and keeps_words:
+        return Resolution(code, moved, None, kind, shortfall)
+    is_gap = code == Code.SOLVED and verdict.claim() == "within" and answer.found.is_gap
+    return Resolution(code, moved, WORDS_OF_GAP if is_gap else WORDS[code], kind, shortfall)

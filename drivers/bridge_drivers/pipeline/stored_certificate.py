@@ -1,0 +1,82 @@
+"""Where an accepted certificate is kept, and what is done about an older one that stands there."""
+
+from __future__ import annotations
+
+import os
+from pathlib import Path
+from typing import NamedTuple
+
+from ..formats.file_kinds import model_kind_of_start
+from ..program import verdict as verdicts
+from ..program.bridge import Bridge, Refused
+from ..system.errors import DeadlineExceeded, FileFault, FileStays
+from ..system.files import OutputFiles
+
+OLDER_SECONDS = 60.0  # for the verdict on an older certificate
+
+
+class StoredCertificate(NamedTuple):
+    """What was done with the certificate of a run.
+
+    Attributes:
+        line: The same in a line of the message.
+        path: Where a certificate of the claim stands; None where none does.
+        has_failed: None stands where one was wanted.
+    """
+
+    line: str
+    path: str | None = None
+    has_failed: bool = False
+
+
+class CertificateStore:
+    """Keeps certificates of one model.
+
+    Attributes:
+        bridge: Judges older certificates.
+        model: The path of the model that certificates are judged by.
+        maximise: The sense of its objective.
+        overwrite: Another certificate is replaced.
+    """
+
+    def __init__(self, bridge: Bridge, model: str, *, maximise: bool, overwrite: bool) -> None:
+        self.bridge = bridge
+        self.model = model
+        self.maximise = maximise
+        self.overwrite = overwrite
+
+    def store(self, accepted: str, line: str, target: str) -> StoredCertificate:
+        """The file `accepted`, whose verdict is the line, at `target`, unless what stands there stays."""
+        reads = [self.model, self.bridge.shown.get(self.model, self.model)]
+        data = Path(accepted).read_bytes()
+        try:
+            files = OutputFiles(reads, model_kind_of_start, overwrite=self.overwrite)
+            files.write(target, data)
+        except FileFault as fault:
+            proves = self.still_proves(target, line) if isinstance(fault, FileStays) else ""
+            if not proves:
+                text = f"the certificate is not kept: {target}: {fault.reason}"
+                return StoredCertificate(text, None, True)
+            stays = f"{target} stays as it is: it proves `{proves}`; overwrite=1 replaces it"
+            return StoredCertificate(stays, target)
+        told = f"{target} is written: the certificate of `{line}`, {len(data)} bytes"
+        return StoredCertificate(told, target)
+
+    def without_certificate(self, target: str) -> StoredCertificate:
+        """Nothing was accepted."""
+        stays = f"; {target} stays as it was" if os.path.exists(target) else ""
+        return StoredCertificate("no certificate is written" + stays)
+
+    def still_proves(self, target: str, line: str) -> str:
+        """What an older certificate proves of the model as it is now, where that is no less than the line."""
+        self.bridge.limit = OLDER_SECONDS
+        try:
+            proves = self.bridge.verdict("verify", self.model, target)
+        except (DeadlineExceeded, Refused):
+            return ""
+        finally:
+            self.bridge.limit = None
+        old, new = verdicts.read(proves), verdicts.read(line)
+        if old is None or new is None or not verdicts.covers(old, new, self.maximise):
+            return ""
+        return proves

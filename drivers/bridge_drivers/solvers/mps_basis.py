@@ -1,0 +1,42 @@
+"""A basis in MPS format, as CLP and QSopt_ex write it."""
+
+from __future__ import annotations
+
+from typing import NamedTuple
+
+from ..model.linear_program import Program
+from .base import BasisStatus, read_lines
+
+
+class ReadBasis(NamedTuple):
+    """Where columns and rows stand, each in the order of the program."""
+
+    columns: list[BasisStatus]
+    rows: list[BasisStatus]
+
+
+def read_mps_basis(program: Program, path: str) -> ReadBasis | None:
+    """The basis of a file; None where there is no file.
+
+    Columns are at their lower bounds and rows are basic, but for those that the lines name: `XU` and
+    `XL` have a basic column and a row at its upper or lower side, `UL` a column at its upper bound,
+    `BS` a basic one. A row of kind E or L has one side alone, whatever the letter says.
+    """
+    lines = read_lines(path)
+    if lines is None:
+        return None
+    moved: dict[str, BasisStatus] = {}
+    for words in (line.split() for line in lines if line.startswith(" ")):
+        if words and words[0] in ("XU", "XL"):
+            side = BasisStatus.AT_UPPER if words[0] == "XU" else BasisStatus.AT_LOWER
+            by_kind = {"E": BasisStatus.EQUAL, "L": BasisStatus.AT_UPPER}
+            moved[words[1]] = BasisStatus.BASIC
+            moved[words[2]] = by_kind.get(program.kinds.get(words[2], ""), side)
+        elif words and words[0] == "BS":
+            moved[words[1]] = BasisStatus.BASIC
+        elif words and words[0] == "UL":
+            moved[words[1]] = BasisStatus.AT_UPPER
+    return ReadBasis(
+        [moved.get(name, BasisStatus.AT_LOWER) for name in program.columns],
+        [moved.get(name, BasisStatus.BASIC) for name in program.constraints],
+    )

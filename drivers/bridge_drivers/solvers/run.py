@@ -1,0 +1,164 @@
+"""One run of a solver: the program, a folder for files, and the process."""
+
+from __future__ import annotations
+
+import os
+import signal
+import subprocess
+import threading
+import time
+from typing import NamedTuple, Sequence
+
+from ..system.files import write_new
+from ..system.processes import SIGNALS, signal_group, with_child
+from ..model.linear_program import Program, given
+from .settings import SolverSettings
+
+LOG_NAME = "solver.log"
+ANSWER_PREFIX = "answer."  # what the names of files begin with that solvers write
+KILLED_AFTER = 1.1  # times the time limit, and
+GRACE_SECONDS = 5.0  # so many seconds more: then it is killed
+
+
+class Finished(NamedTuple):
+    """How a solver's process ended.
+
+    Attributes:
+        status: Its exit status, negative after a signal.
+        log: What it wrote on standard output and standard error.
+        is_killed: It went on past its time limit, and was killed.
+    """
+
+    status: int
+    log: str
+    is_killed: bool
+
+
+class RunObserver:
+    """Is told what a run does. What is not overridden is not wanted."""
+
+    def command_starts(self, argv: Sequence[str], folder: str) -> None:
+        """A process is started in a folder."""
+
+    def stage_begins(self, stage: str, seconds: float) -> None:
+        """What is worked at from now on, and the limit of time for it, 0 for none; "" when it ends."""
+
+    def log_line(self, line: str) -> None:
+        """A line of the log, with its end."""
+
+
+class SolverRun:
+    """What a solver works with.
+
+    Attributes:
+        program: The program as it was exported.
+        written: The same as solvers get it: bounds of integer columns are whole numbers.
+        settings: What is asked.
+        folder: The absolute path of a folder for its files.
+        executable: The absolute path of the solver.
+        observer: Is told what goes on.
+        is_retry: It is asked once more, in another way.
+        is_interrupted: It was told to end before it had ended by itself.
+        log: Of the last process.
+        exit_status: Of the last process.
+        seconds: That all processes took.
+    """
+
+    def __init__(
+        self,
+        program: Program,
+        settings: SolverSettings,
+        folder: str,
+        executable: str,
+        observer: RunObserver | None = None,
+    ) -> None:
+        self.program = program
+        self.written = given(program, settings.relax)
+        self.settings = settings
+        self.folder = folder
+        self.executable = executable
+        self.observer = observer or RunObserver()
+        self.is_retry = False
+        self.is_interrupted = False
+        self.log = ""
+        self.exit_status = 0
+        self.seconds = 0.0
+
+    def is_continuous(self) -> bool:
+        """Whether no column has to be a whole number."""
+        return not self.program.whole or self.settings.relax
+
+    def path(self, name: str) -> str:
+        return os.path.join(self.folder, name)
+
+    def write(self, name: str, data: bytes) -> str:
+        return write_new(self.path(name), data)
+
+    def remove_answers(self) -> None:
+        """Files of an older answer, which a kept folder may hold."""
+        for name in os.listdir(self.folder):
+            if name.startswith(ANSWER_PREFIX):
+                os.unlink(self.path(name))
+
+    def start(self, argv: Sequence[str]) -> Finished:
+        """Runs the solver to its end, in the folder, where its paths become plain names.
+
+        Its log is kept beside its files. A tenth and five seconds after the time limit it is killed.
+        """
+        inside = self.folder + os.sep
+        argv = [word[len(inside) :] if word.startswith(inside) else word for word in argv]
+        self.observer.command_starts(argv, self.folder)
+        began = time.monotonic()
+        finished = self.run_process(argv)
+        self.seconds += time.monotonic() - began
+        self.write(LOG_NAME, finished.log.encode("utf-8", "replace"))
+        self.log = finished.log
+        self.exit_status = finished.status
+        return finished
+
+    def run_process(self, argv: Sequence[str]) -> Finished:
+        """Tests put stored runs in the place of this."""
+        return with_child(
+            self._followed,
+            argv,
+            stdin=subprocess.DEVNULL,
+            stdout=subprocess.PIPE,
+            stderr=subprocess.STDOUT,
+            cwd=self.folder,
+            start_new_session=True,
+        )
+
+    def _followed(self, child: subprocess.Popen[bytes]) -> Finished:
+        killed = threading.Event()
+
+        def kill() -> None:
+            killed.set()
+            signal_group(child, signal.SIGKILL)
+
+        limit = self.settings.time_limit
+        timer = threading.Timer(limit * KILLED_AFTER + GRACE_SECONDS, kill)
+        if limit:
+            timer.daemon = True
+            timer.start()
+        self.observer.stage_begins(os.path.basename(self.executable), limit)
+        try:
+            with SIGNALS.first_interrupt_to(lambda: self._interrupt(child)):
+                log = self._logged(child)
+                status = child.wait()
+        finally:  # also where a signal ends the driver
+            timer.cancel()
+            self.observer.stage_begins("", 0.0)
+        return Finished(status, log, killed.is_set())
+
+    def _logged(self, child: subprocess.Popen[bytes]) -> str:
+        lines = []
+        for data in child.stdout or ():
+            line = data.decode("utf-8", "replace")
+            lines.append(line)
+            self.observer.log_line(line)
+        return "".join(lines)
+
+    def _interrupt(self, child: subprocess.Popen[bytes]) -> None:
+        """It is told to end; what it answers then is the answer."""
+        self.is_interrupted = True
+        signal_group(child, signal.SIGINT)

@@ -1,0 +1,674 @@
+"""What is passed on beside each claim that is proved: code, point and words."""
+
+from __future__ import annotations
+
+from fractions import Fraction
+from typing import NamedTuple
+
+import pytest
+
+from bridge_drivers.certify.claims import Verdict
+from bridge_drivers.model.linear_program import Program
+from bridge_drivers.pipeline.answer import Answer
+from bridge_drivers.pipeline.resolution import Resolution, RunFacts, resolve
+from bridge_drivers.pipeline.settings import Settings
+from bridge_drivers.solvers.base import SolverAnswer, SolverStatus
+from bridge_drivers.system.codes import Code
+
+WHOLE = (
+    b"NAME nl\nOBJSENSE\n MAX\nROWS\n N obj\n L c0\nCOLUMNS\n M0 'MARKER' 'INTORG'\n"
+    b" x0 obj 1\n x0 c0 1\n M1 'MARKER' 'INTEND'\nRHS\n RHS c0 9\nENDATA\n"
+)  # the largest whole number up to 9
+CONTINUOUS = WHOLE.replace(b" M0 'MARKER' 'INTORG'\n", b"").replace(b" M1 'MARKER' 'INTEND'\n", b"")
+PROGRAMS = {
+    "whole": WHOLE,
+    "small": WHOLE.replace(b"x0 obj 1", b"x0 obj 1e-9"),
+    "linear": CONTINUOUS,
+}
+
+
+class Case(NamedTuple):
+    """An answer, a verdict, and what is passed on.
+
+    Attributes:
+        program: Which of the programs is solved.
+        status: What the solver says.
+        value: Of its one variable; "" where the answer has none.
+        gap: That was asked for and reached; "" where none was.
+        line: The verdict.
+        code: What is passed on.
+        passed: The value that is passed on; "" where none is.
+        kind: What the point is beside the answer's.
+        words: The code in words, where the solver's own do not hold.
+        shortfall: What code 0 is not earned for.
+    """
+
+    program: str
+    status: SolverStatus
+    value: str
+    gap: str
+    line: str
+    code: Code
+    passed: str
+    kind: str
+    words: str
+    shortfall: str
+
+
+CASES = (
+    Case("whole", SolverStatus.OPTIMAL, "5", "", "optimal 5", Code.SOLVED, "5", "", "", ""),
+    Case(
+        "whole",
+        SolverStatus.OPTIMAL,
+        "5",
+        "",
+        "optimal 7",
+        Code.SOLVED,
+        "7",
+        "a better",
+        "optimal solution",
+        "",
+    ),
+    Case(
+        "whole",
+        SolverStatus.FEASIBLE,
+        "5",
+        "",
+        "optimal 5",
+        Code.SOLVED,
+        "5",
+        "",
+        "optimal solution",
+        "",
+    ),
+    Case(
+        "whole",
+        SolverStatus.FEASIBLE,
+        "5",
+        "",
+        "optimal 7",
+        Code.SOLVED,
+        "7",
+        "a better",
+        "optimal solution",
+        "",
+    ),
+    Case(
+        "whole",
+        SolverStatus.LIMIT_WITH_POINT,
+        "5",
+        "",
+        "optimal 5",
+        Code.SOLVED,
+        "5",
+        "",
+        "optimal solution",
+        "",
+    ),
+    Case(
+        "whole",
+        SolverStatus.LIMIT_WITH_POINT,
+        "5",
+        "",
+        "optimal 7",
+        Code.SOLVED,
+        "7",
+        "a better",
+        "optimal solution",
+        "",
+    ),
+    Case(
+        "whole",
+        SolverStatus.LIMIT,
+        "",
+        "",
+        "optimal 5",
+        Code.SOLVED,
+        "5",
+        "a",
+        "optimal solution",
+        "",
+    ),
+    Case(
+        "whole",
+        SolverStatus.LIMIT,
+        "",
+        "",
+        "optimal 7",
+        Code.SOLVED,
+        "7",
+        "a",
+        "optimal solution",
+        "",
+    ),
+    Case(
+        "whole",
+        SolverStatus.INFEASIBLE,
+        "",
+        "",
+        "optimal 5",
+        Code.SOLVED,
+        "5",
+        "a",
+        "optimal solution",
+        "",
+    ),
+    Case(
+        "whole",
+        SolverStatus.INFEASIBLE,
+        "",
+        "",
+        "optimal 7",
+        Code.SOLVED,
+        "7",
+        "a",
+        "optimal solution",
+        "",
+    ),
+    Case(
+        "whole",
+        SolverStatus.INFEASIBLE_OR_UNBOUNDED,
+        "",
+        "",
+        "optimal 5",
+        Code.SOLVED,
+        "5",
+        "a",
+        "optimal solution",
+        "",
+    ),
+    Case(
+        "whole",
+        SolverStatus.INFEASIBLE_OR_UNBOUNDED,
+        "",
+        "",
+        "optimal 7",
+        Code.SOLVED,
+        "7",
+        "a",
+        "optimal solution",
+        "",
+    ),
+    Case(
+        "whole",
+        SolverStatus.UNBOUNDED,
+        "",
+        "",
+        "optimal 5",
+        Code.SOLVED,
+        "5",
+        "a",
+        "optimal solution",
+        "",
+    ),
+    Case(
+        "whole",
+        SolverStatus.UNBOUNDED,
+        "",
+        "",
+        "optimal 7",
+        Code.SOLVED,
+        "7",
+        "a",
+        "optimal solution",
+        "",
+    ),
+    Case("whole", SolverStatus.OPTIMAL, "5", "", "feasible 5", Code.SOLVED, "5", "", "", ""),
+    Case(
+        "whole",
+        SolverStatus.OPTIMAL,
+        "5",
+        "",
+        "feasible 7",
+        Code.UNSURE,
+        "7",
+        "a better",
+        "feasible solution",
+        "",
+    ),
+    Case(
+        "whole",
+        SolverStatus.OPTIMAL,
+        "5",
+        "",
+        "feasible 3",
+        Code.UNSURE,
+        "3",
+        "another",
+        "feasible solution",
+        "",
+    ),
+    Case("whole", SolverStatus.FEASIBLE, "5", "", "feasible 5", Code.UNSURE, "5", "", "", ""),
+    Case(
+        "whole",
+        SolverStatus.LIMIT_WITH_POINT,
+        "5",
+        "",
+        "feasible 5",
+        Code.LIMIT_WITH_POINT,
+        "5",
+        "",
+        "",
+        "",
+    ),
+    Case(
+        "whole",
+        SolverStatus.LIMIT_WITH_POINT,
+        "5",
+        "",
+        "feasible 7",
+        Code.LIMIT_WITH_POINT,
+        "7",
+        "a better",
+        "stopped with a feasible solution",
+        "",
+    ),
+    Case(
+        "whole",
+        SolverStatus.LIMIT,
+        "",
+        "",
+        "feasible 5",
+        Code.LIMIT_WITH_POINT,
+        "5",
+        "a",
+        "stopped with a feasible solution",
+        "",
+    ),
+    Case(
+        "whole",
+        SolverStatus.INFEASIBLE,
+        "",
+        "",
+        "feasible 5",
+        Code.UNSURE,
+        "5",
+        "a",
+        "feasible solution",
+        "",
+    ),
+    Case(
+        "whole",
+        SolverStatus.INFEASIBLE_OR_UNBOUNDED,
+        "",
+        "",
+        "feasible 5",
+        Code.UNSURE,
+        "5",
+        "a",
+        "feasible solution",
+        "",
+    ),
+    Case(
+        "whole",
+        SolverStatus.UNBOUNDED,
+        "",
+        "",
+        "feasible 5",
+        Code.UNSURE,
+        "5",
+        "a",
+        "feasible solution",
+        "",
+    ),
+    Case("whole", SolverStatus.OPTIMAL, "5", "", "within 9 5", Code.SOLVED, "5", "", "", ""),
+    Case(
+        "whole",
+        SolverStatus.OPTIMAL,
+        "5",
+        "",
+        "within 9 7",
+        Code.UNSURE,
+        "7",
+        "a better",
+        "feasible solution",
+        "",
+    ),
+    Case(
+        "whole",
+        SolverStatus.OPTIMAL,
+        "5",
+        "",
+        "within 9 3",
+        Code.UNSURE,
+        "3",
+        "another",
+        "feasible solution",
+        "",
+    ),
+    Case("whole", SolverStatus.FEASIBLE, "5", "", "within 9 5", Code.UNSURE, "5", "", "", ""),
+    Case(
+        "whole",
+        SolverStatus.LIMIT_WITH_POINT,
+        "5",
+        "",
+        "within 9 5",
+        Code.LIMIT_WITH_POINT,
+        "5",
+        "",
+        "",
+        "",
+    ),
+    Case(
+        "whole",
+        SolverStatus.LIMIT_WITH_POINT,
+        "5",
+        "",
+        "within 9 7",
+        Code.LIMIT_WITH_POINT,
+        "7",
+        "a better",
+        "stopped with a feasible solution",
+        "",
+    ),
+    Case(
+        "whole",
+        SolverStatus.LIMIT,
+        "",
+        "",
+        "within 9 5",
+        Code.LIMIT_WITH_POINT,
+        "5",
+        "a",
+        "stopped with a feasible solution",
+        "",
+    ),
+    Case(
+        "whole",
+        SolverStatus.INFEASIBLE,
+        "",
+        "",
+        "within 9 5",
+        Code.UNSURE,
+        "5",
+        "a",
+        "feasible solution",
+        "",
+    ),
+    Case(
+        "whole",
+        SolverStatus.INFEASIBLE_OR_UNBOUNDED,
+        "",
+        "",
+        "within 9 5",
+        Code.UNSURE,
+        "5",
+        "a",
+        "feasible solution",
+        "",
+    ),
+    Case(
+        "whole",
+        SolverStatus.UNBOUNDED,
+        "",
+        "",
+        "within 9 5",
+        Code.UNSURE,
+        "5",
+        "a",
+        "feasible solution",
+        "",
+    ),
+    Case(
+        "whole",
+        SolverStatus.OPTIMAL,
+        "5",
+        "",
+        "bound 5",
+        Code.UNSURE,
+        "5",
+        "",
+        "",
+        "no exact point has its whole values",
+    ),
+    Case(
+        "whole",
+        SolverStatus.OPTIMAL,
+        "5",
+        "",
+        "bound 6",
+        Code.UNSURE,
+        "5",
+        "",
+        "",
+        "no exact point has its whole values",
+    ),
+    Case(
+        "whole",
+        SolverStatus.OPTIMAL,
+        "5",
+        "",
+        "bound 4",
+        Code.UNSURE,
+        "5",
+        "",
+        "",
+        "it is better than what is possible",
+    ),
+    Case(
+        "whole",
+        SolverStatus.LIMIT_WITH_POINT,
+        "5",
+        "",
+        "bound 5",
+        Code.LIMIT_WITH_POINT,
+        "5",
+        "",
+        "",
+        "",
+    ),
+    Case("whole", SolverStatus.LIMIT, "", "", "bound 5", Code.LIMIT, "", "", "", ""),
+    Case(
+        "whole",
+        SolverStatus.UNBOUNDED,
+        "",
+        "",
+        "bound 5",
+        Code.LIMIT,
+        "",
+        "",
+        "stopped without a feasible solution",
+        "",
+    ),
+    Case("whole", SolverStatus.INFEASIBLE, "", "", "bound 5", Code.INFEASIBLE, "", "", "", ""),
+    Case("linear", SolverStatus.OPTIMAL, "5", "", "bound 5", Code.SOLVED, "5", "", "", ""),
+    Case(
+        "linear",
+        SolverStatus.OPTIMAL,
+        "5",
+        "",
+        "bound 1250001/250000",
+        Code.SOLVED,
+        "5",
+        "",
+        "",
+        "",
+    ),
+    Case(
+        "linear",
+        SolverStatus.OPTIMAL,
+        "5",
+        "",
+        "bound 6",
+        Code.UNSURE,
+        "5",
+        "",
+        "",
+        "the bound that is proved is away from it",
+    ),
+    Case(
+        "linear",
+        SolverStatus.OPTIMAL,
+        "5",
+        "",
+        "bound 4",
+        Code.UNSURE,
+        "5",
+        "",
+        "",
+        "it is better than what is possible",
+    ),
+    Case("linear", SolverStatus.OPTIMAL, "5", "", "within 5 5", Code.SOLVED, "5", "", "", ""),
+    Case(
+        "linear",
+        SolverStatus.OPTIMAL,
+        "5",
+        "",
+        "within 1250001/250000 5",
+        Code.SOLVED,
+        "5",
+        "",
+        "",
+        "",
+    ),
+    Case(
+        "linear",
+        SolverStatus.OPTIMAL,
+        "5",
+        "",
+        "within 125001/25000 5",
+        Code.UNSURE,
+        "5",
+        "",
+        "",
+        "the bound that is proved is away from it",
+    ),
+    Case(
+        "linear",
+        SolverStatus.OPTIMAL,
+        "5",
+        "",
+        "feasible 5",
+        Code.UNSURE,
+        "5",
+        "",
+        "",
+        "no bound is proved",
+    ),
+    Case("linear", SolverStatus.FEASIBLE, "5", "0.5", "within 6 5", Code.SOLVED, "5", "", "", ""),
+    Case(
+        "linear",
+        SolverStatus.FEASIBLE,
+        "5",
+        "0.01",
+        "within 6 5",
+        Code.UNSURE,
+        "5",
+        "",
+        "",
+        "the gap is not proved",
+    ),
+    Case(
+        "linear",
+        SolverStatus.FEASIBLE,
+        "5",
+        "0.5",
+        "within 8 7",
+        Code.SOLVED,
+        "7",
+        "a better",
+        "solution within the gap that was asked for",
+        "",
+    ),
+    Case(
+        "linear",
+        SolverStatus.FEASIBLE,
+        "5",
+        "0.5",
+        "optimal 7",
+        Code.SOLVED,
+        "7",
+        "a better",
+        "optimal solution",
+        "",
+    ),
+    Case(
+        "small",
+        SolverStatus.OPTIMAL,
+        "0",
+        "",
+        "feasible 1/250000000",
+        Code.UNSURE,
+        "4",
+        "a better",
+        "feasible solution",
+        "",
+    ),
+    Case(
+        "whole",
+        SolverStatus.OPTIMAL,
+        "1234570",
+        "",
+        "feasible 1234567",
+        Code.UNSURE,
+        "1234567",
+        "",
+        "",
+        "its digits are not those of an exact point",
+    ),
+    Case(
+        "whole",
+        SolverStatus.OPTIMAL,
+        "1234570",
+        "",
+        "optimal 1234567",
+        Code.SOLVED,
+        "1234567",
+        "",
+        "",
+        "",
+    ),
+    Case(
+        "whole",
+        SolverStatus.OPTIMAL,
+        "1234600",
+        "",
+        "feasible 1234567",
+        Code.UNSURE,
+        "1234567",
+        "another",
+        "feasible solution",
+        "",
+    ),
+)
+
+
+def resolution(case: Case) -> Resolution:
+    """The value of a claim is its last word, but of a bound."""
+    found = SolverAnswer(case.status, "told", is_gap=bool(case.gap))
+    if case.value:
+        found.values = [float(case.value)]
+    is_proved = not case.line.startswith("not")
+    value = None
+    point = None
+    if is_proved and not case.line.startswith("bound"):
+        value = Fraction(case.line.split()[-1])
+        point = [value * 10**9 if case.program == "small" else value]
+    verdict = Verdict(case.line, point, "kept" if is_proved else None, "", value)
+    answer = Answer(Program(PROGRAMS[case.program]), found, Settings())
+    return resolve(answer, verdict, RunFacts(gap=float(case.gap or 0)))
+
+
+@pytest.mark.parametrize("case", CASES)
+def test_what_is_passed_on(case: Case) -> None:
+    found = resolution(case)
+    assert (found.code, found.answer.code) == (case.code, case.code)
+    assert (found.kind, found.text or "", found.shortfall) == (
+        case.kind,
+        case.words,
+        case.shortfall,
+    )
+    values = None if found.answer.values is None else list(found.answer.values)
+    assert values == ([case.passed] if case.passed else None)
+
+
+def test_a_proved_claim_is_never_lost() -> None:
+    """Whatever the solver said, `infeasible` and `unbounded` have their codes, and no point."""
+    for status in SolverStatus:
+        if status is SolverStatus.NO_ANSWER:
+            continue
+        for line, code in (("infeasible", Code.INFEASIBLE), ("unbounded", Code.UNBOUNDED)):
+            values = [5.0] if status.has_point() else None
+            answer = Answer(Program(WHOLE), SolverAnswer(status, "told", values), Settings())
+            found = resolve(answer, Verdict(line, None, "kept"))
+            assert (found.code, found.answer.values) == (code, None)
