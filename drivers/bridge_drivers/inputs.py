@@ -8,8 +8,8 @@ from .program.bridge import Bridge, Reply
 from .system.codes import ExitStatus
 from .formats.source import Source, Workspace, read_model
 from .mps_file import judged, reading
-from .names import Names
-from .nl import header, prepared
+from .formats.names import NameLists
+from .formats.nl import read_header, text_of_nl
 from .model.linear_program import Program
 
 
@@ -23,13 +23,13 @@ class Subject(NamedTuple):
     notes: Sequence[str] = ()
 
     def constraints(self) -> int:
-        return header(self.path).constraints if self.own is None else len(self.own.constraints)
+        return read_header(self.path).constraints if self.own is None else len(self.own.constraints)
 
-    def names(self) -> Names:
+    def names(self) -> NameLists:
         if self.own is not None:
             return self.own.names
-        head = header(self.path)
-        return Names(self.given.stub, head.variables, head.constraints)
+        head = read_header(self.path)
+        return NameLists(self.given.stub, head.variables, head.constraints)
 
     def program(self, objective: str = "0") -> Program:
         if self.own is None:
@@ -47,7 +47,7 @@ def subject(bridge: Bridge, workspace: Workspace, word: str) -> Subject:
     given = read_model(word, workspace)
     bridge.shown[given.path] = given.name
     if not given.is_mps:
-        path, notes = prepared(given.path, workspace.new_path(), False)
+        path, notes = text_of_nl(given.path, workspace.new_path())
         bridge.shown[path] = given.name
         return Subject(bridge, given, path, None, [*given.notes, *notes])
     read = reading(bridge, given.path)

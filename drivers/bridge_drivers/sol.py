@@ -7,7 +7,7 @@ from __future__ import annotations
 import json
 from typing import Iterable, Iterator, List, Sequence, Tuple
 
-from .nl import header
+from .formats.nl import read_header
 from .system.text import one_line
 
 MARK = b"\nOptions\n"
@@ -17,7 +17,7 @@ Pairs = List[Tuple[str, str]]
 
 def bare(nl: str, code: int, objective: int, message: Sequence[str]) -> bytes:
     """A .sol that has a code and no values, for the .nl file at this path."""
-    head = header(nl)
+    head = read_header(nl)
     lines = [
         "",
         "Options",

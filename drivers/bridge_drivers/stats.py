@@ -14,7 +14,7 @@ from typing import Collection, Union
 
 from .inputs import Subject
 from .mps_reader import OBJECTIVE
-from .names import Names, with_name
+from .formats.names import NameLists, numbered_name
 from .system.text import first_of
 from .model.linear_program import TIED, TIED_ROW, Program
 from .pipeline.row_factors import factors_of
@@ -156,11 +156,11 @@ def columns_of(program: Program) -> dict[str, int]:
     }
 
 
-def row_name(row: str, names: Names) -> str:
-    return with_name(row, names.row(int(row[1:])) if row[1:].isdigit() else "")
+def row_name(row: str, names: NameLists) -> str:
+    return numbered_name(row, names.row(int(row[1:])) if row[1:].isdigit() else "")
 
 
-def lines_of(f: Figures, factors: dict[str, str], names: Names) -> list[str]:
+def lines_of(f: Figures, factors: dict[str, str], names: NameLists) -> list[str]:
     """What is printed, one figure a line."""
     signs = ", ".join(
         f"{len(f.rows(kind))} {sign}" for kind, sign in (("L", "<="), ("G", ">="), ("E", "="))

@@ -22,9 +22,7 @@ from bridge_drivers.program import reasons, refusal
 from bridge_drivers.program.bridge import Refused, Reply
 from bridge_drivers.certify.command import Command
 from bridge_drivers.driver import Driver
-from bridge_drivers.names import Names
 from bridge_drivers.system.text import did_you_mean
-from bridge_drivers.nl import expression
 from bridge_drivers.options import OTHER_NAMES, Option, Options, Range, words_of
 from bridge_drivers.system.errors import WrongOption
 
@@ -244,35 +242,6 @@ def seen(terminal: int, text: str) -> str:
         if select.select([terminal], [], [], 0.2)[0]:
             shown += os.read(terminal, 4096).decode("utf-8", "replace")
     return shown
-
-
-def in_words(text: str, names: Names | None = None, mark: int = -1) -> str:
-    """An expression of words that stand for lines."""
-    return expression([w.encode() + b"\n" for w in text.split()], names or Names(""), mark)
-
-
-class Expressions(Case):
-    def test_in_words(self) -> None:
-        """Of operators, what is no expression, a defined variable, the mark, long sums of which
-        the first parts stand, and the marked one."""
-        terms = [f"v{j}" for j in range(1000)]
-        marked = [*terms[:500], "o2 v7 v8", *terms[501:]]
-        for text, words, *more in rows_of("refusals", "expression"):
-            columns, mark = (int(more[k]) if k < len(more) else -k for k in (0, 1))
-            self.assertEqual(in_words(text, Names("", columns) if columns else None, mark), words)
-        self.assertEqual(
-            in_words("o54 1000 " + " ".join(terms)), "(x0 + x1 + x2 + x3 + x4 + x5 + ..)"
-        )
-        self.assertIn(" + >>(x7 * x8)<< + ..", in_words("o54 1000 " + " ".join(marked), mark=502))
-        lines = [b"f0 2\t#gamma\n", b"v0 # speed of sound\n", b"h3:abc\n"]
-        self.assertEqual(expression(lines, Names("")), "gamma(speed of sound, 'abc')")
-
-    def test_deep_ones(self) -> None:
-        """No recursion, and no line of a million characters."""
-        deep = "o16 " * 100000 + "o2 v0 v1"
-        self.assertLess(len(in_words(deep)), 100)
-        text = in_words(deep, mark=100000)
-        self.assertEqual((">>(x0 * x1)<<" in text, len(text) < 200), (True, True))
 
 
 class Refusals(Case):

@@ -7,7 +7,6 @@ import contextlib
 import io
 import os
 import pty
-import struct
 import subprocess
 import sys
 import time
@@ -15,17 +14,16 @@ from fractions import Fraction as F
 from pathlib import Path
 from unittest import mock
 
-from support import BIN, EXAMPLES, HERE, NEEDS_PROGRAM, Case, bridge as program
-from bridge_drivers import console, mps_file, nl, progress, sol, solvers, stats
+from support import BIN, EXAMPLES, NEEDS_PROGRAM, Case, bridge as program
+from bridge_drivers import console, mps_file, progress, sol, solvers, stats
 from bridge_drivers.pipeline.row_factors import factors_of
 from bridge_drivers.program import bridge
 from bridge_drivers.program.bridge import Bridge, Refused, Reply
-from bridge_drivers.system.errors import Damaged, NotInstalled
-from bridge_drivers.names import Names
+from bridge_drivers.system.errors import NotInstalled
+from bridge_drivers.formats.names import NameLists
 from bridge_drivers.model.linear_program import Program
 from models import MODELS, rows_of
 
-BINARY = Path(HERE, "data", "binary")
 TEXTS = {name: text.encode() for name, text in rows_of("figures", "text")}
 
 
@@ -63,19 +61,15 @@ class Texts(Case):
             self.put(broken)
             self.assertRaises((ValueError, IndexError), sol.bare, self.stub + ".nl", 501, 0, [""])
 
-    def test_shortest_numbers(self) -> None:
-        for old, new, count in rows_of("units", "shortest"):
-            self.assertEqual(nl.shortest_numbers(old.encode()), (new.encode(), int(count)))
-
 
 class Figures(Case):
     def test_lines(self) -> None:
         figures = stats.Figures(Program(TEXTS["exported"]))
-        lines = stats.lines_of(figures, {"c0": "3", "c2": "1"}, Names(""))
+        lines = stats.lines_of(figures, {"c0": "3", "c2": "1"}, NameLists(""))
         self.assertEqual([[line] for line in lines], rows_of("figures", "line"))
 
     def test_a_tied_objective(self) -> None:
-        lines = stats.lines_of(stats.Figures(Program(TEXTS["tied"])), {}, Names(""))
+        lines = stats.lines_of(stats.Figures(Program(TEXTS["tied"])), {}, NameLists(""))
         self.assertEqual(lines[0], "sense         minimise; tied to column z by row zdef, times 3")
         self.assertTrue(lines[1].startswith("columns       1: 1 continuous"))
 
@@ -123,49 +117,13 @@ class Importing(Case):
         self.assertEqual(lines[6].split()[:2], ["2", "2"])
         at = lines.index("b") + 1
         self.assertEqual(lines[at : at + 6], ["2 0", "2 0", "0 0 1", "0 0 1", "0 0 9", "1 -1"])
-        names = Names(self.stub)
+        names = NameLists(self.stub)
         self.assertEqual(
             [names.column(j) for j in range(6)], ["c", "'MARKER'", "b", "v", "i", "low"]
         )
 
 
 class Files(Case):
-    def test_binary(self) -> None:
-        names = sorted(BINARY.glob("*.bin.nl"))
-        self.assertTrue(names)
-        cut, target = Path(self.stub + ".cut.nl"), self.stub + ".nl"
-        for path in names:
-            got = nl.prepared(str(path), target, False)
-            self.assertIn("not proved", got[1][0])
-            self.assertEqual(
-                Path(got[0]).read_bytes(),
-                Path(str(path).replace(".bin.", ".text.")).read_bytes(),
-                path,
-            )
-            data = path.read_bytes()
-            for bad in (data[:-3], data[:100], data + b"?", b"b"):
-                cut.write_bytes(bad)
-                self.assertRaises(Damaged, nl.prepared, str(cut), target, False)
-
-    def test_big_endian(self) -> None:
-        """The other byte order, and an S segment."""
-        head = (
-            b"b3 1 1 0\n 1 0 0 0 0\n 0 0\n 0 0\n 0 0 0\n 0 0 2 1\n"
-            + b" 0 0 0 0 0\n 0 0\n 0 0\n 0 0 0 0 0\n"
-        )
-        body = (
-            b"b0"
-            + struct.pack(">dd", 0.5, 0.1 + 0.2)
-            + b"S"
-            + struct.pack(">iii", 4, 1, 4)
-            + b"rc\0\0"
-            + struct.pack(">id", 0, 2.0)
-        )
-        self.assertEqual(
-            nl.Binary(head + body).text().decode().split("\n")[10:],
-            ["b", "0 0.5 0.30000000000000004", "S4 1 rc", "0 2", ""],
-        )
-
     def test_is_ours(self) -> None:
         """iproute2's `bridge` is passed over on the PATH."""
         for name, script in (

@@ -8,7 +8,7 @@ from fractions import Fraction
 from typing import Mapping, Sequence
 
 from ..program import verdict as verdicts
-from ..names import Names
+from ..formats.names import NameLists
 from ..system.text import counted, first_of
 from ..formats.numbers import exact_decimal, nearest_double
 from ..program.verdict import Said, decimal, share
@@ -45,7 +45,7 @@ class Wording:
     rows that were added are used), `used` in how many leaves each constraint is, the most first."""
 
     def __init__(
-        self, certificate: Certificate, names: Names, bounds: Bounds | None, constraints: int
+        self, certificate: Certificate, names: NameLists, bounds: Bounds | None, constraints: int
     ) -> None:
         self.certificate, self.names, self.bounds = certificate, names, bounds
         self.constraints, nodes = constraints, certificate.nodes

@@ -164,6 +164,12 @@ def decimals(values: Sequence[Number]) -> Tuple[List[str], int]:
     return texts, sum(id(v) in rounded for v in values) if rounded else 0
 
 
+def shortest_decimal(value: float) -> str:
+    """The shortest decimal of the same double: -0.0 is -0, and what is not finite has its name."""
+    text = repr(value)
+    return text[:-2] if text.endswith(".0") else text
+
+
 def _shortest_decimals(values: Sequence[Number]) -> List[str]:
     """Of doubles; both zeros are 0."""
     texts = [repr(v) if v else "0" for v in require_finite(values)]

@@ -15,7 +15,7 @@ from typing import Iterator, Sequence
 
 from ..formats.numbers import read_fraction
 from ..mps_reader import MARKS, OBJECTIVE, OTHER, Text
-from ..names import Names
+from ..formats.names import NameLists
 from ..system.text import first_of, one_line
 from ..terms import Terms, entries_of, terms_of
 
@@ -56,11 +56,11 @@ class Program:
         self,
         text: bytes,
         read: Text | None = None,
-        names: Names | None = None,
+        names: NameLists | None = None,
         notes: Sequence[str] = (),
     ) -> None:
         self.text, self.read = text, read or Text(text)
-        self.is_exported, self.names, self.notes = names is None, names or Names(""), notes
+        self.is_exported, self.names, self.notes = names is None, names or NameLists(""), notes
         self.maximise = self.read.maximise
         self.constraints = decoded(self.read.constraints)
         self.columns = decoded(self.read.columns)
@@ -171,9 +171,11 @@ def is_hollow(program: Program) -> bool:
 def program_of(text: bytes) -> Program:
     """Of a text in its written form, with the file's own names."""
     read = Text(text)
-    own, names = exported(read), Names("", len(read.columns), len(read.constraints))
+    own = exported(read)
     rows = [*read.constraints, read.objective] if read.objective else read.constraints
-    names.lists = {".row": list(map(shown, rows)), ".col": list(map(shown, read.columns))}
+    names = NameLists.of(
+        list(map(shown, rows)), list(map(shown, read.columns)), len(read.constraints)
+    )
     return Program(b"\n".join(lines(own)) + b"\n", own, names, notes_of(read))
 
 

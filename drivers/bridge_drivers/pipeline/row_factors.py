@@ -14,7 +14,7 @@ from typing import Dict, NamedTuple, Sequence
 from ..system.files import write_new
 from ..model.integer_form import IntegerProgram, UnsupportedModel
 from ..model.linear_program import TIED_ROW, Program
-from ..nl import header
+from ..formats.nl import read_header
 from ..program.bridge import Bridge
 from ..sol import numbers_of
 
@@ -65,4 +65,4 @@ def whole_form(bridge: Bridge, nl: str, program: Program) -> WholeForm:
     if any(factor.denominator != 1 or factor < 0 for factor in known.values()):
         raise UnsupportedModel("a row's factor is not whole")
     factors = {i: int(factor) for i, factor in known.items() if factor > 1}
-    return WholeForm(IntegerProgram(program, factors, header(nl).constraints), factors)
+    return WholeForm(IntegerProgram(program, factors, read_header(nl).constraints), factors)

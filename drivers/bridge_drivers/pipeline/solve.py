@@ -17,8 +17,8 @@ from ..system.files import OutputFiles, new_folder_in, private_folder
 from ..system.processes import SIGNALS, Interrupted
 from ..model.linear_program import Program, given, is_hollow
 from ..mps_file import judged, reading
-from ..names import Names
-from ..nl import header, prepared
+from ..formats.names import NameLists
+from ..formats.nl import read_header, text_of_nl
 from ..program.bridge import BESIDE, Bridge, Refused, find
 from ..program.verdict import FINAL, Said, percent, read
 from ..solvers import SOLVERS
@@ -269,7 +269,9 @@ class SolveRun:
         """The path of the model as the proved program reads it, an MPS file as it stands; and notes."""
         if not self.source.is_mps:
             shortest = self.settings.shortest_numbers
-            return prepared(self.source.path, target, bool(shortest), shortest is None)
+            return text_of_nl(
+                self.source.path, target, shortens=bool(shortest), tells_printed=shortest is None
+            )
         if self.settings.objective:
             raise ModelRefused(
                 f"{self.source.name}: objno={self.settings.objective + 1}: no such "
@@ -290,7 +292,7 @@ class SolveRun:
         objective = [str(self.settings.objective)] if self.settings.objective else []
         with self.monitor.timing("export"):
             program = Program(self.bridge.text("export", path, *objective))
-        program.names = Names(self.source.stub)
+        program.names = NameLists(self.source.stub)
         return program
 
     def _refused(self, fault: Refused, path: str) -> Outcome:
@@ -305,7 +307,7 @@ class SolveRun:
         if fault.told.endswith(": no such objective"):
             line = (
                 f"{self.source.name}: objno={self.settings.objective + 1}: no such objective: "
-                f"the file has {header(path).objectives}, and objno counts from 1"
+                f"the file has {read_header(path).objectives}, and objno counts from 1"
             )
         raise ModelRefused(line) if fault.status == ExitStatus.REFUSED else ProgramFailed(line)
 

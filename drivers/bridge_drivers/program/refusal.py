@@ -15,8 +15,8 @@ from typing import Mapping, NamedTuple, Sequence
 from . import reasons
 from .reasons import OPCODE, meaning_of
 from ..formats import file_kinds
-from ..names import Names, comment_of, with_name
-from ..nl import expression as expression_of
+from ..formats.names import NameLists, comment_of, numbered_name
+from ..formats.nl_expressions import expression_in_words
 from ..system.text import one_line, printable
 
 TOLD = re.compile(
@@ -129,7 +129,7 @@ def segment_at(path: str, line: int) -> Segment:
     return Segment(head_line, head, body)
 
 
-def place_of(segment: Segment, line: int, names: Names) -> str:
+def place_of(segment: Segment, line: int, names: NameLists) -> str:
     """`constraint 0 (Cap)`, or what else the line stands in."""
     letter, inside = segment.head[:1].decode(), line - segment.head_line - 1
     found = re.match(rb"[A-Za-z](\d+)", segment.head)
@@ -143,7 +143,7 @@ def place_of(segment: Segment, line: int, names: Names) -> str:
         return names.objective(number, said)
     return {
         "": "header",
-        "V": with_name(f"defined variable {number}", said),
+        "V": numbered_name(f"defined variable {number}", said),
         "L": f"logical constraint {number}",
         "b": "bounds",
         "r": "sides of constraints",
@@ -175,7 +175,7 @@ class Refusal:
         self.shown = [shown.get(file, file) for file in self.files]
         self.parts = parsed(told)
         self.is_model = self.command in NL_FIRST and bool(self.files)
-        self.names = Names(
+        self.names = NameLists(
             file_kinds.stub_of("".join(self.shown[:1])),
             *(counts_of(self.files[0]) if self.is_model else (None, None)),
         )
@@ -216,7 +216,7 @@ class Refusal:
             return t.reason + meaning(t.reason)
         start, expression = t.number - segment.head_line - 1, ""
         if not t.reason.startswith(("short", "extra", "bad line")) and segment.head and start >= 0:
-            expression = expression_of(segment.body[start:], self.names)
+            expression = expression_in_words(segment.body[start:], self.names)
         return f"{place_of(segment, t.number, self.names)}: {fault_of(t.reason, expression)}"
 
     def thing(self, t: Told) -> str:
@@ -233,7 +233,7 @@ class Refusal:
             return []
         if self.segment is not None and self.segment.body:
             mark = t.number - self.segment.head_line - 1
-            text = expression_of(self.segment.body, self.names, mark)
+            text = expression_in_words(self.segment.body, self.names, mark)
             if text and mark > 0:
                 lines.append("in: " + text)
         helps = meaning_of(t.reason).help

@@ -1,0 +1,145 @@
+"""The head of an .nl file, and the text form of one that the proved program does not take as it is.
+
+AMPL's `solve` writes binary files, and MiniZinc writes 0.9 as 0.90000000000000002. What is made
+here stands outside of what is proved; no double changes.
+"""
+
+from __future__ import annotations
+
+import os
+import re
+from typing import List, NamedTuple, Tuple
+
+from ..system.files import write_new
+from ..system.errors import Damaged, ModelRefused
+from .binary_nl import DamagedBinary, text_of_binary
+from .numbers import shortest_decimal
+
+HEAD_LINE_LIMIT = 1000  # bytes of a line of the head
+MOST_OPTIONS = 9
+LOOKED_THROUGH = 1 << 20  # bytes that are looked through for printed doubles
+PRINTED_DIGITS = 16  # a decimal of so many digits or more may be a printed double
+# a decimal with a point that is a word, or stands behind the n of a constant
+DECIMAL = re.compile(rb"(?<![^\sn])-?\d+\.\d+(?:[eE][-+]?\d+)?(?!\S)")
+
+
+class NlHeader(NamedTuple):
+    """What the first two lines of an .nl file say.
+
+    Attributes:
+        options: Numbers that a .sol repeats.
+    """
+
+    options: List[str]
+    constraints: int
+    variables: int
+    objectives: int = 0
+
+
+def read_header(path: str) -> NlHeader:
+    """The first two lines, which are text in both forms.
+
+    Raises:
+        ValueError: They are not those of an .nl file.
+        IndexError: The same.
+    """
+    with open(path, "rb") as file:
+        first, second = (file.readline(HEAD_LINE_LIMIT).split(b"#")[0].split() for _ in range(2))
+    count = int(first[0][1:])
+    options = [str(int(word)) for word in first[1 : 1 + count]]
+    if len(options) != count or not 0 <= count <= MOST_OPTIONS:
+        raise ValueError("options")
+    objectives = int(second[2]) if len(second) > 2 else 0
+    return NlHeader(options, int(second[1]), int(second[0]), objectives)
+
+
+class TextOfNl(NamedTuple):
+    """An .nl file as the proved program reads it.
+
+    Attributes:
+        path: The file itself, or the text that was made of it.
+        notes: What there is to tell of that.
+    """
+
+    path: str
+    notes: List[str]
+
+
+def text_of_nl(
+    path: str, target: str, *, shortens: bool = False, tells_printed: bool = True
+) -> TextOfNl:
+    """The file itself where it can be read as it is, else a text of the same program.
+
+    Args:
+        path: A plain file.
+        target: Where a text is written, if one is made.
+        shortens: Printed doubles are replaced by their shortest decimals.
+        tells_printed: Where nothing is replaced, a note tells of the first printed double.
+
+    Raises:
+        Damaged: It is a binary file that is cut or damaged.
+        ModelRefused: The target is the file itself.
+    """
+    with open(path, "rb") as file:
+        is_binary = file.read(1) == b"b"
+        if not is_binary and not shortens:
+            notes = printed_doubles_note(file.read(LOOKED_THROUGH)) if tells_printed else []
+            return TextOfNl(path, notes)
+        file.seek(0)
+        data = file.read()
+    if os.path.exists(target) and os.path.samefile(path, target):
+        raise ModelRefused(
+            f"{target} is the model itself, and would be overwritten: give another keep"
+        )
+    if is_binary:
+        return _text_of_binary_file(path, data, target)
+    text, count = with_shortest_decimals(data)
+    if not count:
+        return TextOfNl(path, [])
+    note = f"{count} numbers of the .nl file were read in their shortest spelling"
+    return TextOfNl(write_new(target, text), [note])
+
+
+def _text_of_binary_file(path: str, data: bytes, target: str) -> TextOfNl:
+    try:
+        text = text_of_binary(data)
+    except DamagedBinary as fault:
+        reason = f"the binary .nl file ends too soon or is damaged ({fault})"
+        raise Damaged(path, reason) from None
+    note = "the binary .nl file was turned into text, which is not proved"
+    return TextOfNl(write_new(target, text), [note])
+
+
+def with_shortest_decimals(data: bytes) -> Tuple[bytes, int]:
+    """Each decimal of many digits as the shortest one of the same double, and how many changed."""
+    changed = 0
+
+    def shortened(found: re.Match[bytes]) -> bytes:
+        nonlocal changed
+        text = found.group()
+        if _significant_digits(text) < PRINTED_DIGITS:
+            return text
+        shortest = shortest_decimal(float(text)).encode()
+        changed += shortest != text
+        return shortest
+
+    return DECIMAL.sub(shortened, data), changed
+
+
+def printed_doubles_note(data: bytes) -> List[str]:
+    """A note where the first decimal of many digits is that of a double with fewer."""
+    decimals = (found[0] for found in DECIMAL.finditer(data))
+    text = next((word for word in decimals if _significant_digits(word) >= PRINTED_DIGITS), b"0")
+    shortest = shortest_decimal(float(text))
+    if len(shortest) >= len(text) - 2:
+        return []
+    return [
+        f"{text.decode()} in the .nl looks like a printed double: shortest=1 reads such numbers "
+        f"as {shortest}"
+    ]
+
+
+def _significant_digits(decimal: bytes) -> int:
+    """How many a decimal has, zeros at its end counted."""
+    mantissa = re.split(rb"[eE]", decimal)[0].lstrip(b"-0.")
+    return sum(c in b"0123456789" for c in mantissa)
