@@ -8,14 +8,10 @@ from fractions import Fraction as F
 from types import SimpleNamespace
 from unittest import TestCase
 
-from support import Case
 from bridge_drivers import miss
-from bridge_drivers.certify import directions, equations, points, text
-from bridge_drivers.model.integer_form import IntegerProgram, Row, UnsupportedModel
+from bridge_drivers.certify import directions, equations, points
+from bridge_drivers.model.integer_form import IntegerProgram, UnsupportedModel
 from bridge_drivers.certify.plans import LEAST_TURN, Plan, Plans
-from bridge_drivers.certify.text import Naming
-from bridge_drivers.exact.dual_bound import MultiplierKind, Multipliers
-from bridge_drivers.exact.tree import EmptyDomain, Split, leaf_of, node_count, rows_used
 from bridge_drivers.model.linear_program import Program
 from models import whole
 
@@ -75,23 +71,6 @@ def built(columns, rows=(), sense: str = "min", costs=()) -> IntegerProgram:
 def model() -> IntegerProgram:
     """max x0 + 2 x1 + 1/2; the row c0 was written times 2, the row c1 has no sides."""
     return IntegerProgram(TEXT, {0: 2}, 3)
-
-
-class Numbers(TestCase):
-    def test_written(self) -> None:
-        for value, wanted in (
-            (F(0), "0"),
-            (F(7000), "7000"),
-            (F(70000), "7e4"),
-            (F(-1, 2), "-.5"),
-            (F(1, 3), "1/3"),
-            (F(13, 4), "3.25"),
-            (F(1, 1024), "1/1024"),
-            (F(-12, 10), "-1.2"),
-            (3, "3"),
-        ):
-            self.assertEqual(text.written(value), wanted)
-            self.assertEqual(F(wanted), value)
 
 
 class Models(TestCase):
@@ -168,65 +147,6 @@ class Models(TestCase):
             self.assertFalse(miss.miss(program, x, ["x0"]).is_much())
             p = IntegerProgram(text, {}, 1).with_integers([True, True])
             self.assertEqual(points.broken(p, [1.0, 2.0]) > F(1, 10**12), is_much)
-
-
-class Texts(Case):
-    def test_tree(self) -> None:
-        """Splits, an empty box, a form that is split twice, and a leaf under the objective."""
-        p = model().with_rows([])
-        a, b, c = (
-            leaf_of(given, added)
-            for given, added in (
-                (Multipliers({0: -2, 3: 4}, 3, MultiplierKind.DUAL), (3,)),
-                (Multipliers({3: -1}, 1, MultiplierKind.FARKAS), (3,)),
-                (Multipliers({}, 1, MultiplierKind.DUAL), ()),
-            )
-        )
-        q = p.with_rows([Row({1: 1, 2: 2})])
-        tree = [Split(1, 0), Split(6, 4), b, Split(6, 6), b, a, Split(2, -1), EmptyDomain(2, 0), c]
-        self.assertEqual((node_count(tree), rows_used(tree)), (11, {3}))
-        self.assertEqual(
-            list(text.tree_lines(q, tree, Naming({}, 3, -1))),
-            [
-                "split 1 0",
-                "plane 2 4",
-                "1 1",
-                "2 2",
-                "weights 1",
-                "3 -1",
-                "plane 2 6",
-                "1 1",
-                "2 2",
-                "weights 1",
-                "4 -1",
-                "duals 2",
-                "0 2/3",
-                "4 -4/3",
-                "split 2 -1",
-                "plane 1 0",
-                "2 1",
-                "weights 1",
-                "3 -1",
-                "weights 1",
-                "3 1",
-                "duals 0",
-            ],
-        )
-        self.assertEqual(
-            list(text.leaf_lines(a.multipliers(), Naming({3: 5}, 6, -1, (4, F(1, 2))), {})),
-            ["weights 3", "0 -2/3", "4 -.5", "5 4/3"],
-        )
-
-    def test_heads(self) -> None:
-        self.assertEqual(
-            list(text.head("within", 1, F(7, 3), [F(0), F(1, 4)])),
-            ["certificate 1", "within 1 7/3", "point 1", "1 .25"],
-        )
-        self.assertEqual(list(text.head("infeasible", None)), ["certificate 1", "infeasible"])
-        self.assertEqual(
-            list(text.answer_lines(["0", "1.5"], ["-2"], 0)),
-            ["certificate 1", "optimal 0", "point 1", "1 1.5", "duals 1", "0 -2"],
-        )
 
 
 class Lattices(TestCase):

@@ -24,7 +24,7 @@ from unittest import mock
 from certify_search import SECONDS, Certified
 from support import HERE, PROGRAM
 from bridge_drivers.program.bridge import Bridge
-from bridge_drivers.certify import text
+from bridge_drivers.exact.certificate import claim_lines
 from bridge_drivers.certify.claims import Certifying, Verdict, certified
 from bridge_drivers.certify.plans import Better, Plans
 from bridge_drivers.certify.watch import Watch
@@ -113,7 +113,7 @@ class Pooled(Certified):
                 yield found
 
     def accepted(self, work: Certifying, plans: Plans, found: Verdict) -> None:
-        head = text.head("optimal", 0, None, found.point)
+        head = claim_lines("optimal", 0, None, found.point)
         self.assertEqual(work.judged(head, plans.best.path).line, found.line)
 
     def searched(self, pool: WorkerPool, found: Verdict | None = None) -> None:

@@ -19,7 +19,7 @@ from unittest import mock
 from support import NEEDS_CLP, NEEDS_PROGRAM, PROGRAM, Case
 from bridge_drivers.program.bridge import Bridge
 from bridge_drivers.system.errors import DeadlineExceeded
-from bridge_drivers.certify import text
+from bridge_drivers.exact.certificate import claim_lines
 from bridge_drivers.certify.claims import Certifying, Given, Verdict, certified
 from bridge_drivers.certify.plans import Better, Plans
 from bridge_drivers.certify.short import trivial
@@ -72,7 +72,7 @@ class Certified(Case):
         return bound
 
     def is_bound(self, work: Certifying, value: F, path: str) -> None:
-        self.assertEqual(work.judged(text.head("bound", 0, value), path).line, f"bound {value}")
+        self.assertEqual(work.judged(claim_lines("bound", 0, value), path).line, f"bound {value}")
 
     def stopped(self, name: str, most: int) -> tuple[Certifying, Plans]:
         """A plain search that ended after so many nodes."""

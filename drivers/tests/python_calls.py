@@ -35,7 +35,7 @@ from models import MODELS, rows_of, text_of as model_text
 import bridge_drivers
 from bridge_drivers import BridgeError, Report, certify, explain, figures, interface, solve, verify
 from bridge_drivers.program.bridge import built
-from bridge_drivers.explained import page, reading
+from bridge_drivers.explained import page
 from bridge_drivers.explained.command import Explaining, Files
 from bridge_drivers.explained.picture import MOST_DEPTH, MOST_SHOWN, Picture
 from bridge_drivers.formats.source import Source
@@ -228,28 +228,6 @@ def certificate(words: str) -> bytes:
     return "\n".join(["certificate 1", *lines, ""]).encode()
 
 
-class Texts(Case):
-    def test_reading(self) -> None:
-        ((text, *nodes),) = rows_of("explains", "nodes")
-        self.put(certificate(text), ".certificate")
-        c = reading.read(self.stub + ".certificate")
-        self.assertEqual((c.claim, c.objective, c.point, c.ray), ("optimal", 0, {1: F(1)}, None))
-        self.assertEqual(
-            [
-                f"{n.kind} {n.line} {n.parent} {n.part} {n.depth} {n.leaf} {n.size} {n.leaves}"
-                for n in c.nodes
-            ],
-            nodes,
-        )
-        self.assertEqual(
-            (c.children(0), c.children(4), c.children(6), c.path(6)),
-            ([1, 4], [5, 6], [], [0, 4, 6]),
-        )
-        self.assertEqual((c.nodes[5].pairs, c.place_of_leaf(3)), ([(0, ".5")], 6))
-        self.put(certificate("bound 0 1 / split 0 0 / duals 0"), ".certificate")
-        self.assertRaises(ValueError, reading.read, self.stub + ".certificate")
-
-
 @NEEDS_PROGRAM
 class Explained(Case):
     def given(self, name: str, words: str) -> Files:
@@ -295,7 +273,7 @@ class Explained(Case):
                 self.assertEqual(told.bounds.shown(at, told.bounds.part(at)), F(found[2]))
             for one in page.sums(
                 told.wording,
-                [d.place for d in told.tree().drawn if told.certificate.nodes[d.place].is_leaf()],
+                [d.place for d in told.tree().drawn if told.certificate.nodes[d.place].is_leaf],
             ):
                 products = [
                     F(line.split(")")[-1].split("=")[0].strip())
@@ -367,7 +345,7 @@ class Explained(Case):
             [
                 picture.closes(at)
                 for at, node in enumerate(told.certificate.nodes)
-                if node.is_leaf()
+                if node.is_leaf
             ],
             [True, False, True, False, True, False, False, False],
         )

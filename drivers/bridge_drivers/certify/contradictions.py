@@ -5,7 +5,8 @@ from __future__ import annotations
 import math
 from typing import Iterator
 
-from . import points, simplex, text
+from . import points, simplex
+from ..exact import certificate
 from ..exact.clp import ClpNotInstalled, LpStatus
 from .equations import hollow, parity
 from .judging import WITHOUT, Given, Judging, Verdict
@@ -48,7 +49,7 @@ class Contradicting(Judging):
             odd = found(self.model)
             if odd is not None:
                 self.figures = what
-                yield self.judged(text.parity_lines(odd, self.model.m))
+                yield self.judged(certificate.refutation_lines(odd, self.model.m))
 
     def contradiction(self) -> Verdict:
         """By a tree whose leaves are all weights."""
@@ -114,7 +115,9 @@ class Contradicting(Judging):
     def without_end(self, point: Point, direction: Point | None) -> Verdict:
         self.figures = "a point and a ray"
         return self.judged(
-            text.head("unbounded", self.objective, None, point, direction), None, point
+            certificate.claim_lines("unbounded", self.objective, None, point, direction),
+            None,
+            point,
         )
 
     def ray(self) -> Point | None:

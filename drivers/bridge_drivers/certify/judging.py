@@ -9,14 +9,15 @@ import shutil
 from fractions import Fraction
 from typing import Callable, Iterator, Mapping, NamedTuple, Sequence
 
-from . import points, text
+from . import points
+from ..exact import certificate
 from ..exact.clp import Basis, Clp, LpStatus, library
 from ..exact.relaxation import relaxation
 from ..pipeline.row_factors import whole_form
 from ..model.integer_form import Box, IntegerProgram, Point
 from .plans import Plans, Shaped, written
 from .short import shortened
-from .text import Naming
+from ..exact.certificate import RowNumbering
 from .watch import Watch
 from ..exact.parallel import ParallelSearch
 from ..exact.worker_pools import SearchProblem, WorkerPool
@@ -211,7 +212,7 @@ class Judging:
         for point in self.points:
             self.figures = "a point"
             yield self.judged(
-                text.head("feasible", self.objective, None, point), None, point
+                certificate.claim_lines("feasible", self.objective, None, point), None, point
             )._replace(note=self.note)
 
     def claimed(self, claim: str, bound: Bound, point: Point | None = None) -> Verdict:
@@ -219,7 +220,9 @@ class Judging:
         value = self.model.sign * bound.value if claim in ("within", "bound") else None
         objective = None if claim == "infeasible" else self.objective
         self.figures = bound.figures
-        lines = itertools.chain(text.head(claim, objective, value, point), bound.lines())
+        lines = itertools.chain(
+            certificate.claim_lines(claim, objective, value, point), bound.lines()
+        )
         return self.judged(lines, bound.path, point)._replace(
             duals=bound.duals, note="" if claim == "optimal" else self.note
         )
@@ -230,9 +233,9 @@ class Judging:
             f"{shaped.name} plan, {shaped.nodes} nodes, " f"{shaped.rows} rows, {shaped.size} bytes"
         )
         head = (
-            text.head("infeasible", None)
+            certificate.claim_lines("infeasible", None)
             if point is None
-            else text.head("optimal", self.objective, None, point)
+            else certificate.claim_lines("optimal", self.objective, None, point)
         )
         return self.judged(head, shaped.path, point)
 
@@ -250,7 +253,7 @@ class Judging:
         )
         return Bound(
             value,
-            lambda: text.leaf_lines(leaf, Naming({}, 0, sign), {}),
+            lambda: certificate.leaf_lines(leaf, RowNumbering({}, 0, sign), {}),
             None,
             f"one leaf, {len(numbers)} duals",
             y,

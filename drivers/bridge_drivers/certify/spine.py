@@ -11,11 +11,11 @@ import math
 from fractions import Fraction
 from typing import Dict, Iterator, Mapping, NamedTuple, Sequence, Tuple
 
-from . import text
+from ..exact import certificate
 from ..exact.clp import Clp, LpStatus
 from ..exact.relaxation import relaxation
 from ..model.integer_form import IntegerProgram, ObjectiveLattice, Row
-from .text import Naming
+from ..exact.certificate import ObjectiveRow, RowNumbering
 from .watch import Watch
 from ..exact.dual_bound import MultiplierKind
 from ..exact.mir import MIRCut, MIRProof, prove_mir_cut
@@ -308,24 +308,24 @@ class Spined:
         """Behind the tree stand the parts beyond the cuts, from the deepest."""
         step, row, sign = self.value.step, self.model.m, self.model.sign
         if step is not None:
-            yield from text.plane_lines(step.coefficients, self.value.at)
+            yield from certificate.disjunction_lines(step.coefficients, self.value.at)
         beyond: list[tuple[int, Tree]] = []
         for at, (terms, side, proof) in self.kept.items():
             if isinstance(proof, MIRProof):
-                yield from text.lemma_lines(terms, side, proof, {**self.place, proof.row: at})
+                yield from certificate.cut_lines(terms, side, proof, {**self.place, proof.row: at})
             else:
-                yield from text.plane_lines(terms, side)
+                yield from certificate.disjunction_lines(terms, side)
                 beyond.append((at + 1, proof))
-        plane = None if step is None else (row, step.spacing)
+        plane = None if step is None else ObjectiveRow(row, step.spacing)
         yield from self.tree_lines(self.tree, self.end, plane)
         for first, tree in reversed(beyond):
             yield from self.tree_lines(tree, first)
         if step is not None:
-            yield from text.multiplier_lines({row: sign * step.spacing}, MultiplierKind.DUAL)
+            yield from certificate.multiplier_lines({row: sign * step.spacing}, MultiplierKind.DUAL)
 
     def tree_lines(
-        self, tree: Tree, first: int, plane: tuple[int, Fraction] | None = None
+        self, tree: Tree, first: int, plane: ObjectiveRow | None = None
     ) -> Iterator[str]:
-        return text.tree_lines(
-            self.searched, tree, Naming(self.place, first, self.model.sign, plane)
+        return certificate.tree_lines(
+            self.searched, tree, RowNumbering(self.place, first, self.model.sign, plane)
         )

@@ -6,7 +6,7 @@ from fractions import Fraction
 from typing import Iterable, Iterator, Mapping, NamedTuple, Optional, Sequence
 
 from ..model.integer_form import IntegerProgram
-from .reading import LEMMA, PLANE, SPLIT, WEIGHTS, Certificate
+from ..exact.certificate import Certificate, NodeKind
 
 End = Optional[Fraction]
 
@@ -79,19 +79,19 @@ class Bounds:
         ends: dict[int, tuple[End, End]] = {}
         added: list[Row] = []
         goal = self.goal
-        for node, part in self.certificate.steps(place):
+        for node, part in self.certificate.branches(place):
             at = Fraction(node.at)
-            if node.kind == SPLIT:
+            if node.kind == NodeKind.SPLIT:
                 low, high = ends.get(node.column) or self.ends(node.column)
                 if part == 0:
                     ends[node.column] = low, at if high is None else min(at, high)
                 else:
                     ends[node.column] = at + 1 if low is None else max(at + 1, low), high
                 continue
-            terms = [(j, Fraction(a)) for j, a in node.pairs]
-            if node.kind == LEMMA and part == 0:
+            terms = [(j, Fraction(a)) for j, a in node.entries]
+            if node.kind == NodeKind.CUT and part == 0:
                 goal = Goal(dict(terms), Fraction(0), True, at, node.line)
-            elif node.kind == PLANE and part == 1:
+            elif node.kind == NodeKind.DISJUNCTION and part == 1:
                 added.append(Row(terms, at + 1, None))
             else:
                 added.append(Row(terms, None, at))
@@ -101,13 +101,13 @@ class Bounds:
         """The numbers of a leaf for rows, then the costs that these leave to variables: for weights
         of the objective 0, minimised."""
         node, goal = self.certificate.nodes[place], part.goal
-        left = dict(goal.costs) if node.kind != WEIGHTS else {}
+        left = dict(goal.costs) if node.kind != NodeKind.WEIGHTS else {}
 
         def term(value: Fraction, kind: str, index: int, low: End, high: End) -> Term:
-            is_lower = (value > 0) != (goal.maximise and node.kind != WEIGHTS)
+            is_lower = (value > 0) != (goal.maximise and node.kind != NodeKind.WEIGHTS)
             return Term(value, kind, index, is_lower, low if is_lower else high)
 
-        for number, text in node.pairs:
+        for number, text in node.entries:
             value = Fraction(text)
             row = self.row(number) if number < self.model.m else part.added[number - self.model.m]
             for j, a in row.terms:
@@ -119,7 +119,11 @@ class Bounds:
 
     def shown(self, place: int, part: Part) -> End:
         """The bound that a leaf's numbers show; None where a side or bound is missing that they ask for."""
-        found = part.goal.constant if self.certificate.nodes[place].kind != WEIGHTS else Fraction(0)
+        found = (
+            part.goal.constant
+            if self.certificate.nodes[place].kind != NodeKind.WEIGHTS
+            else Fraction(0)
+        )
         for term in self.terms(place, part):
             if term.number and term.side is None:
                 return None

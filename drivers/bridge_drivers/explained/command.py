@@ -18,7 +18,7 @@ from ..system.text import one_line
 from .bounds import Bounds
 from .page import text_of
 from .picture import Picture
-from .reading import Certificate, read
+from ..exact.certificate import Certificate, read_certificate
 from .words import Wording, claim_words
 
 
@@ -42,7 +42,8 @@ class Explaining:
     def __init__(self, model: Subject, files: Files, verdict: str, holds: bool) -> None:
         self.files, self.verdict, self.holds = files, verdict, holds
         self.shown, self.path = model.given.name, model.path
-        self.certificate: Certificate = read(files.judged())
+        with open(files.judged(), encoding="ascii") as lines:
+            self.certificate: Certificate = read_certificate(lines)
         self.note = ""
         self.drawn: Picture | None = None
         self.bounds = self.exact(model)
@@ -96,7 +97,7 @@ class Explaining:
             "tree": wording.tally if c.nodes else None,
             "uses": {wording.row(i): times for i, times in sorted(wording.used)},
             "failure": None if self.holds else self.failure(),
-            "leaf": None if node is None else node.leaf,
+            "leaf": None if node is None else node.leaf_number,
             "line": None if node is None else node.line,
             "path": [] if self.fails is None else wording.path(self.fails),
         }

@@ -12,7 +12,7 @@ from typing import TYPE_CHECKING, Iterable, Iterator, Mapping, NamedTuple, Seque
 from .. import texts
 from ..program.bridge import sum_of
 from .bounds import Bounds
-from .reading import WEIGHTS
+from ..exact.certificate import NodeKind
 from .words import Wording, both
 
 if TYPE_CHECKING:
@@ -94,7 +94,7 @@ def tree_of(drawn: Picture) -> Html:
 def sums_of(told: Explaining, drawn: Picture) -> Html:
     """How the leaves that are drawn close, in letters so small that the widest line fits."""
     nodes, wording = told.certificate.nodes, told.wording
-    found = list(sums(wording, [it.place for it in drawn.drawn if nodes[it.place].is_leaf()]))
+    found = list(sums(wording, [it.place for it in drawn.drawn if nodes[it.place].is_leaf]))
     widest = max((len(line) for it in found for line in (*it.lines, it.shows)), default=1)
     return section(
         "sums",
@@ -102,7 +102,7 @@ def sums_of(told: Explaining, drawn: Picture) -> Html:
         (
             {
                 "line": nodes[it.place].line,
-                "leaf": nodes[it.place].leaf,
+                "leaf": nodes[it.place].leaf_number,
                 "lines": "\n".join([*it.lines, it.shows]),
                 "part": ", ".join(wording.path(it.place, False)) or "all points",
                 "size": f"clamp(.5rem, calc((100vw - 4.5rem) / {LETTER * widest:.1f}), .875rem)",
@@ -159,7 +159,7 @@ def sum_at(bounds: Bounds, wording: Wording, place: int) -> Sum | None:
         for it in bounds.terms(place, part)
         if it.side is not None
     ]
-    goal, is_weights = part.goal, bounds.certificate.nodes[place].kind == WEIGHTS
+    goal, is_weights = part.goal, bounds.certificate.nodes[place].kind == NodeKind.WEIGHTS
     if goal.constant and not is_weights:
         terms.append((Fraction(1), "constant of the objective", goal.constant))
     rest = [product for _, _, product in terms[MOST_TERMS:]]

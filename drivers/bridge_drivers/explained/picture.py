@@ -11,7 +11,7 @@ from typing import Iterator, NamedTuple
 
 from ..texts import text as text_of
 from .bounds import Bounds
-from .reading import DUALS, LEMMA, ROOT, WEIGHTS
+from ..exact.certificate import ROOT, NodeKind
 from .words import Wording, short
 
 MOST_SHOWN = 64  # nodes before a tree is folded
@@ -68,7 +68,7 @@ class Picture:
 
     def is_folded(self, place: int) -> bool:
         node = self.certificate.nodes[place]
-        return not node.is_leaf() and node.depth >= self.depth and place not in self.on_path
+        return not node.is_leaf and node.depth >= self.depth and place not in self.on_path
 
     def shown_below(self, place: int) -> list[int]:
         return [] if self.is_folded(place) else self.certificate.children(place)
@@ -91,11 +91,11 @@ class Picture:
         if node.parent == ROOT:
             return "all points", "all points"
         above = self.certificate.nodes[node.parent]
-        is_below, number = self.wording.side(above, node.part)
+        is_below, number = self.wording.side(above, node.branch)
         side = f" {chr(0x2264) if is_below else chr(0x2265)} {number}"
         left = self.wording.left_side(above)
-        if above.kind == LEMMA:
-            left = ("with " if node.part else "proof: ") + left
+        if above.kind == NodeKind.CUT:
+            left = ("with " if node.branch else "proof: ") + left
         return left + side, cut(left, max(MOST_PART - len(side), 6)) + side
 
     def closes(self, place: int) -> bool | None:
@@ -105,16 +105,16 @@ class Picture:
         if (
             self.holds
             or self.fails is not None
-            and node.leaf < self.certificate.nodes[self.fails].leaf
+            and node.leaf_number < self.certificate.nodes[self.fails].leaf_number
         ):
             return True
         if place == self.fails:
             return False
-        if self.bounds is None or not self.values or not node.is_leaf():
+        if self.bounds is None or not self.values or not node.is_leaf:
             return None
         part = self.bounds.part(place)
         shown, target = self.bounds.shown(place, part), part.goal.target
-        if node.kind == WEIGHTS:
+        if node.kind == NodeKind.WEIGHTS:
             return shown is not None and shown > 0
         if shown is None or target is None:
             return False
@@ -122,14 +122,14 @@ class Picture:
 
     def way_text(self, place: int, closes: bool | None) -> str:
         node = self.certificate.nodes[place]
-        if node.is_leaf():
+        if node.is_leaf:
             if not closes:
-                return f"leaf {node.leaf} " + (
+                return f"leaf {node.leaf_number} " + (
                     "is not judged" if closes is None else "does not close"
                 )
             count, how = (
-                len(node.pairs),
-                "rows contradict" if node.kind == WEIGHTS else "closes by duals",
+                len(node.entries),
+                "rows contradict" if node.kind == NodeKind.WEIGHTS else "closes by duals",
             )
             return f"{how} ({count})" if count else "closes by bounds alone"
         if self.is_folded(place):
@@ -141,8 +141,8 @@ class Picture:
         kind, value = "folded" if self.is_folded(place) else "cut", self.values.get(
             place, Fraction(0)
         )
-        if node.is_leaf() and closes is not None:
-            kind = node.kind if closes else "fails"
+        if node.is_leaf and closes is not None:
+            kind = node.kind.value if closes else "fails"
         bound = (
             ""
             if place not in self.values
@@ -150,7 +150,7 @@ class Picture:
             if value is None
             else f"bound {short(value)}"
         )
-        if node.kind == WEIGHTS:
+        if node.kind == NodeKind.WEIGHTS:
             bound = "no point" if closes else ""
         return Drawn(
             place,
@@ -200,7 +200,7 @@ class Picture:
                 x, y = d.x + WIDTH, d.y + HEIGHT // 2
                 to = at[child]
                 middle, end = (x + to.x) // 2, to.y + HEIGHT // 2
-                is_proof = self.certificate.nodes[d.place].kind == LEMMA and part == 0
+                is_proof = self.certificate.nodes[d.place].kind == NodeKind.CUT and part == 0
                 mark = ' class="proof"' if is_proof else ""
                 yield f'<path{mark} d="M{x} {y} C{middle} {y} {middle} {end} {to.x} {end}"/>'
 
@@ -230,17 +230,18 @@ def bounds_of(bounds: Bounds) -> dict[int, Fraction | None]:
     for place, node in reversed(list(enumerate(certificate.nodes))):
         if time.monotonic() > end:
             break
-        if node.kind == WEIGHTS:
+        if node.kind == NodeKind.WEIGHTS:
             values[place] = None
-        elif node.kind == DUALS:
+        elif node.kind == NodeKind.DUALS:
             shown = bounds.shown(place, bounds.part(place))
             if shown is not None:
                 values[place] = shown
         else:
-            below = certificate.children(place)[1 if node.kind == LEMMA else 0 :]
+            below = certificate.children(place)[1 if node.kind == NodeKind.CUT else 0 :]
             if all(child in values for child in below):
                 in_proof = any(
-                    above.kind == LEMMA and part == 0 for above, part in certificate.steps(place)
+                    above.kind == NodeKind.CUT and part == 0
+                    for above, part in certificate.branches(place)
                 )
                 worse = max if in_proof or bounds.goal.maximise else min
                 values[place] = worse(

@@ -13,7 +13,7 @@ from ..system.text import counted, first_of
 from ..formats.numbers import exact_decimal, nearest_double
 from ..program.verdict import Said, decimal, share
 from .bounds import Bounds, Term, total
-from .reading import LEMMA, PLANE, SPLIT, WEIGHTS, Certificate, Node
+from ..exact.certificate import Certificate, Node, NodeKind
 
 MOST_TERMS = 6  # of a form that is told
 MOST_LISTED = 12  # values of a point, rows
@@ -50,18 +50,18 @@ class Wording:
         self.certificate, self.names, self.bounds = certificate, names, bounds
         self.constraints, nodes = constraints, certificate.nodes
         kinds = Counter(node.kind for node in nodes)
-        rows = Counter(number for node in nodes if node.is_leaf() for number, _ in node.pairs)
+        rows = Counter(number for node in nodes if node.is_leaf for number, _ in node.entries)
         self.used = sorted(
             ((i, times) for i, times in rows.items() if i < constraints),
             key=lambda it: (-it[1], it[0]),
         )
         self.tally = {
             "nodes": len(nodes),
-            "splits": kinds[SPLIT],
-            "planes": kinds[PLANE],
-            "lemmas": kinds[LEMMA],
+            "splits": kinds[NodeKind.SPLIT],
+            "planes": kinds[NodeKind.DISJUNCTION],
+            "lemmas": kinds[NodeKind.CUT],
             "leaves": nodes[0].leaves if nodes else 0,
-            "weights": kinds[WEIGHTS],
+            "weights": kinds[NodeKind.WEIGHTS],
             "depth": max((node.depth for node in nodes), default=0),
             "added": sum(rows.values()) - sum(times for _, times in self.used),
         }
@@ -75,8 +75,8 @@ class Wording:
             return self.names.constraint(number)
         added = [
             node
-            for node, part in self.certificate.steps(place)
-            if node.kind == PLANE or node.kind == LEMMA and part == 1
+            for node, part in self.certificate.branches(place)
+            if node.kind == NodeKind.DISJUNCTION or node.kind == NodeKind.CUT and part == 1
         ]
         if number - self.constraints < len(added):
             node = added[number - self.constraints]
@@ -97,16 +97,16 @@ class Wording:
         return text + (f" + .. ({len(pairs)} terms)" if len(pairs) > MOST_TERMS else "")
 
     def left_side(self, node: Node) -> str:
-        if node.kind == SPLIT:
+        if node.kind == NodeKind.SPLIT:
             return self.column(node.column)
-        return self.form(node.pairs) if self.factor(node) is None else "objective"
+        return self.form(node.entries) if self.factor(node) is None else "objective"
 
     def factor(self, node: Node) -> Fraction | None:
         """By which the form of a node is multiplied to the objective; None where it is none."""
-        if self.bounds is None or node.kind == SPLIT or not node.pairs:
+        if self.bounds is None or node.kind == NodeKind.SPLIT or not node.entries:
             return None
-        costs, form = self.bounds.goal.costs, {j: Fraction(a) for j, a in node.pairs}
-        first = node.pairs[0][0]
+        costs, form = self.bounds.goal.costs, {j: Fraction(a) for j, a in node.entries}
+        first = node.entries[0][0]
         if costs.keys() != form.keys() or not form[first]:
             return None
         factor = costs[first] / form[first]
@@ -114,7 +114,7 @@ class Wording:
 
     def side(self, node: Node, part: int) -> tuple[bool, Fraction]:
         """Whether a part is below, and the number there: of the objective for a form of it."""
-        is_above = node.kind != LEMMA and part == 1
+        is_above = node.kind != NodeKind.CUT and part == 1
         at, factor = Fraction(node.at) + (1 if is_above else 0), self.factor(node)
         if factor is None or self.bounds is None:
             return not is_above, at
@@ -124,15 +124,15 @@ class Wording:
         """One part of a node, as `z at most 0`."""
         is_below, number = self.side(node, part)
         text = f"{self.left_side(node)} at {'most' if is_below else 'least'} {number}"
-        if node.kind == LEMMA:
+        if node.kind == NodeKind.CUT:
             return f"{'by the lemma' if part else 'in the proof of the lemma'}: {text}"
-        return text + (" (plane)" if node.kind == PLANE else "")
+        return text + (" (plane)" if node.kind == NodeKind.DISJUNCTION else "")
 
     def path(self, place: int, with_lines: bool = True) -> list[str]:
         """The cuts from the root to a node, each with its line."""
         return [
             self.cut(node, part) + (f" (line {node.line})" if with_lines else "")
-            for node, part in self.certificate.steps(place)
+            for node, part in self.certificate.branches(place)
         ]
 
     def values(self, point: Mapping[int, Fraction]) -> str:
@@ -188,7 +188,7 @@ class Wording:
         )
         cuts = [f"path      {k}. {text}" for k, text in enumerate(self.path(place), 1)]
         return [
-            f"fails     leaf {node.leaf} (line {node.line}): {why}",
+            f"fails     leaf {node.leaf_number} (line {node.line}): {why}",
             *(cuts or ["path      it is the whole tree"]),
         ]
 
@@ -208,7 +208,7 @@ class Wording:
         return verdict
 
     def gap(self, place: int, value: Fraction) -> str:
-        if self.certificate.nodes[place].kind == WEIGHTS:
+        if self.certificate.nodes[place].kind == NodeKind.WEIGHTS:
             return f"its weights show {value}, and contradict each other only above 0: {decimal(-value)} too little"
         goal = None if self.bounds is None else self.bounds.part(place).goal
         if goal is None or goal.target is None:

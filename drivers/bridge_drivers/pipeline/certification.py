@@ -12,7 +12,7 @@ from typing import Mapping, NamedTuple
 from ..exact import clp
 from ..exact.worker_pools import open_pool
 from ..certify.claims import WITHOUT, Certifying, Given, Verdict, certified
-from ..certify.text import answer_lines
+from ..exact.certificate import lines_of_answer
 from ..certify.watch import Watch
 from ..miss import ROUNDING, miss
 from ..model.linear_program import TIED, TIED_ROW
@@ -130,7 +130,7 @@ class AnswerCertifier:
         try:
             if self.is_mps:
                 command, name = "verify", "values.certificate"
-                lines = answer_lines(self.numbers(answer).values, [], 0)
+                lines = lines_of_answer(self.numbers(answer).values, [], 0)
                 self.run.write(name, ("\n".join(lines) + "\n").encode())
             elif answer.duals is None or not self.run.is_continuous():
                 name, zeros = "check.sol", ["0"] * len(self.program.constraints)
@@ -197,13 +197,13 @@ class AnswerCertifier:
         """The .sol's values and duals are the certificate, or the same numbers in fewer digits."""
         try:
             numbers = self.numbers(answer)
-            verdict = work.verified(answer_lines(*numbers, work.objective))
+            verdict = work.verified(lines_of_answer(*numbers, work.objective))
             if verdict.is_proved():
                 return verdict
             values, duals = (
                 [decimal(round(float(text), PLACES))[0] for text in texts] for texts in numbers
             )
-            second = work.verified(answer_lines(values, duals, work.objective))
+            second = work.verified(lines_of_answer(values, duals, work.objective))
         except Refused as fault:
             return Verdict(WITHOUT + fault.line())
         if not second.is_proved():

@@ -1,0 +1,436 @@
+"""The text of a certificate, written and read.
+
+A certificate claims something of a program and proves it by a tree. Its lines are
+
+    certificate 1
+    CLAIM [OBJECTIVE [NUMBER ..]]       as `optimal 0`, `within 0 7/3`, `infeasible`
+    point COUNT                         with a line `COLUMN VALUE` each; so is a ray
+    ..                                  the tree, each node before those below it
+
+and a node of the tree is one of
+
+    split COLUMN AT                     two branches: at most AT, and at least AT + 1
+    plane COUNT AT                      the same of an integer form, with a line `COLUMN NUMBER` each
+    lemma COUNT RHS                     a cut, with such lines: first its proof, then what it is for
+    duals COUNT, weights COUNT          a leaf: multipliers, with a line `ROW MULTIPLIER` each
+
+A plane's branch, and a cut behind its proof, is one row more of the program: below it, it has the
+next free number. Text is written from the `tree` of the search, and is read as a `Certificate` by
+what explains it.
+"""
+
+from __future__ import annotations
+
+import enum
+from fractions import Fraction
+from typing import Dict, Iterable, Iterator, List, Mapping, NamedTuple, Optional, Sequence, Tuple
+
+from ..certify.equations import Parity
+from ..model.integer_form import IntegerProgram, Point
+from ..formats.numbers import exact_decimal
+from .dual_bound import MultiplierKind, Multipliers
+from .mir import MIRProof
+from .tree import EmptyDomain, Leaf, Split, Tree
+
+HEADING = "certificate 1"
+MOST_ZEROS = 3  # that stand at the end of a whole number; more are written as its exponent
+ROOT = -1  # the parent of the first node
+
+
+class NodeKind(enum.Enum):
+    """What a node of a tree is. The values are the words of a certificate's lines."""
+
+    SPLIT = "split"  # of an integer column
+    DISJUNCTION = "plane"  # a split disjunction: of an integer form
+    CUT = "lemma"
+    DUALS = "duals"
+    WEIGHTS = "weights"  # Farkas multipliers
+
+    def __str__(self) -> str:
+        return self.value
+
+    @property
+    def is_leaf(self) -> bool:
+        return self in (NodeKind.DUALS, NodeKind.WEIGHTS)
+
+
+# Text is written
+
+
+class ObjectiveRow(NamedTuple):
+    """The row of a disjunction on the objective, in whose lower branch a tree stands.
+
+    Attributes:
+        number: Of the row in the text.
+        spacing: How much of the objective a step of 1 of its form is.
+    """
+
+    number: int
+    spacing: Fraction
+
+
+class RowNumbering(NamedTuple):
+    """What rows are called in a text.
+
+    Attributes:
+        numbers: Of rows that the search has added, by their place among the program's rows. Rows of
+            the file, which are not named here, have their own.
+        next_number: Of the row of the first disjunction in the tree.
+        dual_sign: -1 where the file maximises, since duals in a text are the file's own; else 1.
+        objective_row: Where there is one, duals become Farkas multipliers by adding this row.
+    """
+
+    numbers: Mapping[int, int]
+    next_number: int
+    dual_sign: int
+    objective_row: Optional[ObjectiveRow] = None
+
+
+class BranchRows(NamedTuple):
+    """The numbers of the innermost rows that bound a form on a path; -1 where there is none."""
+
+    lower: int
+    upper: int
+
+
+FormRows = Dict[int, BranchRows]  # by the place of a form among the program's rows
+
+
+def number_text(value: int | Fraction) -> str:
+    """The shorter one of its decimal and its fraction."""
+    exact = Fraction(value)
+    if exact.denominator == 1:
+        text = str(exact.numerator)
+        short = text.rstrip("0")
+        zeros = len(text) - len(short)
+        return f"{short}e{zeros}" if zeros > MOST_ZEROS else text
+    decimal, fraction = exact_decimal(exact), str(exact)
+    if decimal is None:
+        return fraction
+    if decimal.startswith(("0.", "-0.")):
+        decimal = decimal.replace("0.", ".", 1)
+    return decimal if len(decimal) <= len(fraction) else fraction
+
+
+def _listed(head: str, values: Mapping[int, Fraction | int], end: str = "") -> Iterator[str]:
+    yield f"{head} {len(values)}{end}"
+    for i in sorted(values):
+        yield f"{i} {number_text(values[i])}"
+
+
+def claim_lines(
+    claim: str,
+    objective: Optional[int],
+    value: Optional[Fraction] = None,
+    point: Optional[Point] = None,
+    ray: Optional[Point] = None,
+) -> Iterator[str]:
+    """The lines before the tree.
+
+    Args:
+        objective: Its number in the file; None where the claim is about none.
+        value: Of the objective, in the file's own sense, where the claim has one.
+    """
+    words = [claim]
+    if objective is not None:
+        words.append(str(objective))
+    if value is not None:
+        words.append(number_text(value))
+    yield HEADING
+    yield " ".join(words)
+    for word, x in (("point", point), ("ray", ray)):
+        if x is not None:
+            yield from _listed(word, {j: v for j, v in enumerate(x) if v})
+
+
+def lines_of_answer(values: Sequence[str], duals: Sequence[str], objective: int) -> Iterator[str]:
+    """The certificate that an answer is itself: its values are the point, its duals the one leaf.
+
+    Args:
+        values: Decimals by column.
+        duals: Decimals by row; without duals the claim is that the point is feasible.
+    """
+    yield HEADING
+    yield f"{'optimal' if duals else 'feasible'} {objective}"
+    listed = [("point", values)]
+    if duals:
+        listed.append(("duals", duals))
+    for word, texts in listed:
+        lines = [f"{i} {text}" for i, text in enumerate(texts) if text not in ("0", "-0")]
+        yield from (f"{word} {len(lines)}", *lines)
+
+
+def disjunction_lines(form: Mapping[int, int], floor: int) -> Iterator[str]:
+    """The line of a split disjunction and its form: at most `floor`, or at least `floor + 1`."""
+    return _listed(NodeKind.DISJUNCTION.value, form, f" {number_text(floor)}")
+
+
+def multiplier_lines(values: Mapping[int, Fraction], kind: MultiplierKind) -> Iterator[str]:
+    """A leaf, by the numbers that rows have in the text."""
+    return _listed(kind.value, values)
+
+
+def leaf_lines(
+    leaf: Multipliers, numbering: RowNumbering, form_rows: Optional[FormRows] = None
+) -> Iterator[str]:
+    """A leaf, by the rows of the program.
+
+    Args:
+        form_rows: Of the forms that are bounded on the path to the leaf. A multiplier above 0 rests
+            on the lower bound of its row, one below 0 on the upper one.
+    """
+    kind, sign = leaf.kind, 1
+    values: Dict[int, Fraction] = {}
+    if not leaf.is_farkas and numbering.objective_row is None:
+        sign = numbering.dual_sign
+    elif not leaf.is_farkas and numbering.objective_row is not None:
+        kind = MultiplierKind.FARKAS
+        values[numbering.objective_row.number] = -numbering.objective_row.spacing
+    for row, numerator in leaf.numerators.items():
+        number = numbering.numbers.get(row, row)
+        if form_rows is not None and row in form_rows:
+            lower, upper = form_rows[row]
+            number = lower if numerator > 0 else upper
+        values[number] = Fraction(sign * numerator, leaf.denominator)
+    yield from multiplier_lines(values, kind)
+
+
+def tree_lines(program: IntegerProgram, tree: Tree, numbering: RowNumbering) -> Iterator[str]:
+    """All nodes of a tree.
+
+    Args:
+        program: On which the tree stands: a split of a column behind its columns is one of the form
+            that is the program's row there.
+    """
+    waiting: List[Tuple[FormRows, int]] = [({}, numbering.next_number)]
+    for node in tree:
+        form_rows, number = waiting.pop()
+        if isinstance(node, Leaf):
+            yield from leaf_lines(node.multipliers(), numbering, form_rows)
+        elif isinstance(node, EmptyDomain):
+            yield from _empty_domain_lines(node, number)
+        elif isinstance(node, Split) and node.column < program.n:
+            yield f"{NodeKind.SPLIT.value} {node.column} {number_text(node.at)}"
+            waiting += [(form_rows, number)] * 2
+        elif isinstance(node, Split):
+            row = node.column - program.n
+            form = {j: a // program.row_scale for j, a in program.rows[row]}
+            yield from disjunction_lines(form, node.at)
+            known = form_rows.get(row, BranchRows(-1, -1))
+            upper = {**form_rows, row: known._replace(upper=number)}
+            lower = {**form_rows, row: known._replace(lower=number)}
+            waiting += [(lower, number + 1), (upper, number + 1)]
+
+
+def _empty_domain_lines(node: EmptyDomain, number: int) -> Iterator[str]:
+    """A disjunction on the column, each branch of which contradicts one of its bounds."""
+    yield from disjunction_lines({node.column: 1}, node.at)
+    for sign in (-1, 1):
+        yield from multiplier_lines({number: Fraction(sign)}, MultiplierKind.FARKAS)
+
+
+def cut_lines(
+    coefficients: Mapping[int, int], rhs: int, proof: MIRProof, numbers: Mapping[int, int]
+) -> Iterator[str]:
+    """A cut with its proof, whose disjunction has the number that the cut itself gets behind it.
+
+    Args:
+        coefficients: Of its left side, by column, which is at most `rhs`.
+        numbers: Of rows in the text, by their place among the program's rows.
+    """
+    yield from _listed(NodeKind.CUT.value, coefficients, f" {number_text(rhs)}")
+    yield from disjunction_lines(proof.split.form, proof.split.floor)
+    numbering = RowNumbering(numbers, 0, -1)  # the left side is maximised
+    for leaf in (proof.low, proof.high):
+        yield from leaf_lines(leaf.multipliers(), numbering)
+
+
+def refutation_lines(refutation: Parity, row: int) -> Iterator[str]:
+    """The whole certificate that there is no integer point, by a disjunction both of whose
+    branches are contradicted.
+
+    Args:
+        row: The count of the file's rows, which is the number of the disjunction's own.
+    """
+    yield from claim_lines("infeasible", None)
+    yield from disjunction_lines(refutation.form, refutation.at)
+    for sign, multipliers in ((1, refutation.low), (-1, refutation.high)):
+        weights = {i: sign * u for i, u in multipliers.items()}
+        weights[row] = Fraction(-sign)
+        yield from multiplier_lines(weights, MultiplierKind.FARKAS)
+
+
+# Text is read
+
+CLAIMS_WITH_POINT = ("optimal", "within", "feasible", "unbounded")
+CLAIMS_WITH_TREE = ("optimal", "within", "bound", "infeasible")
+
+
+class Node:
+    """A node of a certificate that is read.
+
+    Attributes:
+        kind: What it is.
+        line: Of the text, from 1.
+        parent: Its parent's place; `ROOT` where it has none.
+        branch: Which child of its parent it is: 0 for `at most` and for the proof of a cut, 1 for
+            the other one.
+        depth: The count of nodes above it.
+        column: That a split is of.
+        at: The text of the number in the line of a split, a disjunction or a cut.
+        entries: Indices and numbers of the lines behind it: columns, or of a leaf rows.
+        leaf_number: Of a leaf, from 0 in the order of the text; -1 of others.
+        size: Nodes of its subtree, itself among them.
+        leaves: Leaves of its subtree.
+    """
+
+    __slots__ = (
+        "kind",
+        "line",
+        "parent",
+        "branch",
+        "depth",
+        "column",
+        "at",
+        "entries",
+        "leaf_number",
+        "size",
+        "leaves",
+    )
+
+    def __init__(self, kind: NodeKind, line: int, parent: int, branch: int, depth: int) -> None:
+        self.kind = kind
+        self.line = line
+        self.parent = parent
+        self.branch = branch
+        self.depth = depth
+        self.column = -1
+        self.at = ""
+        self.entries: List[Tuple[int, str]] = []
+        self.leaf_number = -1
+        self.size = 1
+        self.leaves = 0
+
+    @property
+    def is_leaf(self) -> bool:
+        return self.kind.is_leaf
+
+
+class Certificate(NamedTuple):
+    """A certificate that is read.
+
+    Attributes:
+        claim: The word of its second line.
+        objective: The number of the objective; None under `infeasible`.
+        numbers: The other numbers of that line.
+        point: Values by column that are not 0; None where the claim has no point.
+        ray: The same of a ray.
+        nodes: Each before those below it; a place is an index into them.
+    """
+
+    claim: str
+    objective: Optional[int]
+    numbers: List[Fraction]
+    point: Optional[Dict[int, Fraction]]
+    ray: Optional[Dict[int, Fraction]]
+    nodes: List[Node]
+
+    def children(self, place: int) -> List[int]:
+        """The places of the two nodes below one; of a leaf none."""
+        if self.nodes[place].is_leaf:
+            return []
+        first = place + 1
+        return [first, first + self.nodes[first].size]
+
+    def path(self, place: int) -> List[int]:
+        """From the root to the node, itself among them."""
+        found = []
+        while place != ROOT:
+            found.append(place)
+            place = self.nodes[place].parent
+        return found[::-1]
+
+    def branches(self, place: int) -> List[Tuple[Node, int]]:
+        """The nodes above a node, from the root on, each with its branch that leads there."""
+        path = self.path(place)
+        return [
+            (self.nodes[above], self.nodes[below].branch) for above, below in zip(path, path[1:])
+        ]
+
+    def place_of_leaf(self, number: int) -> int:
+        """By its number in the order of the text."""
+        return next(p for p, node in enumerate(self.nodes) if node.leaf_number == number)
+
+
+_Records = Iterator[Tuple[int, List[str]]]  # lines that have words: their numbers from 1, and words
+
+
+def read_certificate(lines: Iterable[str]) -> Certificate:
+    """The certificate of these lines, which the proved program has judged before.
+
+    Raises:
+        ValueError: It is not as the proved program takes it.
+        IndexError: The same: a line has too few words.
+    """
+    numbered = ((number, line.split()) for number, line in enumerate(lines, 1))
+    records = ((number, words) for number, words in numbered if words)
+    try:
+        next(records)
+        _, words = next(records)
+        claim = words[0]
+        objective = None if claim == "infeasible" else int(words[1])
+        point = _read_values(records) if claim in CLAIMS_WITH_POINT else None
+        ray = _read_values(records) if claim == "unbounded" else None
+        nodes = _read_tree(records) if claim in CLAIMS_WITH_TREE else []
+    except StopIteration:
+        raise ValueError("it ends too soon") from None
+    numbers = [Fraction(word) for word in words[2:]]
+    return Certificate(claim, objective, numbers, point, ray, nodes)
+
+
+def _read_entries(records: _Records, count: int) -> List[Tuple[int, str]]:
+    found = []
+    for _ in range(count):
+        _, words = next(records)
+        found.append((int(words[0]), words[1]))
+    return found
+
+
+def _read_values(records: _Records) -> Dict[int, Fraction]:
+    """A point or a ray."""
+    _, words = next(records)
+    return {j: Fraction(value) for j, value in _read_entries(records, int(words[1]))}
+
+
+def _read_tree(records: _Records) -> List[Node]:
+    nodes: List[Node] = []
+    waiting = [(ROOT, 0)]  # branches that are to come: their parents, and which they are
+    leaves = 0
+    while waiting:
+        parent, branch = waiting.pop()
+        number, words = next(records)
+        depth = 0 if parent == ROOT else nodes[parent].depth + 1
+        node = Node(NodeKind(words[0]), number, parent, branch, depth)
+        place = len(nodes)
+        nodes.append(node)
+        if node.kind is NodeKind.SPLIT:
+            node.column, node.at = int(words[1]), words[2]
+        else:
+            node.at = "" if node.is_leaf else words[2]
+            node.entries = _read_entries(records, int(words[1]))
+        if node.is_leaf:
+            node.leaf_number = leaves
+            node.leaves = 1
+            leaves += 1
+        else:
+            waiting += [(place, 1), (place, 0)]
+    _count_subtrees(nodes)
+    return nodes
+
+
+def _count_subtrees(nodes: Sequence[Node]) -> None:
+    for node in reversed(nodes):
+        if node.parent != ROOT:
+            above = nodes[node.parent]
+            above.size += node.size
+            above.leaves += node.leaves
