@@ -11,9 +11,9 @@ import os
 import sys
 from typing import Callable, Iterator, NoReturn, Sequence, TextIO, cast
 
-from .program import verdict as verdicts
 from .system.codes import ExitStatus
 from .system.processes import SIGNALS, Interrupted
+from .program.verdict import statement_of
 from .system.text import printable
 
 GREEN, YELLOW, RED = 32, 33, 31
@@ -104,9 +104,9 @@ def is_terminal(stream: TextIO) -> bool:
 
 
 def colour_of(verdict: str) -> int:
-    said = verdicts.read(verdict)
-    if said is not None:
-        return GREEN if said.is_settled() else YELLOW
+    statement = statement_of(verdict)
+    if statement is not None:
+        return GREEN if statement.claim.is_final else YELLOW
     return GREEN if verdict.startswith(PROVED) else RED
 
 

@@ -12,8 +12,11 @@ import sys
 from typing import TYPE_CHECKING, Callable, Iterable, Mapping, NamedTuple, Sequence
 
 from . import VERSION, commands, console, interface
-from .program import reasons, refusal
-from .program.bridge import BESIDE, PACKAGE, built, find, is_plain, sum_of
+from .program.bridge import PACKAGE, build_facts, find_program, sha256_of_file
+from .program.calls import files_of_call, is_utf8
+from .program.mps_forms import import_mps
+from .program.reasons import listed_reasons
+from .program.refusal import read_fault, why_unreadable
 from .system.codes import ExitStatus
 from .system.errors import BridgeError, NotStarted
 from .commands import COMMANDS, NAME, VERDICTS, WORDS
@@ -21,7 +24,6 @@ from .formats.file_kinds import is_mps_file, is_packed_file, start_of_file
 from .formats.source import Workspace, is_stream, name_of_model, read_source
 from .interface import Report
 from .system.processes import with_child
-from .mps_file import imported
 from .options import OTHER_NAMES
 from .system.text import did_you_mean
 
@@ -118,7 +120,7 @@ def done(call: Call) -> int:
         is_own = call.json or is_model(call.rest)
     elif call.word == "import":
         is_own = len(call.rest) == 2
-    return shown(call) if is_own else passed_on(find("", BESIDE), words)
+    return shown(call) if is_own else passed_on(find_program(), words)
 
 
 def is_model(rest: Sequence[str]) -> bool:
@@ -138,7 +140,7 @@ def helped(call: Call) -> int:
         sys.stdout.write(commands.usage())
         return ExitStatus.DONE
     text = (
-        commands.help_of(topic) or reasons.listed() * (topic == "refusals") or helped_driver(topic)
+        commands.help_of(topic) or listed_reasons() * (topic == "refusals") or helped_driver(topic)
     )
     if not text:
         raise BadWords(
@@ -219,10 +221,10 @@ def explained(call: Call) -> Report:
 
 def version(call: Call) -> Report:
     """Program, sum, toolchain and drivers, one a line."""
-    place = find("", BESIDE)
+    place = find_program()
     told = Report(NAME, program=place)
-    digest = sum_of(place[0]) if len(place) == 1 else None
-    facts = built(place[0]) if len(place) == 1 else {}
+    digest = sha256_of_file(place[0]) if len(place) == 1 else None
+    facts = build_facts(place[0]) if len(place) == 1 else {}
     trial = "" if facts.get("proved") == "yes" else " (NOT PROVED: a build for trials)"
     toolchain = (
         (facts.get("toolchain") or "not told") + trial
@@ -251,8 +253,8 @@ def import_into(call: Call) -> Report:
     told = Report(NAME, model=call.rest[0])
     with interface.asked(told, "") as (bridge, workspace):
         path = plain(workspace, "MPS", call.rest[0])
-        bridge.shown[path] = call.rest[0]
-        told.say(imported(bridge, path, call.rest[1], call.overwrite))
+        bridge.file_names[path] = call.rest[0]
+        told.say(import_mps(bridge, path, call.rest[1], overwrite=call.overwrite))
     return told
 
 
@@ -304,7 +306,7 @@ def plain(workspace: Workspace, name: str, word: str) -> str:
     path = (
         read_source(found, workspace).path if is_stream(found) or is_packed_file(found) else found
     )
-    return path if is_plain(path) else workspace.link_to(path)
+    return path if is_utf8(path) else workspace.link_to(path)
 
 
 def passed_on(place: Sequence[str], words: Sequence[str]) -> int:
@@ -324,8 +326,8 @@ def passed_on(place: Sequence[str], words: Sequence[str]) -> int:
 
 def run(place: Sequence[str], call: Sequence[str], words: Sequence[str]) -> int:
     """Its status. A verdict is in colour on a terminal, and a file that cannot be read is told with its cause."""
-    files = refusal.files_of(call)
-    faulty = any(map(refusal.fault_at, files))
+    files = files_of_call(call)
+    faulty = any(map(read_fault, files))
     is_coloured = words[0] in VERDICTS and console.is_coloured(sys.stdout)
     out, err = (subprocess.PIPE if wanted else None for wanted in (is_coloured, faulty))
     try:
@@ -341,7 +343,7 @@ def run(place: Sequence[str], call: Sequence[str], words: Sequence[str]) -> int:
     if line.strip():
         console.tell(line.rstrip("\n"), sys.stdout)
     if status == ExitStatus.UNREAD and faulty:
-        told = f"{NAME}: {refusal.unreadable(files, dict(zip(files, refusal.files_of(words))))}\n"
+        told = f"{NAME}: {why_unreadable(files, dict(zip(files, files_of_call(words))))}\n"
     sys.stderr.write(told)
     return status
 

@@ -4,10 +4,11 @@ from __future__ import annotations
 
 from typing import NamedTuple, Sequence
 
-from .program.bridge import Bridge, Reply
+from .program.bridge import Bridge
+from .program.calls import Reply
+from .program.mps_forms import program_of_mps, read_mps_text
 from .system.codes import ExitStatus
 from .formats.source import Source, Workspace, read_model
-from .mps_file import judged, reading
 from .formats.names import NameLists
 from .formats.nl import read_header, text_of_nl
 from .model.linear_program import Program
@@ -33,23 +34,24 @@ class Subject(NamedTuple):
 
     def program(self, objective: str = "0") -> Program:
         if self.own is None:
-            return Program(self.bridge.text("export", self.path, objective))
+            return Program(self.bridge.export(self.path, int(objective)))
         if objective != "0":
             reply = Reply(
                 ExitStatus.REFUSED, b"", f"refused objective {objective}: no such objective"
             )
-            raise self.bridge.refused(("verify", self.path, ""), reply)
+            judge = self.bridge.forms[self.path].judge.value
+            raise self.bridge.refusal((judge, self.path, ""), reply)
         return self.own
 
 
 def subject(bridge: Bridge, workspace: Workspace, word: str) -> Subject:
     """With `verify` of this bridge being that of the model. Refused where an MPS file is none, or as `read_model`."""
     given = read_model(word, workspace)
-    bridge.shown[given.path] = given.name
+    bridge.file_names[given.path] = given.name
     if not given.is_mps:
         path, notes = text_of_nl(given.path, workspace.new_path())
-        bridge.shown[path] = given.name
+        bridge.file_names[path] = given.name
         return Subject(bridge, given, path, None, [*given.notes, *notes])
-    read = reading(bridge, given.path)
-    program = judged(bridge, given.path, workspace.new_path(), read)
+    read = read_mps_text(bridge, given.path)
+    program = program_of_mps(bridge, given.path, workspace.new_path(), read)
     return Subject(bridge, given, given.path, program, [*given.notes, *read.notes, *program.notes])

@@ -15,17 +15,14 @@ from fractions import Fraction
 from typing import TYPE_CHECKING, Any, Iterator, Mapping, Sequence, Union
 
 from . import VERSION
-from .program import refusal
-from .program import verdict as verdicts
-from .program.bridge import BESIDE, Bridge, Refused, find, sum_of
+from .program.bridge import Bridge, find_program, sha256_of_file
+from .program.calls import files_of_call
+from .program.refusal import Refusal
 from .system.codes import ExitStatus
 from .system.errors import (
     BridgeError,
     FileAction,
     FileFault,
-    ModelRefused,
-    NotInstalled,
-    ProgramFailed,
     RunInterrupted,
     WrongOption,
 )
@@ -36,7 +33,7 @@ from .pipeline.outcome import code_of_error
 from .pipeline.outputs import named_duals, named_reduced_costs, named_values
 from .solvers import SOLVERS
 from .formats.numbers import nearest_double
-from .program.verdict import Said
+from .program.verdict import Statement, Verdict
 
 if TYPE_CHECKING:  # what few calls need is read by them
     from .driver import Driver, Run
@@ -98,7 +95,7 @@ class Report:
             ("certificate", self.certificate),
         ):
             if name not in self.sums:  # a source is not opened again: it may be a pipe
-                self.sums[name] = sum_of(path)
+                self.sums[name] = sha256_of_file(path)
         self.sums = {name: self.sums[name] for name in SUMMED}
         return self
 
@@ -122,14 +119,14 @@ class Report:
         self.status = self.status if status is None else status
         self.text, self.lines = text, [text]
 
-    def take(self, said: Said | None) -> None:
-        if said is not None:
-            self.claim, self.objective = said.word, said.objective
-            self.value, self.bound = said.value, said.bound
+    def take(self, statement: Statement | None) -> None:
+        if statement is not None:
+            self.claim, self.objective = statement.claim.value, statement.objective
+            self.value, self.bound = statement.value, statement.bound
 
-    def take_line(self, line: str) -> None:
-        self.text = line
-        self.take(verdicts.read(line))
+    def take_verdict(self, verdict: Verdict) -> None:
+        self.text = verdict.line
+        self.take(verdict.statement)
 
 
 def reported(driver: Driver, argv: Sequence[str]) -> int:
@@ -171,24 +168,6 @@ def fill(told: Report, run: Run) -> None:
             told.duals = dict(named_duals(answer))
         if wanted & 4 and answer.reduced_costs is not None:
             told.costs = dict(named_reduced_costs(answer))
-
-
-def error_of_refusal(fault: Refused) -> BridgeError:
-    """The error of a call that the proved program did not answer, by its exit status."""
-    line, status = fault.line(), fault.status
-    if status == ExitStatus.REFUSED:
-        return ModelRefused(line)
-    if status == ExitStatus.BAD_WORDS:
-        return WrongOption(line)
-    if status == ExitStatus.UNREAD:
-        return FileFault("", line, FileAction.READ)
-    if status == ExitStatus.UNWRITTEN:
-        return FileFault("", line, FileAction.WRITE)
-    if status == ExitStatus.NOT_THERE:
-        return NotInstalled(line)
-    error = ProgramFailed(line)
-    error.status = status
-    return error
 
 
 def with_report(error: BridgeError, report: Report) -> BridgeError:
@@ -287,12 +266,12 @@ def asked(told: Report, bridge: str) -> Iterator[tuple[Bridge, Workspace]]:
     """The proved program, and room for files; a fault of the block becomes the error of this report."""
     with Workspace() as workspace:
         try:
-            told.program = place = find(bridge, BESIDE)
-            yield Bridge(place, lambda argv: None), workspace
+            told.program = place = find_program(bridge)
+            yield Bridge(place), workspace
             return
-        except Refused as fault:
-            error = error_of_refusal(fault)
-            told.refusal = refusal.object_of(fault.words, fault.told, fault.shown)
+        except Refusal as fault:
+            error = fault.as_error()
+            told.refusal = fault.details()
         except BridgeError as fault:
             error = fault
         except OSError as fault:
@@ -314,7 +293,7 @@ def certificate_of(told: Report, found: Subject, workspace: Workspace, certifica
     """A certificate, packed or a stream as a model may be, which the report knows from now on."""
     source = read_source(os.fspath(certificate), workspace)
     told.certificate, told.sources["certificate"] = source.name, source
-    found.bridge.shown[source.path] = source.name
+    found.bridge.file_names[source.path] = source.name
     return source
 
 
@@ -323,9 +302,9 @@ def verify(model: Path, certificate: Path, *, bridge: str = "") -> Report:
     told = Report(FRONT, certificate=os.fspath(certificate))
     with about(told, model, bridge) as (found, workspace):
         source = certificate_of(told, found, workspace, certificate)
-        line = found.bridge.verdict("verify", found.path, source.path)
-        told.lines = [*found.notes, line]
-        told.take_line(line)
+        verdict = found.bridge.verify(found.path, source.path)
+        told.lines = [*found.notes, verdict.line]
+        told.take_verdict(verdict)
         told.status = ExitStatus.DONE if told.claim else ExitStatus.FAILED
     return told.end()
 
@@ -349,7 +328,7 @@ def explain(
     with about(told, model, bridge) as (found, workspace):
         if certificate is None:
             if found.own is None:
-                found.bridge.text("export", found.path, str(objective))
+                found.bridge.export(found.path, objective)
             told.text = f"{found.given.name}: is not refused"
             told.lines = [*found.notes, told.text]
         else:
@@ -380,11 +359,11 @@ def figures(model: Path, *, objective: int = 0, bridge: str = "") -> Report:
 def called(call: Sequence[str], words: Sequence[str]) -> Report:
     """Whether a call of another command of the proved program is refused; its files are known by `words`."""
     told = Report(FRONT)
-    shown = dict(zip(refusal.files_of(call), refusal.files_of(words)))
+    shown = dict(zip(files_of_call(call), files_of_call(words)))
     with asked(told, "") as (program, _):
         reply = program.call(*call)
         if reply.status not in (0, 1):
-            raise Refused(call[0], reply, call, shown)
+            raise Refusal(call[0], reply, call, shown)
         said = reply.out.decode("utf-8", "replace").strip() if reply.status else "is not refused"
         told.say(f"{''.join([*shown.values()][:1])}: {said}", reply.status)
     return told.end()

@@ -341,9 +341,9 @@ def long(path: str, folder: str) -> None:
     """A long search by two processes, as a driver makes it."""
     SIGNALS.install()
     parallel.NODES_BEFORE_PARALLEL = 3
-    bridge, pool = Bridge(PROGRAM, lambda argv: None), ProcessPool(2)
+    bridge, pool = Bridge(PROGRAM), ProcessPool(2)
     work = Certifying(
-        bridge, path, folder, Program(bridge.text("export", path)), 0, Watch(600.0), pool=pool
+        bridge, path, folder, Program(bridge.export(path)), 0, Watch(600.0), pool=pool
     )
     try:
         print(certified(work, "infeasible").line)

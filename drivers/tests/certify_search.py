@@ -39,12 +39,12 @@ KNAP = [F(1), F(1), F(0)]  # the point of `knap`
 class Certified(Case):
     def work(self, text: bytes, proves: bool = True, **words) -> Certifying:
         self.put(text)
-        bridge, path = Bridge(PROGRAM, lambda argv: None), self.stub + ".nl"
+        bridge, path = Bridge(PROGRAM), self.stub + ".nl"
         return Certifying(
             bridge,
             path,
             self.folder,
-            Program(bridge.text("export", path)),
+            Program(bridge.export(path)),
             0,
             Watch(SECONDS),
             proves,

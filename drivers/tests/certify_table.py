@@ -39,7 +39,8 @@ HERE = os.path.dirname(os.path.abspath(__file__))
 sys.path[:0] = [os.path.join(HERE, ".."), HERE]
 
 import families  # noqa: E402
-from bridge_drivers.program.bridge import BESIDE, Bridge, Refused, find  # noqa: E402
+from bridge_drivers.program.bridge import Bridge, find_program  # noqa: E402
+from bridge_drivers.program.refusal import Refusal  # noqa: E402
 from bridge_drivers.formats.file_kinds import stub_of  # noqa: E402
 from bridge_drivers.formats.source import Workspace  # noqa: E402
 from bridge_drivers.system.errors import Damaged  # noqa: E402
@@ -143,9 +144,9 @@ def written_families(target: str, most: int) -> None:
 def shape(bridge: list[str], path: str) -> list[str]:
     try:
         with Workspace() as workspace:
-            p = subject(Bridge(bridge, lambda argv: None), workspace, path).program()
+            p = subject(Bridge(bridge), workspace, path).program()
             return [str(len(p.columns)), str(len(p.whole)), str(len(p.constraints))]
-    except (Refused, Damaged):
+    except (Refusal, Damaged):
         return ["", "", ""]
 
 
@@ -285,7 +286,7 @@ def main() -> None:
     if first in tables:
         tables[first](arguments)
         return
-    bridge = find("", BESIDE)
+    bridge = find_program()
     at_once = int(first[2:]) if first.startswith("-j") else 1
     if first.startswith("-j"):
         first, *arguments = arguments

@@ -4,8 +4,6 @@ stays always, by whatever path, and so does a certificate that says more; and wh
 from __future__ import annotations
 
 import os
-import unittest
-from fractions import Fraction as F
 from pathlib import Path
 from unittest import mock
 
@@ -13,70 +11,15 @@ from support import NEEDS_PROGRAM, Case
 from models import MODELS, rows_of
 
 from bridge_drivers import solvers
-from bridge_drivers.program import verdict as verdicts
-from bridge_drivers.program.bridge import Bridge, Reply
+from bridge_drivers.program.bridge import Bridge
+from bridge_drivers.program.calls import Reply
+from bridge_drivers.program.verdict import statement_of
 from bridge_drivers.system.errors import DeadlineExceeded
 from bridge_drivers.pipeline.stored_certificate import CertificateStore, StoredCertificate
-from bridge_drivers.model.linear_program import Program
-from bridge_drivers.program.verdict import Said
 
 OPTIMAL = b"certificate 1\noptimal 0\npoint 0\nduals 0\n"
 OLDER = b"letters\n"
 STANDS = "it stands there, and this run did not make it; overwrite=1 replaces it"
-
-
-def said(line: str) -> Said:
-    found = verdicts.read(line)
-    assert found is not None, line
-    return found
-
-
-class Claims(unittest.TestCase):
-    """Verdicts in numbers and in words: which number is the bound, from which side, and by how much."""
-
-    def test_which_says_as_much(self) -> None:
-        """New, old, and whether the new one says all that the old one says, maximising."""
-        for new, old, wanted in rows_of("kept", "covers"):
-            self.assertEqual(
-                verdicts.covers(said(new), said(old), True), wanted == "yes", (new, old)
-            )
-        self.assertTrue(verdicts.covers(said("feasible 6"), said("feasible 7"), False))
-
-    def test_lines(self) -> None:
-        self.assertEqual(
-            verdicts.read("within 19 35/2 of objective 2"), Said("within", F(35, 2), F(19), 2)
-        )
-        self.assertEqual(
-            verdicts.read("unbounded of objective 1"), Said("unbounded", None, None, 1)
-        )
-        for line in ("leaf 0 gap 17", "optimal", "optimal x", "not proved: x", "feasible 1/0"):
-            self.assertIsNone(verdicts.read(line))
-
-    def test_words(self) -> None:
-        for line, sense, words in rows_of("kept", "words"):
-            self.assertEqual(verdicts.in_words(said(line), sense == "max", None), words)
-        self.assertEqual(
-            verdicts.in_words(said("bound 1" + "0" * 400), True, None),
-            "no point has more than 1e400",
-        )
-        self.assertRegex(
-            verdicts.in_words(said("bound 12345678901234567/3"), True, None),
-            r"about 4\.1152263e\+15$",
-        )
-
-    def test_a_bound_of_a_whole_objective(self) -> None:
-        """It is rounded to a value that the objective can have."""
-        program = Program(
-            b"NAME nl\nROWS\n N obj\n L c0\nCOLUMNS\n M0 'MARKER' 'INTORG'\n"
-            b" x0 obj 0.5\n x1 obj 1.5\n M1 'MARKER' 'INTEND'\n x2 c0 1\nRHS\n"
-            b" RHS obj -0.25\nBOUNDS\nENDATA\n"
-        )
-        steps = verdicts.multiples(program)
-        self.assertEqual(steps, verdicts.Multiples(F(1, 4), F(1, 2)))
-        for line, sense, words in rows_of("kept", "steps"):
-            self.assertEqual(verdicts.in_words(said(line), sense == "max", steps), words)
-        program.costs["x2"] = "1"
-        self.assertIsNone(verdicts.multiples(program))
 
 
 class Certificates(Case):
@@ -86,10 +29,10 @@ class Certificates(Case):
         self, line: str, says: "str | None", overwrite: bool = False, target: str = ""
     ) -> StoredCertificate:
         """Nothing is said in time where it says None."""
-        bridge, source = Bridge([], lambda argv: None), Path(self.folder, "source")
+        bridge, source = Bridge([]), Path(self.folder, "source")
         self.put(b"model")
         source.write_bytes(OPTIMAL)
-        status = int(verdicts.read(says or "") is None)
+        status = int(statement_of(says or "") is None)
         reply = (
             Reply(status, f"{says}\n".encode(), "")
             if says is not None

@@ -10,11 +10,17 @@ from unittest import mock
 
 from support import NEEDS_CLP, NEEDS_MPS, NEEDS_PROGRAM, PROGRAM, Case, bridge, driven, needs
 
-from bridge_drivers import mps_file, mps_reader, solvers, terms
-from bridge_drivers.program.bridge import Refused
+from bridge_drivers import mps_reader, solvers, terms
+from bridge_drivers.program.bridge import ModelForm
+from bridge_drivers.program.mps_forms import (
+    MpsText,
+    lists_of_names,
+    program_of_mps,
+    read_mps_text,
+)
+from bridge_drivers.program.refusal import Refusal
 from bridge_drivers.model.integer_form import IntegerProgram
 from bridge_drivers.miss import miss, misses
-from bridge_drivers.mps_file import lists_of
 from bridge_drivers.mps_reader import Text
 from bridge_drivers.model.linear_program import program_of
 from models import BOTH, FIXED, MODELS, MPS, rows_of
@@ -60,34 +66,25 @@ class Texts(unittest.TestCase):
         self.assertEqual((p.costs, p.names.row(0)), ({"x0": "2"}, "a\u00a0b"))
 
 
-class Names(Case):
-    def test_names_with_blanks(self) -> None:
-        self.put(BLANK.encode(), ".mps")
-        line = BLANK[: BLANK.index("MY ONE")].count("\n") + 1
-        self.assertEqual(
-            [mps_file.has_blank_name(self.stub + ".mps", at) for at in (line, line + 1, 1000)],
-            [True, False, False],
-        )
-
-
 @NEEDS_MPS
 class Read(Case):
-    def read(self, text: str, form: str = "") -> mps_file.Reading:
+    def read(self, text: str, form: str = "") -> MpsText:
         self.put(text.encode(), ".mps")
-        return mps_file.reading(bridge(), self.stub + ".mps", form)
+        wanted = ModelForm(form) if form else None
+        return read_mps_text(bridge(), self.stub + ".mps", wanted)
 
     def refused(self, text: str, form: str = "") -> str:
-        with self.assertRaises(Refused) as caught:
+        with self.assertRaises(Refusal) as caught:
             self.read(text, form)
-        return caught.exception.line().replace(self.stub, "m")
+        return caught.exception.text.replace(self.stub, "m")
 
     def test_forms(self) -> None:
         for name, model in MPS.items():
             read = self.read(model.text)
-            self.assertEqual((read.form, bool(read.notes)), ("free", name == "cut"), name)
-            self.assertEqual(self.read(model.text, "free").form, "free", name)
+            self.assertEqual((read.form.value, bool(read.notes)), ("free", name == "cut"), name)
+            self.assertEqual(self.read(model.text, "free").form.value, "free", name)
             if name in BOTH:
-                self.assertEqual(self.read(model.text, "fixed").form, "fixed", name)
+                self.assertEqual(self.read(model.text, "fixed").form.value, "fixed", name)
             else:
                 self.refused(model.text, "fixed")
         pair = "    RHS       COST              -5.5   CAP                 10"
@@ -97,7 +94,7 @@ class Read(Case):
             (pair, pair + "   a remark", "fixed"),
         ):
             read = self.read(FIXED.replace(old, new))
-            self.assertEqual((read.form, read.notes), (form, []))
+            self.assertEqual((read.form.value, read.notes), (form, ()))
 
     def test_refusals(self) -> None:
         """The word that is at fault, and what helps with it alone."""
@@ -122,10 +119,10 @@ class Read(Case):
                 continue
             self.put(made.out)
             own, names = Plain(program_of(text).text), program_of(text).names
-            other = Plain(bridge().text("export", self.stub + ".nl"))
+            other = Plain(bridge().export(self.stub + ".nl"))
             assert names is not None
             at = {names.column(j): f"x{j}" for j in range(len(own.ends))}
-            place = {f"x{k}": at[name.decode()] for k, name in enumerate(lists_of(text)[1])}
+            place = {f"x{k}": at[name.decode()] for k, name in enumerate(lists_of_names(text)[1])}
             for ours, theirs in ((own.bounds(), other.bounds()), (own.whole, other.whole)):
                 self.assertEqual({place[x]: told for x, told in theirs.items()}, ours, text)
             self.assertEqual(
@@ -165,11 +162,12 @@ class Read(Case):
             "case $1 in verify_*) echo 'bad words' >&2; exit 3;; esac\n" f'exec {PROGRAM[0]} "$@"',
         )
         self.put(FIXED.encode(), ".mps")
-        read = mps_file.reading(bridge([program]), self.stub + ".mps")
-        with self.assertRaises(Refused) as caught:
-            mps_file.judged(bridge([program]), self.stub + ".mps", self.stub + ".probe", read)
+        older, path = bridge([program]), self.stub + ".mps"
+        program_of_mps(older, path, self.stub + ".trial", read_mps_text(older, path))
+        with self.assertRaises(Refusal) as caught:
+            older.verify(path, self.stub + ".certificate")
         self.assertEqual(
-            caught.exception.line(),
+            caught.exception.text,
             "this bridge does not know the command `verify_mps` (bad words)",
         )
 

@@ -34,7 +34,9 @@ from models import MODELS, rows_of, text_of as model_text
 
 import bridge_drivers
 from bridge_drivers import BridgeError, Report, certify, explain, figures, interface, solve, verify
-from bridge_drivers.program.bridge import built
+from bridge_drivers.program.bridge import build_facts, sha256_of_file
+from bridge_drivers.program.calls import Reply
+from bridge_drivers.program.verdict import Verdict
 from bridge_drivers.explained import page
 from bridge_drivers.explained.command import Explaining, Files
 from bridge_drivers.explained.picture import MOST_DEPTH, MOST_SHOWN, Picture
@@ -148,7 +150,7 @@ class Reports(unittest.TestCase):
 
     def test_claims(self) -> None:
         told = Report("c")
-        told.take_line("within 19 35/2 of objective 2")
+        told.take_verdict(Verdict(Reply(0, b"within 19 35/2 of objective 2\n", "")))
         self.assertEqual(
             (told.claim, told.value, told.bound, told.objective), ("within", F(35, 2), F(19), 2)
         )
@@ -175,9 +177,9 @@ class Objects(Case):
         told = self.called("nl-bridge", "verify", model, certificate)
         self.assertEqual(
             (told["sums"]["program"], told["sums"]["certificate"]),
-            (interface.sum_of(PROGRAM[0]), interface.sum_of(certificate)),
+            (sha256_of_file(PROGRAM[0]), sha256_of_file(certificate)),
         )
-        facts = built(PROGRAM[0])
+        facts = build_facts(PROGRAM[0])
         told = self.called("nl-bridge", "version")
         self.assertEqual(
             (told["program"], told["proved"]),
@@ -237,14 +239,9 @@ class Explained(Case):
 
     def object(self, name: str = "knap", words: str = "example knap.certificate") -> Explaining:
         files = self.given(name, words)
-        reply = bridge().call("verify", *files[:2])
+        verdict = bridge().verify(*files[:2])
         given = Source(files.model, files.model, self.stub)
-        return Explaining(
-            Subject(bridge(), given, given.path),
-            files,
-            reply.out.decode().strip(),
-            reply.status == 0,
-        )
+        return Explaining(Subject(bridge(), given, given.path), files, verdict)
 
     def test_lines(self) -> None:
         """Of each the model, names of variables, the certificate, the status, and lines in their order."""
@@ -342,11 +339,7 @@ class Explained(Case):
         told = self.object("knap", "tree 3 bound 0 10")
         picture = Picture(told.wording, told.fails, told.holds)
         self.assertEqual(
-            [
-                picture.closes(at)
-                for at, node in enumerate(told.certificate.nodes)
-                if node.is_leaf
-            ],
+            [picture.closes(at) for at, node in enumerate(told.certificate.nodes) if node.is_leaf],
             [True, False, True, False, True, False, False, False],
         )
 

@@ -30,7 +30,8 @@ EXAMPLES = os.path.join(TOP, "packaging", "examples")
 sys.path[:0] = [os.path.join(HERE, ".."), HERE]
 
 from bridge_drivers import VERSION, solvers  # noqa: E402
-from bridge_drivers.program.bridge import BESIDE, Bridge, Reply, find  # noqa: E402
+from bridge_drivers.program.bridge import Bridge, find_program  # noqa: E402
+from bridge_drivers.program.calls import Reply  # noqa: E402
 from bridge_drivers.certify import simplex  # noqa: E402
 from bridge_drivers.exact import clp  # noqa: E402
 from bridge_drivers.driver import Driver  # noqa: E402
@@ -51,7 +52,7 @@ ALLOWED = {
     )
 }
 CHECKED = "bridge check of the .sol: "
-PROGRAM = find("", BESIDE) if os.environ.get("BRIDGE") else []
+PROGRAM = find_program() if os.environ.get("BRIDGE") else []
 RULE: dict[str, Any] = json.loads(Path(DRIVERS, "report.schema.json").read_text(encoding="ascii"))
 TYPES = {
     "null": type(None),
@@ -82,7 +83,7 @@ KNOWN = {
 
 
 def bridge(program: Sequence[str] = PROGRAM) -> Bridge:
-    return Bridge(list(program), lambda argv: None)
+    return Bridge(list(program))
 
 
 class Ended(NamedTuple):

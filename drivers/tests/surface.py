@@ -9,17 +9,14 @@ import re
 import select
 import shutil
 import signal
-import sys
 import time
 import unittest
 from pathlib import Path
 
-from support import BIN, TOP, Case, called, ended
+from support import BIN, Case, called, ended
 from models import rows_of
 
 from bridge_drivers import commands, front, solvers
-from bridge_drivers.program import reasons, refusal
-from bridge_drivers.program.bridge import Refused, Reply
 from bridge_drivers.certify.command import Command
 from bridge_drivers.driver import Driver
 from bridge_drivers.system.text import did_you_mean
@@ -242,101 +239,3 @@ def seen(terminal: int, text: str) -> str:
         if select.select([terminal], [], [], 0.2)[0]:
             shown += os.read(terminal, 4096).decode("utf-8", "replace")
     return shown
-
-
-class Refusals(Case):
-    """Of a text with a product on line 17."""
-
-    def setUp(self) -> None:
-        super().setUp()
-        self.put(PRODUCT)
-        self.nl = self.stub + ".nl"
-
-    def line(self, told: str, *words: str, shown: str = "m.nl") -> str:
-        return refusal.in_words(words or ("export", self.nl), "refused " + told, {self.nl: shown})
-
-    def test_lines(self) -> None:
-        """Expressions, places, and the files of the words, among which a fault is counted."""
-        for words, told, line in rows_of("refusals", "line"):
-            self.assertEqual(self.line(told, *words.replace("NL", self.nl).split()), line)
-        for number, place in (
-            (2, "header"),
-            (23, "objective 0"),
-            (26, "constraint 0"),
-            (25, "sides of constraints"),
-            (29, "variable 1"),
-            (27, "bounds"),
-        ):
-            self.assertIn(f"m.nl line {number}: {place}: ", self.line(f"line {number}: x"))
-        self.put(PRODUCT.replace(b"o2\nv0", b"o6\nv0"))
-        self.assertEqual(
-            self.line("line 17: refused opcode 6"),
-            "m.nl line 17: constraint 0: less(x0, (x1 + 3)) is not linear (refused opcode 6)",
-        )
-        self.put(b"NAME\nROWS\n")
-        self.assertEqual(
-            self.line("line 1: bad first line"),
-            "m.nl line 1: bad first line: it is an MPS file: `bridge-certify m.nl` "
-            "and the drivers take it, `nl-bridge import m.nl m-2.nl` makes m-2.nl of it",
-        )
-
-    def test_names_beside_the_model(self) -> None:
-        self.put(b"Cap\nProfit\n", ".row")
-        self.put(b"a\nb\n\nz\n", ".col")
-        self.assertEqual(
-            self.line(NONLINEAR, shown=self.nl),
-            self.nl + " line 17: constraint 0 (Cap): (a * (b + 3)) is nonlinear",
-        )
-        self.assertIn(
-            ".nl: objective 0 (Profit): objective too wide (",
-            self.line("objective 0: objective too wide", shown=self.nl),
-        )
-
-    def test_input_faults(self) -> None:
-        missing = os.path.join(self.folder, "missing.sol")
-        fault = Refused(
-            "check", Reply(4, b"", "input fault"), ["check", self.nl, missing], {missing: "x.sol"}
-        )
-        self.assertEqual(fault.line(), "x.sol: input fault (No such file or directory)")
-
-    def test_controls_of_a_terminal(self) -> None:
-        """Of names, comments, paths and lines around: they are shown and not obeyed."""
-        self.put(PRODUCT.replace(b"v0\no0", b"v0\t# \x1b[2Jspeed\no0"))
-        self.put(b"Cap\x1b]0;title\x07\n", ".row")
-        self.put("a\x1b[31m\x9b1m\nb\rc\nz\n".encode(), ".col")
-        line = self.line(NONLINEAR, shown=self.nl)
-        self.assertEqual(
-            line,
-            self.nl + " line 17: constraint 0 (Cap\\x1b]0;title\\x07): "
-            "(a\\x1b[31m\\x9b1m * (b\\x0dc + 3)) is nonlinear",
-        )
-        self.assertEqual(
-            self.line(NONLINEAR, shown="m\x1b[1m.nl"),
-            "m\\x1b[1m.nl line 17: constraint 0: (\\x1b[2Jspeed * (x1 + 3)) is nonlinear",
-        )
-        more = "\n".join(refusal.Refusal(["export", self.nl], "refused " + NONLINEAR, {}).more())
-        self.assertIn("\\x1b[2Jspeed", more)
-        self.assertNotRegex(line + more, "[\x00-\x08\x0b-\x1f\x7f-\x9f]")
-
-    def test_more(self) -> None:
-        """The whole expression, what helps, the lines around."""
-        more = refusal.Refusal(["export", self.nl], "refused " + NONLINEAR, {}).more()
-        self.assertEqual(more[0], "in: ((5 * x1) + >>(x0 * (x1 + 3))<< + x2)")
-        self.assertTrue(more[1].startswith("what helps: "))
-        self.assertEqual((more[4], len(more)), (">     17 o2", 8))
-
-    def test_each_that_is_provoked_is_listed(self) -> None:
-        """Those of the worked texts, in `nl-bridge help refusals`."""
-        sys.path.append(os.path.join(TOP, "acceptance"))
-        import texts
-
-        for case in (case for name in WORKED for case in texts.cases(name)):
-            if case.told.startswith("refused "):
-                told = refusal.parsed(case.told.rstrip("\n"))
-                assert told is not None, case.told
-                reason = reasons.OPCODE.sub("refused opcode", told.reason)
-                self.assertTrue(reason in reasons.MEANING, f"{case.name}: {reason}")
-        text = reasons.listed()
-        for row in reasons.MEANING.values():
-            self.assertIn(f"  {row.reasons}:", text)
-            self.assertTrue(row.text or row.more, row.reasons)

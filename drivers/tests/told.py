@@ -16,7 +16,7 @@ from support import NEEDS_CLP, NEEDS_PROGRAM, Case, Injected, Reply, bridge, con
 from bridge_drivers import sol, solvers
 from bridge_drivers.pipeline.answer import CODE_OF_STATUS
 from bridge_drivers.pipeline.certification import AnswerCertifier
-from bridge_drivers.program import verdict as verdicts
+from bridge_drivers.program.verdict import statement_of
 from bridge_drivers.certify.claims import Certifying, Verdict, certified
 from bridge_drivers.certify.plans import Plans
 from bridge_drivers.certify.watch import Over, Watch
@@ -306,7 +306,7 @@ class Told(Case):
     def told(self, name: str, size: int, proves: bool) -> tuple[Noting, str]:
         """What was told of a search from no point, and the last line."""
         self.put(made(name, size))
-        program = Program(bridge().text("export", self.stub + ".nl"))
+        program = Program(bridge().export(self.stub + ".nl"))
         noting = Noting(program.maximise)
         work = Certifying(
             bridge(),
@@ -324,7 +324,7 @@ class Told(Case):
     def judge(self, name: str, size: int) -> int:
         """How much was told."""
         noting, line = self.told(name, size, True)
-        said, sign = verdicts.read(line), 1 if noting.maximise else -1
+        said, sign = statement_of(line), 1 if noting.maximise else -1
         if line.startswith("infeasible"):
             return 0
         for key, told in noting.best.items():

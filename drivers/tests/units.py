@@ -15,11 +15,11 @@ from pathlib import Path
 from unittest import mock
 
 from support import BIN, EXAMPLES, NEEDS_PROGRAM, Case, bridge as program
-from bridge_drivers import console, mps_file, progress, sol, solvers, stats
+from bridge_drivers import console, progress, sol, solvers, stats
 from bridge_drivers.pipeline.row_factors import factors_of
-from bridge_drivers.program import bridge
-from bridge_drivers.program.bridge import Bridge, Refused, Reply
-from bridge_drivers.system.errors import NotInstalled
+from bridge_drivers.program.bridge import Bridge
+from bridge_drivers.program.calls import Reply
+from bridge_drivers.program.mps_forms import import_mps
 from bridge_drivers.formats.names import NameLists
 from bridge_drivers.model.linear_program import Program
 from models import MODELS, rows_of
@@ -45,10 +45,6 @@ class Texts(Case):
     def test_far_sides_and_bounds(self) -> None:
         p = Program(TEXTS["far"])
         self.assertEqual([p.far(size) for size in (1e20, 1e21, 1e25, 1e30, 1e31)], [4, 2, 2, 1, 0])
-
-    def test_refusals(self) -> None:
-        for status, told, line in rows_of("units", "refusal"):
-            self.assertEqual(Refused("return", Reply(int(status), b"", told)).line(), line)
 
     def test_bare_sol(self) -> None:
         self.put(MODELS["knap"].text)
@@ -91,23 +87,16 @@ class Figures(Case):
                 assert Path(words[2]).read_text() == "answer 1\nobjno 0\nrow c0 1\nrow c2 1\n"
                 return Reply(0, b"\nOptions\n3\n1\n1\n0\n3\n3\n1\n0\n6\n0\n7\nobjno 0 0\n", "")
 
-        factors = factors_of(Returning([], lambda argv: None), "m.nl", ["c0", "c2"])
+        factors = factors_of(Returning([]), "m.nl", ["c0", "c2"])
         self.assertEqual(factors, {"c0": "6", "c2": "7"})
 
 
 class Importing(Case):
-    def test_order(self) -> None:
-        """Continuous, binary, integer, each in the order of the columns; constraints, then the objective."""
-        self.assertEqual(
-            mps_file.lists_of(TEXTS["kinds"]),
-            ([b"both", b"cap", b"cost"], [b"c", b"'MARKER'", b"b", b"v", b"i", b"low"]),
-        )
-
     @NEEDS_PROGRAM
     def test_against_the_program(self) -> None:
         """The kinds of the .nl are those of the names, and so are the bounds."""
         self.put(TEXTS["kinds"], ".mps")
-        line = mps_file.imported(program(), self.stub + ".mps", self.stub + ".nl")
+        line = import_mps(program(), self.stub + ".mps", self.stub + ".nl")
         self.assertEqual(
             line,
             f"{self.stub}.nl is written, with the names of 2 constraints and 6 "
@@ -121,32 +110,6 @@ class Importing(Case):
         self.assertEqual(
             [names.column(j) for j in range(6)], ["c", "'MARKER'", "b", "v", "i", "low"]
         )
-
-
-class Files(Case):
-    def test_is_ours(self) -> None:
-        """iproute2's `bridge` is passed over on the PATH."""
-        for name, script in (
-            ("first", "echo bad words >&2; exit 255"),
-            ("other", "echo usage >&2; exit 3"),
-            ("ours", "echo bad words >&2; exit 3"),
-        ):
-            os.mkdir(os.path.join(self.folder, name))
-            self.script(name + "/bridge", script)
-        first, other, ours = (
-            os.path.join(self.folder, name) for name in ("first", "other", "ours")
-        )
-        with mock.patch.dict(
-            os.environ, {"PATH": os.pathsep.join([first, other, ours]), "BRIDGE": ""}
-        ):
-            self.assertEqual(bridge.find("", []), [os.path.join(ours, "bridge")])
-            self.assertEqual(bridge.find("a 'b c'", []), ["a", "b c"])
-            self.assertEqual(
-                bridge.find("", [os.path.join(other, "bridge")]), [os.path.join(other, "bridge")]
-            )
-        with mock.patch.dict(os.environ, {"PATH": other, "BRIDGE": ""}):
-            self.assertRaisesRegex(NotInstalled, "is another program", bridge.find, "", [])
-        self.assertRaises(NotInstalled, program(["/nonexistent/bridge"]).call, "export", "x")
 
 
 class Terminal(io.StringIO):

@@ -19,8 +19,8 @@ from .plans import Better, Plans
 from ..exact.linear_systems import NotSolved, TooManyBits
 from .watch import KEPT, Over
 from ..exact.search import ImprovedIncumbent
-from ..system.errors import SearchEnded
-from ..program.bridge import Refused
+from ..program.refusal import Refusal
+from ..system.errors import ProgramFailed, SearchEnded
 from ..exact.dual_bound import DOUBLES_NOTE, MultiplierKind, fits_certificate, is_optimal_in_doubles
 from ..exact.leaf_proofs import LeafProof, LeafProver, basis_duals
 
@@ -414,8 +414,8 @@ def certified(work: Certifying, claim: str, given: Given = Given()) -> Verdict:
                 Clp.restrict(watch.to_end() - KEPT)
                 found = work.by_doubles(work.best(work.known()))
                 return found._replace(is_open=work.is_open())
-    except Refused as fault:
-        return Verdict(WITHOUT + fault.line())
+    except (Refusal, ProgramFailed) as fault:
+        return Verdict(WITHOUT + fault.text)
     except (UnsupportedModel, ClpNotInstalled, SearchEnded, Over) as fault:
         return Verdict(WITHOUT + str(fault))
     finally:

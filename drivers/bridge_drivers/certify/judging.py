@@ -22,8 +22,9 @@ from .watch import Watch
 from ..exact.parallel import ParallelSearch
 from ..exact.worker_pools import SearchProblem, WorkerPool
 from ..exact.dual_bound import Multipliers, bit_width, dual_bound, fits_certificate
-from ..system.errors import DeadlineExceeded
-from ..program.bridge import Bridge, Refused
+from ..system.errors import DeadlineExceeded, ProgramFailed
+from ..program.bridge import Bridge
+from ..program.refusal import Refusal
 from ..system.files import new_file
 from ..model.linear_program import Program
 
@@ -120,6 +121,7 @@ class Judging:
         self.has_looked = False  # for a ray
         self.linear = False
         self.path = os.path.join(folder, "certificate")
+        bridge.file_names[self.path] = "the certificate"
 
     def plans_for(self, p: IntegerProgram, value: Fraction | None) -> Plans:
         return Plans(p, value, self.exact, self.folder, self.watch, self.shortens, self.pool)
@@ -142,8 +144,8 @@ class Judging:
         """By `bridge verify`; where numbers are too wide for it, others go on."""
         try:
             return self.verified(lines, tree, point)
-        except Refused as fault:
-            return Verdict(WITHOUT + fault.line())
+        except (Refusal, ProgramFailed) as fault:
+            return Verdict(WITHOUT + fault.text)
 
     def verified(
         self, lines: Iterator[str], tree: str | None = None, point: Point | None = None
@@ -157,18 +159,15 @@ class Judging:
         try:
             self.watch.progress.tell("bridge verify")
             with self.watch.held():
-                reply = self.bridge.call("verify", self.nl, self.path)
+                verdict = self.bridge.verify(self.nl, self.path)
         except DeadlineExceeded:
             return Verdict(WITHOUT + "time: bridge verify was ended before its verdict", point)
         finally:
             self.bridge.limit = None
-        if reply.status not in (0, 1):
-            raise Refused("verify", reply)
-        line = reply.out.decode("utf-8", "replace").strip()
-        if reply.status == 0:
+        if verdict.is_proved:
             value = None if point is None else self.model.sign * self.model.value(point)
-            return Verdict(line, point, self.path, self.figures, value)
-        return Verdict(f"{WITHOUT}bridge verify says `{line}`", point)
+            return Verdict(verdict.line, point, self.path, self.figures, value)
+        return Verdict(f"{WITHOUT}bridge verify says `{verdict.line}`", point)
 
     def best(self, verdicts: Iterator[Verdict]) -> Verdict:
         """The first that is accepted, else the first."""

@@ -4,8 +4,8 @@ from __future__ import annotations
 
 from typing import NamedTuple
 
-from ..program import verdict as verdicts
-from ..program.bridge import Refused
+from ..program.refusal import Refusal
+from ..program.verdict import Verdict
 from ..model.integer_form import UnsupportedModel
 from ..pipeline.row_factors import whole_form
 from ..system.codes import ExitStatus
@@ -39,8 +39,8 @@ class Files(NamedTuple):
 class Explaining:
     """One certificate of one model, after its verdict."""
 
-    def __init__(self, model: Subject, files: Files, verdict: str, holds: bool) -> None:
-        self.files, self.verdict, self.holds = files, verdict, holds
+    def __init__(self, model: Subject, files: Files, verdict: Verdict) -> None:
+        self.files, self.verdict, self.holds = files, verdict.line, verdict.is_proved
         self.shown, self.path = model.given.name, model.path
         with open(files.judged(), encoding="ascii") as lines:
             self.certificate: Certificate = read_certificate(lines)
@@ -48,18 +48,16 @@ class Explaining:
         self.drawn: Picture | None = None
         self.bounds = self.exact(model)
         self.wording = Wording(self.certificate, model.names(), self.bounds, model.constraints())
-        self.fails = None if holds else self.wording.failing_leaf(verdict)
-        self.claim = claim_words(
-            self.certificate, verdicts.read(verdict) if holds else None, self.bounds
-        )
+        self.fails = None if self.holds else self.wording.failing_leaf(self.verdict)
+        self.claim = claim_words(self.certificate, verdict.statement, self.bounds)
 
     def exact(self, given: Subject) -> Bounds | None:
         """The program in exact numbers; None, with a note, where it is not to be had."""
         try:
             program = given.program(str(self.certificate.objective or 0))
             model, _ = whole_form(given.bridge, given.path, program)
-        except (Refused, UnsupportedModel) as fault:
-            told = fault.line() if isinstance(fault, Refused) else str(fault)
+        except (Refusal, UnsupportedModel) as fault:
+            told = fault.describe() if isinstance(fault, Refusal) else str(fault)
             self.note = f"without bounds: {told}"
             return None
         return Bounds(model, self.certificate)
@@ -118,9 +116,9 @@ class Explaining:
 def explained(model: Subject, files: Files, report: Report) -> None:
     """What a certificate says, into the report, and the pages that are asked for. The status is
     that of `verify`, or 5 where a page could not be written. Refused where it is none."""
-    verdict = model.bridge.verdict("verify", model.path, files.judged())
-    told = Explaining(model, files, verdict, verdicts.read(verdict) is not None)
-    report.take_line(verdict)
+    verdict = model.bridge.verify(model.path, files.judged())
+    told = Explaining(model, files, verdict)
+    report.take_verdict(verdict)
     report.status = ExitStatus.DONE if told.holds else ExitStatus.FAILED
     lines = [*map(one_line, told.lines()), *model.notes]
     reads = [model.given.path, model.given.name, files.certificate]

@@ -10,7 +10,7 @@ from string import Template
 from typing import TYPE_CHECKING, Iterable, Iterator, Mapping, NamedTuple, Sequence
 
 from .. import texts
-from ..program.bridge import sum_of
+from ..program.bridge import sha256_of_file
 from .bounds import Bounds
 from ..exact.certificate import NodeKind
 from .words import Wording, both
@@ -56,7 +56,7 @@ def text_of(told: Explaining) -> str:
     lines = [line.partition(" ") for line in told.wording.lines()]
     facts = [(head, text.strip()) for head, _, text in lines if head != "uses"]
     files = {"model's sum": told.path, "certificate's sum": told.files.judged()}
-    facts += [(head, f"SHA-256 {sum_of(path)}") for head, path in files.items()]
+    facts += [(head, f"SHA-256 {sha256_of_file(path)}") for head, path in files.items()]
     point = [
         (told.wording.column(j), both(value)) for j, value in (told.certificate.point or {}).items()
     ]

@@ -7,11 +7,10 @@ from collections import Counter
 from fractions import Fraction
 from typing import Mapping, Sequence
 
-from ..program import verdict as verdicts
 from ..formats.names import NameLists
 from ..system.text import counted, first_of
 from ..formats.numbers import exact_decimal, nearest_double
-from ..program.verdict import Said, decimal, share
+from ..program.verdict import Claim, Statement, decimal, sentence, share_of
 from .bounds import Bounds, Term, total
 from ..exact.certificate import Certificate, Node, NodeKind
 
@@ -219,7 +218,7 @@ class Wording:
         away = abs(value - goal.target)
         return (
             f"its duals show that no point of this part is better than {value}, and {who} "
-            f"{goal.target}: {decimal(away)}{share(away, goal.target)} too {'high' if goal.maximise else 'low'}"
+            f"{goal.target}: {decimal(away)}{share_of(away, goal.target)} too {'high' if goal.maximise else 'low'}"
         )
 
     def no_side(self, place: int, kind: str, number: int) -> str:
@@ -259,27 +258,31 @@ class Wording:
         )
 
 
-def claim_words(certificate: Certificate, said: Said | None, bounds: Bounds | None) -> str:
-    """The claim, where it holds or not."""
-    said = said or claimed(certificate, bounds)
-    return (
-        certificate.claim
-        if said is None
-        else verdicts.in_words(said, bounds is not None and bounds.model.maximise)
-    )
+def claim_words(certificate: Certificate, proved: Statement | None, bounds: Bounds | None) -> str:
+    """The claim in words, where it holds or not.
+
+    Args:
+        certificate: What makes the claim.
+        proved: What the proved program says of it; None where it does not hold.
+        bounds: The program in exact numbers, where that is to be had.
+    """
+    statement = proved or claimed(certificate, bounds)
+    if statement is None:
+        return certificate.claim
+    return sentence(statement, maximise=bounds is not None and bounds.model.maximise)
 
 
-def claimed(certificate: Certificate, bounds: Bounds | None) -> Said | None:
-    """What it claims, with the value of its point."""
-    claim, numbers = certificate.claim, certificate.numbers
-    if claim in ("infeasible", "unbounded"):
-        return Said(claim)
-    if claim == "bound":
-        return Said(claim, None, numbers[0])
+def claimed(certificate: Certificate, bounds: Bounds | None) -> Statement | None:
+    """What it claims, with the value of its point; None where that is not known."""
+    claim, numbers = Claim(certificate.claim), certificate.numbers
+    if claim in (Claim.INFEASIBLE, Claim.UNBOUNDED):
+        return Statement(claim)
+    if claim is Claim.BOUND:
+        return Statement(claim, bound=numbers[0])
     if bounds is None or bounds.value is None:
         return None
-    return Said(
-        claim,
-        bounds.value,
-        {"optimal": bounds.value, "within": numbers[0] if numbers else None}.get(claim),
-    )
+    if claim is Claim.OPTIMAL:
+        return Statement(claim, bounds.value, bounds.value)
+    if claim is Claim.WITHIN and numbers:
+        return Statement(claim, bounds.value, numbers[0])
+    return Statement(claim, bounds.value)

@@ -16,9 +16,9 @@ from ..exact.certificate import lines_of_answer
 from ..certify.watch import Watch
 from ..miss import ROUNDING, miss
 from ..model.linear_program import TIED, TIED_ROW
-from ..program import verdict as verdicts
-from ..program.bridge import Bridge, Refused
-from ..program.verdict import Said
+from ..program.bridge import Bridge
+from ..program.refusal import Refusal
+from ..program.verdict import Claim, Statement, objective_lattice, sentence, statement_of
 from ..sol import numbers_of
 from ..solvers.base import BasisStatus, SolverStatus
 from ..solvers.run import SolverRun
@@ -105,18 +105,18 @@ class AnswerCertifier:
         Where its duals are too wide it is without them, and a line says so, at `place` of the lines.
 
         Raises:
-            Refused: The proved program does not take it.
+            Refusal: The proved program does not take it.
         """
         if self.is_mps:
             return Returned(answer, b"")
         text = self.run.write(name + ".txt", answer.text(lines))
         try:
             with self.monitor.timing("return"):
-                sol = self.bridge.text("return", self.model, text)
-        except Refused as fault:
+                sol = self.bridge.return_(self.model, text)
+        except Refusal as fault:
             if answer.duals is None or not fault.told.endswith("dual too wide"):
                 raise
-            lines.insert(place, f"duals are left out: {fault.line()}")
+            lines.insert(place, f"duals are left out: {fault.text}")
             return self.returned(answer.without_duals(), lines, name, place)
         self.run.write(name + ".sol", sol)
         return Returned(answer, sol)
@@ -126,25 +126,36 @@ class AnswerCertifier:
 
         `bridge check` of the .sol wants duals: where there are none, zeros ask for feasibility alone.
         """
-        command, name = "check", "bridge.sol"
+        name = "bridge.sol"
         try:
             if self.is_mps:
-                command, name = "verify", "values.certificate"
+                name = "values.certificate"
                 lines = lines_of_answer(self.numbers(answer).values, [], 0)
                 self.run.write(name, ("\n".join(lines) + "\n").encode())
-            elif answer.duals is None or not self.run.is_continuous():
+                return self.judged_values(name)
+            if answer.duals is None or not self.run.is_continuous():
                 name, zeros = "check.sol", ["0"] * len(self.program.constraints)
                 self.returned(answer.with_duals(zeros), [], "check")
             with self.monitor.timing("check"):
-                verdict = self.bridge.verdict(command, self.model, self.run.path(name))
-        except Refused as fault:
-            return fault.line().removeprefix(self.run.path(name) + ": ")
-        word, *rest = verdict.split()
-        if self.is_mps and word == "variable":
+                line = self.bridge.check(self.model, self.run.path(name))
+        except Refusal as fault:
+            return fault.text.removeprefix(self.run.path(name) + ": ")
+        return self.check_words(line, has_duals=name == "bridge.sol")
+
+    def judged_values(self, name: str) -> str:
+        """What the proved program says of a certificate that has values alone, in words.
+
+        Raises:
+            Refusal: It does not take the certificate.
+        """
+        with self.monitor.timing("check"):
+            judged = self.bridge.verify(self.model, self.run.path(name))
+        if judged.statement is not None:
+            return self.check_words(f"yes {judged.statement.value}", has_duals=False)
+        word, *rest = judged.line.split()
+        if word == "variable":
             return f"{self.named_part('column', int(rest[0]))} is not whole"
-        if self.is_mps and word == "feasible":
-            verdict = f"yes {rest[0]}"
-        return self.check_words(verdict, has_duals=name == "bridge.sol")
+        return self.check_words(judged.line, has_duals=False)
 
     def certify(self, answer: Answer) -> Verdict:
         """What is proved by a search.
@@ -204,8 +215,8 @@ class AnswerCertifier:
                 [decimal(round(float(text), PLACES))[0] for text in texts] for texts in numbers
             )
             second = work.verified(lines_of_answer(values, duals, work.objective))
-        except Refused as fault:
-            return Verdict(WITHOUT + fault.line())
+        except Refusal as fault:
+            return Verdict(WITHOUT + fault.text)
         if not second.is_proved():
             return verdict
         return second._replace(point=list(map(Fraction, values)))
@@ -247,7 +258,7 @@ class AnswerCertifier:
         return Given(values, duals, basis)
 
     def closing_lines(
-        self, verdict: Verdict, said: Said | None, stored: StoredCertificate | None
+        self, verdict: Verdict, said: Statement | None, stored: StoredCertificate | None
     ) -> list[str]:
         """The last lines of a message.
 
@@ -257,7 +268,7 @@ class AnswerCertifier:
         settings = self.settings.certificate
         lines = [*self.claim_words(said, verdict.note), self.pool_note]
         last = verdict.line
-        is_settled = said is not None and said.is_settled()
+        is_settled = said is not None and said.claim.is_final
         if settings.prove and settings.check and clp.library() is None and not is_settled:
             lines.append(NO_SEARCH)
             if said is not None:
@@ -284,13 +295,13 @@ class AnswerCertifier:
         if told.endswith(" is broken"):
             assert answer.values is not None
             told = self.broken_words(answer, verdict, told)
-        said = verdicts.read(verdict.line)
+        said = statement_of(verdict.line)
         rounded = []
         if answer.rounded_values:
             rounded.append("values")
         if answer.rounded_duals:
             rounded.append("duals")
-        is_optimal = said is not None and said.word == "optimal"
+        is_optimal = said is not None and said.claim is Claim.OPTIMAL
         if said is not None and is_optimal and rounded:
             if told.split()[-1:] != [decimal_or_fraction(str(said.value))]:
                 told += f"; the exact {' and '.join(rounded)} are rounded to decimals in it"
@@ -308,15 +319,15 @@ class AnswerCertifier:
             return f"no row or bound is {by}, which is rounding"
         return f"{told}; no row or bound is {by}"
 
-    def claim_words(self, said: Said | None, note: str = "") -> list[str]:
+    def claim_words(self, said: Statement | None, note: str = "") -> list[str]:
         """The claim in words, where it says more than its line. `note` says why no more is proved."""
-        if said is None or said.is_settled():
+        if said is None or said.claim.is_final:
             return []
-        steps = None if self.is_relaxed else verdicts.multiples(self.program)
-        text = verdicts.in_words(said, self.program.maximise, steps)
-        if said.word == "feasible" and self.run.is_continuous():
+        lattice = None if self.is_relaxed else objective_lattice(self.program)
+        text = sentence(said, maximise=self.program.maximise, lattice=lattice)
+        if said.claim is Claim.FEASIBLE and self.run.is_continuous():
             text += "" if note else "; no bound was found that says how good it is"
-        elif said.word == "feasible":
+        elif said.claim is Claim.FEASIBLE:
             text += "; the search for a better one did not end"
             if not self.settings.certificate.prove:
                 text += ": prove=1 goes on"

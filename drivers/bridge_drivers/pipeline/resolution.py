@@ -11,8 +11,7 @@ from ..certify.claims import Verdict
 from ..system.codes import Code
 from ..miss import NONE, OWN, ROUNDING, Miss
 from ..model.linear_program import TIED, Objective
-from ..program import verdict as verdicts
-from ..program.verdict import Said
+from ..program.verdict import Claim, Statement, statement_of
 from ..formats.numbers import nearest_double
 from .answer import Answer
 from .outcome import NOT_STRICT, Findings, PointSource, Ruling, Violation, decide
@@ -102,7 +101,7 @@ def findings_of(
     answer: Answer, verdict: Verdict, facts: RunFacts, proved: ProvedPoint | None
 ) -> Findings:
     """What decides on the code."""
-    said = verdicts.read(verdict.line) if verdict.is_proved() else None
+    said = statement_of(verdict.line) if verdict.is_proved() else None
     is_mixed = bool(answer.program.whole)
     is_same = proved is not None and not proved.kind
     return Findings(
@@ -119,7 +118,7 @@ def findings_of(
         is_within_gap=said is not None and is_within(said, facts.gap),
         violation=violation_of(answer, facts.residual),
         beats_bound=said is not None
-        and said.word == "bound"
+        and said.claim is Claim.BOUND
         and beats_proved_bound(answer, said.bound),
         is_contradicted=verdict.contradicted,
         is_met_in_doubles=verdict.by_doubles,
@@ -137,7 +136,7 @@ def violation_of(answer: Answer, residual: Miss) -> Violation:
     return Violation.LITTLE if residual.share > rounding else Violation.NOTHING
 
 
-def meets_bound(answer: Answer, proved: ProvedPoint | None, said: Said) -> bool:
+def meets_bound(answer: Answer, proved: ProvedPoint | None, said: Statement) -> bool:
     """Whether the proved bound is at the objective of the proved point, else of the answer.
 
     They may be apart by 1e-6 of the objective, of 1, or of the sum of the sizes of its terms.
@@ -154,7 +153,7 @@ def meets_bound(answer: Answer, proved: ProvedPoint | None, said: Said) -> bool:
     return abs(said.bound - value) <= RELATIVE_GAP * max(abs(value), Fraction(1), terms)
 
 
-def is_within(said: Said, gap: float) -> bool:
+def is_within(said: Statement, gap: float) -> bool:
     """Whether the bound is as near to the point's objective as a relative gap that was asked for."""
     if said.bound is None or said.value is None:
         return False

@@ -45,7 +45,7 @@ def factors_of(
     answer = f"answer 1\nobjno {objective}\n" + "".join(f"row {r} 1\n" for r in rows)
     with tempfile.TemporaryDirectory(prefix="nl-bridge-") as folder:
         duals, _ = numbers_of(
-            bridge.text("return", nl, write_new(os.path.join(folder, "ones.txt"), answer.encode()))
+            bridge.return_(nl, write_new(os.path.join(folder, "ones.txt"), answer.encode()))
         )
     return {row: duals[int(row[1:])] for row in rows}
 

@@ -16,11 +16,12 @@ from ..formats.source import Source
 from ..system.files import OutputFiles, new_folder_in, private_folder
 from ..system.processes import SIGNALS, Interrupted
 from ..model.linear_program import Program, given, is_hollow
-from ..mps_file import judged, reading
 from ..formats.names import NameLists
 from ..formats.nl import read_header, text_of_nl
-from ..program.bridge import BESIDE, Bridge, Refused, find
-from ..program.verdict import FINAL, Said, percent, read
+from ..program.bridge import Bridge, ModelForm, find_program
+from ..program.mps_forms import program_of_mps, read_mps_text
+from ..program.refusal import Refusal
+from ..program.verdict import FINAL, Statement, percentage, statement_of
 from ..solvers import SOLVERS
 from ..solvers.base import Solver, SolverAnswer, SolverStatus
 from ..solvers.run import SolverRun
@@ -78,7 +79,7 @@ class Outcome:
     sol: bytes | None = None
     answer: Answer | None = None
     figures: str = ""
-    said: Said | None = None
+    said: Statement | None = None
     stored: StoredCertificate | None = None
     is_final: bool = True
     kept_folder: str = ""
@@ -160,7 +161,7 @@ class SolveRun:
         self.solver = SOLVERS[self.settings.solver]
 
     def find_bridge(self) -> Bridge:
-        self.bridge_words = find(self.settings.bridge, BESIDE)
+        self.bridge_words = find_program(self.settings.bridge)
         return Bridge(self.bridge_words, self.monitor.command_starts)
 
     def find_solver(self) -> str:
@@ -177,7 +178,7 @@ class SolveRun:
     def outcome(self) -> Outcome:
         """The outcome of the whole run."""
         self.bridge = self.find_bridge()
-        self.bridge.shown[self.source.path] = self.source.name
+        self.bridge.file_names[self.source.path] = self.source.name
         solver_path = self.find_solver()
         with self._folder() as kept_folder:
             outcome = self._solved(solver_path)
@@ -186,7 +187,7 @@ class SolveRun:
     def input_outcome(self, *, overwrite: bool, named: str) -> Outcome:
         """As `write_solver_input`."""
         self.bridge = self.find_bridge()
-        self.bridge.shown[self.source.path] = self.source.name
+        self.bridge.file_names[self.source.path] = self.source.name
         with self._folder() as kept_folder:
             read_program = self._read()
             if isinstance(read_program, Outcome):
@@ -252,13 +253,13 @@ class SolveRun:
             path, notes = self._prepared(target)
         except Damaged as fault:
             raise Damaged(self.source.name, fault.reason) from None
-        self.bridge.shown[path] = self.source.name
+        self.bridge.file_names[path] = self.source.name
         if self.settings.keep_folder and path != target:
             if not (os.path.exists(target) and os.path.samefile(path, target)):
                 shutil.copyfile(path, target)  # MiniZinc, for one, removes its file
         try:
             program = self._exported(path)
-        except Refused as fault:
+        except Refusal as fault:
             return self._refused(fault, path)
         relax = self.settings.solver_settings.relax
         if program.whole and not self.solver.takes_integers and not relax:
@@ -283,21 +284,22 @@ class SolveRun:
         """An MPS file's own program, with what the proved program makes of the file."""
         if self.source.is_mps:
             with self.monitor.timing("reading"):
-                found = reading(self.bridge, path, self.settings.mps_form)
+                wanted = self.settings.mps_form
+                form = ModelForm(wanted) if wanted else None
+                found = read_mps_text(self.bridge, path, form)
             with self.monitor.timing("export"):
-                probe = os.path.join(self.folder, "probe.certificate")
-                program = judged(self.bridge, path, probe, found)
+                trial = os.path.join(self.folder, "trial.certificate")
+                program = program_of_mps(self.bridge, path, trial, found)
             program.notes = [*found.notes, *program.notes]
             return program
-        objective = [str(self.settings.objective)] if self.settings.objective else []
         with self.monitor.timing("export"):
-            program = Program(self.bridge.text("export", path, *objective))
+            program = Program(self.bridge.export(path, self.settings.objective))
         program.names = NameLists(self.source.stub)
         return program
 
-    def _refused(self, fault: Refused, path: str) -> Outcome:
+    def _refused(self, fault: Refusal, path: str) -> Outcome:
         """In words; an objective that is not there by the number that the option says."""
-        line, is_strict = fault.line(), self.settings.certificate.strict
+        line, is_strict = fault.text, self.settings.certificate.strict
         if fault.told.endswith(": empty interval"):
             return Outcome(
                 Code.UNSURE if is_strict else Code.INFEASIBLE,
@@ -434,11 +436,11 @@ class AnsweredRun:
             lines.append(f"{resolution.kind} point was found; objective {objective}")
         try:
             passed_on, sol = self._checked(resolution.answer, verdict, lines, before)
-        except Refused as fault:
-            raise NotReturned(fault.line()) from None
+        except Refusal as fault:
+            raise NotReturned(fault.text) from None
         if verdict.figures:
             LOGGER.info("certificate: %s", verdict.figures)
-        said = read(verdict.line) if verdict.is_proved() else None
+        said = statement_of(verdict.line) if verdict.is_proved() else None
         stored = judge.stored(verdict)
         more = proved_gap_words(said) if answer.found.is_gap else ""
         if resolution.shortfall:
@@ -463,7 +465,7 @@ class AnsweredRun:
             line = f"{title}, corrected: {corrected}"
         elif found.is_gap:
             gap = self.settings.solver_settings.mip_gap
-            named = f"the gap of {percent(gap)}" if gap else "a gap"
+            named = f"the gap of {percentage(gap)}" if gap else "a gap"
             line = f"{title}: stopped at {named} that was asked for{more}"
         else:
             line = f"{title}: {found.text}{more}"
@@ -493,8 +495,8 @@ class AnsweredRun:
             return Verdict(WITHOUT + "check=0")
         try:
             return self.judge.certify(answer)
-        except Refused as fault:
-            raise NotReturned(fault.line()) from None
+        except Refusal as fault:
+            raise NotReturned(fault.text) from None
         except OSError as fault:
             return Verdict(f"{WITHOUT}{fault.filename}: {fault.strerror}")
         except SEARCH_FAULTS as fault:
@@ -521,14 +523,14 @@ def with_proved_duals(answer: Answer, verdict: Verdict, told: str) -> Answer | N
     return other if other.duals is not None else None
 
 
-def proved_gap_words(said: Said | None) -> str:
+def proved_gap_words(said: Statement | None) -> str:
     """What is proved of a gap; "" where nothing is."""
     if said is None or said.value is None or said.bound is None:
         return ""
     if said.bound == said.value:
         return ", and the point is proved optimal"
     size = max(abs(said.bound), abs(said.value))
-    return f", {percent(abs(said.bound - said.value) / size)} are proved"
+    return f", {percentage(abs(said.bound - said.value) / size)} are proved"
 
 
 def words_of_first(first: SolverAnswer) -> str:

@@ -7,9 +7,10 @@ from pathlib import Path
 from typing import NamedTuple
 
 from ..formats.file_kinds import model_kind_of_start
-from ..program import verdict as verdicts
-from ..program.bridge import Bridge, Refused
-from ..system.errors import DeadlineExceeded, FileFault, FileStays
+from ..program.bridge import Bridge
+from ..program.refusal import Refusal
+from ..program.verdict import statement_of
+from ..system.errors import DeadlineExceeded, FileFault, FileStays, ProgramFailed
 from ..system.files import OutputFiles
 
 OLDER_SECONDS = 60.0  # for the verdict on an older certificate
@@ -47,7 +48,7 @@ class CertificateStore:
 
     def store(self, accepted: str, line: str, target: str) -> StoredCertificate:
         """The file `accepted`, whose verdict is the line, at `target`, unless what stands there stays."""
-        reads = [self.model, self.bridge.shown.get(self.model, self.model)]
+        reads = [self.model, self.bridge.file_names.get(self.model, self.model)]
         data = Path(accepted).read_bytes()
         try:
             files = OutputFiles(reads, model_kind_of_start, overwrite=self.overwrite)
@@ -71,12 +72,12 @@ class CertificateStore:
         """What an older certificate proves of the model as it is now, where that is no less than the line."""
         self.bridge.limit = OLDER_SECONDS
         try:
-            proves = self.bridge.verdict("verify", self.model, target)
-        except (DeadlineExceeded, Refused):
+            older = self.bridge.verify(self.model, target)
+        except (DeadlineExceeded, Refusal, ProgramFailed):
             return ""
         finally:
             self.bridge.limit = None
-        old, new = verdicts.read(proves), verdicts.read(line)
-        if old is None or new is None or not verdicts.covers(old, new, self.maximise):
+        proved, wanted = older.statement, statement_of(line)
+        if proved is None or wanted is None or not proved.implies(wanted, maximise=self.maximise):
             return ""
-        return proves
+        return older.line

@@ -1,129 +1,142 @@
-"""Where the program `bridge` is found, what is known of it, and how it is called."""
+"""The proved program: where it is found, what is known of its build, and each call of it."""
 
 from __future__ import annotations
 
+import enum
 import hashlib
 import json
 import os
-import re
 import shlex
 import shutil
 import subprocess
 import tempfile
-from typing import Callable, Mapping, NamedTuple, Sequence
+from typing import Callable, Dict, List, Mapping, Optional, Sequence
 
-from . import refusal
 from ..system.codes import ExitStatus
 from ..system.errors import DeadlineExceeded, NotFound, NotInstalled, NotStarted
 from ..system.processes import with_child
+from .calls import Command, Reply, is_utf8
+from .refusal import Refusal
+from .verdict import Verdict
 
 PACKAGE = os.path.dirname(os.path.dirname(os.path.abspath(__file__)))
-HERE = os.path.dirname(PACKAGE)
-BESIDE = (
-    os.path.join(PACKAGE, "bin", "bridge"),  # a wheel
-    os.path.join(HERE, "..", "..", "..", "libexec", "nl-bridge", "bridge"),  # Debian's
-    os.path.join(HERE, "bin", "bridge"),  # drivers/install
-    os.path.join(HERE, "..", "crates", "bridge", "out", "bridge"),  # a clone
-    os.path.join(HERE, "..", "out", "try", "bridge"),
-)  # the same, not proved
-NOTES = (
-    "{program}.built",
-    os.path.join(PACKAGE, "built.json"),
-)  # on the program of a clone, of a package
+DRIVERS = os.path.dirname(PACKAGE)
+LOCATIONS = (
+    os.path.join(PACKAGE, "bin", "bridge"),  # of a wheel
+    os.path.join(
+        DRIVERS, "..", "..", "..", "libexec", "nl-bridge", "bridge"
+    ),  # of Debian's package
+    os.path.join(DRIVERS, "bin", "bridge"),  # of drivers/install
+    os.path.join(DRIVERS, "..", "crates", "bridge", "out", "bridge"),  # of a clone, proved
+    os.path.join(DRIVERS, "..", "out", "try", "bridge"),  # of a clone, not proved
+)  # beside the drivers; the first that is there counts
+BUILD_NOTES = (
+    "{program}.built",  # of a clone
+    os.path.join(PACKAGE, "built.json"),  # of a package
+)  # where a note on a build stands
+LONGEST_TRIAL = 20  # seconds that a program called `bridge` has to say that it is the proved one
 PIECE = 1 << 20  # bytes of a file that are read at once
-ENDED = {4: "a file could not be read", 5: "its output could not be written", 6: "want of memory"}
 
 
-class Reply(NamedTuple):
-    """How one call ended: its status, standard output, and the line that it told."""
+class ModelForm(enum.Enum):
+    """What text a model is. That decides by which commands it is read, and judged."""
 
-    status: int
-    out: bytes
-    told: str
+    NL = "nl"
+    FREE = "free"  # MPS in free form
+    FIXED = "fixed"  # MPS in fixed columns
 
+    @property
+    def reader(self) -> Command:
+        """What writes the MPS text of such a model."""
+        return _READERS[self]
 
-class Refused(Exception):
-    """`bridge` ended without what was asked for, by these words; `shown` are the paths that the user knows files by."""
-
-    def __init__(
-        self,
-        command: str,
-        reply: Reply,
-        words: Sequence[str] = (),
-        shown: Mapping[str, str] | None = None,
-    ) -> None:
-        super().__init__(reply.told)
-        self.command, self.status, self.told = command, reply.status, reply.told
-        self.words, self.shown = list(words), shown or {}
-
-    def line(self) -> str:
-        if self.status == ExitStatus.BAD_WORDS and not all(map(is_plain, self.words)):
-            return "a path that is not UTF-8"
-        if self.status == ExitStatus.BAD_WORDS:
-            return f"this bridge does not know the command `{self.command}` (bad words)"
-        if self.status < 0:
-            return f"`bridge {self.command}` was stopped by signal {-self.status}"
-        if self.status == ExitStatus.UNREAD and self.words:
-            return refusal.unreadable(refusal.files_of(self.words), self.shown)
-        text = self.told or ENDED.get(self.status, f"ended with {self.status}")
-        return refusal.in_words(self.words, text, self.shown)
+    @property
+    def judge(self) -> Command:
+        """What judges certificates over such a model."""
+        return _JUDGES[self]
 
 
-def is_plain(word: str) -> bool:
-    """Whether a word is UTF-8, which the words of `bridge` must be."""
-    return re.search("[\ud800-\udfff]", word) is None
+_READERS = {
+    ModelForm.NL: Command.EXPORT,
+    ModelForm.FREE: Command.MPS,
+    ModelForm.FIXED: Command.FIXED,
+}
+_JUDGES = {
+    ModelForm.NL: Command.VERIFY,
+    ModelForm.FREE: Command.VERIFY_MPS,
+    ModelForm.FIXED: Command.VERIFY_FIXED,
+}
 
 
-def is_ours(place: str) -> bool:
-    """Another program has the name `bridge` too (iproute2): ours answers no words with 3."""
+def is_proved_program(path: str) -> bool:
+    """Whether a program of the name `bridge` is the proved one: that answers no words with 3.
+
+    Another program has the name, too: that of iproute2.
+    """
     try:
-        ran = subprocess.run([place], stdin=subprocess.DEVNULL, capture_output=True, timeout=20)
+        ran = subprocess.run(
+            [path], stdin=subprocess.DEVNULL, capture_output=True, timeout=LONGEST_TRIAL
+        )
     except (OSError, subprocess.TimeoutExpired):
         return False
     return ran.returncode == ExitStatus.BAD_WORDS and ran.stderr.strip() == b"bad words"
 
 
-def find(named: str, beside: Sequence[str]) -> list[str]:
-    """The words that start `bridge`: the option, $BRIDGE, beside the drivers, on the PATH."""
-    told = named or os.environ.get("BRIDGE")
-    if told:
+def find_program(named: str = "", locations: Sequence[str] = LOCATIONS) -> List[str]:
+    """The words that start the proved program.
+
+    Args:
+        named: By an option; then the variable BRIDGE is not looked at.
+        locations: Where it is looked for before the PATH.
+
+    Raises:
+        NotInstalled: It is nowhere, or the words that name it are not closed.
+    """
+    words = named or os.environ.get("BRIDGE")
+    if words:
         try:
-            return shlex.split(told)
+            return shlex.split(words)
         except ValueError:
-            raise NotInstalled(f"bridge={told}: a quote does not end") from None
-    for place in beside:
-        if os.access(place, os.X_OK) and not os.path.isdir(place):
-            return [place]
-    folders = filter(None, os.environ.get("PATH", "").split(os.pathsep))
-    named_so = [
-        found for found in (shutil.which("bridge", path=folder) for folder in folders) if found
-    ]
-    ours = next(filter(is_ours, named_so), "")
-    if ours:
-        return [ours]
-    other = named_so[0] if named_so else ""
-    raise NotFound("bridge", "give bridge=PATH or set BRIDGE", other)
+            raise NotInstalled(f"bridge={words}: a quote does not end") from None
+    for path in locations:
+        if os.access(path, os.X_OK) and not os.path.isdir(path):
+            return [path]
+    others = []
+    for folder in filter(None, os.environ.get("PATH", "").split(os.pathsep)):
+        found = shutil.which("bridge", path=folder)
+        if found and is_proved_program(found):
+            return [found]
+        if found:
+            others.append(found)
+    raise NotFound("bridge", "give bridge=PATH or set BRIDGE", others[0] if others else "")
 
 
-def sum_of(path: str | None) -> str | None:
-    """The SHA-256 of a file; None where it cannot be read."""
+def sha256_of_file(path: Optional[str]) -> Optional[str]:
+    """The SHA-256 of what stands at a path; None where it cannot be read."""
     digest = hashlib.sha256()
     try:
-        with open(path or "", "rb") as f:
-            for piece in iter(lambda: f.read(PIECE), b""):
+        with open(path or "", "rb") as file:
+            for piece in iter(lambda: file.read(PIECE), b""):
                 digest.update(piece)
     except OSError:
         return None
     return digest.hexdigest()
 
 
-def built(program: str) -> Mapping[str, str]:
-    """The facts of a note on exactly this program: whether the gate proved it, and by what. Empty where none is."""
-    digest = sum_of(program)
-    for place in NOTES:
+def build_facts(program: str) -> Mapping[str, str]:
+    """What is noted on the build of exactly this program: whether the gate proved it, and by what.
+
+    Args:
+        program: Its path.
+
+    Returns:
+        The facts of the note by their keys; empty where there is none on these bytes.
+    """
+    digest = sha256_of_file(program)
+    for path in BUILD_NOTES:
         try:
-            with open(place.format(program=program), encoding="utf-8") as f:
-                facts = {str(key): str(value) for key, value in json.load(f).items()}
+            with open(path.format(program=program), encoding="utf-8") as file:
+                facts = {str(key): str(value) for key, value in json.load(file).items()}
         except (OSError, ValueError, AttributeError):
             continue
         if digest is not None and digest in (facts.get("sha256"), facts.get("program")):
@@ -131,25 +144,43 @@ def built(program: str) -> Mapping[str, str]:
     return {}
 
 
+def _note_nothing(argv: Sequence[str]) -> None:
+    pass
+
+
 class Bridge:
-    """Calls of `bridge`. `note` is told the words of each; `limit` is for one call, in seconds. `shown` has the paths
-    that the user knows files by, `spelled` commands that stand for others (`verify_mps` for `verify`).
+    """Calls of the proved program in one run.
+
+    Attributes:
+        argv: The words that start it.
+        note: Is told the words of each call before it is made.
+        limit: Seconds that a call may take; None for no limit.
+        file_names: What the user calls a file, by the path that the program is given.
+        forms: What text the model at a path is, where that is no .nl file.
     """
 
-    limit: float | None = None
-    spelled: Mapping[str, str] = {}
-
-    def __init__(self, words: Sequence[str], note: Callable[[Sequence[str]], None]) -> None:
-        self.words, self.note = list(words), note
-        self.shown: dict[str, str] = {}
-        self.links: tempfile.TemporaryDirectory[str] | None = None
+    def __init__(
+        self, argv: Sequence[str], note: Callable[[Sequence[str]], None] = _note_nothing
+    ) -> None:
+        self.argv = list(argv)
+        self.note = note
+        self.limit: Optional[float] = None
+        self.file_names: Dict[str, str] = {}
+        self.forms: Dict[str, ModelForm] = {}
+        self._links: Optional[tempfile.TemporaryDirectory[str]] = None
 
     def call(self, *words: str) -> Reply:
-        argv = self.words + [self.reachable(word) for word in self.in_full(words)]
+        """One call, however it ends.
+
+        Raises:
+            NotStarted: The program cannot be run.
+            DeadlineExceeded: It was ended after `limit` seconds.
+        """
+        argv = self.argv + [self._reachable(word) for word in words]
         self.note(argv)
         try:
             return with_child(
-                self.reply,
+                self._reply,
                 argv,
                 stdin=subprocess.DEVNULL,
                 stdout=subprocess.PIPE,
@@ -160,35 +191,72 @@ class Bridge:
         except subprocess.TimeoutExpired:
             raise DeadlineExceeded(words[0]) from None
 
-    def reply(self, child: subprocess.Popen[bytes]) -> Reply:
+    def _reply(self, child: "subprocess.Popen[bytes]") -> Reply:
         out, told = child.communicate(timeout=self.limit)
         return Reply(child.returncode, out, told.decode("utf-8", "replace").strip())
 
-    def reachable(self, word: str) -> str:
-        """`bridge` takes words of UTF-8 alone: a path of other bytes is given as a link to it."""
-        if is_plain(word):
+    def _reachable(self, word: str) -> str:
+        """The program takes words of UTF-8 alone: a path of other bytes is given as a link to it."""
+        if is_utf8(word):
             return word
-        self.links = self.links or tempfile.TemporaryDirectory(prefix="bridge-links-")
-        link = os.path.join(self.links.name, hashlib.sha256(os.fsencode(word)).hexdigest())
+        if self._links is None:
+            self._links = tempfile.TemporaryDirectory(prefix="bridge-links-")
+        name = hashlib.sha256(os.fsencode(word)).hexdigest()
+        link = os.path.join(self._links.name, name)
         if not os.path.lexists(link):
             os.symlink(os.path.abspath(word), link)
         return link
 
-    def in_full(self, words: Sequence[str]) -> list[str]:
-        """The words with the command that is called."""
-        return [self.spelled.get(words[0], words[0]), *words[1:]]
+    def refusal(self, words: Sequence[str], reply: Reply) -> Refusal:
+        """The error of a call that ended without what was asked for."""
+        return Refusal(words[0], reply, words, self.file_names)
 
-    def refused(self, words: Sequence[str], reply: Reply) -> Refused:
-        words = self.in_full(words)
-        return Refused(words[0], reply, words, self.shown)
+    def text(self, command: Command, *files: str) -> bytes:
+        """What a command prints that writes a text.
 
-    def text(self, *words: str, fine: Sequence[int] = (0,)) -> bytes:
-        """What it prints; Refused where its status is another."""
-        reply = self.call(*words)
-        if reply.status not in fine:
-            raise self.refused(words, reply)
+        Raises:
+            Refusal: It ended with another status than 0.
+        """
+        reply = self.call(command.value, *files)
+        if reply.status != ExitStatus.DONE:
+            raise self.refusal((command.value, *files), reply)
         return reply.out
 
-    def verdict(self, command: str, nl: str, other: str) -> str:
-        """The line of `check` or `prove`, whose statuses 0 and 1 are verdicts both."""
-        return self.text(command, nl, other, fine=(0, 1)).decode("utf-8", "replace").strip()
+    def export(self, model: str, objective: int = 0) -> bytes:
+        """The MPS text of an .nl file, with one of its objectives, from 0."""
+        return self.text(Command.EXPORT, model, *([str(objective)] if objective else []))
+
+    def return_(self, model: str, answer: str) -> bytes:
+        """The .sol text of a solver's answer, which stands in a file, to what `export` wrote."""
+        return self.text(Command.RETURN, model, answer)
+
+    def verify(self, model: str, certificate: str) -> Verdict:
+        """The verdict on a certificate, over the model's own text.
+
+        Args:
+            model: The path of an .nl file, or of an MPS file whose form is in `forms`.
+            certificate: The path of a file.
+
+        Raises:
+            Refusal: The program refuses the model or the certificate.
+            NoVerdict: What it answers is no verdict.
+            DeadlineExceeded: It was ended after `limit` seconds.
+        """
+        command = self.forms.get(model, ModelForm.NL).judge
+        return Verdict(self._judged(command, model, certificate))
+
+    def check(self, model: str, sol: str) -> str:
+        """The line on the point and the duals of a .sol file over an .nl file.
+
+        Raises:
+            Refusal: The program refuses one of the files.
+        """
+        reply = self._judged(Command.CHECK, model, sol)
+        return reply.out.decode("utf-8", "replace").strip()
+
+    def _judged(self, command: Command, model: str, other: str) -> Reply:
+        """A reply with one of the two statuses that go with a verdict."""
+        reply = self.call(command.value, model, other)
+        if reply.status not in (ExitStatus.DONE, ExitStatus.FAILED):
+            raise self.refusal((command.value, model, other), reply)
+        return reply

@@ -1,159 +1,389 @@
-"""Reasons of refusals, with what helps, and the word that is at fault in a line of an MPS text."""
+"""The reasons that the proved program gives for a refusal: what each means, and what helps.
+
+`nl-bridge help refusals` lists them; `nl-bridge explain` says of one refusal what is here, too.
+"""
 
 from __future__ import annotations
 
 import re
 import textwrap
-from typing import Iterable, Mapping, NamedTuple, Sequence
+from typing import Dict, List, Mapping, NamedTuple, Tuple
 
-from ..system.text import alternatives, did_you_mean
-from ..texts import tables
-
-OPCODE = re.compile(r"refused opcode (\d+)$")
-WIDTH = 96
-COMMANDS = ("mps", "fixed", "import", "verify_mps", "verify_fixed")  # whose first file is one
-SECTIONS = ("NAME", "OBJSENSE", "ROWS", "COLUMNS", "RHS", "RANGES", "BOUNDS", "ENDATA")
-BEYOND = {
-    word: text for words, text in tables("sections.txt")["not read"] for word in words.split()
-}
-KINDS = ("LO", "UP", "FX", "FR", "MI", "PL", "BV", "LI", "UI")
-BARE = ("FR", "MI", "PL", "BV")  # kinds of bounds that have no number
-PLAIN = {
-    "column again": (0, "the lines of a column must stand together"),
-    "repeated row": (-1, "a line before has it"),
-    "bad marker": (-1, "'INTORG' or 'INTEND' is wanted"),
-}  # which word, and what of it
-NUMBER = re.compile(r"[-+]?(\d+\.?\d*|\.\d+)([eEdD][-+]?\d+)?")
+LISTED_WIDTH = 96  # columns of the list of all reasons
+OPCODE = re.compile(r"refused opcode \d+", re.ASCII)
 
 
-class Meaning(NamedTuple):
-    """What is told with reasons, what more there is to say, what helps; each may be empty."""
+class Reason(NamedTuple):
+    """One reason, or some that mean the same.
 
-    reasons: str
-    text: str
+    Attributes:
+        words: As the program tells each; an operator's number is left out.
+        text: What it means; empty where the words say it.
+        more: What the list of all reasons adds to that; may be empty.
+        remedy: What helps; may be empty.
+    """
+
+    words: Tuple[str, ...]
+    text: str = ""
     more: str = ""
-    help: str = ""
+    remedy: str = ""
 
 
-TABLES = {title: [Meaning(*row) for row in rows] for title, rows in tables("reasons.txt").items()}
-MEANING: Mapping[str, Meaning] = {  # of the first table that has the reason
-    reason: row
-    for rows in reversed(list(TABLES.values()))
-    for row in rows
-    for reason in row.reasons.split(", ")
-}
+REASONS: Mapping[str, Tuple[Reason, ...]] = {
+    "models": (
+        Reason(
+            ("nonlinear",),
+            "the model is not linear there",
+            more="a product of two expressions that depend on variables, a quotient by one, or"
+            " a power, least, greatest, floor, ceiling or absolute value of one; a "
+            "product with an expression that is constant by value, x*(y-y), is taken",
+            remedy="linearise it: a product with a whole variable by bounds (big M), abs, min "
+            "and max by rows and one more variable",
+        ),
+        Reason(
+            ("refused opcode",),
+            more="a function that no linear file has, by its number in the .nl format: sin 41,"
+            " if 35, exp 44",
+            remedy="leave it out, or tabulate it as a piecewise-linear function written with "
+            "linear rows",
+        ),
+        Reason(
+            ("refused leaf",),
+            "an imported function or a string",
+            remedy="leave it out, or tabulate it as a piecewise-linear function written with "
+            "linear rows",
+        ),
+        Reason(
+            ("refused count",),
+            "logical constraints, complementarity, networks or functions",
+            more="by the header's counts",
+            remedy="write them as linear rows",
+        ),
+        Reason(
+            ("complementarity",),
+            "complementarity conditions are not taken",
+            remedy="two rows and a whole variable",
+        ),
+        Reason(
+            ("refused segment",),
+            "logical constraints or imported functions",
+            more="a piece F, L or K, which is the other form of k",
+            remedy="write them as linear rows; write the file with k",
+        ),
+        Reason(
+            ("special ordered sets",),
+            "sets declared by the suffix sosno are not taken",
+            remedy="write the sets as rows with whole variables",
+        ),
+        Reason(
+            ("binary file",),
+            "only text .nl files are read: in AMPL, write gNAME",
+            remedy="the drivers (bridge-cbc and kin) read binary files too",
+        ),
+        Reason(
+            ("division by zero",),
+            "a divisor is 0",
+            more="by value",
+            remedy="mend the data",
+        ),
+        Reason(
+            ("refused power",),
+            "a power's exponent must be a whole number from 0 to 127",
+            remedy="compute it in the data",
+        ),
+        Reason(
+            ("too wide",),
+            "an exact value does not fit 128 bits",
+            more="most often many divisors, or numbers of 17 digits from binary arithmetic",
+            remedy="round the data to the digits that are meant",
+        ),
+        Reason(
+            ("row too wide",),
+            "the row's exact values do not fit 128 bits",
+            more="times the least whole number that makes them decimals, as of x/3 + y/7 + ..",
+            remedy="multiply the row out by hand, or round its data",
+        ),
+        Reason(
+            ("objective too wide",),
+            "the objective's exact values do not fit 128 bits",
+            remedy="multiply it out by hand, or round its data",
+        ),
+        Reason(
+            ("fold too large",),
+            "the linear forms of the model have too many terms",
+            more="coefficients of defined variables that use each other, above 2^23",
+            remedy="make some defined variables true ones, with an equation",
+        ),
+        Reason(
+            ("no such objective",),
+            "the file has fewer objectives; they count from 0 here",
+        ),
+        Reason(
+            ("too large",),
+            "more than the file may hold",
+            more="docs/user/formats.md has the limits",
+            remedy="split the model",
+        ),
+        Reason(
+            ("empty interval",),
+            "a lower bound is above its upper bound, so nothing satisfies the model",
+        ),
+        Reason(
+            ("missing segment",),
+            "no O of an objective, no r of constraints or no b of variables; MiniZinc writes "
+            "no b for a model of bounds alone: add a constraint on two variables",
+            remedy="MiniZinc: add a constraint on two variables",
+        ),
+    ),
+    ".nl files that were cut, edited or made by a program with a fault": (
+        Reason(
+            ("bad first line",),
+            "this is no text .nl file",
+            more="it does not begin with g and a number",
+        ),
+        Reason(
+            ("refused options",),
+            "the first line's options are not taken",
+            more="more than four, fewer than it says, or 3 as the second, which announces a "
+            "further line",
+            remedy="write the file anew by AMPL",
+        ),
+        Reason(
+            ("bad header number", "counts disagree"),
+            more="lines 2 to 10: no whole number; groups of variables larger than what they "
+            "are part of (all groups at line 7)",
+        ),
+        Reason(
+            ("end in header",),
+            "an .nl file begins with ten lines",
+        ),
+        Reason(
+            ("unknown segment", "bad segment head"),
+            more="a letter that the format has not; a wrong number of words, or a wrong word",
+        ),
+        Reason(
+            ("index out of range", "repeated segment", "repeated index"),
+            more="what the header's counts do not allow; the same thing twice",
+        ),
+        Reason(
+            ("short segment", "extra line"),
+            more="fewer or more lines than the head says",
+        ),
+        Reason(
+            ("bad line",),
+            more="words that are not of this kind of line",
+        ),
+        Reason(
+            ("bad number",),
+            "not a decimal number, or beyond 38 digits (MiniZinc: without --hexafloat)",
+            more="or not whole where it must be",
+        ),
+        Reason(
+            ("binary bounds",),
+            more="a binary variable whose bounds are not within 0 and 1",
+        ),
+        Reason(
+            ("undefined",),
+            "a defined variable that is used before its piece",
+        ),
+        Reason(
+            ("nonzero count", "column count"),
+            more="terms that are not as many as line 8, or the counts of k, say",
+        ),
+        Reason(
+            ("line too long", "input too long"),
+            more="more than 65,536 bytes on a line, more than 2^31 in a text",
+        ),
+    ),
+    "MPS texts": (
+        Reason(
+            ("bad section",),
+            "a section of another kind of model (SOS, QUADOBJ, CSECTION), or one out of its "
+            "order",
+            more="or twice",
+            remedy="what is no linear integer program cannot be read",
+        ),
+        Reason(
+            ("bad line",),
+            more="a wrong number of words: often fixed columns with more behind them, or "
+            "blanks in names",
+            remedy="fixed FILE for the one; names with blanks are not read",
+        ),
+        Reason(
+            ("bad bound kind",),
+            "not LO, UP, FX, FR, MI, PL, BV, LI or UI",
+        ),
+        Reason(
+            ("bad marker",),
+            more="neither INTORG nor INTEND",
+        ),
+        Reason(
+            ("unknown row",),
+            "no line of ROWS has it",
+        ),
+        Reason(
+            ("unknown column",),
+            "no line of COLUMNS has it",
+        ),
+        Reason(
+            ("column again",),
+            "the lines of a column must stand together",
+            remedy="sort them by columns",
+        ),
+        Reason(
+            ("repeated row", "repeated entry", "repeated bound"),
+            more="a name that was given before",
+        ),
+        Reason(
+            ("second set",),
+            "two right sides, ranges or sets of bounds",
+            remedy="keep one",
+        ),
+        Reason(
+            ("range on free row",),
+            "a range for an N row",
+            remedy="leave it out",
+        ),
+        Reason(
+            ("no objective",),
+            "no N row",
+            remedy="add one",
+        ),
+        Reason(
+            ("no end",),
+            "the text ends before ENDATA",
+            remedy="it was cut",
+        ),
+    ),
+    "answers, .sol files and lists of names": (
+        Reason(
+            ("unknown name",),
+            "no column, or no row that was exported, has it",
+            remedy="the names that export wrote",
+        ),
+        Reason(
+            ("partial answer",),
+            "values for some columns or duals for some rows, and not for all",
+            remedy="all, or none",
+        ),
+        Reason(
+            ("repeated",),
+            more="a value that an earlier line has given",
+        ),
+        Reason(
+            ("dual too wide",),
+            "a dual value does not fit 128 bits",
+            more="times its row's factor",
+            remedy="round the dual",
+        ),
+        Reason(
+            ("other counts",),
+            "it is of another model",
+        ),
+        Reason(
+            ("no dual values",),
+            "the answer has none, and bridge checks none without them",
+            remedy="a solver that gives duals; for a whole program prove",
+        ),
+        Reason(
+            ("no primal values",),
+            "the answer has none",
+        ),
+        Reason(
+            ("other count",),
+            "names that are not as many as the model has",
+            remedy="the lists written with this file",
+        ),
+        Reason(
+            ("bad name",),
+            "not one word of 1 to 255 bytes",
+        ),
+        Reason(
+            ("repeated name",),
+            "an earlier line has it",
+        ),
+        Reason(
+            ("reserved name",),
+            "it begins with @, or is 'MARKER'",
+        ),
+    ),
+    "certificates": (
+        Reason(
+            ("bad line",),
+            more="another first word than the claim and the nodes before ask for, or a wrong "
+            "number of words; duals under infeasible outside the proof of a lemma",
+            remedy="docs/user/formats.md has the order",
+        ),
+        Reason(
+            ("bad number",),
+            more="no number, or not whole in a split or plane; a whole T above 2^127 - 2; a "
+            "plane or lemma without lines; another line where one of a list is awaited",
+            remedy="the N of a list is its number of lines",
+        ),
+        Reason(
+            ("index out of range",),
+            more="a variable that the file has not; a row that is neither a constraint nor was"
+            " added above this leaf",
+            remedy="the proof of a lemma has not the lemma's own row",
+        ),
+        Reason(
+            ("not whole",),
+            more="a split or plane on a continuous variable",
+            remedy="a lemma may have any variables",
+        ),
+        Reason(
+            ("index out of order",),
+            more="not above the one before in its list",
+            remedy="sort it, and add what stands twice",
+        ),
+        Reason(
+            ("extra line", "short file"),
+            more="more or less than the claim asks for",
+            remedy="a split, a plane and a lemma have two trees behind them",
+        ),
+        Reason(
+            ("too large",),
+            more="more nodes, lines of lists or added rows than docs/user/formats.md allows",
+        ),
+    ),
+}  # by the kind of text that is refused; of some words the first kind that has them counts
 
 
-def meaning_of(reason: str) -> Meaning:
-    return MEANING.get(OPCODE.sub("refused opcode", reason), Meaning(reason, ""))
+def _by_words() -> Dict[str, Reason]:
+    found: Dict[str, Reason] = {}
+    for reasons in REASONS.values():
+        for reason in reasons:
+            for words in reason.words:
+                found.setdefault(words, reason)
+    return found
 
 
-def listed() -> str:
-    """All of them, by kind of text."""
-    told = ""
-    for title, rows in TABLES.items():
-        told += f"{title}:\n"
-        for row in rows:
-            said = "; ".join(filter(None, (row.text, row.more)))
-            said += f" => {row.help}" if row.help else ""
-            told += (
-                textwrap.fill(
-                    said, WIDTH, initial_indent=f"  {row.reasons}:  ", subsequent_indent=" " * 6
-                )
-                + "\n"
-            )
-    return told
+REASON_OF_WORDS: Mapping[str, Reason] = _by_words()
 
 
-class Line(NamedTuple):
-    """The words of a line, the section it is in, and the names of rows and columns before it."""
-
-    words: Sequence[str]
-    section: str
-    rows: Iterable[str]
-    columns: Iterable[str]
+def is_opcode(words: str) -> bool:
+    """Whether a reason is that of an operator which no linear model has, with its number."""
+    return OPCODE.fullmatch(words) is not None
 
 
-def line_at(path: str, number: int) -> Line:
-    """OSError where the file cannot be read."""
-    section, rows, columns = "", list[str](), dict[str, None]()
-    words: list[str] = []
-    with open(path, encoding="utf-8", errors="surrogateescape") as f:
-        for count, text in enumerate(f, 1):
-            words = text.split()
-            if count == number:
-                break
-            if text[:1].strip() and words and words[0] != "*":
-                section = words[0].upper()
-            elif section == "ROWS" and len(words) > 1:
-                rows.append(words[1])
-            elif section == "COLUMNS" and words:
-                columns[words[0]] = None
-    return Line(words, section, rows, columns)
+def reason_of(words: str) -> Reason:
+    """What there is to say of a reason, which may be one that is not listed."""
+    key = "refused opcode" if is_opcode(words) else words
+    return REASON_OF_WORDS.get(key, Reason((words,)))
 
 
-def fault(path: str, number: int, reason: str) -> str:
-    """`` `XX`: not LO, UP, ..``, or nothing where nothing is known."""
-    try:
-        line = line_at(path, number)
-    except OSError:
-        return ""
-    if not line.words:
-        return ""
-    if reason in PLAIN:
-        at, text = PLAIN[reason]
-        return of(line.words[at], text)
-    word, known = line.words[0], line.words[0].upper()
-    if reason == "bad section" and known in BEYOND:
-        return of(word, f"{BEYOND[known]} are not read")
-    if reason == "bad section" and known in SECTIONS:
-        return of(word, "out of its order, or twice")
-    if reason == "bad section":
-        return of(word, "no section that is known", (*SECTIONS, *BEYOND))
-    if reason == "bad bound kind":
-        return of(
-            word,
-            "semi-continuous columns are not read"
-            if known in ("SC", "SI")
-            else "not " + alternatives(KINDS),
-        )
-    if reason == "unknown row":
-        return unknown(line.words[-2:0:-2][::-1], line.rows)
-    if reason == "unknown column":
-        has_number = len(line.words) > 1 and known not in BARE
-        return unknown([line.words[-2 if has_number else -1]], line.columns)
-    return decimal(line) if reason == "bad number" else plain(line) if reason == "bad line" else ""
+def listed_reasons() -> str:
+    """All reasons, by the kind of text that is refused, as `nl-bridge help refusals` prints them."""
+    lines: List[str] = []
+    for title, reasons in REASONS.items():
+        lines.append(f"{title}:")
+        lines += map(_paragraph, reasons)
+    return "".join(line + "\n" for line in lines)
 
 
-def of(word: str, text: str, known: Iterable[str] = ()) -> str:
-    meant = did_you_mean(word, known)
-    return f"`{word}`: {text}" + (f";{meant}" if meant else "")
-
-
-def decimal(line: Line) -> str:
-    """The first word at a number's place that is none."""
-    words = line.words
-    places = [words[-1]] if line.section == "BOUNDS" else list(words[-1:0:-2])[::-1]
-    word = next((word for word in places if not NUMBER.fullmatch(word)), "")
-    if not word:
-        return of(places[0], "more than 38 digits") if places else ""
-    return of(
-        word, "no decimal number" + ("; a point stands before decimals" if "," in word else "")
-    )
-
-
-def unknown(words: Sequence[str], known: Iterable[str]) -> str:
-    """The first word at a name's place that is none of these."""
-    names = set(known)
-    word = next((word for word in words if word not in names), "")
-    return of(word, "no line before has it", sorted(names)) if word else ""
-
-
-def plain(line: Line) -> str:
-    """A kind of a row, a sense; else how many words there are."""
-    word, count = line.words[0], len(line.words)
-    if line.section == "ROWS" and word.upper() not in ("N", "L", "G", "E"):
-        return of(word, "no kind of a row, which are N, L, G and E")
-    if line.section == "OBJSENSE":
-        return of(word, "no sense, which are MAX and MIN")
-    return f"of {count} {'word' if count == 1 else 'words'}: `{' '.join(line.words)[:60]}`"
+def _paragraph(reason: Reason) -> str:
+    text = "; ".join(filter(None, (reason.text, reason.more)))
+    if reason.remedy:
+        text += f" => {reason.remedy}"
+    first = f"  {', '.join(reason.words)}:  "
+    return textwrap.fill(text, LISTED_WIDTH, initial_indent=first, subsequent_indent=" " * 6)

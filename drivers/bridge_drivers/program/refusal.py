@@ -1,6 +1,6 @@
-"""A refusal of `bridge` in words: its file, line and place, the expression, what it means.
+"""A refusal of the proved program in words: its file, line and place, the expression, what helps.
 
-`bridge` tells one line, such as `refused line 12: nonlinear`. What is said of it here comes from
+The program tells one line, such as `refused line 12: nonlinear`. What is said of it here comes from
 reading the file once more, as far as that line; nothing of it is proved. Variables and constraints
 have their names where AMPL wrote them beside the model (stub.col, stub.row), or in a comment.
 """
@@ -10,36 +10,132 @@ from __future__ import annotations
 import itertools
 import os
 import re
-from typing import Mapping, NamedTuple, Sequence
+from typing import Dict, List, Mapping, NamedTuple, Optional, Sequence, Tuple
 
-from . import reasons
-from .reasons import OPCODE, meaning_of
 from ..formats import file_kinds
 from ..formats.names import NameLists, comment_of, numbered_name
 from ..formats.nl_expressions import expression_in_words
-from ..system.text import one_line, printable
-
-TOLD = re.compile(
-    r"refused (?:file (\d+) ?)?(?:(line|row|column|objective) (\d+)|program)?: (.*)", re.S
+from ..system.codes import ExitStatus
+from ..system.errors import (
+    BridgeError,
+    FileAction,
+    FileFault,
+    ModelRefused,
+    NotInstalled,
+    ProgramFailed,
+    WrongOption,
 )
-HEADS = b"COVLFSJGKkbrdx"
-BODIES = b"COVL"  # segments that hold an expression
-HEAD_LINES = 10
-NL_FIRST = ("export", "nl", "return", "check", "prove", "verify")  # commands of an .nl file
+from ..system.text import one_line, printable
+from .calls import FIRST_LINES, READERS_OF_MPS, READERS_OF_NL, Reply, files_of_call, is_utf8
+from .mps_faults import word_at_fault
+from .reasons import is_opcode, reason_of
 
-FIRST_LINES = {
-    "verify": "certificate 1",
-    "verify_mps": "certificate 1",
-    "verify_fixed": "certificate 1",
-    "prove": "proof 1",
-    "return": "answer 1",
+HEAD_LINES = 10  # of an .nl file
+SEGMENTS = b"COVLFSJGKkbrdx"  # letters that begin a segment of an .nl file
+EXPRESSION_SEGMENTS = b"COVL"  # those that hold an expression
+END_REASONS = (
+    "end in header",
+    "missing segment",
+    "nonzero count",
+    "column count",
+)  # reasons that are about the end of a file, whatever line is told
+SHAPE_REASONS = ("short", "extra", "bad line")  # those that are about lines, not expressions
+LONGEST_HEAD_LINE = 1000  # bytes of a line of the header that are read
+SHOWN_BEFORE = 2  # lines that are shown before one that is at fault
+SHOWN_AFTER = 3
+LONGEST_SHOWN = 100  # bytes of such a line
+REFUSED = re.compile(
+    r"refused(?: file (?P<file>\d{1,9}))?"
+    r"(?: (?P<kind>line|row|column|objective) (?P<number>\d{1,10})| program)?",
+    re.ASCII,
+)
+ENDED_WITH: Mapping[int, str] = {
+    ExitStatus.UNREAD: "a file could not be read",
+    ExitStatus.UNWRITTEN: "its output could not be written",
+    ExitStatus.NO_MEMORY: "want of memory",
 }
-AT_END = ("end in header", "missing segment", "nonzero count", "column count")  # of the file
 
 
-class Told(NamedTuple):
-    """A told refusal: the place of its file among those of the words, from 1, what the number
-    counts (line, row, column, objective, or nothing), and the reason."""
+class Refusal(BridgeError):
+    """The proved program ended without what was asked for.
+
+    Attributes:
+        command: The word of the command.
+        words: All words of the call; empty where they are not known.
+        status: Its exit status; below 0 it is minus the number of the signal that ended it.
+        told: The line on its standard error.
+        file_names: What the user calls files, by the paths among the words.
+    """
+
+    def __init__(
+        self,
+        command: str,
+        reply: Reply,
+        words: Sequence[str] = (),
+        file_names: Optional[Mapping[str, str]] = None,
+    ) -> None:
+        super().__init__(reply.told)
+        self.command = command
+        self.status = reply.status
+        self.told = reply.told
+        self.words = list(words)
+        self.file_names: Dict[str, str] = dict(file_names or {})
+
+    def describe(self) -> str:
+        """Why there is no answer, in one line."""
+        if self.status == ExitStatus.BAD_WORDS:
+            if not all(map(is_utf8, self.words)):
+                return "a path that is not UTF-8"
+            return f"this bridge does not know the command `{self.command}` (bad words)"
+        if self.status < 0:
+            return f"`bridge {self.command}` was stopped by signal {-self.status}"
+        if self.status == ExitStatus.UNREAD and self.words:
+            return why_unreadable(files_of_call(self.words), self.file_names)
+        told = self.told or ENDED_WITH.get(self.status, f"ended with {self.status}")
+        return RefusalText(self.words, told, self.file_names).line
+
+    def as_error(self) -> BridgeError:
+        """The error that a caller of the package gets, by the exit status."""
+        line = self.describe()
+        if self.status == ExitStatus.REFUSED:
+            return ModelRefused(line)
+        if self.status == ExitStatus.BAD_WORDS:
+            return WrongOption(line)
+        if self.status == ExitStatus.UNREAD:
+            return FileFault("", line, FileAction.READ)
+        if self.status == ExitStatus.UNWRITTEN:
+            return FileFault("", line, FileAction.WRITE)
+        if self.status == ExitStatus.NOT_THERE:
+            return NotInstalled(line)
+        error = ProgramFailed(line)
+        error.status = self.status
+        return error
+
+    def details(self) -> Optional[Dict[str, object]]:
+        """The refusal as report.schema.json has it; None where the program told no reason."""
+        parsed = parse_refusal(self.told)
+        if parsed is None or not self.words:
+            return None
+        text = RefusalText(self.words, self.told, self.file_names)
+        return {
+            "told": self.told,
+            "reason": parsed.reason,
+            "kind": parsed.kind or None,
+            "number": parsed.number if parsed.kind else None,
+            "file": text.file_name or None,
+            "more": text.more(),
+        }
+
+
+class RefusalLine(NamedTuple):
+    """A told refusal, read.
+
+    Attributes:
+        file: The place of the file among those of the call, from 1.
+        kind: What the number counts: `line`, `row`, `column` or `objective`; empty for the whole.
+        number: Of the line, from 1, or of the row, column or objective, from 0.
+        reason: In the program's own words.
+    """
 
     file: int
     kind: str
@@ -47,237 +143,287 @@ class Told(NamedTuple):
     reason: str
 
 
-def parsed(told: str) -> Told | None:
+def parse_refusal(told: str) -> Optional[RefusalLine]:
     """None where the line is no refusal."""
-    found = TOLD.fullmatch(told)
-    return Told(int(found[1] or 1), found[2] or "", int(found[3] or 0), found[4]) if found else None
+    head, colon, reason = told.partition(": ")
+    found = REFUSED.fullmatch(head)
+    if found is None or not colon:
+        return None
+    return RefusalLine(
+        int(found["file"] or 1), found["kind"] or "", int(found["number"] or 0), reason
+    )
 
 
-def files_of(words: Sequence[str]) -> list[str]:
-    """The files among the words of a command, in order."""
-    command = "".join(words[:1])
-    return [] if command == "make" else [*words[1:2], *words[3 if command == "export" else 2 :]]
+class RefusalText:
+    """One refusal in words.
+
+    Attributes:
+        line: All of it in one line.
+        file_name: What the user calls the file; empty where it is not known which one it is.
+    """
+
+    def __init__(self, words: Sequence[str], told: str, file_names: Mapping[str, str]) -> None:
+        """
+        Args:
+            words: Those of the call; the first is the command.
+            told: The line of the program.
+            file_names: What the user calls files, by the paths among the words. Lists of names are
+                looked for beside the first file as the user calls it.
+        """
+        self.command = "".join(words[:1])
+        self.told = told
+        self.files = files_of_call(words)
+        self.shown_files = [file_names.get(file, file) for file in self.files]
+        self.parsed = parse_refusal(told)
+        self.is_about_nl = self.command in READERS_OF_NL and bool(self.files)
+        counts = counts_of_nl(self.files[0]) if self.is_about_nl else (None, None)
+        self.names = NameLists(file_kinds.stub_of("".join(self.shown_files[:1])), *counts)
+        self.file_name = self._file_name()
+        self.segment: Optional[Segment] = None
+        self.line = one_line(self._text())
+
+    def _file_name(self) -> str:
+        if self.parsed is None or not 1 <= self.parsed.file <= len(self.files):
+            return ""
+        return self.shown_files[self.parsed.file - 1]
+
+    def _text(self) -> str:
+        parsed = self.parsed
+        if parsed is None or not self.file_name:
+            return self.told + meaning_of(self.told.rpartition(": ")[2])
+        if parsed.kind == "line":
+            return f"{self.file_name} line {parsed.number}: {self._at_line(parsed)}"
+        subject = self._subject(parsed)
+        return f"{self.file_name}: {subject}{parsed.reason}{meaning_of(parsed.reason)}"
+
+    def _subject(self, parsed: RefusalLine) -> str:
+        """`constraint 3 (Cap): ` for a row of the model; rows of an MPS text have no names here."""
+        if not parsed.kind:
+            return ""
+        if self.is_about_nl and parsed.kind == "row":
+            return self.names.constraint(parsed.number) + ": "
+        if self.is_about_nl and parsed.kind == "objective":
+            return self.names.objective(parsed.number) + ": "
+        return f"{parsed.kind} {parsed.number}: "
+
+    def _at_line(self, parsed: RefusalLine) -> str:
+        """What is wrong at a line of a file, with what stands there."""
+        reason, is_first_file = parsed.reason, parsed.file == 1
+        is_mps = is_first_file and self.command in READERS_OF_MPS
+        other_kind = self._as_another_kind(parsed) if is_first_file else ""
+        if other_kind:
+            return f"{reason}: it {other_kind}"
+        if is_mps:
+            word = word_at_fault(self.files[0], parsed.number, reason)
+            return f"{reason} {word}" if word else reason + meaning_of(reason)
+        if reason == "bad first line" and parsed.file == 2 and self.command in FIRST_LINES:
+            return f"{reason} (it does not begin with `{FIRST_LINES[self.command]}`)"
+        if not is_first_file or not self.is_about_nl or reason in END_REASONS:
+            return reason + meaning_of(reason)
+        return self._in_segment(parsed)
+
+    def _as_another_kind(self, parsed: RefusalLine) -> str:
+        """What the model's file is where its first line says that it is something else."""
+        is_mps = self.command in READERS_OF_MPS
+        is_wrong_start = self.is_about_nl and parsed.reason == "bad first line"
+        if not is_wrong_start and not (is_mps and parsed.number == 1):
+            return ""
+        kind = file_kinds.kind_of_file(self.files[0])
+        if kind is None or is_mps and kind is file_kinds.MPS:
+            return ""
+        return file_kinds.describe(self.files[0], kind, self.shown_files[0])
+
+    def _in_segment(self, parsed: RefusalLine) -> str:
+        """What is wrong at a line of an .nl file: its place in the model, and the expression."""
+        reason = parsed.reason
+        try:
+            self.segment = segment = segment_at(self.files[0], parsed.number)
+        except OSError:
+            return reason + meaning_of(reason)
+        start, expression = parsed.number - segment.head_line - 1, ""
+        if segment.head and start >= 0 and not reason.startswith(SHAPE_REASONS):
+            expression = expression_in_words(segment.body[start:], self.names)
+        place = place_of(segment, parsed.number, self.names)
+        return f"{place}: {fault_in_words(reason, expression)}"
+
+    def more(self) -> List[str]:
+        """Further lines: the whole expression with the fault marked, what helps, the lines around."""
+        parsed = self.parsed
+        if parsed is None or not self.file_name:
+            return []
+        lines = []
+        if self.segment is not None and self.segment.body:
+            mark = parsed.number - self.segment.head_line - 1
+            text = expression_in_words(self.segment.body, self.names, mark)
+            if text and mark > 0:
+                lines.append("in: " + text)
+        remedy = reason_of(parsed.reason).remedy
+        if remedy:
+            lines.append("what helps: " + remedy)
+        if parsed.kind == "line":
+            lines += context_lines(self.files[parsed.file - 1], parsed.number)
+        return [printable(line) for line in lines]
 
 
-def meaning(reason: str) -> str:
-    """` (what it means)`, or nothing."""
-    if OPCODE.match(reason):
+def meaning_of(reason: str) -> str:
+    """What a reason means, in brackets behind a blank; nothing where there is no more to say."""
+    if is_opcode(reason):
         return " (an operator that is not linear)"
-    text = meaning_of(reason).text
+    text = reason_of(reason).text
     return f" ({text})" if text else ""
 
 
-def fault_at(path: str) -> str:
-    """Why a file cannot be read; nothing where it can, or is no plain file, of which nothing is taken here."""
+def fault_in_words(reason: str, expression: str) -> str:
+    """`(x0 * x1) is nonlinear`, or the reason with its meaning.
+
+    Args:
+        reason: In the program's own words.
+        expression: The one at fault, in words; empty where the reason is about none.
+    """
+    if is_opcode(reason):
+        return f"{expression or 'an operator'} is not linear ({reason})"
+    if expression and reason == "nonlinear":
+        return f"{expression} is nonlinear"
+    return (f"{expression}: " if expression else "") + reason + meaning_of(reason)
+
+
+def why_unreadable(files: Sequence[str], file_names: Mapping[str, str]) -> str:
+    """Which file of a call cannot be read, and why, and what is there that may be meant.
+
+    Args:
+        files: The files of the call.
+        file_names: What the user calls them.
+    """
+    for file in files:
+        fault = read_fault(file)
+        if not fault:
+            continue
+        nearby = ""
+        if not os.path.lexists(file):
+            nearby = file_kinds.explain_missing_model(file).partition("; ")[2]
+        text = f"{file_names.get(file, file)}: input fault ({fault})"
+        return f"{text}; {nearby}" if nearby else text
+    shown = " or ".join(file_names.get(file, file) for file in files)
+    return f"input fault: {shown} could not be read"
+
+
+def read_fault(path: str) -> str:
+    """Why a file cannot be read; nothing where it can.
+
+    What is no plain file is not opened, since what is taken from a pipe is gone.
+    """
     try:
         if os.path.isfile(path) or os.path.isdir(path) or not os.path.exists(path):
             with open(path, "rb"):
                 pass
-    except (OSError, ValueError) as fault:  # a byte 0 in the path
-        return getattr(fault, "strerror", "") or str(fault)
+    except OSError as fault:
+        return fault.strerror or str(fault)
+    except ValueError as fault:  # a byte 0 in the path
+        return str(fault)
     return ""
 
 
-def unreadable(files: Sequence[str], shown: Mapping[str, str]) -> str:
-    """Which of the files cannot be read, and why, and what is there that may be meant."""
-    for file in filter(fault_at, files):
-        beside = (
-            ""
-            if os.path.lexists(file)
-            else file_kinds.explain_missing_model(file).partition("; ")[2]
-        )
-        return f"{shown.get(file, file)}: input fault ({fault_at(file)})" + (
-            beside and f"; {beside}"
-        )
-    return "input fault: " + " or ".join(shown.get(f, f) for f in files) + " could not be read"
+def counts_of_nl(path: str) -> Tuple[Optional[int], Optional[int]]:
+    """How many variables and constraints an .nl file has, by its second line.
 
-
-def counts_of(path: str) -> tuple[int | None, int | None]:
-    """How many variables and constraints an .nl file has, by its second line; None where that is not told."""
+    Returns:
+        The two numbers; None for both where the line does not tell them.
+    """
     try:
-        with open(path, "rb") as f:
-            f.readline(1000)
-            words = f.readline(1000).split()
-            return int(words[0]), int(words[1])
+        with open(path, "rb") as file:
+            file.readline(LONGEST_HEAD_LINE)
+            words = file.readline(LONGEST_HEAD_LINE).split()
+        return int(words[0]), int(words[1])
     except (OSError, ValueError, IndexError):
         return None, None
 
 
 class Segment(NamedTuple):
-    """The piece of an .nl file that a line stands in: its head (none for the ten lines of the
-    header), and its lines as far as an expression needs them."""
+    """The segment of an .nl file that a line stands in.
+
+    Attributes:
+        head_line: The number of its first line; 0 for the header.
+        head: Its first line; empty for the header.
+        body: The lines behind the head, of segments that hold an expression.
+    """
 
     head_line: int
     head: bytes
-    body: list[bytes]
+    body: List[bytes]
 
 
 def segment_at(path: str, line: int) -> Segment:
-    """Only bodies with expressions are kept. OSError where the file cannot be read."""
+    """The segment of an .nl file that a line stands in.
+
+    Raises:
+        OSError: The file cannot be read.
+    """
     head_line, head = 0, b""
-    body: list[bytes] = []
-    with open(path, "rb") as f:
-        for number, text in enumerate(f, 1):
-            if number > HEAD_LINES and text[:1] in HEADS and text[:1].strip():
+    body: List[bytes] = []
+    with open(path, "rb") as file:
+        for number, text in enumerate(file, 1):
+            if number > HEAD_LINES and text[:1].strip() and text[:1] in SEGMENTS:
                 if number > line:
                     break
-                head_line, head, body = number, text, []
-            elif head[:1] in BODIES and head:
+                head_line, head = number, text
+                body = []
+            elif head and head[:1] in EXPRESSION_SEGMENTS:
                 body.append(text)
             elif number > line:
                 break
     return Segment(head_line, head, body)
 
 
+PLACES: Mapping[str, str] = {
+    "": "header",
+    "b": "bounds",
+    "r": "sides of constraints",
+    "k": "column counts",
+    "K": "column counts",
+    "S": "suffix",
+    "d": "guesses of duals",
+    "x": "guesses of values",
+    "F": "imported function",
+}  # what a segment is called by its letter, where it is not that of one row or column
+
+
 def place_of(segment: Segment, line: int, names: NameLists) -> str:
-    """`constraint 0 (Cap)`, or what else the line stands in."""
-    letter, inside = segment.head[:1].decode(), line - segment.head_line - 1
+    """What a line of an .nl file is about, such as `constraint 0 (Cap)`."""
+    letter, inside = segment.head[:1].decode("latin-1"), line - segment.head_line - 1
     found = re.match(rb"[A-Za-z](\d+)", segment.head)
     number = int(found.group(1)) if found else 0
-    said = comment_of(segment.head) if letter and letter in "COVL" else ""
-    if letter in ("b", "r") and inside >= 0:
-        return names.variable(inside) if letter == "b" else names.constraint(inside)
+    comment = comment_of(segment.head) if letter and letter in "COVL" else ""
+    if letter == "b" and inside >= 0:
+        return names.variable(inside)
+    if letter == "r" and inside >= 0:
+        return names.constraint(inside)
     if letter in ("C", "J"):
-        return names.constraint(number, said)
+        return names.constraint(number, comment)
     if letter in ("O", "G"):
-        return names.objective(number, said)
-    return {
-        "": "header",
-        "V": numbered_name(f"defined variable {number}", said),
-        "L": f"logical constraint {number}",
-        "b": "bounds",
-        "r": "sides of constraints",
-        "k": "column counts",
-        "K": "column counts",
-        "S": "suffix",
-        "d": "guesses of duals",
-        "x": "guesses of values",
-        "F": "imported function",
-    }[letter]
+        return names.objective(number, comment)
+    if letter == "V":
+        return numbered_name(f"defined variable {number}", comment)
+    if letter == "L":
+        return f"logical constraint {number}"
+    return PLACES[letter]
 
 
-def fault_of(reason: str, expression: str) -> str:
-    """`(x0 * x1) is nonlinear`, or the reason with its meaning."""
-    if OPCODE.match(reason):
-        return f"{expression or 'an operator'} is not linear ({reason})"
-    if expression and reason == "nonlinear":
-        return f"{expression} is nonlinear"
-    return (f"{expression}: " if expression else "") + reason + meaning(reason)
+def context_lines(path: str, line: int) -> List[str]:
+    """The lines about one line of a text, each with its number, that one marked.
 
-
-class Refusal:
-    """One refusal: `words` are those of the call, `told` is its line, `shown` the paths that the user knows files by.
-    Names are looked for beside the first file as it is shown. `line` says all of it."""
-
-    def __init__(self, words: Sequence[str], told: str, shown: Mapping[str, str]) -> None:
-        self.command, self.told = "".join(words[:1]), told
-        self.files = files_of(words)
-        self.shown = [shown.get(file, file) for file in self.files]
-        self.parts = parsed(told)
-        self.is_model = self.command in NL_FIRST and bool(self.files)
-        self.names = NameLists(
-            file_kinds.stub_of("".join(self.shown[:1])),
-            *(counts_of(self.files[0]) if self.is_model else (None, None)),
-        )
-        self.segment: Segment | None = None
-        self.line = one_line(self.text())
-
-    def file(self) -> str:
-        """As it is shown; nothing where it is not known which one it is."""
-        t = self.parts
-        return self.shown[t.file - 1] if t and 1 <= t.file <= len(self.files) else ""
-
-    def text(self) -> str:
-        t, file = self.parts, self.file()
-        if t is None or not file:
-            return self.told + meaning(self.told.rpartition(": ")[2])
-        if t.kind == "line":
-            return f"{file} line {t.number}: {self.at_line(t)}"
-        return f"{file}: {self.thing(t)}{t.reason}{meaning(t.reason)}"
-
-    def at_line(self, t: Told) -> str:
-        is_mps = t.file == 1 and self.command in reasons.COMMANDS
-        if t.file == 1 and (
-            is_mps and t.number == 1 or self.is_model and t.reason == "bad first line"
-        ):
-            kind = file_kinds.kind_of_file(self.files[0])
-            if kind is not None and not (is_mps and kind is file_kinds.MPS):
-                return f"{t.reason}: it {file_kinds.describe(self.files[0], kind, self.shown[0])}"
-        if is_mps:
-            word = reasons.fault(self.files[0], t.number, t.reason)
-            return f"{t.reason} {word}" if word else t.reason + meaning(t.reason)
-        if t.reason == "bad first line" and t.file == 2 and self.command in FIRST_LINES:
-            return f"{t.reason} (it does not begin with `{FIRST_LINES[self.command]}`)"
-        if t.file != 1 or not self.is_model or t.reason in AT_END:
-            return t.reason + meaning(t.reason)
-        try:
-            self.segment = segment = segment_at(self.files[0], t.number)
-        except OSError:
-            return t.reason + meaning(t.reason)
-        start, expression = t.number - segment.head_line - 1, ""
-        if not t.reason.startswith(("short", "extra", "bad line")) and segment.head and start >= 0:
-            expression = expression_in_words(segment.body[start:], self.names)
-        return f"{place_of(segment, t.number, self.names)}: {fault_of(t.reason, expression)}"
-
-    def thing(self, t: Told) -> str:
-        """`constraint 3 (Cap): ` for a row of the model; rows of an MPS text have no names here."""
-        if not t.kind:
-            return ""
-        own = {"row": self.names.constraint, "objective": self.names.objective}.get(t.kind)
-        return (own(t.number) if self.is_model and own else f"{t.kind} {t.number}") + ": "
-
-    def more(self) -> list[str]:
-        """Further lines: the whole expression with the fault marked, the lines around, what helps."""
-        t, lines = self.parts, []
-        if t is None or not self.file():
-            return []
-        if self.segment is not None and self.segment.body:
-            mark = t.number - self.segment.head_line - 1
-            text = expression_in_words(self.segment.body, self.names, mark)
-            if text and mark > 0:
-                lines.append("in: " + text)
-        helps = meaning_of(t.reason).help
-        if helps:
-            lines.append("what helps: " + helps)
-        if t.kind == "line":
-            lines += around(self.files[t.file - 1], t.number)
-        return list(map(printable, lines))
-
-
-def around(path: str, line: int, before: int = 2, after: int = 3) -> list[str]:
-    """The lines about one line, each with its number, that one marked; of a text alone."""
+    Returns:
+        Nothing where the file holds a byte 0, or cannot be read.
+    """
     lines = []
     try:
-        with open(path, "rb") as f:
-            for number, text in enumerate(itertools.islice(f, line + after), 1):
+        with open(path, "rb") as file:
+            for number, text in enumerate(itertools.islice(file, line + SHOWN_AFTER), 1):
                 if b"\0" in text:
                     return []
-                if number >= line - before:
-                    shown = text.rstrip(b"\r\n")[:100].decode("utf-8", "surrogateescape")
+                if number >= line - SHOWN_BEFORE:
+                    start = text.rstrip(b"\r\n")[:LONGEST_SHOWN]
+                    shown = start.decode("utf-8", "surrogateescape")
                     lines.append(f"{'>' if number == line else ' '} {number:6} {shown}")
     except OSError:
         return []
     return lines
-
-
-def in_words(words: Sequence[str], told: str, shown: Mapping[str, str]) -> str:
-    """A told line in words. Without words its meaning alone."""
-    return Refusal(words, told, shown).line
-
-
-def object_of(
-    words: Sequence[str], told: str, shown: Mapping[str, str]
-) -> dict[str, object] | None:
-    """A refusal for programs; None where it is none."""
-    t = parsed(told)
-    if t is None or not words:
-        return None
-    refusal = Refusal(words, told, shown)
-    return {
-        "told": told,
-        "reason": t.reason,
-        "kind": t.kind or None,
-        "number": t.number if t.kind else None,
-        "file": refusal.file() or None,
-        "more": refusal.more(),
-    }

@@ -1,91 +1,222 @@
-"""The line of a verdict, read: what is claimed, its numbers, and the claim in words."""
+"""The verdict of the proved program on a certificate: its line, read together with the exit status.
+
+`bridge verify` ends with status 0 and one line that says what is proved of the model, such as
+`optimal 17`, or with status 1 and one line that says why the certificate does not show its claim,
+such as `leaf 0 gap 20`. Every other pair of a status and a text is no verdict. A `Verdict` is made
+of the reply to a call alone, so that no line can pass for one without the status that goes with it.
+"""
 
 from __future__ import annotations
 
+import enum
 import math
 import re
+from dataclasses import dataclass, field
 from fractions import Fraction
 from math import gcd
-from typing import NamedTuple
+from typing import NamedTuple, Optional
 
-from ..model.linear_program import Program
 from ..formats.numbers import decimals_over_common_denominator, exact_decimal
+from ..model.linear_program import Program
+from ..system.errors import ProgramFailed
+from .calls import Reply
 
-LINE = re.compile(
-    r"(?:(optimal|feasible|bound) (\S+)|within (\S+) (\S+)|(infeasible|unbounded))"
-    r"(?: of objective (\d+))?"
-)
-FINAL = ("optimal", "infeasible", "unbounded")  # claims that end the question
+LONGEST_LINE = 400  # bytes; a verdict has two numbers of at most 128 bits over 128 bits each
+SHOWN_BYTES = 60  # of a text that is no verdict
 MOST_PLACES = 15  # digits of a decimal that is told in full
+NUMBER = r"-?\d{1,40}(?:/\d{1,40})?"  # as the program writes one: 128 bits, over as many
+PLACE = r"\d{1,10}"  # of a row, a column, a leaf or an objective, from 0
+PROVED = re.compile(
+    rf"(?:(?P<claim>optimal|feasible|bound) (?P<number>{NUMBER})"
+    rf"|(?P<within>within) (?P<bound>{NUMBER}) (?P<value>{NUMBER})"
+    rf"|(?P<bare>infeasible|unbounded))"
+    rf"(?: of objective (?P<objective>{PLACE}))?",
+    re.ASCII,
+)
+NOT_PROVED = re.compile(
+    rf"(?:ray )?(?:row|bound) {PLACE} broken"
+    rf"|variable {PLACE} not whole"
+    rf"|ray does not improve"
+    rf"|too wide at (?:ray )?(?:objective|(?:row|bound) {PLACE})"
+    rf"|leaf {PLACE} (?:too wide|gap {NUMBER}|(?:row|bound) {PLACE} has no side)",
+    re.ASCII,
+)  # docs/verify/theorems.md says what each of these lines means
 
 
-class Said(NamedTuple):
-    """A claim: the value of the objective at its point, and a bound that no point is better
-    than; None where it has none."""
+class Claim(enum.Enum):
+    """What is claimed of a model. The value is the first word of the verdict's line."""
 
-    word: str
-    value: Fraction | None = None
-    bound: Fraction | None = None
+    OPTIMAL = "optimal"  # a feasible point is there, and no feasible point is better
+    FEASIBLE = "feasible"  # a feasible point is there
+    WITHIN = "within"  # that, and no feasible point is better than a bound
+    BOUND = "bound"  # no feasible point is better than a bound
+    INFEASIBLE = "infeasible"  # no point is feasible
+    UNBOUNDED = "unbounded"  # for each number there is a feasible point with a better objective
+
+    @property
+    def is_final(self) -> bool:
+        """Whether nothing is left to ask of a model once this is proved of it."""
+        return self in (Claim.OPTIMAL, Claim.INFEASIBLE, Claim.UNBOUNDED)
+
+
+FINAL = frozenset(claim.value for claim in Claim if claim.is_final)  # words of final claims
+
+
+class Statement(NamedTuple):
+    """A claim with its numbers, in the model's own sense. It may be proved or not.
+
+    Attributes:
+        claim: What is said.
+        value: The objective at a feasible point; None where no point is claimed.
+        bound: No feasible point has a better objective than this; None where that is not claimed.
+            Of `optimal` it is the value.
+        objective: Which objective of the file it is about, from 0.
+    """
+
+    claim: Claim
+    value: Optional[Fraction] = None
+    bound: Optional[Fraction] = None
     objective: int = 0
 
-    def is_settled(self) -> bool:
-        return self.word in FINAL
+    def implies(self, other: Statement, *, maximise: bool) -> bool:
+        """Whether this, proved of a model, says all that another statement says that is proved of it.
+
+        Args:
+            other: What is to follow.
+            maximise: Whether the model's objective is maximised.
+        """
+        if self.claim is Claim.INFEASIBLE:
+            return True
+        if self.objective != other.objective:
+            return False
+        if self.claim is Claim.UNBOUNDED:
+            return True
+        if other.claim in (Claim.INFEASIBLE, Claim.UNBOUNDED):
+            return self.claim is Claim.OPTIMAL
+        return self._has_as_good_a_value(other, maximise) and self._has_as_close_a_bound(
+            other, maximise
+        )
+
+    def _has_as_good_a_value(self, other: Statement, maximise: bool) -> bool:
+        if other.value is None:
+            return True
+        if self.value is None:
+            return False
+        return self.value >= other.value if maximise else self.value <= other.value
+
+    def _has_as_close_a_bound(self, other: Statement, maximise: bool) -> bool:
+        if other.bound is None:
+            return True
+        if self.bound is None:
+            return False
+        return self.bound <= other.bound if maximise else self.bound >= other.bound
 
 
-class Multiples(NamedTuple):
-    """An objective that is `start` and a multiple of `step` wherever whole columns are whole."""
+class NoVerdict(ProgramFailed):
+    """The reply to `verify` is no verdict: the program is not the proved one, or it is broken.
+
+    Attributes:
+        reply: A pair of a status and a text that the proved program never gives.
+    """
+
+    def __init__(self, reply: Reply) -> None:
+        start = reply.out[:SHOWN_BYTES].decode("utf-8", "replace").partition("\n")[0]
+        super().__init__(f"`{start}` with status {reply.status} is no verdict")
+        self.reply = reply
+
+    def describe(self) -> str:
+        return f"bridge verify: {self.reason}"
+
+
+@dataclass(frozen=True)
+class Verdict:
+    """What the proved program said of one certificate of one model.
+
+    Attributes:
+        reply: How the call of `verify` ended, whose status is 0 or 1.
+        statement: What is proved; None where the certificate does not show what it claims.
+
+    Raises:
+        NoVerdict: The reply is none: another status, or a text that does not belong to the status.
+    """
+
+    reply: Reply
+    statement: Optional[Statement] = field(init=False)
+
+    def __post_init__(self) -> None:
+        object.__setattr__(self, "statement", _read_reply(self.reply))
+
+    @property
+    def line(self) -> str:
+        """The line word for word: what is proved, or why nothing is."""
+        return self.reply.out.decode("ascii").rstrip("\n")
+
+    @property
+    def is_proved(self) -> bool:
+        """Whether the certificate shows what it claims."""
+        return self.statement is not None
+
+
+def _read_reply(reply: Reply) -> Optional[Statement]:
+    """What a reply proves; None where its line says why nothing is proved."""
+    text = reply.out[: LONGEST_LINE + 1].decode("latin-1")
+    line, end, more = text.partition("\n")
+    if end and not more:
+        statement = statement_of(line)
+        if reply.status == 0 and statement is not None:
+            return statement
+        if reply.status == 1 and NOT_PROVED.fullmatch(line):
+            return None
+    raise NoVerdict(reply)
+
+
+def statement_of(line: str) -> Optional[Statement]:
+    """What a line would say as that of an accepted certificate; None where it says nothing.
+
+    A line alone proves nothing: only a `Verdict` has the status that goes with it.
+    """
+    found = PROVED.fullmatch(line)
+    if found is None:
+        return None
+    objective = int(found["objective"] or 0)
+    try:
+        if found["bare"]:
+            return Statement(Claim(found["bare"]), objective=objective)
+        if found["within"]:
+            value, bound = Fraction(found["value"]), Fraction(found["bound"])
+            return Statement(Claim.WITHIN, value, bound, objective)
+        claim, number = Claim(found["claim"]), Fraction(found["number"])
+    except ZeroDivisionError:
+        return None
+    value_or_none = None if claim is Claim.BOUND else number
+    bound_or_none = None if claim is Claim.FEASIBLE else number
+    return Statement(claim, value_or_none, bound_or_none, objective)
+
+
+class ObjectiveLattice(NamedTuple):
+    """The values that an objective can have where all columns with a cost are whole numbers.
+
+    Attributes:
+        start: One of these numbers, which need not be the objective of a point.
+        step: Above 0. Each value is `start` and a whole multiple of it.
+    """
 
     start: Fraction
     step: Fraction
 
-    def beside(self, bound: Fraction, maximise: bool) -> Fraction:
-        """The best value that is not better than the bound."""
-        units = (bound - self.start) / self.step
-        return self.start + self.step * (math.floor(units) if maximise else math.ceil(units))
+    def tightest(self, bound: Fraction, *, maximise: bool) -> Fraction:
+        """The best value of the lattice that is not better than a bound."""
+        steps = (bound - self.start) / self.step
+        return self.start + self.step * (math.floor(steps) if maximise else math.ceil(steps))
 
 
-def read(line: str) -> Said | None:
-    """None where the line is no accepted claim."""
-    found = LINE.fullmatch(line.strip())
-    if found is None:
-        return None
-    word, one, bound, value, alone, objective = found.groups()
-    try:
-        if word:
-            given = Fraction(one)
-            return Said(
-                word,
-                None if word == "bound" else given,
-                None if word == "feasible" else given,
-                int(objective or 0),
-            )
-        if alone:
-            return Said(alone, objective=int(objective or 0))
-        return Said("within", Fraction(value), Fraction(bound), int(objective or 0))
-    except (ValueError, ZeroDivisionError):
-        return None
-
-
-def covers(new: Said, old: Said, maximise: bool) -> bool:
-    """Whether a claim about a model says all that another one about it says."""
-    if new.word in ("infeasible", "unbounded") or new.objective != old.objective:
-        return new.word == "infeasible" or new.objective == old.objective
-    sign = 1 if maximise else -1
-    if old.word in ("infeasible", "unbounded"):
-        return new.word == "optimal"
-    if old.value is not None and (new.value is None or sign * new.value < sign * old.value):
-        return False
-    return old.bound is None or new.bound is not None and sign * new.bound <= sign * old.bound
-
-
-def multiples(program: Program) -> Multiples | None:
+def objective_lattice(program: Program) -> Optional[ObjectiveLattice]:
     """None where a column with a cost is continuous, or none has a cost."""
-    numbers, scale = decimals_over_common_denominator(
-        [text.encode() for text in program.costs.values()]
-    )
+    texts = [text.encode() for text in program.costs.values()]
+    numbers, scale = decimals_over_common_denominator(texts)
     if not any(numbers) or any(name not in program.whole for name in program.costs):
         return None
-    return Multiples(-Fraction(program.objective_rhs), Fraction(gcd(*numbers), scale))
+    return ObjectiveLattice(-Fraction(program.objective_rhs), Fraction(gcd(*numbers), scale))
 
 
 def decimal(value: Fraction) -> str:
@@ -96,11 +227,12 @@ def decimal(value: Fraction) -> str:
     try:
         return f"about {float(value):.10g}"
     except OverflowError:
-        return f"about {'-' if value < 0 else ''}1e{len(str(abs(value.numerator)))}"
+        size = math.log10(abs(value.numerator)) - math.log10(value.denominator)
+        return f"about {'-' if value < 0 else ''}1e{math.floor(size)}"
 
 
-def percent(share: float | Fraction) -> str:
-    """By its first two digits, where they stand behind the point: `11.76 %`, `0.0000031 %`."""
+def percentage(share: float | Fraction) -> str:
+    """A share in percent by its first two digits, where they stand behind the point: `11.76 %`."""
     value = abs(float(share)) * 100
     if value >= 1 or not value:
         return f"{value:.2f} %"
@@ -108,40 +240,64 @@ def percent(share: float | Fraction) -> str:
     return f"{value:.{places}f} %"
 
 
-def share(part: Fraction, of: Fraction) -> str:
+def share_of(part: Fraction, whole: Fraction) -> str:
     """` (8.8 %)`, or nothing of 0."""
-    return f" ({percent(part / of)})" if of else ""
+    return f" ({percentage(part / whole)})" if whole else ""
 
 
-def limit_words(bound: Fraction, maximise: bool, steps: Multiples | None, which: str = "") -> str:
-    """`no point has more than 59.6, and at whole points the objective goes by 1: none has more than 59`."""
+def bound_sentence(
+    bound: Fraction, *, maximise: bool, lattice: Optional[ObjectiveLattice], which: str = ""
+) -> str:
+    """A bound in words, with the closest value that the objective can have.
+
+    For example `no point has more than 59.6, and at whole points the objective goes by 1: none has
+    more than 59`.
+
+    Args:
+        bound: No feasible point has a better objective.
+        maximise: Whether the objective is maximised.
+        lattice: The values that the objective can have; None where it can have any.
+        which: What the bound is called in front of its number.
+    """
     more = "more" if maximise else "less"
     text = f"no point has {more} than {which}{decimal(bound)}"
-    if steps is not None and steps.beside(bound, maximise) != bound:
-        text += (
-            f", and at whole points the objective goes by {decimal(steps.step)}: none has "
-            f"{more} than {decimal(steps.beside(bound, maximise))}"
-        )
-    return text
-
-
-def in_words(said: Said, maximise: bool, steps: Multiples | None = None) -> str:
-    """The claim about the objective in words."""
-    better = "above" if maximise else "below"
-    if said.word == "infeasible":
-        return "no point satisfies the model"
-    if said.word == "unbounded":
-        return f"the objective goes {better} every number"
-    if said.value is None:
-        assert said.bound is not None
-        return limit_words(said.bound, maximise, steps)
-    point = f"a point has the objective {decimal(said.value)}"
-    if said.word == "feasible" or said.bound is None:
-        return point
-    if said.word == "optimal":
-        return point + ", and none is better"
-    away = abs(said.bound - said.value)
+    if lattice is None:
+        return text
+    closest = lattice.tightest(bound, maximise=maximise)
+    if closest == bound:
+        return text
     return (
-        f"{point}, and {limit_words(said.bound, maximise, steps, 'the bound ')}; the bound is "
-        f"{decimal(away)}{share(away, said.value)} {better} the point's"
+        f"{text}, and at whole points the objective goes by {decimal(lattice.step)}: none has "
+        f"{more} than {decimal(closest)}"
+    )
+
+
+def sentence(
+    statement: Statement, *, maximise: bool, lattice: Optional[ObjectiveLattice] = None
+) -> str:
+    """What a statement says of the objective, in words.
+
+    Args:
+        statement: A claim with its numbers.
+        maximise: Whether the objective is maximised.
+        lattice: The values that the objective can have; None where it can have any.
+    """
+    better = "above" if maximise else "below"
+    if statement.claim is Claim.INFEASIBLE:
+        return "no point satisfies the model"
+    if statement.claim is Claim.UNBOUNDED:
+        return f"the objective goes {better} every number"
+    if statement.value is None:
+        assert statement.bound is not None, "a claim without a point has a bound"
+        return bound_sentence(statement.bound, maximise=maximise, lattice=lattice)
+    point = f"a point has the objective {decimal(statement.value)}"
+    if statement.claim is Claim.FEASIBLE or statement.bound is None:
+        return point
+    if statement.claim is Claim.OPTIMAL:
+        return point + ", and none is better"
+    limit = bound_sentence(statement.bound, maximise=maximise, lattice=lattice, which="the bound ")
+    away = abs(statement.bound - statement.value)
+    return (
+        f"{point}, and {limit}; the bound is {decimal(away)}{share_of(away, statement.value)} "
+        f"{better} the point's"
     )
