@@ -11,7 +11,7 @@ from unittest import TestCase
 from bridge_drivers import miss
 from bridge_drivers.certify import directions, equations, points
 from bridge_drivers.model.integer_form import IntegerProgram, UnsupportedModel
-from bridge_drivers.certify.plans import LEAST_TURN, Plan, Plans
+from bridge_drivers.exact.portfolio import TURN_SECONDS, Portfolio, Strategy
 from bridge_drivers.model.linear_program import Program
 from models import whole
 
@@ -214,21 +214,21 @@ class Points(TestCase):
 class Forecasts(TestCase):
     """Which plan goes on, and what else there is time for."""
 
-    def plan(self, share: float, spent: float) -> Plan:
-        return Plan("", [], SimpleNamespace(proved_share=lambda: share), spent)
+    def plan(self, share: float, spent: float) -> Strategy:
+        return Strategy("", [], SimpleNamespace(proved_share=lambda: share), spent)
 
-    def plans(self) -> Plans:
+    def plans(self) -> Portfolio:
         """After ten seconds; no plan has a tree."""
-        plans = Plans(model(), F(1), lambda x: None, "", SimpleNamespace(spent=lambda: 10.0))
-        plans.started, plans.goes = 0.0, lambda plan, seconds: False
+        plans = Portfolio(model(), F(1), lambda x: None, SimpleNamespace(spent=lambda: 10.0))
+        plans.started, plans.resume = 0.0, lambda plan, seconds: None
         return plans
 
     def test_expected(self) -> None:
-        self.assertEqual(self.plan(0.25, 2.0).expected(), 6.0)
+        self.assertEqual(self.plan(0.25, 2.0).estimated_seconds(), 6.0)
         plan = self.plan(0.0, 2.0)
-        self.assertEqual(plan.expected(), math.inf)
-        plan.guessed, plan.factor = 3.0, 4.0
-        self.assertEqual(plan.expected(), 12.0)
+        self.assertEqual(plan.estimated_seconds(), math.inf)
+        plan.first_estimate, plan.correction = 3.0, 4.0
+        self.assertEqual(plan.estimated_seconds(), 12.0)
 
     def test_room(self) -> None:
         """A share of what the first plan needs in all, less what went to others; not more than half of what is left of
@@ -240,11 +240,11 @@ class Forecasts(TestCase):
             (0.0, 10.0, 3.0),
             (0.0, 8.0, 1.0),
         ):
-            self.assertAlmostEqual(self.plans().room(self.plan(share, spent)), room, 3)
-        self.assertEqual(self.plans().room(None), math.inf)
+            self.assertAlmostEqual(self.plans().time_for_others(self.plan(share, spent)), room, 3)
+        self.assertEqual(self.plans().time_for_others(None), math.inf)
 
     def test_misses(self) -> None:
         """A plan that goes on longer than it said counts as twice that."""
         plan = self.plan(0.9999, 10.0)
-        self.plans().turn(plan, plan, 0.0)
-        self.assertAlmostEqual(plan.expected(), 2 * LEAST_TURN)
+        self.plans().take_turn(plan, plan, 0.0)
+        self.assertAlmostEqual(plan.estimated_seconds(), 2 * TURN_SECONDS)

@@ -5,6 +5,7 @@ from __future__ import annotations
 
 import contextlib
 import importlib.util
+import itertools
 import json
 import multiprocessing
 import os
@@ -26,9 +27,9 @@ from support import HERE, PROGRAM
 from bridge_drivers.program.bridge import Bridge
 from bridge_drivers.exact.certificate import claim_lines
 from bridge_drivers.certify.claims import Certifying, Verdict, certified
-from bridge_drivers.certify.plans import Better, Plans
 from bridge_drivers.certify.watch import Watch
 from bridge_drivers.exact import parallel, worker_pools
+from bridge_drivers.exact.portfolio import Portfolio
 from bridge_drivers.exact.worker_pools import ProcessPool, WorkerPool, open_pool
 from bridge_drivers.system.errors import SearchEnded, SearchPaused
 from bridge_drivers.system.processes import SIGNALS, Interrupted
@@ -92,7 +93,9 @@ class Pooled(Certified):
     def at_home(self, nodes: int = 3):
         return mock.patch("bridge_drivers.exact.parallel.NODES_BEFORE_PARALLEL", nodes)
 
-    def pooled(self, pool: WorkerPool, found: Verdict, better: int = 0) -> tuple[Certifying, Plans]:
+    def pooled(
+        self, pool: WorkerPool, found: Verdict, better: int = 0
+    ) -> tuple[Certifying, Portfolio]:
         """The plans for the value of what was found, or a worse one, by a pool."""
         work, plans = self.plans(self.bytes_of(".nl"), found.value - better)
         plans.pool = pool
@@ -112,16 +115,19 @@ class Pooled(Certified):
             if found.claim() == "optimal":
                 yield found
 
-    def accepted(self, work: Certifying, plans: Plans, found: Verdict) -> None:
+    def accepted(self, work: Certifying, plans: Portfolio, found: Verdict) -> None:
         head = claim_lines("optimal", 0, None, found.point)
-        self.assertEqual(work.judged(head, plans.best.path).line, found.line)
+        self.assertEqual(
+            work.judged(itertools.chain(head, plans.best.lines()), True).line, found.line
+        )
 
     def searched(self, pool: WorkerPool, found: Verdict | None = None) -> None:
         """The verdict is that of one process."""
         self.addCleanup(pool.close)
         found = found or self.found(random_model(random.Random(11), False))
         work, plans = self.pooled(pool, found)
-        self.assertTrue(plans.goes(plans.begun("plain"), SECONDS), plans.told())
+        plans.resume(plans.begin("plain"), SECONDS)
+        self.assertIsNotNone(plans.best, plans.reports())
         self.accepted(work, plans, found)
 
 
@@ -142,7 +148,10 @@ class Portions(Pooled):
         for found in self.optimal(6, 40):
             (work, plans), most = self.pooled(Here(2), found), 8
             with self.few():
-                while not plans.goes(plans.begun("plain"), SECONDS, most):
+                while True:
+                    plans.resume(plans.begin("plain"), SECONDS, most)
+                    if plans.best is not None:
+                        break
                     most += 8
                     self.assertLessEqual(self.bound(work, plans), work.model.sign * found.value)
                     told += 1
@@ -154,9 +163,9 @@ class Portions(Pooled):
         caught, told = 0, 0
         for found in self.optimal(7, 20):
             work, plans = self.pooled(Here(2), found, 3)
-            with self.few(0), self.assertRaises(Better) as better:
-                plans.goes(plans.begun("plain"), SECONDS)
-            self.assertTrue(work.model.is_feasible(better.exception.point))
+            with self.few(0):
+                improved = plans.resume(plans.begin("plain"), SECONDS)
+            self.assertTrue(work.model.is_feasible(improved.point))
             caught += 1
             told += self.bound(work, plans) is not None
         self.assertGreater(min(caught, told), 5)

@@ -11,7 +11,6 @@ import signal
 import sys
 import time
 from fractions import Fraction as F
-from pathlib import Path
 from types import FrameType
 from typing import Sequence
 from unittest import mock
@@ -21,10 +20,11 @@ from bridge_drivers.program.bridge import Bridge
 from bridge_drivers.system.errors import DeadlineExceeded
 from bridge_drivers.exact.certificate import claim_lines
 from bridge_drivers.certify.claims import Certifying, Given, Verdict, certified
-from bridge_drivers.certify.plans import Better, Plans
 from bridge_drivers.certify.short import trivial
 from bridge_drivers.certify.watch import Over, Watch
 from bridge_drivers.exact.parallel import ParallelSearch
+from bridge_drivers.exact.portfolio import Portfolio, TreeText
+from bridge_drivers.exact.cuts import CutKind
 from bridge_drivers.exact.search import BranchAndBound
 from bridge_drivers.model.linear_program import Program
 import families
@@ -59,25 +59,29 @@ class Certified(Case):
         """Of a small program, by what was answered."""
         return certified(self.work(CLAIMED[name].text, proves, **others), *words)
 
-    def plans(self, text: bytes, value: F) -> tuple[Certifying, Plans]:
+    def plans(self, text: bytes, value: F) -> tuple[Certifying, Portfolio]:
         work = self.work(text)
         work.load()
-        return work, Plans(work.model, work.model.sign * value, work.exact, self.folder, work.watch)
+        return work, Portfolio(work.model, work.model.sign * value, work.exact, work.watch)
 
-    def bound(self, work: Certifying, plans: Plans) -> F | None:
+    def bound(self, work: Certifying, plans: Portfolio) -> F | None:
         """What the stopped searches have, where they have something."""
-        bound, path = plans.bounded() or (None, "")
-        if bound is not None:
-            self.is_bound(work, work.model.sign * bound, path)
-        return bound
+        found = plans.prove_bound()
+        if found is None:
+            return None
+        self.is_bound(work, work.model.sign * found.value, found.tree)
+        return found.value
 
-    def is_bound(self, work: Certifying, value: F, path: str) -> None:
-        self.assertEqual(work.judged(claim_lines("bound", 0, value), path).line, f"bound {value}")
+    def is_bound(self, work: Certifying, value: F, tree: TreeText) -> None:
+        lines = itertools.chain(claim_lines("bound", 0, value), tree.lines())
+        self.assertEqual(work.judged(lines, True).line, f"bound {value}")
 
-    def stopped(self, name: str, most: int) -> tuple[Certifying, Plans]:
+    def stopped(self, name: str, most: int) -> tuple[Certifying, Portfolio]:
         """A plain search that ended after so many nodes."""
         work, plans = self.plans(CLAIMED[name].text, CLAIMED[name].value)
-        self.assertFalse(plans.goes(plans.begun("plain"), SECONDS, most), name)
+        strategy = plans.begin("plain")
+        plans.resume(strategy, SECONDS, most)
+        self.assertIsNone(strategy.tree, name)
         return work, plans
 
 
@@ -85,7 +89,7 @@ class Torn(Certified):
     def over_from(self, line: int, name: str) -> tuple[int, bool]:
         """How many lines a plain search has gone, with Over from this one on; whether what is left has a bound."""
         work, plans = self.plans(CLAIMED[name].text, CLAIMED[name].value)
-        plan, gone, work.watch.is_armed = plans.begun("plain"), 0, True
+        plan, gone, work.watch.is_armed = plans.begin("plain"), 0, True
 
         def traced(frame: FrameType, event: str, _: object) -> object:
             nonlocal gone
@@ -98,7 +102,8 @@ class Torn(Certified):
         self.addCleanup(sys.settrace, None)
         sys.settrace(traced)
         with contextlib.suppress(Over):
-            self.assertTrue(plans.goes(plan, SECONDS))
+            plans.resume(plan, SECONDS)
+            self.assertIsNotNone(plan.tree)
         sys.settrace(None)
         return gone, gone > line and self.bound(work, plans) is not None
 
@@ -231,7 +236,7 @@ class Models(Certified):
         )
         best = 9 * 123457 + 2 * 98765
         for off, proves in itertools.product((-3, 4, 5000), (True, False)):
-            with mock.patch.object(Plans, "goes", lambda *_: False):
+            with mock.patch.object(Portfolio, "resume", lambda *_: None):
                 verdict = certified(
                     self.work(made, proves), "point", Given([9.0, 2.0, float(best + off)])
                 )
@@ -243,9 +248,8 @@ class Models(Certified):
         for name in ("knap", "cover", "mixed", "tied", "odd_cycle"):
             made, value = CLAIMED[name]
             sign = self.plans(made, value)[0].model.sign
-            with self.assertRaises(Better) as caught:
-                self.plans(made, value + sign)[1].try_all()
-            self.assertLess(caught.exception.value, sign * value + 1)
+            improved = self.plans(made, value + sign)[1].race()
+            self.assertLess(improved.value, sign * value + 1)
 
 
 WEIGHTS = (35, 27, 23, 19, 15, 15, 12, 8, 6, 3)
@@ -257,12 +261,15 @@ KNAPSACK = nl(
 
 
 class Spines(Certified):
-    """Plans that small models do not come to by themselves."""
+    """Portfolio that small models do not come to by themselves."""
 
-    def below(self, plans: Plans, *kinds: str) -> None:
+    def below(self, plans: Portfolio, *kinds: CutKind) -> None:
         """There is a tree below rows of these kinds."""
-        plans.best, rows = None, plans.maker.cuts(kinds, [], plans.until(SECONDS / 2))
-        self.assertTrue(plans.goes(plans.begun("cuts", rows), SECONDS), plans.told())
+        plans.best = None
+        rows = plans.cut_loop.run(frozenset(kinds), [], plans.until(SECONDS / 2))
+        strategy = plans.begin("cuts", rows)
+        plans.resume(strategy, SECONDS)
+        self.assertIsNotNone(strategy.tree, plans.reports())
 
     def test_cuts(self) -> None:
         cycles = [
@@ -271,15 +278,15 @@ class Spines(Certified):
         made = nl([BINARY] * 15, cycles, [("min", 0, dict.fromkeys(range(15), 1))])
         for model, value in ((made, F(9)), (KNAPSACK, F(44)), CLAIMED["cover"]):
             work, plans = self.plans(model, value)
-            for kinds in (("row",), ("clique", "row")):
+            for kinds in ((CutKind.MIR,), (CutKind.CLIQUE, CutKind.MIR)):
                 self.below(plans, *kinds)
-                self.is_bound(work, value, plans.best.path)
+                self.is_bound(work, value, plans.best)
 
     def test_lemmas(self) -> None:
         work, plans = self.plans(*CLAIMED["lots"])
-        self.below(plans, "row")
-        self.assertIn("lemma ", Path(plans.best.path).read_text())
-        self.is_bound(work, CLAIMED["lots"].value, plans.best.path)
+        self.below(plans, CutKind.MIR)
+        self.assertIn("lemma ", plans.best.text)
+        self.is_bound(work, CLAIMED["lots"].value, plans.best)
 
     def test_thin(self) -> None:
         """Wide columns under an equation with large numbers."""
@@ -299,7 +306,7 @@ class Spines(Certified):
             work = self.work(families.made("pigeons", size))
             work.load()
             plans = work.plans_for(work.model.without_costs(), None)
-            self.below(plans, "clique", "row")
+            self.below(plans, CutKind.CLIQUE, CutKind.MIR)
             self.assertLessEqual(plans.best.nodes, 2 * (size - 1) * (size - 2) + 1)
             self.assertEqual(work.by_tree(plans.best).line, "infeasible")
 
@@ -321,9 +328,9 @@ class Spines(Certified):
         for shortens in (False, True):
             _, plans = self.plans(KNAPSACK, F(44))
             plans.shortens = shortens
-            with mock.patch("bridge_drivers.certify.plans.SHORT", 1):
-                plans.try_all()
-            self.assertEqual(len(plans.told()) > 1, shortens, plans.told())
+            with mock.patch("bridge_drivers.exact.portfolio.SHORT_TREE", 1):
+                plans.race()
+            self.assertEqual(len(plans.reports()) > 1, shortens, plans.reports())
 
     def test_bound_of_a_part_that_does_not_close(self) -> None:
         """It has that of both parts; and nothing is told below what bounds of columns say."""
@@ -335,7 +342,7 @@ class Spines(Certified):
                 bound = self.bound(work, plans)
             least = trivial(work.model)
             self.assertTrue(least is None or least <= bound)
-        self.assertEqual((least, plans.rounded(-0.001)), (0, 0))
+        self.assertEqual((least, plans.rounded_bound(-0.001)), (0, 0))
 
     def test_looser_bound(self) -> None:
         """A bound that does not close is lowered."""
@@ -379,7 +386,7 @@ class Limits(Certified):
         for part, claim, given, lines in (
             ("certify.contradictions.parity", "infeasible", None, "not proved: time"),
             ("exact.parallel.ParallelSearch.resume", "point", KNAP, r"within \S+ 17"),
-            ("certify.plans.Plans.bounded", "point", KNAP, r"(optimal|within \S+) 17"),
+            ("exact.portfolio.Portfolio.prove_bound", "point", KNAP, r"(optimal|within \S+) 17"),
         ):
             work = self.work(CLAIMED["knap"].text)
             work.watch, start = Watch(1.0), time.monotonic()

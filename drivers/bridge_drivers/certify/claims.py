@@ -15,7 +15,7 @@ from ..exact.clp import Clp, ClpNotInstalled, LpStatus
 from .contradictions import Contradicting
 from .judging import NO_POINT, WITHOUT, Bound, Given, Verdict, wide_note
 from ..model.integer_form import Box, Point, UnsupportedModel
-from .plans import Better, Plans
+from ..exact.portfolio import Portfolio
 from ..exact.linear_systems import NotSolved, TooManyBits
 from .watch import KEPT, Over
 from ..exact.search import ImprovedIncumbent
@@ -37,7 +37,7 @@ class Certifying(Contradicting):
     """One model. `older` are plans for another value: those that had the closest bound."""
 
     given = Given()
-    older: Plans | None = None
+    older: Portfolio | None = None
 
     def claimed_of(self, claim: str, given: Given) -> Verdict:
         """Of `point`, `infeasible`, `unbounded`, `either` or `nothing`."""
@@ -294,14 +294,14 @@ class Certifying(Contradicting):
         point = self.point or point
         if plans.best is not None:
             yield self.by_tree(plans.best, point)
-        told = plans.told() or [str(ClpNotInstalled())]
+        told = plans.reports() or [str(ClpNotInstalled())]
         if self.proves or self.bounded:
             self.know_root()
         yield from self.in_the_end()
         yield from self.told()
         yield Verdict(WITHOUT + self.watch.why(told[-1]), point)
 
-    def planned(self, point: Point) -> Plans:
+    def planned(self, point: Point) -> Portfolio:
         """The plans that were tried at the best point; where better ones do not end, at the last but one."""
         p = self.model
         for _ in range(MOST_BETTER):
@@ -311,25 +311,22 @@ class Certifying(Contradicting):
             if self.points:
                 self.watch.incumbent = float(p.sign * p.value(self.points[0]))
             try:
-                if self.proves:
-                    plans.try_all()
-                else:
-                    plans.run_plain()
-                return plans
-            except Better as better:
-                point = better.point
-                self.older = max(filter(None, (self.older, plans)), key=Plans.stands_at)
+                improved = plans.race() if self.proves else plans.run_plain()
             except ClpNotInstalled:
                 return plans
+            if improved is None:
+                return plans
+            point = improved.point
+            self.older = max(filter(None, (self.older, plans)), key=lambda p: p.dual_bound)
         self.know_point(point)
         return plans
 
     def know_searched(self) -> None:
         """The closest bound that a stopped search has, whatever value it was for."""
-        for plans in sorted(filter(None, (self.plans, self.older)), key=lambda p: -p.stands_at()):
-            told, bounded = "; ".join(plans.told()), plans.bounded()
+        for plans in sorted(filter(None, (self.plans, self.older)), key=lambda p: -p.dual_bound):
+            told, bounded = "; ".join(plans.reports()), plans.prove_bound()
             if bounded is not None:
-                self.know_bound(Bound(bounded[0], lambda: iter(()), bounded[1], told))
+                self.know_bound(Bound(bounded.value, bounded.tree.lines, True, told))
                 return
 
     def know_root(self) -> None:

@@ -12,7 +12,6 @@ from .equations import hollow, parity
 from .judging import WITHOUT, Given, Judging, Verdict
 from ..exact.relaxation import relaxation
 from ..model.integer_form import IntegerProgram, Point
-from .plans import Better
 from ..system.errors import SearchEnded
 from ..exact.search import ImprovedIncumbent
 from ..exact.dual_bound import MultiplierKind
@@ -32,12 +31,15 @@ class Contradicting(Judging):
         try:
             if self.linear and simplex.is_small(self.model):
                 yield from self.by_simplex()
-            yield self.contradiction()
+            found = self.contradiction()
         except (ClpNotInstalled, SearchEnded) as fault:
             yield from self.in_the_end()
             yield Verdict(f"{WITHOUT}{fault}")
-        except Better as better:
-            yield from self.from_point(better.point)
+            return
+        if isinstance(found, ImprovedIncumbent):
+            yield from self.from_point(found.point)
+        else:
+            yield found
 
     def planes(self) -> Iterator[Verdict]:
         """A whole column or row of whole columns without a whole number between its ends, or equations without a whole
@@ -51,15 +53,15 @@ class Contradicting(Judging):
                 self.figures = what
                 yield self.judged(certificate.refutation_lines(odd, self.model.m))
 
-    def contradiction(self) -> Verdict:
+    def contradiction(self) -> Verdict | ImprovedIncumbent:
         """By a tree whose leaves are all weights."""
         plans = self.plans_for(self.model.without_costs(), None)
-        if self.proves and not self.linear:
-            plans.try_all()
-        else:
-            plans.run_plain()
+        is_race = self.proves and not self.linear
+        improved = plans.race() if is_race else plans.run_plain()
+        if improved is not None:
+            return improved
         if plans.best is None:
-            raise SearchEnded(self.watch.why(plans.going[0].told.partition(": ")[2]))
+            raise SearchEnded(self.watch.why(plans.strategies[0].report.partition(": ")[2]))
         return self.by_tree(plans.best)
 
     def in_the_end(self) -> Iterator[Verdict]:
@@ -116,7 +118,7 @@ class Contradicting(Judging):
         self.figures = "a point and a ray"
         return self.judged(
             certificate.claim_lines("unbounded", self.objective, None, point, direction),
-            None,
+            False,
             point,
         )
 

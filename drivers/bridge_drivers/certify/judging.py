@@ -5,7 +5,6 @@ from __future__ import annotations
 
 import itertools
 import os
-import shutil
 from fractions import Fraction
 from typing import Callable, Iterator, Mapping, NamedTuple, Sequence
 
@@ -15,7 +14,7 @@ from ..exact.clp import Basis, Clp, LpStatus, library
 from ..exact.relaxation import relaxation
 from ..pipeline.row_factors import whole_form
 from ..model.integer_form import Box, IntegerProgram, Point
-from .plans import Plans, Shaped, written
+from ..exact.portfolio import Portfolio, TreeText
 from .short import shortened
 from ..exact.certificate import RowNumbering
 from .watch import Watch
@@ -25,7 +24,7 @@ from ..exact.dual_bound import Multipliers, bit_width, dual_bound, fits_certific
 from ..system.errors import DeadlineExceeded, ProgramFailed
 from ..program.bridge import Bridge
 from ..program.refusal import Refusal
-from ..system.files import new_file
+from ..system.files import new_text
 from ..model.linear_program import Program
 
 WITHOUT = "not proved: "
@@ -82,9 +81,14 @@ class Bound(NamedTuple):
 
     value: Fraction
     lines: Callable[[], Iterator[str]]
-    path: str | None = None
+    is_tree: bool = False
     figures: str = ""
     duals: Mapping[int, Fraction] = {}
+
+
+def written(path: str, lines: Iterator[str]) -> None:
+    with new_text(path) as out:
+        out.writelines(line + "\n" for line in lines)
 
 
 class Judging:
@@ -116,15 +120,15 @@ class Judging:
         self.points: list[Point] = []  # all of them, the best first
         self.shown: Bound | None = None  # the closest bound that is known
         self.note = ""  # why they are apart
-        self.plans: Plans | None = None
+        self.plans: Portfolio | None = None
         self.contradicted = False  # the answer's whole variables are
         self.has_looked = False  # for a ray
         self.linear = False
         self.path = os.path.join(folder, "certificate")
         bridge.file_names[self.path] = "the certificate"
 
-    def plans_for(self, p: IntegerProgram, value: Fraction | None) -> Plans:
-        return Plans(p, value, self.exact, self.folder, self.watch, self.shortens, self.pool)
+    def plans_for(self, p: IntegerProgram, value: Fraction | None) -> Portfolio:
+        return Portfolio(p, value, self.exact, self.watch, shortens=self.shortens, pool=self.pool)
 
     def shared(self, p: IntegerProgram) -> ParallelSearch:
         """The search for a point."""
@@ -139,23 +143,20 @@ class Judging:
                 Clp.restrict(self.watch.until_over())
 
     def judged(
-        self, lines: Iterator[str], tree: str | None = None, point: Point | None = None
+        self, lines: Iterator[str], is_tree: bool = False, point: Point | None = None
     ) -> Verdict:
         """By `bridge verify`; where numbers are too wide for it, others go on."""
         try:
-            return self.verified(lines, tree, point)
+            return self.verified(lines, is_tree, point)
         except (Refusal, ProgramFailed) as fault:
             return Verdict(WITHOUT + fault.text)
 
     def verified(
-        self, lines: Iterator[str], tree: str | None = None, point: Point | None = None
+        self, lines: Iterator[str], is_tree: bool = False, point: Point | None = None
     ) -> Verdict:
-        """Writes the lines, and a tree from its file; asks `bridge verify`."""
+        """Writes the lines; asks `bridge verify`."""
         written(self.path, lines)
-        if tree is not None:
-            with new_file(self.path, append=True) as f, open(tree, "rb") as source:
-                shutil.copyfileobj(source, f)
-        self.bridge.limit = self.watch.for_verdict(1.0 if tree is None else TREE)
+        self.bridge.limit = self.watch.for_verdict(TREE if is_tree else 1.0)
         try:
             self.watch.progress.tell("bridge verify")
             with self.watch.held():
@@ -211,7 +212,7 @@ class Judging:
         for point in self.points:
             self.figures = "a point"
             yield self.judged(
-                certificate.claim_lines("feasible", self.objective, None, point), None, point
+                certificate.claim_lines("feasible", self.objective, None, point), False, point
             )._replace(note=self.note)
 
     def claimed(self, claim: str, bound: Bound, point: Point | None = None) -> Verdict:
@@ -222,21 +223,21 @@ class Judging:
         lines = itertools.chain(
             certificate.claim_lines(claim, objective, value, point), bound.lines()
         )
-        return self.judged(lines, bound.path, point)._replace(
+        return self.judged(lines, bound.is_tree, point)._replace(
             duals=bound.duals, note="" if claim == "optimal" else self.note
         )
 
-    def by_tree(self, shaped: Shaped, point: Point | None = None) -> Verdict:
+    def by_tree(self, tree: TreeText, point: Point | None = None) -> Verdict:
         """`optimal`, and without a point `infeasible`."""
         self.figures = (
-            f"{shaped.name} plan, {shaped.nodes} nodes, " f"{shaped.rows} rows, {shaped.size} bytes"
+            f"{tree.strategy} plan, {tree.nodes} nodes, {tree.cuts} rows, {tree.size} bytes"
         )
         head = (
             certificate.claim_lines("infeasible", None)
             if point is None
             else certificate.claim_lines("optimal", self.objective, None, point)
         )
-        return self.judged(head, shaped.path, point)
+        return self.judged(itertools.chain(head, tree.lines()), True, point)
 
     def minimised(self, duals: Mapping[int, float | Fraction]) -> dict[int, float | Fraction]:
         """Duals of exported rows by row of the program, which is minimised."""
@@ -253,7 +254,7 @@ class Judging:
         return Bound(
             value,
             lambda: certificate.leaf_lines(leaf, RowNumbering({}, 0, sign), {}),
-            None,
+            False,
             f"one leaf, {len(numbers)} duals",
             y,
         )

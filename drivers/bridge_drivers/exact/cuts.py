@@ -1,0 +1,364 @@
+"""Cuts at the root, one below the other, each with a proof of its own, which shorten the tree.
+
+Where the objective is a multiple of a spacing at all integer points, a split disjunction on it
+comes first: in the branch that is better than the cutoff all leaves are Farkas leaves, and the
+other branch is proved at once. Below it come cuts in rounds: of the relaxation's optimum those that
+it violates most. A clique cut is kept where a small tree refutes its violators, that is, proves
+that there is no point beyond it. An MIR cut has its proof with it (`mir`).
+"""
+
+from __future__ import annotations
+
+import enum
+import math
+from fractions import Fraction
+from typing import Dict, FrozenSet, Iterator, List, Mapping, NamedTuple, Optional, Sequence, Union
+
+from ..certify.watch import Watch
+from ..model.integer_form import IntegerProgram, ObjectiveLattice, Row
+from ..system.errors import SearchEnded
+from . import certificate
+from .certificate import ObjectiveRow, RowNumbering
+from .cliques import CliqueCut, clique_cuts
+from .clp import Clp, LpStatus
+from .dual_bound import MultiplierKind
+from .fathoming import Cutoff
+from .mir import MIRCut, MIRProof, prove_mir_cut
+from .mir_separation import MIRSeparator
+from .relaxation import relaxation
+from .search import BranchAndBound, ImprovedIncumbent
+from .tree import Tree, node_count, rows_used
+
+MOST_ROUNDS = 30
+CLIQUES_OF_A_ROUND = 20
+MIR_CUTS_OF_A_ROUND = 40
+MOST_STALLED_ROUNDS = 10
+LEAST_GAP_SHARE = 1e-3  # that a round closes, else it is stalled
+LEAST_VIOLATION = 1e-3
+LARGEST_COSINE_SQUARED = 0.81  # of the angle between two cuts of one round
+CLOSED_GAP = 1e-9  # of the bound beyond the cutoff, where no more cuts are wanted
+REFUTING_NODES = 12
+REFUTING_SECONDS = 2.0
+REFUTING_CANDIDATES = 4  # of strong branching
+
+Cut = Union[CliqueCut, MIRCut]
+
+
+class CutKind(enum.Enum):
+    """The separators of cuts."""
+
+    MIR = "mir"
+    CLIQUE = "clique"
+
+
+class ProvedCut(NamedTuple):
+    """A cut at the root: the columns times `coefficients` are at most `rhs`.
+
+    Attributes:
+        proof: The tree that refutes its violators, or that of an MIR cut.
+    """
+
+    coefficients: Dict[int, int]
+    rhs: int
+    proof: Union[Tree, MIRProof]
+
+    def row(self) -> Row:
+        return Row(self.coefficients, None, self.rhs)
+
+    def trees(self) -> Sequence[Tree]:
+        """The trees of its proof."""
+        if isinstance(self.proof, MIRProof):
+            return [self.proof.low], [self.proof.high]
+        return (self.proof,)
+
+    def nodes(self) -> int:
+        """The nodes of its text: the cut, and its proof."""
+        return 1 + (3 if isinstance(self.proof, MIRProof) else node_count(self.proof))
+
+
+class ObjectiveCutoff:
+    """A value that no point is to be better than, as the search below the objective's row has it.
+
+    Attributes:
+        value: Minimised; None: there is to be no point.
+        lattice: Of the objective; None where it has none.
+        rhs: The greatest multiple of the lattice's spacing that is better, where there is one.
+        cutoff: For the leaves below the row: to exceed the next better value on the lattice will
+            do, since the row itself excludes that.
+        rows: The row `better than the value`, where there is a lattice.
+    """
+
+    def __init__(
+        self,
+        program: IntegerProgram,
+        value: Optional[Fraction],
+        lattice: Optional[ObjectiveLattice],
+    ) -> None:
+        self.value = value
+        self.lattice = lattice
+        self.rhs = 0
+        self.cutoff = Cutoff(value)
+        self.rows: List[Row] = []
+        if lattice is not None:
+            if value is not None:
+                steps = (value - program.constant_fraction) / lattice.spacing
+                self.rhs = math.ceil(steps) - 1
+                self.cutoff = Cutoff(value - lattice.spacing, is_strict=True)
+            self.rows = [Row(lattice.coefficients, None, self.rhs)]
+
+    def open_rows(self) -> List[Row]:
+        """The rows without their bound, so that a relaxation's bound is seen beyond it."""
+        return [Row(row.coefficients) for row in self.rows]
+
+
+class Relaxed(NamedTuple):
+    """A relaxation that has an optimum, with the program that it is of."""
+
+    program: IntegerProgram
+    clp: Clp
+
+
+class RootCutLoop:
+    """Makes cuts for a cutoff, as long as the watch says.
+
+    Attributes:
+        dual_bound: Of the last relaxation, minimised.
+        cutoff: In doubles; infinite where there is to be no point.
+    """
+
+    def __init__(self, program: IntegerProgram, objective: ObjectiveCutoff, watch: Watch) -> None:
+        self.program = program
+        self.objective = objective
+        self.watch = watch
+        value = objective.cutoff.value
+        self.cutoff = math.inf if value is None else float(value)
+        self.dual_bound = -math.inf
+        self.most_stalled = MOST_STALLED_ROUNDS if any(program.costs) else MOST_ROUNDS
+
+    def solve_relaxation(self, cuts: Sequence[ProvedCut]) -> Optional[Relaxed]:
+        """The relaxation under these cuts; None where it has no optimum."""
+        program = self.program.with_rows(
+            [*self.objective.open_rows(), *(cut.row() for cut in cuts)]
+        )
+        clp = relaxation(program)
+        if clp.solve() is not LpStatus.OPTIMAL:
+            return None
+        self.dual_bound = clp.objective() + float(self.program.constant_fraction)
+        if self.watch.is_due() and any(self.program.costs):
+            self.watch.tell(cuts=len(cuts), bound=self.program.sign * self.dual_bound)
+        return Relaxed(program, clp)
+
+    def is_over(self, until: float) -> bool:
+        """Whether that second of the watch has passed, or an interrupt came."""
+        return self.watch.spent() > until or self.watch.is_stopped
+
+    def closed_share(self, root_bound: float) -> float:
+        """The share of the gap between a bound without cuts and the cutoff that is closed now."""
+        return (self.dual_bound - root_bound) / max(self.cutoff - root_bound, CLOSED_GAP)
+
+    def run(
+        self, kinds: FrozenSet[CutKind], before: Sequence[ProvedCut], until: float
+    ) -> List[ProvedCut]:
+        """Rounds of cuts, until they close the gap, gain no more, or the time is over.
+
+        Args:
+            before: Cuts that are there already.
+            until: A second of the watch.
+
+        Returns:
+            Those of before, and new ones below them.
+        """
+        cuts = list(before)
+        seen = {_key(cut.coefficients, cut.rhs) for cut in cuts}
+        stalled, last_bound = 0, -math.inf
+        for _ in range(MOST_ROUNDS):
+            relaxed = self.solve_relaxation(cuts)
+            least_gain = LEAST_GAP_SHARE * (self.cutoff - self.dual_bound)
+            stalled = stalled + 1 if self.dual_bound - last_bound < least_gain else 0
+            is_closed = self.dual_bound >= self.cutoff + CLOSED_GAP
+            if relaxed is None or is_closed or stalled > self.most_stalled:
+                break
+            last_bound, size = self.dual_bound, len(cuts)
+            self._add_round(relaxed, kinds, cuts, seen, until)
+            if len(cuts) == size or self.is_over(until):
+                break
+        return cuts
+
+    def _add_round(
+        self,
+        relaxed: Relaxed,
+        kinds: FrozenSet[CutKind],
+        cuts: List[ProvedCut],
+        seen: set[object],
+        until: float,
+    ) -> None:
+        """Adds to `cuts` what one round proves, without cuts that are nearly parallel."""
+        used: List[Mapping[int, int]] = []
+        for cut in self._candidates(relaxed, kinds, used, until):
+            if self.is_over(until):
+                break
+            key = _key(cut.coefficients, cut.rhs)
+            if key in seen:
+                continue
+            seen.add(key)
+            if any(is_parallel(cut.coefficients, other) for other in used):
+                continue
+            if self._prove(cut, cuts, relaxed.program):
+                used.append(cut.coefficients)
+
+    def _candidates(
+        self,
+        relaxed: Relaxed,
+        kinds: FrozenSet[CutKind],
+        used: Sequence[object],
+        until: float,
+    ) -> Iterator[Cut]:
+        """Clique cuts, then MIR cuts, of each the deepest first.
+
+        As long as fewer than one round may have are in `used`, to which the caller adds.
+        """
+        x = relaxed.clp.values()
+        cliques: List[CliqueCut] = []
+        if CutKind.CLIQUE in kinds:
+            found = clique_cuts(relaxed.program, x)
+            cliques = [cut for cut in found if cut.violation > LEAST_VIOLATION]
+        for cut in sorted(cliques, key=lambda cut: -_efficacy(cut)):
+            if len(used) >= CLIQUES_OF_A_ROUND:
+                break
+            yield cut
+        most = len(used) + MIR_CUTS_OF_A_ROUND
+        if CutKind.MIR not in kinds:
+            return
+        separator = MIRSeparator(relaxed.program, relaxed.clp, x)
+        for mir_cut in separator.cuts(lambda: self.is_over(until)):
+            if len(used) >= most:
+                break
+            yield mir_cut
+
+    def _prove(self, cut: Cut, cuts: List[ProvedCut], program: IntegerProgram) -> bool:
+        """Adds a cut to the others, below those that it is proved by; whether it is proved.
+
+        The smaller cuts of a clique stay as far as they are proved.
+        """
+        if isinstance(cut, MIRCut):
+            proof = prove_mir_cut(program, cut)
+            if proof is not None:
+                cuts.append(ProvedCut(cut.coefficients, cut.rhs, proof))
+            return proof is not None
+        for one in (*cut.smaller, cut):
+            is_there = any(
+                known.coefficients == one.coefficients and known.rhs == one.rhs for known in cuts
+            )
+            if one is cut or not is_there:
+                tree = self.refute_violators(one, cuts)
+                if tree is None:
+                    return False
+                cuts.append(ProvedCut(one.coefficients, one.rhs, tree))
+        return True
+
+    def refute_violators(self, cut: CliqueCut, cuts: Sequence[ProvedCut]) -> Optional[Tree]:
+        """A small tree that no point better than the cutoff is beyond the cut; None without one."""
+        rows = [
+            *self.objective.rows,
+            *(known.row() for known in cuts),
+            Row(cut.coefficients, cut.rhs + 1),
+        ]
+        search = BranchAndBound(
+            self.program.with_rows(rows),
+            Cutoff(None),
+            self.watch,
+            strong_candidates=REFUTING_CANDIDATES,
+        )
+        search.until = self.watch.spent() + REFUTING_SECONDS
+        search.most_nodes = REFUTING_NODES
+        try:
+            found = search.run()
+        except SearchEnded:
+            return None
+        return None if isinstance(found, ImprovedIncumbent) else found.tree
+
+
+def _key(coefficients: Mapping[int, int], rhs: int) -> object:
+    return (tuple(sorted(coefficients.items())), rhs)
+
+
+def _efficacy(cut: CliqueCut) -> float:
+    """The distance of the relaxation's optimum from the cut."""
+    return cut.violation / math.hypot(*cut.coefficients.values())
+
+
+def is_parallel(a: Mapping[int, int], b: Mapping[int, int]) -> bool:
+    """Whether the squared cosine of the angle between two cuts is above LARGEST_COSINE_SQUARED."""
+    product = sum(v * b.get(j, 0) for j, v in a.items())
+    sizes = sum(v * v for v in a.values()), sum(v * v for v in b.values())
+    return product**2 > LARGEST_COSINE_SQUARED * sizes[0] * sizes[1]
+
+
+class CertificateWithCuts:
+    """The text of a tree below cuts. Cuts that nothing uses are left out.
+
+    Attributes:
+        numbers: By row of the searched program, the number that a cut has in the text.
+        kept: By that number, the cuts of the text.
+    """
+
+    def __init__(
+        self,
+        program: IntegerProgram,
+        searched: IntegerProgram,
+        objective: ObjectiveCutoff,
+        cuts: Sequence[ProvedCut],
+        tree: Tree,
+    ) -> None:
+        """
+        Args:
+            program: The file's.
+            searched: That of the tree: with the objective's row, the cuts and the forms.
+        """
+        self.program = program
+        self.searched = searched
+        self.objective = objective
+        self.tree = tree
+        first = program.m + len(objective.rows)
+        used = rows_used(tree)
+        for place in range(len(cuts) - 1, -1, -1):
+            if first + place in used:
+                used.update(*map(rows_used, cuts[place].trees()))
+        kept = [place for place in range(len(cuts)) if first + place in used]
+        self.numbers = {first + place: first + k for k, place in enumerate(kept)}
+        self.kept = {first + k: cuts[place] for k, place in enumerate(kept)}
+        self.end = first + len(kept)
+
+    def nodes(self) -> int:
+        """The nodes of the text."""
+        of_objective = 2 * len(self.objective.rows)
+        return node_count(self.tree) + of_objective + sum(cut.nodes() for cut in self.kept.values())
+
+    def lines(self) -> Iterator[str]:
+        """The objective's split, the cuts, the tree, the trees of clique cuts from the deepest, and
+        the leaf of the objective's other branch."""
+        lattice = self.objective.lattice
+        if lattice is not None:
+            yield from certificate.disjunction_lines(lattice.coefficients, self.objective.rhs)
+        refuting: List[tuple[int, Tree]] = []
+        for number, (coefficients, rhs, proof) in self.kept.items():
+            if isinstance(proof, MIRProof):
+                numbers = {**self.numbers, proof.row: number}
+                yield from certificate.cut_lines(coefficients, rhs, proof, numbers)
+            else:
+                yield from certificate.disjunction_lines(coefficients, rhs)
+                refuting.append((number + 1, proof))
+        row = self.program.m
+        objective_row = None if lattice is None else ObjectiveRow(row, lattice.spacing)
+        yield from self._tree_lines(self.tree, self.end, objective_row)
+        for first, tree in reversed(refuting):
+            yield from self._tree_lines(tree, first)
+        if lattice is not None:
+            dual = self.program.sign * lattice.spacing
+            yield from certificate.multiplier_lines({row: dual}, MultiplierKind.DUAL)
+
+    def _tree_lines(
+        self, tree: Tree, first: int, objective_row: Optional[ObjectiveRow] = None
+    ) -> Iterator[str]:
+        naming = RowNumbering(self.numbers, first, self.program.sign, objective_row)
+        return certificate.tree_lines(self.searched, tree, naming)

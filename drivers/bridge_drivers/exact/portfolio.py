@@ -1,0 +1,462 @@
+"""A portfolio of strategies that race for a tree, each in turns, where it was paused.
+
+*plain* has no cuts; *lemma* searches below MIR cuts, *clique* below clique cuts too; *thin*
+branches on forms of a reduced lattice beside columns. The strategy that seems to end first goes on.
+What else is tried, cuts that are made and strategies below them, has a share of the seconds that
+this one seems to need in all. The first tree is told; where a short text is wanted, all go on for
+some times as long and the shortest is told, since cuts make some trees longer.
+"""
+
+from __future__ import annotations
+
+import math
+from dataclasses import dataclass
+from fractions import Fraction
+from typing import Dict, FrozenSet, Iterator, List, Mapping, NamedTuple, Optional, Sequence
+
+from ..certify.directions import directions
+from ..certify.short import trivial
+from ..certify.watch import Watch
+from ..model.integer_form import IntegerProgram, Row
+from ..system.errors import SearchEnded, SearchPaused
+from .cuts import CertificateWithCuts, CutKind, ObjectiveCutoff, ProvedCut, RootCutLoop
+from .parallel import ParallelSearch
+from .search import MOST_NODES, ExactPoint, ImprovedIncumbent
+from .tree import Tree
+from .worker_pools import SearchProblem, WorkerPool
+
+PLAIN, MIR, CLIQUE, THIN = "plain", "lemma", "clique", "thin"  # names of strategies, as told
+KINDS_OF_CUTS: Mapping[str, FrozenSet[CutKind]] = {
+    MIR: frozenset({CutKind.MIR}),
+    CLIQUE: frozenset({CutKind.MIR, CutKind.CLIQUE}),
+}
+
+RESERVE = 0.07  # of the limit of all seconds, for a bound
+FIRST_NODES = 100  # of the plain search, before all else
+TURN_SECONDS = 0.25  # that a turn has at least
+PLAIN_TURN_SECONDS = 0.1  # of a run that has no other strategy
+PLAIN_RESERVE_SECONDS = 1.0  # for a bound, in such a run
+OTHERS_SHARE = 0.1  # of all seconds, for what is not the first strategy
+FARTHEST_FORECAST = 2.0  # times the seconds so far: later ends of the first strategy count as this
+LEAST_CUT_SECONDS = 0.05  # from which on cuts are made
+FIRST_CUT_SECONDS = 0.5  # that they may be made at once
+LATTICE_AFTER_SECONDS = 2.0  # before which no lattice is reduced
+MOST_LATTICE_COLUMNS = 45  # integer ones
+LEAST_CLOSED_SHARE = 0.01  # of the gap, for cuts to be worth a strategy, or more time
+MOST_VAIN_ATTEMPTS = 10  # to make cuts that close more
+SHARE_OF_REST = 2.0  # times the gap that cuts leave: the share of the seconds that is left then
+SHORTER_TIMES = 4.0  # the seconds of the first tree, for a shorter one
+SHORTER_SECONDS = 2.0  # more
+SHORT_TREE = 40  # nodes of a tree that needs no shorter one
+LEAST_ESTIMATE = 1e-9  # seconds
+
+BOUND_DIGITS = 3  # of the gap, in which a bound is told
+LOWERINGS = (0.0, 1e-9, 1e-7, 1e-5, 1e-3)  # of a bound in turn, relative, until it is proved
+LATTICE_TOLERANCE = 1e-6  # spacings, by which a bound may be beyond a value of the lattice
+
+
+class TreeText(NamedTuple):
+    """The text of a tree, below its cuts.
+
+    Attributes:
+        text: Lines, each with its end.
+        nodes: In the text.
+        cuts: In the text.
+        strategy: That found it.
+    """
+
+    text: str
+    nodes: int
+    cuts: int
+    strategy: str
+
+    @property
+    def size(self) -> int:
+        """In bytes."""
+        return len(self.text)
+
+    def lines(self) -> Iterator[str]:
+        start = 0
+        while start < len(self.text):
+            end = self.text.index("\n", start)
+            yield self.text[start:end]
+            start = end + 1
+
+
+class ProvedBound(NamedTuple):
+    """A value that no point is better than, minimised, with the tree that proves it."""
+
+    value: Fraction
+    tree: TreeText
+
+
+@dataclass
+class Strategy:
+    """A search that can go on.
+
+    Attributes:
+        name: As it is told.
+        cuts: That the search stands below.
+        spent: Seconds so far.
+        first_estimate: Seconds that it takes, before its tree says so.
+        correction: By which its estimates were too low.
+        report: How its last turn ended.
+        has_ended: Whether it cannot go on: it has its tree, or it failed.
+        tree: Where it has one.
+    """
+
+    name: str
+    cuts: Sequence[ProvedCut]
+    search: ParallelSearch
+    spent: float = 0.0
+    first_estimate: float = math.inf
+    correction: float = 1.0
+    report: str = ""
+    has_ended: bool = False
+    tree: Optional[TreeText] = None
+
+    def estimated_seconds(self) -> float:
+        """That are left, by the share of the tree that is proved."""
+        share = self.search.proved_share()
+        rest = self.spent * (1 - share) / share if share else self.first_estimate
+        return max(rest, LEAST_ESTIMATE) * self.correction
+
+
+class Preparation:
+    """What is made for further strategies, bit by bit: cuts, and forms of a reduced lattice.
+
+    Attributes:
+        names: Of strategies that are still to be prepared, in order.
+        cuts: Made so far for the first of them.
+        closed_share: Of the gap, by these.
+        vain_attempts: In a row that closed no more.
+    """
+
+    def __init__(self, names: Sequence[str]) -> None:
+        self.names = list(names)
+        self.begin_next()
+
+    def begin_next(self) -> None:
+        """Of the first of the names nothing is made yet."""
+        self.cuts: List[ProvedCut] = []
+        self.closed_share = 0.0
+        self.vain_attempts = 0
+
+    def add(self, cuts: List[ProvedCut], closed_share: float) -> None:
+        is_vain = closed_share < self.closed_share + LEAST_CLOSED_SHARE
+        self.cuts = cuts
+        self.vain_attempts = self.vain_attempts + 1 if is_vain else 0
+        self.closed_share = closed_share
+
+    def is_in_vain(self) -> bool:
+        return self.vain_attempts > MOST_VAIN_ATTEMPTS
+
+
+class Portfolio:
+    """Searches trees that no point is better than a value, or that there is no point at all.
+
+    Attributes:
+        objective: That value.
+        strategies: That were begun.
+        best: The tree with the shortest text so far.
+        has_no_value: Whether there is to be no point: then there is no gap to be seen.
+    """
+
+    def __init__(
+        self,
+        program: IntegerProgram,
+        value: Optional[Fraction],
+        exact_point: ExactPoint,
+        watch: Watch,
+        *,
+        shortens: bool = False,
+        pool: Optional[WorkerPool] = None,
+    ) -> None:
+        """
+        Args:
+            value: Of the objective, minimised; None: there is to be no point.
+            shortens: After a tree, look for a shorter one.
+            pool: Other processes that search.
+        """
+        self.program = program
+        self.exact_point = exact_point
+        self.watch = watch
+        self.shortens = shortens
+        self.pool = pool
+        self.lattice = program.objective_lattice()
+        self.objective = ObjectiveCutoff(program, value, self.lattice)
+        self.cut_loop = RootCutLoop(program, self.objective, watch)
+        self.best: Optional[TreeText] = None
+        self.strategies: List[Strategy] = []
+        self.started = watch.spent()
+        self.end = math.inf  # seconds after `started`
+        self.has_no_value = value is None
+        self.preparation = Preparation([THIN, CLIQUE] if self.has_no_value else [MIR, CLIQUE, THIN])
+
+    @property
+    def dual_bound(self) -> float:
+        """The best that a search has told: no point is better, minimised."""
+        return max((strategy.search.dual_bound for strategy in self.strategies), default=-math.inf)
+
+    def reports(self) -> List[str]:
+        return [strategy.report for strategy in self.strategies if strategy.report]
+
+    def begin(
+        self, name: str, cuts: Sequence[ProvedCut] = (), forms: Sequence[Dict[int, int]] = ()
+    ) -> Strategy:
+        """A further strategy, which has searched nothing yet."""
+        above: List[Row] = [*self.objective.open_rows(), *(cut.row() for cut in cuts)]
+        problem = SearchProblem(self.program, above, forms, self.objective.cutoff)
+        search = ParallelSearch(problem, self.exact_point, self.watch, self.pool)
+        self.strategies.append(Strategy(name, cuts, search))
+        return self.strategies[-1]
+
+    def resume(
+        self, strategy: Strategy, seconds: float, most_nodes: int = MOST_NODES
+    ) -> Optional[ImprovedIncumbent]:
+        """Goes on with a strategy, for so many seconds or nodes; a better point where it has one."""
+        if strategy.has_ended:
+            return None
+        began = self.watch.spent()
+        try:
+            found = strategy.search.resume(self.until(seconds), most_nodes)
+        except SearchEnded as ended:
+            strategy.report = f"{strategy.name}: {ended}"
+            strategy.has_ended = not isinstance(ended, SearchPaused)
+            return None
+        finally:
+            strategy.spent += self.watch.spent() - began
+        if isinstance(found, ImprovedIncumbent):
+            return found
+        self._end_with_tree(strategy, found)
+        return None
+
+    def race(self) -> Optional[ImprovedIncumbent]:
+        """All strategies in turns, until there is a tree, or no time.
+
+        Returns:
+            A point that is better than the value, where one was found.
+        """
+        self.started = self.watch.spent()
+        improved = self.resume(self.begin(PLAIN), self.seconds_left(), FIRST_NODES)
+        while improved is None and self._goes_on():
+            live = [strategy for strategy in self.strategies if not strategy.has_ended]
+            first = self._likely_first(live)
+            seconds = self.time_for_others(first)
+            if self._is_preparation_due(seconds):
+                self._prepare(seconds)
+            elif first is None:
+                return None
+            else:
+                improved = self.take_turn(_next_turn(live, first, seconds), first, seconds)
+        return improved
+
+    def run_plain(self) -> Optional[ImprovedIncumbent]:
+        """The plain search alone, as a run without a search for proofs has it.
+
+        No progress is told of a bound that might be lost with its time, and on a busy machine some
+        seconds are left to prove it.
+        """
+        strategy = self.begin(PLAIN)
+        strategy.search.reports_progress = False
+        improved = None
+        while (
+            improved is None
+            and self.seconds_left() > 0
+            and self.watch.until_over() > PLAIN_RESERVE_SECONDS
+            and not strategy.has_ended
+        ):
+            improved = self.resume(strategy, PLAIN_TURN_SECONDS)
+        return improved
+
+    def seconds_left(self) -> float:
+        """For strategies: a share of all seconds is for a bound."""
+        return self.watch.left() - RESERVE * self.watch.seconds
+
+    def until(self, seconds: float) -> float:
+        """The second of the watch after these, as far as there is time."""
+        return self.watch.spent() + max(0.0, min(seconds, self.seconds_left()))
+
+    def seconds_so_far(self) -> float:
+        return self.watch.spent() - self.started
+
+    def time_for_others(self, first: Optional[Strategy]) -> float:
+        """Seconds for what is not the first strategy.
+
+        That is a share of all seconds that the first seems to need, less what went to others, and
+        not more than half of what is left of it. Without a value some are there at once.
+        """
+        if first is None:
+            return math.inf
+        total = self.seconds_so_far()
+        rest = min(first.estimated_seconds(), FARTHEST_FORECAST * total)
+        others = total - first.spent
+        seconds = min(OTHERS_SHARE * (total + rest) - others, rest / 2)
+        return max(seconds, FIRST_CUT_SECONDS - others) if self.has_no_value else seconds
+
+    def take_turn(
+        self, strategy: Strategy, first: Strategy, seconds_for_others: float
+    ) -> Optional[ImprovedIncumbent]:
+        """One strategy goes on, at most twice as long as its estimate, or as it had so far.
+
+        A strategy that takes longer than it seemed to has its estimates corrected.
+        """
+        estimate = strategy.estimated_seconds()
+        seconds = max(min(strategy.spent, 2 * estimate), TURN_SECONDS)
+        seconds = min(seconds, self.end - self.seconds_so_far())
+        if strategy is not first:
+            seconds = min(seconds, seconds_for_others)
+        improved = self.resume(strategy, seconds)
+        if strategy.tree is None and seconds > estimate:
+            strategy.correction *= 2 * seconds / max(estimate, LEAST_ESTIMATE)
+        return improved
+
+    def prove_bound(self) -> Optional[ProvedBound]:
+        """The best bound of the paused searches that can be proved. Its search cannot go on.
+
+        Each search is ended at its own bound, minimised and a little lower, so that each open node
+        is proved by few nodes.
+        """
+        for strategy in sorted(self.strategies, key=lambda s: -s.search.dual_bound):
+            bound = strategy.search.close_and_bound()
+            for lowering in LOWERINGS if bound > -math.inf else ():
+                value = self.rounded_bound(bound - lowering * max(1.0, abs(bound)))
+                objective = ObjectiveCutoff(self.program, value, self.lattice)
+                tree = strategy.search.finish_at_cutoff(objective.cutoff)
+                if tree is not None:
+                    self.strategies.remove(strategy)
+                    return ProvedBound(value, self._text(strategy, objective, tree))
+        return None
+
+    def rounded_bound(self, bound: float) -> Fraction:
+        """A bound of the relaxation in few digits, not above the value.
+
+        Where the objective has a lattice, the next value of it. Never below what bounds of columns
+        alone say.
+        """
+        value, lattice = self.objective.value, self.lattice
+        assert value is not None
+        if not bound < math.inf:
+            return value
+        constant, least = self.program.constant_fraction, trivial(self.program)
+        if lattice is not None:
+            steps = (bound - float(constant)) / float(lattice.spacing)
+            if least is not None:
+                steps = max(steps, float((least - constant) / lattice.spacing))
+            found = constant + lattice.spacing * math.ceil(steps - LATTICE_TOLERANCE)
+            return min(found, value)
+        gap = max(float(value) - bound, 1e-9 * max(1.0, abs(bound)))
+        unit = Fraction(10) ** (math.floor(math.log10(gap)) - BOUND_DIGITS)
+        found = math.floor((bound - gap * 1e-3) / float(unit)) * unit
+        return min(found if least is None else max(found, least), value)
+
+    def _end_with_tree(self, strategy: Strategy, tree: Tree) -> None:
+        strategy.has_ended = True
+        text = self._text(strategy, self.objective, tree)
+        strategy.tree = text
+        strategy.report = f"{strategy.name}: {text.nodes} nodes, {text.size} bytes"
+        if strategy.cuts:
+            strategy.report += f", {text.cuts} of {len(strategy.cuts)} rows"
+        if self.best is None or text.size < self.best.size:
+            self.best = text
+
+    def _text(self, strategy: Strategy, objective: ObjectiveCutoff, tree: Tree) -> TreeText:
+        searched = strategy.search.search.program
+        made = CertificateWithCuts(self.program, searched, objective, strategy.cuts, tree)
+        text = "".join(line + "\n" for line in made.lines())
+        return TreeText(text, made.nodes(), len(made.kept), strategy.name)
+
+    def _goes_on(self) -> bool:
+        """Whether there is anything more to be had, and time."""
+        if self.best is not None:
+            if not self.shortens or self.best.nodes <= SHORT_TREE:
+                return False
+            self.end = min(self.end, (1 + SHORTER_TIMES) * self.seconds_so_far() + SHORTER_SECONDS)
+        seconds = min(self.seconds_left(), self.end - self.seconds_so_far())
+        return seconds > 0 and not self.watch.is_stopped
+
+    def _likely_first(self, live: Sequence[Strategy]) -> Optional[Strategy]:
+        """The strategy that seems to end first; after a tree only one that seems to end in time."""
+        candidates = [
+            strategy
+            for strategy in live
+            if self.end == math.inf
+            or not strategy.spent
+            or strategy.estimated_seconds() < self.end - self.seconds_so_far()
+        ]
+        return min(candidates, key=lambda s: s.estimated_seconds()) if candidates else None
+
+    def _is_preparation_due(self, seconds: float) -> bool:
+        """Whether more is made now. A lattice comes late, but at once where there is no value."""
+        names = self.preparation.names
+        if not names:
+            return False
+        is_lattice = names[0] == THIN
+        if seconds == math.inf or self.has_no_value and is_lattice:
+            return True
+        is_early = is_lattice and self.seconds_so_far() < LATTICE_AFTER_SECONDS
+        return seconds >= LEAST_CUT_SECONDS and not is_early
+
+    def _prepare(self, seconds: float) -> None:
+        """Some seconds of the first preparation; where it is done a strategy begins."""
+        name = self.preparation.names[0]
+        if name == THIN:
+            self.preparation.names.pop(0)
+            forms = self._lattice_forms()
+            if forms:
+                strategy = self.begin(THIN, [], forms)
+                strategy.first_estimate = TURN_SECONDS if self.has_no_value else math.inf
+        elif self.cut_loop.solve_relaxation([]) is None:
+            self.preparation.names.pop(0)
+        else:
+            self._make_cuts(name, seconds)
+
+    def _make_cuts(self, name: str, seconds: float) -> None:
+        """Some seconds of cuts. They are done when they end by themselves, in vain, or close much."""
+        loop, preparation = self.cut_loop, self.preparation
+        root_bound = loop.dual_bound
+        until = self.until(min(seconds, max(self.seconds_so_far(), FIRST_CUT_SECONDS)))
+        below_mir: Sequence[ProvedCut] = next(
+            (s.cuts for s in self.strategies if s.name == MIR), ()
+        )
+        before = preparation.cuts or below_mir
+        cuts = loop.run(KINDS_OF_CUTS[name], before, until)
+        preparation.add(cuts, loop.closed_share(root_bound))
+        closed_share = preparation.closed_share
+        is_enough = SHARE_OF_REST * (1 - closed_share) <= 1
+        if loop.is_over(until) and not preparation.is_in_vain() and not is_enough:
+            return
+        preparation.names.pop(0)
+        if cuts and (closed_share >= LEAST_CLOSED_SHARE or self.has_no_value):
+            forecast = FARTHEST_FORECAST * self.seconds_so_far()
+            without_cuts = min(self.strategies[0].estimated_seconds(), forecast)
+            estimate = without_cuts * SHARE_OF_REST * max(1 - closed_share, 0.0)
+            strategy = self.begin(name, cuts)
+            strategy.first_estimate = TURN_SECONDS if self.has_no_value else estimate
+        preparation.begin_next()
+
+    def _lattice_forms(self) -> List[Dict[int, int]]:
+        """The forms to branch on beside columns, of pure integer programs that are small.
+
+        The objective's form has the width between the last relaxation and the value.
+        """
+        program, lattice = self.program, self.lattice
+        is_integer = program.is_integer
+        if not all(is_integer) or sum(is_integer) > MOST_LATTICE_COLUMNS:
+            return []
+        if lattice is None:
+            return [] if any(program.costs) else directions(program)
+        bound = self.cut_loop.dual_bound
+        if math.isinf(bound):
+            return []
+        steps = (bound - float(program.constant_fraction)) / float(lattice.spacing)
+        width = Fraction(max(self.objective.rhs - steps, 0.5))
+        return directions(program, lattice.coefficients, width)
+
+
+def _next_turn(live: Sequence[Strategy], first: Strategy, seconds: float) -> Strategy:
+    """The first strategy, or where there is time for others the one that had least."""
+    if seconds < TURN_SECONDS:
+        return first
+    others = [strategy for strategy in live if strategy is not first]
+    return min(others, key=lambda strategy: strategy.spent, default=first)
