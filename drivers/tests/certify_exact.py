@@ -18,8 +18,8 @@ from bridge_drivers.certify.simplex import Ended, Simplex
 from bridge_drivers.exact.dual_bound import MultiplierKind, is_optimal_in_doubles
 from bridge_drivers.exact.leaf_proofs import LeafProver, from_fractions
 from certify_parts import built
-from misleading import Misleading
-from misleading_kinds import models
+from builders.misleading import Misleading
+from builders.misleading_kinds import models
 from models import BINARY, MODELS, nl, real, whole
 
 MOST_STEPS = 3000
@@ -101,7 +101,7 @@ class Programs(Case):
             if model.is_linear() and any(model.costs.values()):
                 wanted = (
                     "unbounded"
-                    if model.is_endless
+                    if model.is_unbounded
                     else "infeasible"
                     if model.best is None
                     else f"optimal {model.best}"
@@ -132,7 +132,7 @@ class Programs(Case):
             ):
                 continue
             closed += 1
-            self.assertFalse(model.best is None or model.is_endless, model.name)
+            self.assertFalse(model.best is None or model.is_unbounded, model.name)
             terms = [float(c) * v for c, v in zip(p.cost_fractions, clp.values())]
             self.assertLessEqual(
                 abs(p.sign * sum(terms) - float(model.best)),

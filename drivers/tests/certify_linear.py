@@ -17,7 +17,7 @@ from bridge_drivers.exact.relaxation import relaxation
 from bridge_drivers.model.integer_form import Box, IntegerProgram, over_common_denominator
 from bridge_drivers.exact.dual_bound import MultiplierKind, Multipliers, bit_width, dual_bound
 from bridge_drivers.exact.linear_systems import NotSolved, scipy_or_none
-from families import made, uneven
+from builders.families import family_model as made, uneven
 from certify_parts import built
 from models import nl, real
 

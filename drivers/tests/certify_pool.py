@@ -35,7 +35,7 @@ from bridge_drivers.system.errors import SearchEnded, SearchPaused
 from bridge_drivers.system.processes import SIGNALS, Interrupted
 from bridge_drivers.model.linear_program import Program
 from models import nl, real, whole
-import families
+from builders import families
 
 LONG = 200.0  # seconds for processes to start, on a busy machine
 
@@ -173,8 +173,8 @@ class Portions(Pooled):
     def test_other_claims(self) -> None:
         """A contradiction and a point, where all but the first nodes are worked apart."""
         for made, line in (
-            (families.made("pigeons", 5), "infeasible"),
-            (families.made("split", 2), "infeasible"),
+            (families.family_model("pigeons", 5), "infeasible"),
+            (families.family_model("split", 2), "infeasible"),
             (random_model(random.Random(11), True), "optimal"),
         ):
             pool = Here(3)
@@ -229,7 +229,7 @@ class OfThisMachine(Pooled):
 
     def started(self) -> tuple[subprocess.Popen, list[int]]:
         """A process that searches long in a group of its own, and those that it started."""
-        self.put(families.made("split", 6))
+        self.put(families.family_model("split", 6))
         child = subprocess.Popen(
             [sys.executable, __file__, self.stub + ".nl", self.folder],
             stdin=subprocess.DEVNULL,
@@ -312,7 +312,7 @@ class OfACluster(Pooled):
         with self.at_home(), mock.patch.object(pool, "submit", wraps=pool.submit) as submit:
             self.searched(pool)
         submit.assert_called()
-        work = self.work(families.made("split", 6), pool=pool)
+        work = self.work(families.family_model("split", 6), pool=pool)
         timer = threading.Timer(3, os.kill, (os.getpid(), signal.SIGINT))
         timer.start()
         self.addCleanup(timer.cancel)

@@ -27,7 +27,7 @@ from bridge_drivers.exact.portfolio import Portfolio, TreeText
 from bridge_drivers.exact.cuts import CutKind
 from bridge_drivers.exact.search import BranchAndBound
 from bridge_drivers.model.linear_program import Program
-import families
+from builders import families
 from models import BINARY, CLAIMED, MODELS, nl, real, whole
 
 SECONDS = 20.0
@@ -303,7 +303,7 @@ class Spines(Certified):
         """Pigeons of which no two share a hole: the program with cliques has no point. Each clique is a chain of planes
         whose parts beyond are one leaf each."""
         for size in (6, 9):
-            work = self.work(families.made("pigeons", size))
+            work = self.work(families.family_model("pigeons", size))
             work.load()
             plans = work.plans_for(work.model.without_costs(), None)
             self.below(plans, CutKind.CLIQUE, CutKind.MIR)
@@ -313,7 +313,7 @@ class Spines(Certified):
     def test_no_point(self) -> None:
         """Numbers that no sum of coins makes: forms of a lattice, also where a solver has nothing."""
         for size, claim in itertools.product((4, 5), ("infeasible", "nothing")):
-            verdict = certified(self.work(families.made("frobenius", size)), claim)
+            verdict = certified(self.work(families.family_model("frobenius", size)), claim)
             self.assertEqual(verdict.line, "infeasible")
             self.assertLess(os.path.getsize(verdict.path), 20_000)
 

@@ -38,7 +38,7 @@ from typing import Dict, Iterable
 HERE = os.path.dirname(os.path.abspath(__file__))
 sys.path[:0] = [os.path.join(HERE, ".."), HERE]
 
-import families  # noqa: E402
+from builders import families  # noqa: E402
 from bridge_drivers.program.bridge import Bridge, find_program  # noqa: E402
 from bridge_drivers.program.refusal import Refusal  # noqa: E402
 from bridge_drivers.formats.file_kinds import stub_of  # noqa: E402
@@ -138,7 +138,7 @@ def models(bridge: list[str], target: str) -> None:
 def written_families(target: str, most: int) -> None:
     linear = [(name, size) for name in LINEAR for size in SIZES if size <= most]
     for name, size in linear + [(name, size) for name, sizes in OTHERS for size in sizes]:
-        Path(target, f"{name}-{size}.nl").write_bytes(families.made(name, size))
+        Path(target, f"{name}-{size}.nl").write_bytes(families.family_model(name, size))
 
 
 def shape(bridge: list[str], path: str) -> list[str]:

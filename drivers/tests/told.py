@@ -5,48 +5,23 @@ the progress line of a search has told, from no point and from a bad one."""
 from __future__ import annotations
 
 import contextlib
-import copy
-import json
 import os
 import re
 from fractions import Fraction as F
 from unittest import mock
 
 from support import NEEDS_CLP, NEEDS_PROGRAM, Case, Injected, Reply, bridge, content
-from bridge_drivers import sol, solvers
-from bridge_drivers.pipeline.answer import CODE_OF_STATUS
+from bridge_drivers import sol
 from bridge_drivers.pipeline.certification import AnswerCertifier
 from bridge_drivers.program.verdict import statement_of
 from bridge_drivers.certify.claims import Certifying, Verdict, certified
 from bridge_drivers.certify.plans import Plans
 from bridge_drivers.certify.watch import Over, Watch
-from bridge_drivers.system.codes import Code, ExitStatus
 from bridge_drivers.model.linear_program import Program
 from bridge_drivers.progress import Progress, detailed
-from bridge_drivers.solvers import coin, esolver, glpsol, highs, lp_solve
-from bridge_drivers.solvers.base import SolverStatus, ToldStatus
-from families import made
+from builders.families import family_model as made
 from models import MODELS, rows_of, text_of
-from stored import STOPPED
-import stored
 
-LIBRARIES = "/usr/lib/x86_64-linux-gnu/"
-TABLES = {
-    "cbc": coin.STATUSES,
-    "clp": coin.STATUSES,
-    "lp_solve": lp_solve.STATUSES,
-    "glpsol": glpsol.LOG_STATUSES,
-    "highs": highs.STATUSES,
-    "esolver": esolver.STATUSES,
-}
-VALUES = "Actual values of the variables:"
-REPORTS = {  # sentences of GLPK that say no status of an answer
-    "OPTIMAL LP SOLUTION FOUND",
-    "OPTIMAL SOLUTION FOUND",
-    "INTEGER OPTIMAL SOLUTION FOUND",
-    "INTEGER OPTIMAL SOLUTION FOUND BY MIP PREPROCESSOR",
-    "OPTIMAL SOLUTION FOUND BY LP PREPROCESSOR",
-}
 PLANS = "bridge_drivers.certify.plans."
 SECONDS = 1.5
 DIGITS = F(1, 10**9)  # ten digits are told
@@ -62,119 +37,6 @@ FAMILIES = (
     ("pigeons", 8),
 )
 NUMBER = re.compile(r"\b(incumbent|bound) (\S+?)(?:,|$)")
-
-
-def changed(driver: str, run: dict, row: ToldStatus, has_point: bool) -> dict:
-    """The stored run of a model with another status, by the solver's format."""
-    run = copy.deepcopy(run)
-    files, log = run["files"], run["logs"]["solver.log"]
-    if driver in ("cbc", "clp"):
-        end = "" if has_point else " " + coin.NO_POINT
-        files["answer.txt"][0] = f"{row.words}{end} - objective value 17.0"
-    elif driver == "lp_solve":
-        run["logs"]["solver.log"] = [
-            "",
-            row.words,
-            *(log if has_point else log[: log.index(VALUES) - 1]),
-        ]
-    elif driver == "highs":
-        answer = json.loads(files["answer.json"][0])
-        answer["status"], answer["message"] = 4, f"told (HiGHS Status {row.words}: told)"
-        answer["values"] = answer["values"] if has_point else None
-        files["answer.json"] = [json.dumps(answer)]
-    elif driver == "glpsol":
-        log.append(row.words)
-        lettered(files, " o ", " f " if has_point else " u ")
-    else:
-        files["answer.sol"][0] = f"status = {row.words}"
-    return run
-
-
-def lettered(files: dict, old: str, new: str) -> None:
-    """The status line of GLPK's answer with other letters."""
-    files["answer.txt"] = [
-        line.replace(old, new) if line.startswith("s ") else line for line in files["answer.txt"]
-    ]
-
-
-@NEEDS_PROGRAM
-class Each(Case):
-    """Without a search: the code is what the status says."""
-
-    def code_of(self, driver: str, model: str, run: dict, *words: str) -> tuple[int, str]:
-        self.put(MODELS[model].text)
-        done = self.replay(driver, model, self.stub, "-AMPL", "-e", "check=0", *words, run=run)
-        self.assertEqual(done.returncode, 0, done.stderr)
-        return self.sol().code, self.sol().message[0]
-
-    def test_each_row(self) -> None:
-        for driver, table in TABLES.items():
-            model = "knap" if solvers.SOLVERS[driver].takes_integers else "diet"
-            run = stored.runs(driver)[model]
-            for row in table:
-                for has_point in (True, False):
-                    with self.subTest(driver=driver, status=row.words, point=has_point):
-                        code, line = self.code_of(
-                            driver, model, changed(driver, run, row, has_point)
-                        )
-                        self.assertEqual(code, self.wanted(driver, row, has_point), line)
-
-    @staticmethod
-    def wanted(driver: str, row: ToldStatus, has_point: bool) -> int:
-        """A point is a point, whatever the status; without one little is an answer."""
-        if driver == "esolver":
-            has_point = row.status is SolverStatus.OPTIMAL
-        if row.status is SolverStatus.LIMIT:
-            return Code.LIMIT_WITH_POINT if has_point else Code.LIMIT
-        if row.status in (SolverStatus.FEASIBLE, SolverStatus.NO_ANSWER):
-            return Code.UNSURE if has_point else Code.NO_ANSWER
-        return CODE_OF_STATUS[row.status]
-
-    def test_unknown_ones(self) -> None:
-        """A status of no table, with a point: judged, and told in its own words."""
-        row = ToldStatus("Quite done", SolverStatus.FEASIBLE, "")
-        for driver in ("cbc", "clp", "lp_solve", "highs", "glpsol"):
-            model = "diet" if driver == "clp" else "knap"
-            run = changed(driver, stored.runs(driver)[model], row, True)
-            if driver == "glpsol":
-                lettered(run["files"], " f ", " q ")
-            code, line = self.code_of(driver, model, run)
-            self.assertEqual(code, 100)
-            told = {"glpsol": "q", "highs": "told (HiGHS Status Quite done: told)"}
-            self.assertIn(f"a point, and it ended with `{told.get(driver, 'Quite done')}`", line)
-
-    def test_letters_of_glpk(self) -> None:
-        for row in glpsol.FILE_STATUSES:
-            model, old = ("knap", " o ") if len(row.words) == 1 else ("diet", " f f ")
-            run = copy.deepcopy(stored.runs("glpsol")[model])
-            lettered(run["files"], old, f" {' '.join(row.words)} ")
-            code, line = self.code_of("glpsol", model, run)
-            has_point = row.words[0] in "of" or row.status is SolverStatus.FEASIBLE
-            self.assertEqual(code, self.wanted("glpsol", row, has_point), (row, line))
-
-    def test_real_ones(self) -> None:
-        """Runs that were really made, of a limit, a gap or an interrupt: `stored.py statuses`.
-
-        Where the time of the search is enough to prove the optimum, the code is 0.
-        """
-        runs = stored.runs("statuses")
-        self.assertEqual(set(runs), set(STOPPED))
-        for name, real in STOPPED.items():
-            with self.subTest(run=name):
-                self.put(real.text())
-                done = self.replay(
-                    real.driver, "", self.stub, "-AMPL", "-e", *real.options, run=runs[name]
-                )
-                if not real.codes:
-                    self.assertEqual(done.returncode, ExitStatus.INTERRUPTED)
-                    self.assertIn(real.told, done.stderr)
-                    self.assertFalse(os.path.exists(self.stub + ".sol"))
-                    continue
-                self.assertEqual(done.returncode, 0, done.stderr)
-                sol = self.sol()
-                is_proved = sol.message[-1].startswith("optimal ")
-                self.assertIn(sol.code, (0,) if is_proved else real.codes, sol.text)
-                self.assertIn(real.told, sol.text)
 
 
 @NEEDS_PROGRAM

@@ -1,8 +1,8 @@
 """Runs a command as if something were not there: `without.py PART[,PART ..] COMMAND WORD ..`.
 
-A part is `clp`, the library of CLP, or `fractions`, the simplex in fractions that small programs
-get beside it: without both there is no search. The command's function is the one that
-pyproject.toml names.
+A part is `clp`, the library of CLP; `fractions`, the simplex in fractions that small programs get
+beside it (without both there is no search); or `hurry`, the second that a certificate has where no
+`prove=1` is said: it has thirty. The command's function is the one that pyproject.toml names.
 """
 
 from __future__ import annotations
@@ -14,8 +14,9 @@ from pathlib import Path
 
 DRIVERS = Path(__file__).resolve().parent.parent.parent
 PARTS = {
-    "clp": ("bridge_drivers.certify.clp", "LOADED", [None]),
+    "clp": ("bridge_drivers.exact.clp", "LOADED", [None]),
     "fractions": ("bridge_drivers.certify.simplex", "MOST_ROWS", -1),
+    "hurry": ("bridge_drivers.pipeline.certification", "ONE_LEAF_SECONDS", 30.0),
 }
 
 

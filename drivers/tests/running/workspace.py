@@ -7,6 +7,7 @@ import os
 import re
 import shlex
 import shutil
+import signal
 import subprocess
 import sys
 from dataclasses import dataclass, field
@@ -17,7 +18,7 @@ from builders.small_models import MODELS
 from running.places import BIN, DRIVERS, TESTS, program
 from running.report_schema import report_faults
 from running.sol_file import SolFile
-from running.stored_runs import StoredRun, stored_runs
+from running.stored_runs import WAITING_LINE, StoredRun, stored_runs
 
 SECONDS = 300.0  # most that a command may take on a machine that has much else to do
 WITHOUT = TESTS / "running" / "without.py"
@@ -241,6 +242,36 @@ class Workspace:
         own = {**self.false_solver(driver, run), **(environment or {})}
         more = [f"solver={self.solver_folder / 'highs'}"] if driver == "highs" else []
         return self.run("bridge-" + driver, *words, *more, environment=own, without=without)
+
+    def replay_interrupted(self, driver: str, run: StoredRun, *words: str) -> Ended:
+        """The same where the solver answers once it is interrupted, by way of its driver."""
+        child = self.start_replay(driver, run, *words, "outlev=1")
+        lines = []
+        assert child.stdout is not None
+        for line in child.stdout:
+            lines.append(line)
+            if line.strip() == WAITING_LINE:
+                child.send_signal(signal.SIGINT)
+        _, err = child.communicate(timeout=SECONDS)
+        return Ended(child.returncode, "".join(lines), err)
+
+    def start_replay(self, driver: str, run: StoredRun, *words: str) -> "subprocess.Popen[str]":
+        """Starts a driver whose solver answers as it did in a stored run."""
+        more = [f"solver={self.solver_folder / 'highs'}"] if driver == "highs" else []
+        return self.start("bridge-" + driver, *words, *more, **self.false_solver(driver, run))
+
+    def start(self, command: str, *words: str, **environment: str) -> "subprocess.Popen[str]":
+        """Starts a command of drivers/bin, which does not ignore interrupts."""
+        return subprocess.Popen(
+            [sys.executable, str(BIN / command), *words],
+            stdin=subprocess.DEVNULL,
+            stdout=subprocess.PIPE,
+            stderr=subprocess.PIPE,
+            text=True,
+            cwd=self.folder,
+            env=self.environment(**environment),
+            preexec_fn=lambda: signal.signal(signal.SIGINT, signal.SIG_DFL),
+        )
 
     def false_solver(self, driver: str, run: StoredRun) -> Mapping[str, str]:
         """Makes the false solver; the variables by which a driver finds it."""

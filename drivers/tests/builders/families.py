@@ -1,10 +1,8 @@
-#!/usr/bin/env python3
 """Families of models, to measure how far certificates reach: the same words make the same texts.
 
-By size, as `certify_table.py families FOLDER` writes them: about the nonzeros of a linear program (of `parallel`: its
-pairs of rows), or the columns, periods or things of an integer one. By a seed, for models that nobody has seen:
-
-    families.py FOLDER SEED       writes FOLDER/NAMESEED.nl
+`family_model` makes them by size: about the nonzeros of a linear program (of `parallel`: its pairs
+of rows), or the columns, periods or things of an integer one. `seeded_models` makes them by a
+seed, for models that nobody has seen. tools/certificate_table.py writes both as files.
 """
 
 from __future__ import annotations
@@ -13,26 +11,27 @@ import functools
 import heapq
 import math
 import random
-import sys
-from pathlib import Path
-from typing import Callable, Dict, Iterable, List, Sequence, Tuple
+from typing import Any, Callable, Dict, Iterable, List, Mapping, Optional, Sequence, Tuple
 
-from models import BINARY, nl, real, whole
+from builders.nl_text import BINARY, Bound, Column, Number, Objective, Row, nl_text, real, whole
 
-Row = Tuple[object, object, Dict[int, object]]
+RowParts = Tuple[Bound, Bound, Mapping[int, Number]]  # as those of Row
 
 
 def program(
-    columns: List[tuple], rows: List[Row], costs: Dict[int, object], sense: str = "min"
+    columns: Sequence[Column],
+    rows: Sequence[RowParts],
+    costs: Mapping[int, Number],
+    sense: str = "min",
 ) -> bytes:
     """Columns in any order: a text has continuous ones first, then binary, then whole ones."""
     kinds = {"B": 1, "I": 2}
     order = sorted(range(len(columns)), key=lambda j: kinds.get(columns[j][0], 0))
     at = {j: k for k, j in enumerate(order)}
-    return nl(
+    return nl_text(
         [columns[j] for j in order],
-        [(lo, hi, {at[j]: a for j, a in terms.items()}) for lo, hi, terms in rows],
-        [(sense, 0, {at[j]: a for j, a in costs.items()})],
+        [Row(lo, hi, {at[j]: a for j, a in terms.items()}) for lo, hi, terms in rows],
+        [Objective(sense, 0, {at[j]: a for j, a in costs.items()})],
     )
 
 
@@ -48,12 +47,12 @@ def root(size: float, least: int = 3) -> int:
     return max(least, round(math.sqrt(size)))
 
 
-def listed(values: Iterable[object]) -> Dict[int, object]:
+def listed(values: Iterable[Number]) -> Dict[int, Number]:
     """Coefficients of the first columns."""
     return dict(enumerate(values))
 
 
-def ones(places: Iterable[int]) -> Dict[int, int]:
+def ones(places: Iterable[int]) -> Dict[int, Number]:
     return dict.fromkeys(places, 1)
 
 
@@ -62,7 +61,7 @@ def grid(high: int, wide: int, start: int = 0) -> List[range]:
     return [range(start + i * wide, start + (i + 1) * wide) for i in range(high)]
 
 
-def shipped(supply: Sequence[int], demand: Sequence[int]) -> List[Row]:
+def shipped(supply: Sequence[int], demand: Sequence[int]) -> List[RowParts]:
     """From places that have so much, to others that need it."""
     at = grid(len(supply), len(demand))
     return [(None, side, ones(one)) for side, one in zip(supply, at)] + [
@@ -91,7 +90,7 @@ def assignment(size: int, rnd: random.Random) -> bytes:
     return program([real()] * (k * k), rows, listed(drawn(rnd, k * k, 1, 999)))
 
 
-def network(size: int, rnd: random.Random, number: Callable[[float, float], object]) -> bytes:
+def network(size: int, rnd: random.Random, number: Callable[[float, float], Number]) -> bytes:
     """Flow at least cost: a ring that carries all, and arcs at random."""
     arcs, nodes = max(4, size // 2), max(3, size // 16)
     need = [0] * nodes
@@ -99,8 +98,9 @@ def network(size: int, rnd: random.Random, number: Callable[[float, float], obje
         a, b, v = rnd.randrange(nodes), rnd.randrange(nodes), rnd.randint(1, 2000)
         need[a] += v
         need[b] -= v
-    rows: List[dict] = [{} for _ in range(nodes)]
-    columns, costs = [], {}
+    rows: List[Dict[int, Number]] = [{} for _ in range(nodes)]
+    columns: List[Column] = []
+    costs: Dict[int, Number] = {}
     for j in range(arcs):
         a = j % nodes if j < nodes else rnd.randrange(nodes)
         b = (a + 1) % nodes if j < nodes else rnd.randrange(nodes)
@@ -108,7 +108,8 @@ def network(size: int, rnd: random.Random, number: Callable[[float, float], obje
         rows[a][j], rows[b][j] = 1, -1
         columns.append(real(0, None if j < nodes else number(3, 40)))
         costs[j] = number(200, 300) if j < nodes else number(1, 60)
-    sides = need if isinstance(columns[-1][2], int) else [f"{v / 100:.2f}" for v in need]
+    is_whole = isinstance(columns[-1].upper, int)
+    sides: List[Number] = [v if is_whole else f"{v / 100:.2f}" for v in need]
     return program(columns, [(side, side, row) for side, row in zip(sides, rows)], costs)
 
 
@@ -123,21 +124,23 @@ def covering(size: int, rnd: random.Random) -> bytes:
 def staircase(size: int, rnd: random.Random) -> bytes:
     """Production over periods: stocks with losses, capacities, shortages at a price."""
     things = max(4, min(60, round((size / 12) ** 0.5)))
-    columns, rows, costs = [], [], {}
+    columns: List[Column] = []
+    rows: List[RowParts] = []
+    costs: Dict[int, Number] = {}
 
-    def column(hi, *cost) -> int:
-        columns.append(real(0, hi))
-        costs[len(costs)] = cents(rnd, *cost)
+    def column(upper: Optional[str], least: float, most: float) -> int:
+        columns.append(real(0, upper))
+        costs[len(costs)] = cents(rnd, least, most)
         return len(costs) - 1
 
     use = [[cents(rnd, 0.5, 3) for _ in range(2)] for _ in range(things)]
     stock = [-1] * things
     for t in range(max(3, size // (things * 9))):
-        machines: List[dict] = [{} for _ in range(4)]
+        machines: List[Dict[int, Number]] = [{} for _ in range(4)]
         for k in range(things):
             make, more = column(None, 1, 9), column(cents(rnd, 4, 20), 9, 15)
             short, keep = column(None, 40, 90), column(cents(rnd, 10, 90), 0.05, 0.4)
-            terms = {make: 1, more: cents(rnd, 0.9, 0.99), short: 1, keep: -1}
+            terms: Dict[int, Number] = {make: 1, more: cents(rnd, 0.9, 0.99), short: 1, keep: -1}
             if stock[k] >= 0:
                 terms[stock[k]] = cents(rnd, 0.95, 0.99)
             side = cents(rnd, 3, 30)
@@ -145,7 +148,7 @@ def staircase(size: int, rnd: random.Random) -> bytes:
             for i, a in zip((k % 4, (k + 1) % 4), use[k]):
                 machines[i][make] = a
             stock[k] = keep
-        rows += [(None, cents(rnd, 5.0 * things, 9.0 * things), terms) for terms in machines]
+        rows += [(None, cents(rnd, 5.0 * things, 9.0 * things), machine) for machine in machines]
     return program(columns, rows, costs)
 
 
@@ -177,7 +180,8 @@ def uneven(size: int, rnd: random.Random) -> bytes:
 
 def parallel(size: int, rnd: random.Random) -> bytes:
     """Pairs of rows that differ by a hundred millionth, and meet within a tolerance."""
-    rows, costs = [], {}
+    rows: List[RowParts] = []
+    costs: Dict[int, Number] = {}
     for k in range(size):
         a = rnd.randint(1, 9)
         side, near = f"{7 * a}.00000000{rnd.randint(1, 9)}", f"{a}.0000000{rnd.randint(1, 9)}"
@@ -190,7 +194,8 @@ def parallel(size: int, rnd: random.Random) -> bytes:
 def lots(size: int, rnd: random.Random) -> bytes:
     """One thing over periods: a cost to set up, a cost to keep, a capacity."""
     need = drawn(rnd, size, 5, 30)
-    rows, costs = [], {}
+    rows: List[RowParts] = []
+    costs: Dict[int, Number] = {}
     for t in range(size):
         terms = {t: 1, size + t: -1, **({size + t - 1: 1} if t else {})}
         rows += [(need[t], need[t], terms), (None, 0, {t: 1, 2 * size + t: -rnd.randint(60, 90)})]
@@ -203,7 +208,7 @@ def lots(size: int, rnd: random.Random) -> bytes:
 def pigeons(size: int, rnd: random.Random) -> bytes:
     """SIZE pigeons in one hole less, no two of them in one."""
     at = grid(size, size - 1)
-    rows = [(1, None, ones(one)) for one in at]
+    rows: List[RowParts] = [(1, None, ones(one)) for one in at]
     rows += [
         (None, 1, {hole[i]: 1, hole[k]: 1})
         for hole in zip(*at)
@@ -274,7 +279,7 @@ def location(places: int, clients: int, rnd: random.Random, has_room: bool = Fal
     need = drawn(rnd, clients, 3, 12) if has_room else [1] * clients
     away = distances(rnd, places, clients)
     at = grid(places, clients, places)
-    rows: List[Row] = [(1, 1, ones(one)) for one in zip(*at)]
+    rows: List[RowParts] = [(1, 1, ones(one)) for one in zip(*at)]
     rows += [(None, 0, {**dict(zip(at[i], need)), i: -room[i]}) for i in range(places)]
     rows += [(None, 0, {j: 1, i: -1}) for i in range(places) for j in at[i] if has_room]
     costs = [
@@ -296,7 +301,7 @@ def assigned(machines: int, jobs: int, rnd: random.Random) -> bytes:
     """Each job to one machine, each machine with a capacity."""
     take = [drawn(rnd, jobs, 5, 25) for _ in range(machines)]
     at = grid(machines, jobs)
-    rows: List[Row] = [(1, 1, ones(one)) for one in zip(*at)]
+    rows: List[RowParts] = [(1, 1, ones(one)) for one in zip(*at)]
     rows += [
         (None, int(0.8 * sum(one) / machines), dict(zip(places, one)))
         for places, one in zip(at, take)
@@ -306,7 +311,7 @@ def assigned(machines: int, jobs: int, rnd: random.Random) -> bytes:
 
 
 def covers(rows: int, columns: int, rnd: random.Random) -> bytes:
-    sides: List[Row] = [
+    sides: List[RowParts] = [
         (1, None, ones(rnd.sample(range(columns), max(2, columns // 12)))) for _ in range(rows)
     ]
     return program([BINARY] * columns, sides, listed(drawn(rnd, columns, 10, 60)))
@@ -315,7 +320,7 @@ def covers(rows: int, columns: int, rnd: random.Random) -> bytes:
 def colouring(nodes: int, colours: int, rnd: random.Random) -> bytes:
     edges = [(i, k) for i in range(nodes) for k in range(i) if rnd.random() < 0.5]
     at = grid(nodes, colours, colours)
-    rows: List[Row] = [(1, 1, ones(one)) for one in at]
+    rows: List[RowParts] = [(1, 1, ones(one)) for one in at]
     rows += [(None, 0, {at[i][c]: 1, at[k][c]: 1, c: -1}) for i, k in edges for c in range(colours)]
     rows += [(None, 0, {c + 1: 1, c: -1}) for c in range(colours - 1)]
     return program([BINARY] * (colours + nodes * colours), rows, ones(range(colours)))
@@ -333,7 +338,7 @@ def cutting(
     lengths, need = rnd.sample(range(least, 70), sizes), drawn(rnd, sizes, *needs)
     rolls = rolls or -(-sum(a * b for a, b in zip(lengths, need)) // 75) + 1
     at = grid(sizes, rolls, rolls)
-    rows: List[Row] = [(side, None, ones(one)) for side, one in zip(need, at)]
+    rows: List[RowParts] = [(side, None, ones(one)) for side, one in zip(need, at)]
     rows += [(None, 0, {b: -100, **dict(zip(one, lengths))}) for b, one in enumerate(zip(*at))]
     return program([BINARY] * rolls + [whole(0, most)] * (rolls * sizes), rows, ones(range(rolls)))
 
@@ -343,7 +348,7 @@ def packed(things: int, rnd: random.Random, bins: int = 0) -> bytes:
     weights = drawn(rnd, things, 20, 60)
     bins = bins or -(-sum(weights) // 100) + 1
     at = grid(things, bins, bins)
-    rows: List[Row] = [(1, 1, ones(one)) for one in at]
+    rows: List[RowParts] = [(1, 1, ones(one)) for one in at]
     rows += [(None, 0, {b: -100, **dict(zip(one, weights))}) for b, one in enumerate(zip(*at))]
     return program([BINARY] * (bins * (things + 1)), rows, ones(range(bins)))
 
@@ -352,7 +357,7 @@ def shared_lots(things: int, periods: int, rnd: random.Random) -> bytes:
     """Lots of several things that share a capacity."""
     size = things * periods
     costs = [*drawn(rnd, size, 1, 3), *drawn(rnd, size, 1, 2), *drawn(rnd, size, 60, 140)]
-    rows: List[Row] = []
+    rows: List[RowParts] = []
     total = [0] * periods
     for k in range(size):
         need, t = rnd.randint(5, 30), k % periods
@@ -394,7 +399,7 @@ def one_machine(n: int, rnd: random.Random) -> bytes:
     """Completion times by weight, with release dates and a big M."""
     time, release, weight = drawn(rnd, n, 2, 9), drawn(rnd, n, 0, 2 * n), drawn(rnd, n, 1, 9)
     end = max(release) + sum(time)
-    columns, rows = [real(at, end) for at in release], list[Row]()
+    columns, rows = [real(at, end) for at in release], list[RowParts]()
     for i in range(n):
         for k in range(i):
             one_first(columns, rows, i, k, (time[k], time[i]), end)
@@ -402,7 +407,7 @@ def one_machine(n: int, rnd: random.Random) -> bytes:
 
 
 def one_first(
-    columns: List[tuple], rows: List[Row], a: int, b: int, times: Tuple[int, int], most: int
+    columns: List[Column], rows: List[RowParts], a: int, b: int, times: Tuple[int, int], most: int
 ) -> None:
     """One starts after the other, where a new binary column is 0, or before it."""
     columns.append(BINARY)
@@ -416,8 +421,8 @@ def one_first(
 def job_shop(jobs: int, machines: int, rnd: random.Random) -> bytes:
     order = [rnd.sample(range(machines), machines) for _ in range(jobs)]
     time = [drawn(rnd, machines, 1, 9) for _ in range(jobs)]
-    most, end = sum(map(sum, time)), jobs * machines
-    columns, rows = [real(0, most) for _ in range(end + 1)], list[Row]()
+    most, end = sum(sum(one) for one in time), jobs * machines
+    columns, rows = [real(0, most) for _ in range(end + 1)], list[RowParts]()
     for j, one in enumerate(order):
         at = [j * machines + k for k in one] + [end]
         rows += [(time[j][k], None, {b: 1, a: -1}) for k, a, b in zip(one, at, at[1:])]
@@ -457,7 +462,7 @@ FAMILIES: Dict[str, Callable[[int, random.Random], bytes]] = {
     "split": split,
 }
 DEPOTS = functools.partial(location, has_room=True)
-SEEDED: Dict[str, tuple] = {
+SEEDED: Mapping[str, Tuple[Any, ...]] = {
     "gap-4-20": (assigned, 4, 20),
     "gap-5-30": (assigned, 5, 30),
     "knaps-50": (near_values, 50, 0),
@@ -490,19 +495,14 @@ SEEDED: Dict[str, tuple] = {
 }
 
 
-def made(name: str, size: int) -> bytes:
+def family_model(name: str, size: int) -> bytes:
+    """The .nl file of a model of a family."""
     return FAMILIES[name](size, random.Random(f"{name} {size}"))
 
 
-def seeded(seed: str) -> Dict[str, bytes]:
+def seeded_models(seed: str) -> Dict[str, bytes]:
+    """By name, the .nl files of the models of a seed."""
     return {
         name + seed: make(*sizes, random.Random(name + seed))
         for name, (make, *sizes) in SEEDED.items()
     }
-
-
-if __name__ == "__main__":
-    folder = Path(sys.argv[1])
-    folder.mkdir(parents=True, exist_ok=True)
-    for name, text in seeded(sys.argv[2]).items():
-        (folder / f"{name}.nl").write_bytes(text)

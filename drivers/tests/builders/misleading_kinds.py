@@ -4,14 +4,36 @@ from __future__ import annotations
 
 import random
 from fractions import Fraction as F
-from typing import Any, Iterator, List, Mapping, Sequence, Tuple
+from typing import (
+    Callable,
+    Dict,
+    Iterator,
+    List,
+    Mapping,
+    NamedTuple,
+    Optional,
+    Sequence,
+    Tuple,
+    Union,
+)
 
-from misleading import Column, Misleading, Number, crossing
+from builders.misleading import TO_BE_FOUND, Column, Misleading, Number, Row, crossing
 
 EACH = 28  # models of each kind
-Made = Tuple[
-    Any, ...
-]  # columns, rows, sense, costs; the best value where it is known, whether there is none
+
+
+Sides = Tuple[Optional[str], Optional[str]]
+
+
+class Parts(NamedTuple):
+    """The parts of a model, as `Misleading` has them."""
+
+    columns: Sequence[Column]
+    rows: Sequence[Row]
+    sense: str
+    costs: Mapping[int, Number]
+    known: Union[F, str, None] = TO_BE_FOUND
+    is_unbounded: bool = False
 
 
 def decimal(value: F) -> str:
@@ -46,55 +68,64 @@ def decimals(values: Sequence[F]) -> dict[int, Number]:
     return {j: decimal(a) for j, a in enumerate(values) if a}
 
 
+def upper_bound(columns: Sequence[Column], j: int) -> int:
+    """Of a column that has one, which is whole."""
+    upper = columns[j][2]
+    assert isinstance(upper, int)
+    return upper
+
+
 def most_of(columns: Sequence[Column], row: Mapping[int, int]) -> int:
-    return sum(a * int(columns[j][2]) for j, a in row.items())
+    """The most that a row of positive coefficients can be."""
+    return sum(a * upper_bound(columns, j) for j, a in row.items())
 
 
 def some_of(rng: random.Random, columns: Sequence[Column], row: Mapping[int, Number]) -> F:
-    return sum((F(a) * rng.randint(0, int(columns[j][2])) for j, a in row.items()), F(0))
+    """What a row is at a random point."""
+    return sum((F(a) * rng.randint(0, upper_bound(columns, j)) for j, a in row.items()), F(0))
 
 
-def equal_decimals(rng: random.Random) -> Made:
+def equal_decimals(rng: random.Random) -> Parts:
     """An equation of decimals over whole variables, and its side off by little."""
     n = rng.randint(2, 4)
     columns = whole(rng, n)
     row = {j: decimal(F(rng.randint(1, 29), 10)) for j in range(n)}
     side = decimal(some_of(rng, columns, row) + rng.choice([off(rng), F(0)]))
-    return columns, [(side, side, row)], sense(rng), terms(rng, n)
+    return Parts(columns, [(side, side, row)], sense(rng), terms(rng, n))
 
 
-def near_sides(rng: random.Random) -> Made:
+def near_sides(rng: random.Random) -> Parts:
     """Sides beyond whole sums by little."""
     n = rng.randint(1, 4)
     columns, rows = whole(rng, n), []
     for _ in range(rng.randint(1, 3)):
         row = terms(rng, n, 1, 5)
         rows.append((decimal(rng.randint(1, most_of(columns, row)) + abs(off(rng))), None, row))
-    return columns, rows, "min", terms(rng, n)
+    return Parts(columns, rows, "min", terms(rng, n))
 
 
-def tiny_rows(rng: random.Random) -> Made:
+def tiny_rows(rng: random.Random) -> Parts:
     """All numbers of a row are small."""
     n, scale = rng.randint(2, 3), sized(rng, 8, 12)
-    columns, row = whole(rng, n, 20), terms(rng, n, 1, 5)
-    side = decimal(rng.randint(1, most_of(columns, row) // 2) * scale)
-    row = {j: decimal(a * scale) for j, a in row.items()}
+    columns, units = whole(rng, n, 20), terms(rng, n, 1, 5)
+    side = decimal(rng.randint(1, most_of(columns, units) // 2) * scale)
+    row = {j: decimal(a * scale) for j, a in units.items()}
     if rng.random() < 0.7:
-        return columns, [(None, side, row)], "max", terms(rng, n)
-    return columns, [(side, None, row)], "min", terms(rng, n)
+        return Parts(columns, [(None, side, row)], "max", terms(rng, n))
+    return Parts(columns, [(side, None, row)], "min", terms(rng, n))
 
 
-def large_numbers(rng: random.Random) -> Made:
+def large_numbers(rng: random.Random) -> Parts:
     """Beside large coefficients that cancel a unit is little."""
     n, size = rng.randint(2, 3), 10 ** rng.randint(7, 10)
     columns = whole(rng, n)
     large = {j: rng.choice([-1, 1]) * (size + rng.randint(0, 3)) for j in range(n)}
     at, way = some_of(rng, columns, large), sense(rng)
     ends = rng.choice([(at + 1, None), (None, at - 1), (at, at + rng.randint(0, 1))])
-    return columns, [(*ends, large)], way, terms(rng, n)
+    return Parts(columns, [(*ends, large)], way, terms(rng, n))
 
 
-def switches(rng: random.Random) -> Made:
+def switches(rng: random.Random) -> Parts:
     """A continuous column that a binary one switches, by a large factor."""
     factor = 10 ** rng.randint(5, 8)
     need = F(rng.randint(1, 50), 10 ** rng.randint(0, 2))
@@ -106,45 +137,47 @@ def switches(rng: random.Random) -> Made:
     costs = [decimal(F(rng.randint(1, 9), 1000)) for _ in range(2)] + [
         rng.randint(5, 20) for _ in range(2)
     ]
-    return [("C", 0, 1000)] * 2 + [("I", 0, 1)] * 2, rows, "min", dict(enumerate(costs))
+    return Parts([("C", 0, 1000)] * 2 + [("I", 0, 1)] * 2, rows, "min", dict(enumerate(costs)))
 
 
-def contradictions(rng: random.Random) -> Made:
+def contradictions(rng: random.Random) -> Parts:
     """Two rows with the same terms, the sides of which miss each other by little."""
     kind = rng.choice("CI")
-    columns = [(kind, 0, rng.randint(3, 9)) for _ in range(2)]
+    columns: List[Column] = [(kind, 0, rng.randint(3, 9)) for _ in range(2)]
     row = {j: decimal(F(rng.randint(1, 40), 10)) for j in range(2)}
-    at = sum(F(a) * rng.randint(1, 3) for a in row.values())
+    at = sum((F(a) * rng.randint(1, 3) for a in row.values()), F(0))
     low, high = decimal(at + off(rng)), decimal(at)
-    ends = [(low, low), (high, high)] if rng.random() < 0.5 else [(low, None), (None, high)]
-    return columns, [(*end, row) for end in ends], sense(rng), terms(rng, 2)
+    ends: List[Sides] = (
+        [(low, low), (high, high)] if rng.random() < 0.5 else [(low, None), (None, high)]
+    )
+    return Parts(columns, [(*end, row) for end in ends], sense(rng), terms(rng, 2))
 
 
-def small_costs(rng: random.Random) -> Made:
+def small_costs(rng: random.Random) -> Parts:
     """What is gained is less than what solvers tell apart, or beside a large cost."""
     n = rng.randint(2, 4)
     columns, scale, row = whole(rng, n), sized(rng, 6, 10), terms(rng, n, 1, 6)
     side = rng.randint(2, most_of(columns, row))
-    costs = {j: decimal(rng.randint(1, 9) * scale) for j in range(n)}
+    costs: Dict[int, Number] = {j: decimal(rng.randint(1, 9) * scale) for j in range(n)}
     if rng.random() < 0.5:
         costs[0] = rng.randint(1, 9)
-    return columns, [(None, side, row)], "max", costs
+    return Parts(columns, [(None, side, row)], "max", costs)
 
 
-def mixed_scales(rng: random.Random) -> Made:
+def mixed_scales(rng: random.Random) -> Parts:
     """Continuous columns in small units, beside whole ones."""
     small = sized(rng, 6, 9)
-    columns = [
+    columns: List[Column] = [
         ("C", 0, decimal(rng.randint(2, 9) * small)),
         ("C", 0, rng.randint(2, 9)),
         ("I", 0, rng.randint(2, 9)),
     ]
-    rows = [
+    rows: List[Row] = [
         (None, 0, {0: 1, 2: decimal(-small)}),
         (None, rng.randint(2, 12), {1: rng.randint(1, 3), 2: rng.randint(1, 3)}),
         (decimal(abs(off(rng))), None, {1: 1}),
     ]
-    return (
+    return Parts(
         columns,
         rows,
         "max",
@@ -167,22 +200,22 @@ def dot(one: Sequence[F], other: Sequence[F]) -> F:
     return sum((a * b for a, b in zip(one, other)), F(0))
 
 
-def nearly_singular(rng: random.Random, kind: str = "C", most_columns: int = 7) -> Made:
+def nearly_singular(rng: random.Random, kind: str = "C", most_columns: int = 7) -> Parts:
     """Equations of one point: it is the optimum, whatever the costs."""
     n = rng.randint(2, most_columns)
     rows = matrix(rng, n)
     x = [F(rng.randint(0, 9)) for _ in range(n)]
     costs = [F(rng.randint(-9, 9)) for _ in range(n)]
     columns = [(kind, 0, rng.choice([None, 10**4]))] * n
-    made = [(*2 * [decimal(dot(row, x))], decimals(row)) for row in rows]
-    return columns, made, sense(rng), decimals(costs), dot(costs, x)
+    made = [(decimal(dot(row, x)), decimal(dot(row, x)), decimals(row)) for row in rows]
+    return Parts(columns, made, sense(rng), decimals(costs), dot(costs, x))
 
 
-def whole_singular(rng: random.Random) -> Made:
+def whole_singular(rng: random.Random) -> Parts:
     return nearly_singular(rng, "I", 4)
 
 
-def nearly_parallel(rng: random.Random) -> Made:
+def nearly_parallel(rng: random.Random) -> Parts:
     """Inequalities whose weights at one point add up to the costs: it is the optimum."""
     n = rng.randint(2, 6)
     rows = matrix(rng, n)
@@ -190,10 +223,10 @@ def nearly_parallel(rng: random.Random) -> Made:
     y = [F(rng.randint(0, 5)) for _ in range(n - 1)] + [F(rng.randint(1, 5))]
     costs = [dot(y, column) for column in zip(*rows)]
     made = [(None, decimal(dot(row, x)), decimals(row)) for row in rows]
-    return [("C", None, None)] * n, made, "max", decimals(costs), dot(costs, x)
+    return Parts([("C", None, None)] * n, made, "max", decimals(costs), dot(costs, x))
 
 
-def tiny_rays(rng: random.Random) -> Made:
+def tiny_rays(rng: random.Random) -> Parts:
     """A column without an end whose gain is little; or with one that is far."""
     n = rng.randint(1, 4)
     gain, end = sized(rng, 6, 15), rng.choice([None, None, 10 ** rng.randint(6, 12)])
@@ -201,10 +234,10 @@ def tiny_rays(rng: random.Random) -> Made:
     costs = [F(rng.randint(1, 9)) if j else gain for j in range(n)]
     rows = [(None, 100, {j: rng.randint(1, 3) for j in range(1, n)})] if n > 1 else []
     best = dot(costs, [F(hi or 0) for _, _, hi in columns])
-    return columns, rows, "max", decimals(costs), best, end is None
+    return Parts(columns, rows, "max", decimals(costs), best, end is None)
 
 
-def whole_rays(rng: random.Random) -> Made:
+def whole_rays(rng: random.Random) -> Parts:
     """Two whole columns that go on together, with a gain that is little beside their costs, without an end or to one
     that is far."""
     a, b, gain = rng.randint(1, 5), rng.randint(1, 5), sized(rng, 5, 14)
@@ -212,10 +245,10 @@ def whole_rays(rng: random.Random) -> Made:
     columns = [("I", 0, None if end is None else end * b), ("I", 0, None)]
     rows = [(rng.choice([None, 0]), 0, {0: a, 1: -b})]  # at b and a times t
     costs = [cost + gain, -cost * b / a] if a in (1, 2, 4, 5) else [gain]
-    return columns, rows, "max", decimals(costs), gain * (end or 0) * b, end is None
+    return Parts(columns, rows, "max", decimals(costs), gain * (end or 0) * b, end is None)
 
 
-def two_rows(rng: random.Random) -> Made:
+def two_rows(rng: random.Random) -> Parts:
     """Rows with the same terms up to a factor over free whole columns, whose sides leave room for few whole values of
     them, or for none."""
     form = rng.choice([{0: 7, 1: -5}, {0: 3, 1: 4}, {0: 1, 1: -6, 2: 9}, {0: -2, 1: 5, 2: 10}])
@@ -228,10 +261,12 @@ def two_rows(rng: random.Random) -> Made:
         rows.append((*ends, {j: a * by for j, a in form.items()}))
     first, last = -(-lo // 1), hi // 1
     way, best = rng.choice([("min", first), ("max", last)])
-    return [("I", None, None)] * len(form), rows, way, form, F(best) if first <= last else None
+    return Parts(
+        [("I", None, None)] * len(form), rows, way, form, F(best) if first <= last else None
+    )
 
 
-def far_ends(rng: random.Random) -> Made:
+def far_ends(rng: random.Random) -> Parts:
     """Ends and sides that are large, some of them none to a solver."""
     columns = [
         ("C", 0, f"{rng.randint(1, 9)}e{rng.choice([9, 15, 20, 26, 30, 31])}") for _ in range(2)
@@ -244,10 +279,10 @@ def far_ends(rng: random.Random) -> Made:
         )
         for _ in range(rng.randint(1, 2))
     ]
-    return columns, rows, "max", {0: rng.randint(1, 3), 1: rng.choice([-1, 0, 1])}
+    return Parts(columns, rows, "max", {0: rng.randint(1, 3), 1: rng.choice([-1, 0, 1])})
 
 
-def crossing_bounds(rng: random.Random) -> Made:
+def crossing_bounds(rng: random.Random) -> Parts:
     """Whole columns and rows of them with little or no room for a whole number."""
 
     def ends(most: int) -> tuple[str, str]:
@@ -265,10 +300,10 @@ def crossing_bounds(rng: random.Random) -> Made:
         g = rng.randint(1, 4)
         low, high = (decimal(F(end) * g) for end in ends(4))
         rows = [(low, high, {j: g * rng.choice([-3, -2, 1, 2]) for j in range(n)})]
-    return columns, rows, sense(rng), terms(rng, n, -5)
+    return Parts(columns, rows, sense(rng), terms(rng, n, -5))
 
 
-def cut_offs(rng: random.Random) -> Made:
+def cut_offs(rng: random.Random) -> Parts:
     """Points whose objectives are apart by less than solvers tell apart, beside large costs."""
     n = rng.randint(2, 4)
     columns = [("I", 0, rng.randint(1, 3)) for _ in range(n)]
@@ -276,38 +311,40 @@ def cut_offs(rng: random.Random) -> Made:
     costs = {j: decimal(size + rng.randint(0, 9) * sized(rng, 2, 6)) for j in range(n)}
     side, row = rng.randint(1, 4), dict.fromkeys(range(n), 1)
     if rng.random() < 0.5:
-        return columns, [(side, None, row)], "min", costs
-    return columns, [(None, side, row)], "max", costs
+        return Parts(columns, [(side, None, row)], "min", costs)
+    return Parts(columns, [(None, side, row)], "max", costs)
 
 
-def drops(rng: random.Random) -> Made:
+def drops(rng: random.Random) -> Parts:
     """Coefficients that solvers leave out, of columns that are large."""
     small = sized(rng, 9, 14)
     large = F(rng.randint(1, 9)) / small
-    columns = [("C", 0, decimal(large)), rng.choice([("C", 0, 100), ("I", 0, 9)])]
-    rows = [
+    columns: List[Column] = [("C", 0, decimal(large)), rng.choice([("C", 0, 100), ("I", 0, 9)])]
+    rows: List[Row] = [
         (rng.randint(1, 9), None, {0: decimal(small), 1: 1}),
         (None, rng.randint(5, 99), {1: 1, 0: decimal(small * rng.randint(0, 3))}),
     ]
-    return columns, rows, "min", {0: decimal(small * rng.randint(1, 9) / 10), 1: rng.randint(1, 9)}
+    return Parts(
+        columns, rows, "min", {0: decimal(small * rng.randint(1, 9) / 10), 1: rng.randint(1, 9)}
+    )
 
 
-def beyond_doubles(rng: random.Random) -> Made:
+def beyond_doubles(rng: random.Random) -> Parts:
     """Whole columns whose best value is no double."""
     a, side = rng.randint(1, 9), 2 ** rng.randint(53, 62) + 2 * rng.randint(0, 999) + 1
     column = ("I", 0, 2**64)
     if rng.random() < 0.5:
-        return (
+        return Parts(
             [column] * 2,
             [(None, side, {0: a}), (1, 1, {1: 1, 0: -1})],
             "max",
             {1: 1},
             F(side // a + 1),
         )
-    return [column], [(None, side, {0: a})], "max", {0: 1}, F(side // a)
+    return Parts([column], [(None, side, {0: a})], "max", {0: 1}, F(side // a))
 
 
-KINDS = (
+KINDS: Sequence[Callable[[random.Random], Parts]] = (
     equal_decimals,
     near_sides,
     tiny_rows,
@@ -331,6 +368,7 @@ KINDS = (
 
 
 def models(each: int = EACH) -> Iterator[Misleading]:
+    """The first models of each kind, always the same; their names are those of kinds, numbered."""
     for kind in KINDS:
         rng = random.Random(kind.__name__)
         for k in range(each):
