@@ -181,6 +181,8 @@ def shown(call: Call) -> int:
     try:
         report, fault = REPORTS[call.word](call), ""
     except BridgeError as error:
+        if error.report is None:  # such as a packed file that is damaged
+            raise
         report, fault = error.report, error.report.text
     is_answer = call.word == "explain" and report.status == ExitStatus.REFUSED
     if fault and (call.json or not is_answer):
