@@ -12,7 +12,7 @@ import sys
 from typing import Callable, Iterator, NoReturn, Sequence, TextIO, cast
 
 from .system.codes import ExitStatus
-from .system.processes import SIGNALS, Interrupted
+from .system.signals import SIGNALS, Interrupted
 from .program.verdict import statement_of
 from .system.text import printable
 

@@ -31,7 +31,7 @@ from .system.errors import (
     RunInterrupted,
     WrongOption,
 )
-from .system.processes import Interrupted
+from .system.signals import Interrupted
 
 
 class Run:

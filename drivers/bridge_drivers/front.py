@@ -7,7 +7,6 @@ import contextlib
 import os
 import re
 import signal
-import subprocess
 import sys
 from typing import TYPE_CHECKING, Callable, Iterable, Mapping, NamedTuple, Sequence
 
@@ -23,7 +22,9 @@ from .commands import COMMANDS, NAME, VERDICTS, WORDS
 from .formats.file_kinds import is_mps_file, is_packed_file, start_of_file
 from .formats.source import Workspace, is_stream, name_of_model, read_source
 from .interface import Report
-from .system.processes import with_child
+from .system import processes
+from .system.deadline import Deadline
+from .system.processes import Streams
 from .options import OTHER_NAMES
 from .system.text import did_you_mean
 
@@ -331,23 +332,19 @@ def run(place: Sequence[str], call: Sequence[str], words: Sequence[str]) -> int:
     files = files_of_call(call)
     faulty = any(map(read_fault, files))
     is_coloured = words[0] in VERDICTS and console.is_coloured(sys.stdout)
-    out, err = (subprocess.PIPE if wanted else None for wanted in (is_coloured, faulty))
+    streams = Streams.APART if is_coloured or faulty else Streams.PASSED_ON
     try:
-        said, status = with_child(
-            lambda child: (child.communicate(), child.returncode),
-            [*place, *call],
-            stdout=out,
-            stderr=err,
-        )
+        ended = processes.run([*place, *call], Deadline(), streams=streams)
     except OSError as fault:
         raise NotStarted(place[0], str(fault.strerror)) from None
-    line, told = ((part or b"").decode("utf-8", "surrogateescape") for part in said)
+    line = ended.output.decode("utf-8", "surrogateescape")
+    told = ended.errors.decode("utf-8", "surrogateescape")
     if line.strip():
         console.tell(line.rstrip("\n"), sys.stdout)
-    if status == ExitStatus.UNREAD and faulty:
+    if ended.status == ExitStatus.UNREAD and faulty:
         told = f"{NAME}: {why_unreadable(files, dict(zip(files, files_of_call(words))))}\n"
     sys.stderr.write(told)
-    return status
+    return ended.status
 
 
 def main() -> None:

@@ -32,7 +32,7 @@ from bridge_drivers.exact import parallel, worker_pools
 from bridge_drivers.exact.portfolio import Portfolio
 from bridge_drivers.exact.worker_pools import ProcessPool, WorkerPool, open_pool
 from bridge_drivers.system.errors import SearchEnded, SearchPaused
-from bridge_drivers.system.processes import SIGNALS, Interrupted
+from bridge_drivers.system.signals import SIGNALS, Interrupted
 from bridge_drivers.model.linear_program import Program
 from models import nl, real, whole
 from builders import families

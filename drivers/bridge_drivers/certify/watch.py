@@ -8,7 +8,7 @@ import threading
 import time
 from typing import Callable, ContextManager, Iterator
 
-from ..system.processes import SIGNALS
+from ..system.signals import SIGNALS
 from ..progress import Progress, detailed
 from ..system.errors import SearchEnded, SearchPaused
 

@@ -33,7 +33,7 @@ from typing import (
 import numpy as np
 import numpy.typing as npt
 
-from ..system.processes import SIGNALS
+from ..system.signals import SIGNALS
 
 # Elimination
 RHS = -1  # the unknown of a row whose value is -1: its coefficient is the right-hand side

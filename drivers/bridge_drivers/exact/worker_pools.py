@@ -24,7 +24,7 @@ from ..certify import points
 from ..certify.watch import Watch
 from ..model.integer_form import IntegerProgram, Point, Row
 from ..system.errors import SearchEnded, SearchPaused
-from ..system.processes import HANDLED_SIGNALS, SIGNALS
+from ..system.signals import HANDLED_SIGNALS, SIGNALS
 from .branching import Pseudocosts, PseudocostBranching
 from .clp import library
 from .fathoming import Cutoff

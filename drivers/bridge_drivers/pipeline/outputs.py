@@ -9,7 +9,7 @@ from .. import sol
 from ..formats.file_kinds import model_kind_of_start
 from ..formats.source import Source
 from ..system.files import OutputFiles, write_new
-from ..system.processes import SIGNALS
+from ..system.signals import SIGNALS
 from ..system.codes import ExitStatus
 from .answer import Answer
 from .settings import OutputSettings

@@ -14,7 +14,7 @@ from ..certify.claims import WITHOUT, Verdict
 from ..formats.file_kinds import model_kind_of_start
 from ..formats.source import Source
 from ..system.files import OutputFiles, new_folder_in, private_folder
-from ..system.processes import SIGNALS, Interrupted
+from ..system.signals import SIGNALS, Interrupted
 from ..model.linear_program import Program, given, is_hollow
 from ..formats.names import NameLists
 from ..formats.nl import read_header, text_of_nl

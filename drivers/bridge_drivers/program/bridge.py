@@ -5,16 +5,17 @@ from __future__ import annotations
 import enum
 import hashlib
 import json
+import math
 import os
 import shlex
 import shutil
-import subprocess
 import tempfile
 from typing import Callable, Dict, List, Mapping, Optional, Sequence
 
 from ..system.codes import ExitStatus
-from ..system.errors import DeadlineExceeded, NotFound, NotInstalled, NotStarted
-from ..system.processes import with_child
+from ..system.deadline import Deadline
+from ..system.errors import DeadlineExceeded, NotFound, NotInstalled, NotStarted, ProgramFailed
+from ..system.processes import OutputLimits, run
 from .calls import Command, Reply, is_utf8
 from .refusal import Refusal
 from .verdict import Verdict
@@ -35,6 +36,7 @@ BUILD_NOTES = (
     os.path.join(PACKAGE, "built.json"),  # of a package
 )  # where a note on a build stands
 LONGEST_TRIAL = 20  # seconds that a program called `bridge` has to say that it is the proved one
+OUTPUT_LIMITS = OutputLimits(memory_bytes=1 << 33)  # exported texts are long
 PIECE = 1 << 20  # bytes of a file that are read at once
 
 
@@ -74,12 +76,10 @@ def is_proved_program(path: str) -> bool:
     Another program has the name, too: that of iproute2.
     """
     try:
-        ran = subprocess.run(
-            [path], stdin=subprocess.DEVNULL, capture_output=True, timeout=LONGEST_TRIAL
-        )
-    except (OSError, subprocess.TimeoutExpired):
+        ended = run([path], Deadline(LONGEST_TRIAL))
+    except OSError:
         return False
-    return ran.returncode == ExitStatus.BAD_WORDS and ran.stderr.strip() == b"bad words"
+    return ended.status == ExitStatus.BAD_WORDS and ended.errors.strip() == b"bad words"
 
 
 def find_program(named: str = "", locations: Sequence[str] = LOCATIONS) -> List[str]:
@@ -178,22 +178,16 @@ class Bridge:
         """
         argv = self.argv + [self._reachable(word) for word in words]
         self.note(argv)
+        deadline = Deadline(math.inf if self.limit is None else self.limit)
         try:
-            return with_child(
-                self._reply,
-                argv,
-                stdin=subprocess.DEVNULL,
-                stdout=subprocess.PIPE,
-                stderr=subprocess.PIPE,
-            )
+            ended = run(argv, deadline, OUTPUT_LIMITS)
         except OSError as fault:
             raise NotStarted(argv[0], str(fault.strerror)) from None
-        except subprocess.TimeoutExpired:
-            raise DeadlineExceeded(words[0]) from None
-
-    def _reply(self, child: "subprocess.Popen[bytes]") -> Reply:
-        out, told = child.communicate(timeout=self.limit)
-        return Reply(child.returncode, out, told.decode("utf-8", "replace").strip())
+        if ended.is_late:
+            raise DeadlineExceeded(words[0])
+        if ended.dropped:
+            raise ProgramFailed(f"`bridge {words[0]}` writes more than is read")
+        return Reply(ended.status, ended.output, ended.errors.decode("utf-8", "replace").strip())
 
     def _reachable(self, word: str) -> str:
         """The program takes words of UTF-8 alone: a path of other bytes is given as a link to it."""

@@ -6,11 +6,12 @@ import json
 import os
 import re
 import shutil
-import subprocess
 from typing import Mapping
 
 from ..model.linear_program import Program
+from ..system.deadline import Deadline
 from ..system.errors import UnclearAnswer
+from ..system.processes import run as run_program
 from .base import (
     OPTIMAL_SOLUTION,
     TIME_LIMIT,
@@ -52,6 +53,7 @@ OF_SCIPY = {0: "7", 1: "13", 2: "8", 3: "10"}  # SciPy's own statuses, as those 
 PLACES = ("/usr/bin/python3", "python3")
 SCRIPT = os.path.join(os.path.dirname(os.path.abspath(__file__)), "highs_script.py")
 CLOSED_GAP = 1e-9  # a relative gap up to which there is none
+LOOK_SECONDS = 60.0  # that a Python has to import SciPy
 LOOKS_FOR_SCIPY = "import importlib.util as u, sys; sys.exit(u.find_spec('scipy') is None)"
 STATUS_OF_HIGHS = re.compile(r"HiGHS Status (\d+)")
 
@@ -99,10 +101,9 @@ class Highs(Solver):
 def has_scipy(path: str) -> bool:
     """Whether the Python at a path has SciPy."""
     try:
-        done = subprocess.run([path, "-c", LOOKS_FOR_SCIPY], capture_output=True, check=False)
+        return run_program([path, "-c", LOOKS_FOR_SCIPY], Deadline(LOOK_SECONDS)).status == 0
     except OSError:
         return False
-    return done.returncode == 0
 
 
 def read_answer(run: SolverRun, told: Mapping[str, object]) -> SolverAnswer:

@@ -2,15 +2,14 @@
 
 from __future__ import annotations
 
+import math
 import os
-import signal
-import subprocess
-import threading
 import time
 from typing import NamedTuple, Sequence
 
+from ..system.deadline import Deadline
 from ..system.files import write_new
-from ..system.processes import SIGNALS, signal_group, with_child
+from ..system.processes import Streams, run
 from ..model.linear_program import Program, given
 from .settings import SolverSettings
 
@@ -111,54 +110,29 @@ class SolverRun:
         began = time.monotonic()
         finished = self.run_process(argv)
         self.seconds += time.monotonic() - began
-        self.write(LOG_NAME, finished.log.encode("utf-8", "replace"))
         self.log = finished.log
         self.exit_status = finished.status
         return finished
 
     def run_process(self, argv: Sequence[str]) -> Finished:
         """Tests put stored runs in the place of this."""
-        return with_child(
-            self._followed,
-            argv,
-            stdin=subprocess.DEVNULL,
-            stdout=subprocess.PIPE,
-            stderr=subprocess.STDOUT,
-            cwd=self.folder,
-            start_new_session=True,
-        )
-
-    def _followed(self, child: subprocess.Popen[bytes]) -> Finished:
-        killed = threading.Event()
-
-        def kill() -> None:
-            killed.set()
-            signal_group(child, signal.SIGKILL)
-
         limit = self.settings.time_limit
-        timer = threading.Timer(limit * KILLED_AFTER + GRACE_SECONDS, kill)
-        if limit:
-            timer.daemon = True
-            timer.start()
+        deadline = Deadline(limit * KILLED_AFTER + GRACE_SECONDS if limit else math.inf)
         self.observer.stage_begins(os.path.basename(self.executable), limit)
         try:
-            with SIGNALS.first_interrupt_to(lambda: self._interrupt(child)):
-                log = self._logged(child)
-                status = child.wait()
+            ended = run(
+                argv,
+                deadline,
+                on_line=self.observer.log_line,
+                folder=self.folder,
+                streams=Streams.MERGED,
+                log=self.path(LOG_NAME),
+                on_interrupt=self._note_interrupt,
+            )
         finally:  # also where a signal ends the driver
-            timer.cancel()
             self.observer.stage_begins("", 0.0)
-        return Finished(status, log, killed.is_set())
+        return Finished(ended.status, ended.output.decode("utf-8", "replace"), ended.is_late)
 
-    def _logged(self, child: subprocess.Popen[bytes]) -> str:
-        lines = []
-        for data in child.stdout or ():
-            line = data.decode("utf-8", "replace")
-            lines.append(line)
-            self.observer.log_line(line)
-        return "".join(lines)
-
-    def _interrupt(self, child: subprocess.Popen[bytes]) -> None:
-        """It is told to end; what it answers then is the answer."""
+    def _note_interrupt(self) -> None:
+        """The solver was told to end; what it answers then is the answer."""
         self.is_interrupted = True
-        signal_group(child, signal.SIGINT)

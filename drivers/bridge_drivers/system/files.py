@@ -25,7 +25,7 @@ from pathlib import Path
 from typing import BinaryIO, Callable, Iterator, Sequence, TextIO
 
 from .errors import FileAction, FileFault, FileStays
-from .processes import SIGNALS
+from .signals import SIGNALS
 
 ANYONE_MAY_WRITE = 0o222  # the bits of a mode that let someone write
 MODE_OF_NEW_FILES = 0o666  # less the mask of the process

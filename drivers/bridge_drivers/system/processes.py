@@ -1,132 +1,331 @@
-"""Starts and ends processes, holds signals, and measures time.
+"""Starts processes, follows what they write, and ends them.
 
-No other module starts a process or handles a signal.
+No other module starts a process. Each one is started in a group of its own. When `run` returns or
+raises, the process and all that it started in that group has ended: also where a signal ends this
+process, its terminal is closed, or it is killed.
 """
 
 from __future__ import annotations
 
+import collections
 import contextlib
+import enum
+import math
 import os
+import selectors
 import signal
 import subprocess
-from typing import Any, Callable, Iterator, Sequence, TypeVar
+from typing import IO, BinaryIO, Callable, Deque, Iterator, List, NamedTuple, Optional, Sequence
 
-T = TypeVar("T")
-# what ends a run in order; a system may lack some
-HANDLED_SIGNALS: Sequence[signal.Signals] = [
-    getattr(signal, name)
-    for name in ("SIGTERM", "SIGINT", "SIGHUP", "SIGQUIT")
-    if hasattr(signal, name)
-]
+from .files import new_file
+from .signals import SIGNALS
+from .deadline import Deadline
 
+PIECE = 1 << 16  # bytes that are read at once
+POLL = 0.02  # seconds between two looks at a process, where the system does not tell its end
+DRAINED = 1 << 20  # bytes that are still read of a stream when its process has ended
+# what stands beside each process, and kills its group where this process ends before it says so
+GUARD = 'read end || kill -s KILL -- "-$0"'
 
-class Interrupted(BaseException):
-    """A signal ended the run. No `except Exception` stops it."""
-
-    def __init__(self, number: int) -> None:
-        super().__init__(number)
-        self.number = number
-
-    def status(self) -> int:
-        """The exit status of a process that a signal ended, as a shell tells it."""
-        return 128 + self.number
+Sink = Callable[[bytes], None]  # is given each piece of a stream as it comes, and b"" at its end
 
 
-class SignalGate:
-    """Turns signals into `Interrupted`, and lets them wait where a block may not be broken off.
-
-    The first signal ends the run; what comes later does not break off what the first one ends.
+class OutputLimits(NamedTuple):
+    """How much is held of what a process writes; the rest is read and dropped.
 
     Attributes:
-        is_deferring: Signals that come now wait.
-        is_ending: A signal has ended the run.
-        pending: The first signal that waits; 0 where none does.
-        receiver: Whose the next interrupt is instead; None where it ends the run.
+        line_bytes: Of one line: a longer one is told in pieces.
+        memory_bytes: Of one stream. The first and the last half of them are held of a longer one.
+        log_bytes: Of the file that gets a log.
     """
 
-    def __init__(self) -> None:
-        self.is_deferring = False
-        self.is_ending = False
-        self.pending = 0
-        self.receiver: Callable[[], None] | None = None
-
-    def install(self) -> None:
-        """Takes all handled signals from here on. One that is ignored from the start stays so."""
-        for number in HANDLED_SIGNALS:
-            if signal.getsignal(number) is not signal.SIG_IGN:
-                signal.signal(number, self.receive)
-
-    def receive(self, number: int, frame: object = None) -> None:
-        """The handler of each signal."""
-        if self.is_deferring:
-            self.pending = self.pending or number
-        elif number == signal.SIGINT and self.receiver is not None:
-            receiver = self.receiver
-            self.receiver = None
-            receiver()
-        elif not self.is_ending:
-            self.is_ending = True
-            raise Interrupted(number)
-
-    def deferred(self) -> contextlib.AbstractContextManager[None]:
-        """A block that no signal breaks off: what comes in it is delivered at its end."""
-        return self._deferring(True)
-
-    def delivered(self) -> contextlib.AbstractContextManager[None]:
-        """A block inside a deferred one in which signals are delivered again."""
-        return self._deferring(False)
-
-    @contextlib.contextmanager
-    def _deferring(self, is_deferring: bool) -> Iterator[None]:
-        before = self.is_deferring
-        self.is_deferring = is_deferring
-        self.deliver_pending()
-        try:
-            yield
-        finally:
-            self.is_deferring = before
-        self.deliver_pending()
-
-    @contextlib.contextmanager
-    def first_interrupt_to(self, receiver: Callable[[], None]) -> Iterator[None]:
-        """A block whose first interrupt is the receiver's. The second one ends the run."""
-        self.receiver = receiver
-        try:
-            yield
-        finally:
-            self.receiver = None
-
-    def deliver_pending(self) -> None:
-        """Delivers what waited, unless it still has to wait."""
-        if self.pending and not self.is_deferring:
-            number = self.pending
-            self.pending = 0
-            self.receive(number)
+    line_bytes: int = 1 << 16
+    memory_bytes: int = 1 << 26
+    log_bytes: int = 1 << 28
 
 
-SIGNALS = SignalGate()  # of this process
+class Streams(enum.Enum):
+    """Where a process writes to."""
+
+    APART = enum.auto()  # its output and its errors are held apart
+    MERGED = enum.auto()  # both are held as they come
+    PASSED_ON = enum.auto()  # to the streams of this process
 
 
-def with_child(use: Callable[[subprocess.Popen[bytes]], T], argv: Sequence[str], **words: Any) -> T:
-    """What `use` makes of a process that is started. It has ended when this returns or raises."""
-    with SIGNALS.deferred():
-        child = subprocess.Popen(argv, **words)
-        try:
-            with SIGNALS.delivered():
-                return use(child)
-        finally:
-            if child.poll() is None:
-                signal_group(child, signal.SIGKILL)
-                child.wait()
-            for stream in (child.stdout, child.stderr):
-                if stream is not None:
-                    stream.close()
+class Finished(NamedTuple):
+    """How a process ended.
+
+    Attributes:
+        status: Its exit status; minus the number of the signal that ended it.
+        output: What it wrote to standard output, and with merged streams to standard error.
+        errors: What it wrote to standard error, where the streams are apart.
+        is_late: It was killed since its time was over.
+        dropped: How many bytes of both are not held.
+    """
+
+    status: int
+    output: bytes = b""
+    errors: bytes = b""
+    is_late: bool = False
+    dropped: int = 0
+
+
+def run(
+    argv: Sequence[str],
+    deadline: Deadline,
+    limits: OutputLimits = OutputLimits(),
+    on_line: Optional[Callable[[str], None]] = None,
+    *,
+    folder: Optional[str] = None,
+    streams: Streams = Streams.APART,
+    log: Optional[str] = None,
+    on_interrupt: Optional[Callable[[], None]] = None,
+) -> Finished:
+    """Runs a program to its end, or to that of its time. It reads nothing from standard input.
+
+    Args:
+        on_line: Is told each line of the output, with its end, as it comes.
+        folder: Where it runs.
+        log: The path of a file that gets the output as it comes.
+        on_interrupt: Where it is given, the first interrupt of this process is sent to the
+            program, which may end in its own way, and told here.
+
+    Raises:
+        OSError: It cannot be started.
+        Interrupted: A signal came, and the program was killed.
+    """
+    memory = _Memory(limits.memory_bytes)
+    errors = _Memory(limits.memory_bytes)
+    lines = _Lines(on_line, limits.line_bytes)
+    with contextlib.ExitStack() as stack:
+        sinks: List[Sink] = [memory.add, lines.add]
+        if log is not None:
+            sinks.append(_Log(stack.enter_context(new_file(log)), limits.log_bytes).add)
+        stack.enter_context(SIGNALS.deferred())
+        child = _started(argv, streams, folder)
+        with _ended_at_last(child):
+            readers = []
+            if child.stdout is not None:
+                readers.append(_Reader(child.stdout, sinks))
+            if child.stderr is not None:
+                readers.append(_Reader(child.stderr, [errors.add]))
+            with _interrupts_to(child, on_interrupt), SIGNALS.delivered():
+                is_late = _follow(child, readers, deadline)
+                lines.end()
+    dropped = memory.dropped + errors.dropped
+    return Finished(child.returncode, memory.data(), errors.data(), is_late, dropped)
 
 
 def signal_group(child: subprocess.Popen[bytes], number: int) -> None:
-    """Sends a signal to a process and, where its group is its own, to all that it started."""
+    """Sends a signal to a process that was not waited for, and to all that it started."""
     with contextlib.suppress(ProcessLookupError, PermissionError):
-        if os.getpgid(child.pid) == child.pid:
-            os.killpg(child.pid, number)
+        os.killpg(child.pid, number)
+
+
+def _started(
+    argv: Sequence[str], streams: Streams, folder: Optional[str]
+) -> subprocess.Popen[bytes]:
+    output = None if streams is Streams.PASSED_ON else subprocess.PIPE
+    return subprocess.Popen(
+        argv,
+        stdin=subprocess.DEVNULL,
+        stdout=output,
+        stderr=subprocess.STDOUT if streams is Streams.MERGED else output,
+        cwd=folder,
+        start_new_session=True,
+    )
+
+
+@contextlib.contextmanager
+def _ended_at_last(child: subprocess.Popen[bytes]) -> Iterator[None]:
+    """A block in which a process goes on. At its end the process, and what it started, has ended."""
+    guard = _guard_of(child)
+    try:
+        yield
+    finally:
+        signal_group(child, signal.SIGKILL)  # before it is waited for: its number is still its own
+        child.wait()
+        if guard is not None:
+            with contextlib.suppress(OSError):
+                guard.communicate(b"end\n")
+        for stream in (child.stdout, child.stderr):
+            if stream is not None:
+                stream.close()
+
+
+def _guard_of(child: subprocess.Popen[bytes]) -> Optional[subprocess.Popen[bytes]]:
+    """A small process that kills the group of another one where this process ends without a word.
+
+    It waits at a pipe that this process alone holds open. None where there is no shell.
+    """
+    try:
+        return subprocess.Popen(
+            ["/bin/sh", "-c", GUARD, str(child.pid)],
+            stdin=subprocess.PIPE,
+            stdout=subprocess.DEVNULL,
+            stderr=subprocess.DEVNULL,
+            start_new_session=True,
+        )
+    except OSError:
+        return None
+
+
+@contextlib.contextmanager
+def _interrupts_to(
+    child: subprocess.Popen[bytes], on_interrupt: Optional[Callable[[], None]]
+) -> Iterator[None]:
+    """A block whose first interrupt is the child's, where somebody wants to be told of it."""
+    if on_interrupt is None:
+        yield
+        return
+    told = on_interrupt
+
+    def pass_on() -> None:
+        told()
+        signal_group(child, signal.SIGINT)
+
+    with SIGNALS.first_interrupt_to(pass_on):
+        yield
+
+
+def _follow(child: subprocess.Popen[bytes], readers: Sequence[_Reader], deadline: Deadline) -> bool:
+    """Reads what a process writes until it has ended; whether it was killed since its time was over.
+
+    Something that it started may hold its streams open: they are not waited for.
+    """
+    is_late = False
+    with selectors.DefaultSelector() as selector, _notice_of_end(child) as notice:
+        for reader in readers:
+            selector.register(reader.number, selectors.EVENT_READ, reader)
+        if notice is not None:
+            selector.register(notice, selectors.EVENT_READ)
+        while not _has_ended(child):
+            if not is_late and deadline.is_over():
+                is_late = True
+                signal_group(child, signal.SIGKILL)
+            pause = math.inf if is_late else max(deadline.left(), 0.0)
+            if notice is None:
+                pause = min(pause, POLL)
+            for key, _ in selector.select(None if pause == math.inf else pause):
+                if key.data is not None and key.data.read() == 0:
+                    selector.unregister(key.fileobj)
+    for reader in readers:
+        reader.drain()
+    return is_late
+
+
+@contextlib.contextmanager
+def _notice_of_end(child: subprocess.Popen[bytes]) -> Iterator[Optional[int]]:
+    """A file that can be read once a process has ended; None where the system has no such."""
+    try:
+        notice = os.pidfd_open(child.pid)
+    except (AttributeError, OSError):
+        yield None
+        return
+    try:
+        yield notice
+    finally:
+        os.close(notice)
+
+
+def _has_ended(child: subprocess.Popen[bytes]) -> bool:
+    """Whether a process has ended. It is not waited for, so that its number stays its own."""
+    if not hasattr(os, "waitid"):
+        return child.poll() is not None
+    options = os.WEXITED | os.WNOHANG | os.WNOWAIT
+    return os.waitid(os.P_PID, child.pid, options) is not None
+
+
+class _Reader:
+    """Reads one stream of a process, without waiting, and gives each piece to its sinks."""
+
+    def __init__(self, stream: IO[bytes], sinks: Sequence[Sink]) -> None:
+        self.number = stream.fileno()
+        self.sinks = sinks
+        os.set_blocking(self.number, False)
+
+    def read(self) -> Optional[int]:
+        """How many bytes came: 0 at the end, None where nothing is there now."""
+        try:
+            data = os.read(self.number, PIECE)
+        except BlockingIOError:
+            return None
+        for sink in self.sinks:
+            sink(data)
+        return len(data)
+
+    def drain(self) -> None:
+        """Reads what is there when the process has ended."""
+        for _ in range(DRAINED // PIECE):
+            if not self.read():
+                return
+
+
+class _Memory:
+    """What is held of a stream in memory: of a long one its first and its last half."""
+
+    def __init__(self, most: int) -> None:
+        self.most_of_half = most // 2
+        self.first = bytearray()
+        self.last: Deque[bytes] = collections.deque()
+        self.size_of_last = 0
+        self.dropped = 0  # bytes between both
+
+    def add(self, data: bytes) -> None:
+        room = self.most_of_half - len(self.first)
+        self.first += data[:room]
+        rest = data[room:]
+        if not rest:
             return
-    child.send_signal(number)
+        self.last.append(rest)
+        self.size_of_last += len(rest)
+        while self.size_of_last - len(self.last[0]) >= self.most_of_half:
+            gone = self.last.popleft()
+            self.size_of_last -= len(gone)
+            self.dropped += len(gone)
+
+    def data(self) -> bytes:
+        gap = b"\n[%d bytes are left out]\n" % self.dropped if self.dropped else b""
+        return b"".join([self.first, gap, *self.last])
+
+
+class _Lines:
+    """Tells whole lines of a stream, and long ones in pieces."""
+
+    def __init__(self, on_line: Optional[Callable[[str], None]], most: int) -> None:
+        self.on_line = on_line
+        self.most = most
+        self.rest = b""
+
+    def add(self, data: bytes) -> None:
+        if self.on_line is None:
+            return
+        *lines, self.rest = (self.rest + data).split(b"\n")
+        for line in lines:
+            self._tell(line + b"\n")
+        if len(self.rest) >= self.most:
+            self.end()
+
+    def end(self) -> None:
+        """Tells the rest, which has no end."""
+        rest = self.rest
+        self.rest = b""
+        if rest:
+            self._tell(rest)
+
+    def _tell(self, line: bytes) -> None:
+        if self.on_line is not None:
+            self.on_line(line.decode("utf-8", "replace"))
+
+
+class _Log:
+    """A file that gets a stream as it comes, up to a limit."""
+
+    def __init__(self, file: BinaryIO, most: int) -> None:
+        self.file = file
+        self.room = most
+
+    def add(self, data: bytes) -> None:
+        piece = data[: self.room]
+        self.room -= len(piece)
+        self.file.write(piece)

@@ -15,7 +15,7 @@ from bridge_drivers.formats.file_kinds import model_kind_of_start
 from bridge_drivers.system import files
 from bridge_drivers.system.errors import FileFault, FileStays
 from bridge_drivers.system.files import OutputFiles, WhyItStays
-from bridge_drivers.system.processes import SIGNALS
+from bridge_drivers.system.signals import SIGNALS
 
 OLD = b"letters\n"
 NEW = b"new\n"

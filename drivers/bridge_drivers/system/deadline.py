@@ -1,0 +1,59 @@
+"""The time that some work has."""
+
+from __future__ import annotations
+
+import math
+import time
+from .errors import DeadlineExceeded
+
+
+class Deadline:
+    """The moment at which some work has to end. One goes through a whole run.
+
+    Attributes:
+        seconds: How long the work has; infinite where it has no end.
+        of_processor: They are seconds of this process's processor time, so that a busy machine
+            does not end a short piece of work early.
+    """
+
+    def __init__(self, seconds: float = math.inf, *, of_processor: bool = False) -> None:
+        self.seconds = seconds
+        self.of_processor = of_processor
+        self._clock = time.process_time if of_processor else time.monotonic
+        self._start = self._clock()
+
+    @classmethod
+    def of_limit(cls, seconds: float) -> Deadline:
+        """The deadline of an option, in which 0 stands for no limit."""
+        return cls(seconds or math.inf)
+
+    def spent(self) -> float:
+        """Seconds since its start."""
+        return self._clock() - self._start
+
+    def left(self) -> float:
+        """Seconds that are left; negative when it is over, infinite where it never is."""
+        return self.seconds - self.spent()
+
+    def is_over(self) -> bool:
+        return self.left() <= 0
+
+    def check(self, doing: str = "") -> None:
+        """Work calls this at each of its steps.
+
+        Args:
+            doing: What was going on, for the error's text.
+
+        Raises:
+            DeadlineExceeded: It is over.
+        """
+        if self.is_over():
+            raise DeadlineExceeded(f"time ({doing})" if doing else "time")
+
+    def restart(self) -> None:
+        """The seconds count from now on."""
+        self._start = self._clock()
+
+    def within(self, seconds: float) -> Deadline:
+        """One that ends with this one, and at most so many seconds from now."""
+        return Deadline(min(seconds, self.left()), of_processor=self.of_processor)
