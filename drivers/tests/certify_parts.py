@@ -9,11 +9,10 @@ from types import SimpleNamespace
 from unittest import TestCase
 
 from bridge_drivers import miss
-from bridge_drivers.certify import directions, equations, points
+from bridge_drivers.certify import points
 from bridge_drivers.model.integer_form import IntegerProgram, UnsupportedModel
 from bridge_drivers.exact.portfolio import TURN_SECONDS, Portfolio, Strategy
 from bridge_drivers.model.linear_program import Program
-from models import whole
 
 SECTIONS = ("OBJSENSE", "ROWS", "COLUMNS", "RHS", "RANGES", "BOUNDS")
 
@@ -147,40 +146,6 @@ class Models(TestCase):
             self.assertFalse(miss.miss(program, x, ["x0"]).is_much())
             p = IntegerProgram(text, {}, 1).with_integers([True, True])
             self.assertEqual(points.broken(p, [1.0, 2.0]) > F(1, 10**12), is_much)
-
-
-class Lattices(TestCase):
-    def test_without_equations(self) -> None:
-        """Forms that equations make the same have small coefficients."""
-        self.assertEqual(
-            directions.without({0: 128 * 12134 + 1, 1: 128 * 12202 + 1}, [{0: 12134, 1: 12202}]),
-            {0: 1, 1: 1},
-        )
-        self.assertEqual(directions.without({0: 6, 1: 10}, [{0: 3, 1: 5}]), {})
-        self.assertEqual(directions.without({2: 7}, []), {2: 7})
-
-    def test_reduction(self) -> None:
-        rows = [[1, 0, 0, 12223], [0, 1, 0, 12224], [0, 0, 1, 36674]]
-        reduction = directions.Reduction(rows)
-        self.assertTrue(reduction.run())
-        for given, back in zip(rows, zip(*reduction.back)):
-            self.assertEqual(
-                given, [sum(s * row[c] for s, row in zip(back, reduction.rows)) for c in range(4)]
-            )
-        self.assertFalse(directions.Reduction([[1, 2], [2, 4]]).run())
-
-    def test_parity(self) -> None:
-        columns = [whole()] * 3
-        found = equations.parity(built(columns, [(500, 500, {0: 12, 1: 21, 2: 33})]))
-        self.assertEqual(found, ({0: 4, 1: 7, 2: 11}, 166, {0: F(1, 3)}, {0: F(1, 3)}))
-        rows = [(6, 6, {0: 2, 1: 4}), ("0.5", "0.5", {0: "0.5", 1: -1})]
-        found = equations.parity(built(columns, rows))
-        sums = [
-            sum(u * F((2, "0.5", 4, -1, 6, "0.5")[2 * k + i]) for i, u in found.low.items())
-            for k in range(3)
-        ]
-        self.assertEqual([v.denominator for v in sums], [1, 1, 2])
-        self.assertIsNone(equations.parity(built(columns, rows[:1])))
 
 
 class Points(TestCase):

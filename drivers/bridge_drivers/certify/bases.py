@@ -13,12 +13,12 @@ from ..model.integer_form import Bound, IntegerProgram, Point, over_common_denom
 from .points import Placed, place
 from ..exact.linear_systems import (
     LiftedSystem,
-    NotSolved,
     RationalVector,
     scipy_or_none,
     solve_exactly,
 )
 from ..exact.dual_bound import MultiplierKind, Multipliers
+from ..system.errors import NotSolved
 
 BY_HAND = 300  # unknowns of a system that is eliminated without SciPy
 WORK = 4_000_000  # digits of all unknowns that are made at most

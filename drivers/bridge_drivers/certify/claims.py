@@ -16,11 +16,10 @@ from .contradictions import Contradicting
 from .judging import NO_POINT, WITHOUT, Bound, Given, Verdict, wide_note
 from ..model.integer_form import Box, Point, UnsupportedModel
 from ..exact.portfolio import Portfolio
-from ..exact.linear_systems import NotSolved, TooManyBits
 from .watch import KEPT, Over
 from ..exact.search import ImprovedIncumbent
 from ..program.refusal import Refusal
-from ..system.errors import ProgramFailed, SearchEnded
+from ..system.errors import NotSolved, ProgramFailed, SearchEnded, TooManyBits
 from ..exact.dual_bound import DOUBLES_NOTE, MultiplierKind, fits_certificate, is_optimal_in_doubles
 from ..exact.leaf_proofs import LeafProof, LeafProver, basis_duals
 

@@ -8,7 +8,7 @@ from typing import Iterator
 from . import points, simplex
 from ..exact import certificate
 from ..exact.clp import ClpNotInstalled, LpStatus
-from .equations import hollow, parity
+from ..exact.hermite import empty_interval, hermite_refutation
 from .judging import WITHOUT, Given, Judging, Verdict
 from ..exact.relaxation import relaxation
 from ..model.integer_form import IntegerProgram, Point
@@ -45,8 +45,8 @@ class Contradicting(Judging):
         """A whole column or row of whole columns without a whole number between its ends, or equations without a whole
         solution: one plane, asked in each run."""
         for found, what in (
-            (hollow, "no whole number between two ends"),
-            (parity, "equations without a whole solution"),
+            (empty_interval, "no whole number between two ends"),
+            (hermite_refutation, "equations without a whole solution"),
         ):
             odd = found(self.model)
             if odd is not None:

@@ -10,9 +10,9 @@ A certificate claims something of a program and proves it by a tree. Its lines a
 and a node of the tree is one of
 
     split COLUMN AT                     two branches: at most AT, and at least AT + 1
-    plane COUNT AT                      the same of an integer form, with a line `COLUMN NUMBER` each
+    plane COUNT AT                      the same of an integer form, with lines `COLUMN NUMBER`
     lemma COUNT RHS                     a cut, with such lines: first its proof, then what it is for
-    duals COUNT, weights COUNT          a leaf: multipliers, with a line `ROW MULTIPLIER` each
+    duals COUNT, weights COUNT          a leaf: multipliers, with lines `ROW MULTIPLIER`
 
 A plane's branch, and a cut behind its proof, is one row more of the program: below it, it has the
 next free number. Text is written from the `tree` of the search, and is read as a `Certificate` by
@@ -25,7 +25,7 @@ import enum
 from fractions import Fraction
 from typing import Dict, Iterable, Iterator, List, Mapping, NamedTuple, Optional, Sequence, Tuple
 
-from ..certify.equations import Parity
+from .hermite import IntegerRefutation
 from ..model.integer_form import IntegerProgram, Point
 from ..formats.numbers import exact_decimal
 from .dual_bound import MultiplierKind, Multipliers
@@ -245,7 +245,7 @@ def cut_lines(
         yield from leaf_lines(leaf.multipliers(), numbering)
 
 
-def refutation_lines(refutation: Parity, row: int) -> Iterator[str]:
+def refutation_lines(refutation: IntegerRefutation, row: int) -> Iterator[str]:
     """The whole certificate that there is no integer point, by a disjunction both of whose
     branches are contradicted.
 
@@ -253,8 +253,11 @@ def refutation_lines(refutation: Parity, row: int) -> Iterator[str]:
         row: The count of the file's rows, which is the number of the disjunction's own.
     """
     yield from claim_lines("infeasible", None)
-    yield from disjunction_lines(refutation.form, refutation.at)
-    for sign, multipliers in ((1, refutation.low), (-1, refutation.high)):
+    yield from disjunction_lines(refutation.form, refutation.floor)
+    for sign, multipliers in (
+        (1, refutation.lower_multipliers),
+        (-1, refutation.upper_multipliers),
+    ):
         weights = {i: sign * u for i, u in multipliers.items()}
         weights[row] = Fraction(-sign)
         yield from multiplier_lines(weights, MultiplierKind.FARKAS)

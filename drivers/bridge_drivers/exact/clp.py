@@ -254,7 +254,7 @@ class Clp:
         self.lib.Clp_copyinStatus(self.model, basis)
 
     def warm_start(self, basis: Basis, x: Sequence[float]) -> None:
-        """The next solve begins from this basis; other columns stand at their bound nearest to x."""
+        """The next solve begins from this basis; other columns stand at a bound, the one near x."""
         statuses = bytearray([VariableStatus.BASIC] * (self.n + self.m))
         is_basic = set(basis.columns)
         for j in range(self.n):

@@ -33,6 +33,7 @@ from typing import (
 import numpy as np
 import numpy.typing as npt
 
+from ..system.errors import NotSolved, TooManyBits
 from ..system.signals import SIGNALS
 
 # Elimination
@@ -57,24 +58,12 @@ Doubles = npt.NDArray[np.float64]
 Integers = npt.NDArray[np.int64]
 
 
-class WorkLimit(Exception):
+class WorkLimit(NotSolved):
     """An elimination takes more work than it may."""
 
 
-class InconsistentSystem(Exception):
+class InconsistentSystem(NotSolved):
     """A system has no solution."""
-
-
-class NotSolved(Exception):
-    """A system, or the optimum of a basis, is not found here; the text says why."""
-
-
-class TooManyBits(Exception):
-    """A solution needs numerators and denominators of more than `bits` bits."""
-
-    def __init__(self, bits: int) -> None:
-        super().__init__(f"more than {bits} bits")
-        self.bits = bits
 
 
 class RationalVector(NamedTuple):
@@ -187,12 +176,12 @@ class Elimination(IntegerRows):
 
     def _store(self, name: int, row: IntegerRow) -> None:
         if self.work > self.most_work:
-            raise WorkLimit()
+            raise WorkLimit(f"more than {self.most_work} coefficients")
         if not row:
             return
         length = _count_of_unknowns(row)
         if not length:
-            raise InconsistentSystem()
+            raise InconsistentSystem("a number that is not 0 would be 0")
         super()._store(name, row)
         self.names_by_length[length].add(name)
 

@@ -14,7 +14,7 @@ from dataclasses import dataclass
 from fractions import Fraction
 from typing import Dict, FrozenSet, Iterator, List, Mapping, NamedTuple, Optional, Sequence
 
-from ..certify.directions import directions
+from .lattice import thin_directions
 from ..certify.short import trivial
 from ..certify.watch import Watch
 from ..model.integer_form import IntegerProgram, Row
@@ -445,13 +445,13 @@ class Portfolio:
         if not all(is_integer) or sum(is_integer) > MOST_LATTICE_COLUMNS:
             return []
         if lattice is None:
-            return [] if any(program.costs) else directions(program)
+            return [] if any(program.costs) else thin_directions(program)
         bound = self.cut_loop.dual_bound
         if math.isinf(bound):
             return []
         steps = (bound - float(program.constant_fraction)) / float(lattice.spacing)
         width = Fraction(max(self.objective.rhs - steps, 0.5))
-        return directions(program, lattice.coefficients, width)
+        return thin_directions(program, lattice.coefficients, width)
 
 
 def _next_turn(live: Sequence[Strategy], first: Strategy, seconds: float) -> Strategy:

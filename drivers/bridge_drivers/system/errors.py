@@ -244,3 +244,15 @@ class NodeLimit(SearchPaused):
     def __init__(self, nodes: int) -> None:
         super().__init__(f"more than {nodes} nodes")
         self.nodes = nodes
+
+
+class NotSolved(BridgeError):
+    """An exact system, or the optimum of a basis, is not found; the reason says why."""
+
+
+class TooManyBits(BridgeError):
+    """A solution needs numerators and denominators of more than `bits` bits."""
+
+    def __init__(self, bits: int) -> None:
+        super().__init__(f"more than {bits} bits")
+        self.bits = bits
