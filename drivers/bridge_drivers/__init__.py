@@ -4,31 +4,28 @@ A driver takes model.nl, lets `bridge` write MPS, runs a solver that reads MPS, 
 answer and check it. `solve`, `certify`, `verify` and `explain` are the calls that the commands are made of.
 """
 
-VERSION = "0.1.0"
-
-from . import certify as searches  # noqa: E402,F401  read before the call of this name
-from .interface import (
-    Report,
-    certify,  # noqa: E402
-    explain,
-    figures,
-    solve,
-    verify,
-)
-from .system.errors import (  # noqa: E402
+from . import certify as searches  # noqa: F401  read before the call of this name
+from .api import SolveInterrupted, certify, explain, figures, solve, verify
+from .pipeline.monitor import ProgressEvent
+from .pipeline.report import ExactNumbers, Report
+from .system.errors import (
     BridgeError,
     FileFault,
     ModelRefused,
     NotInstalled,
     WrongOption,
 )
+from .system.version import VERSION
 
 __all__ = [
     "BridgeError",
+    "ExactNumbers",
     "FileFault",
     "ModelRefused",
     "NotInstalled",
+    "ProgressEvent",
     "Report",
+    "SolveInterrupted",
     "VERSION",
     "WrongOption",
     "certify",

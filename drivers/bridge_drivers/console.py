@@ -59,6 +59,8 @@ class OutputHandler(logging.Handler):
     """Puts what the library logs on standard output; lines of a solver's log have their own ends."""
 
     def emit(self, record: logging.LogRecord) -> None:
+        if record.name not in (LOGGER.name, SOLVER_LOGGER.name):
+            return
         end = "" if record.name == SOLVER_LOGGER.name else "\n"
         sys.stdout.write(record.getMessage() + end)
         if end:

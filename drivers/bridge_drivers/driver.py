@@ -3,11 +3,13 @@
 from __future__ import annotations
 
 import contextlib
+import io
 import os
 import sys
+from dataclasses import replace
 from typing import Sequence
 
-from . import VERSION, console, interface, minizinc, sol
+from . import api, console, minizinc, sol
 from .formats.source import Source, Workspace, missing_source, read_model
 from .options import EXAMPLE, MODEL, USAGE, Option, Options, Words, own_options, words_of
 from .pipeline.monitor import Monitor
@@ -20,6 +22,7 @@ from .pipeline.outputs import (
     write_outputs,
     write_sol,
 )
+from .pipeline.report import Report, ReportedCall
 from .pipeline.solve import Outcome, SolveRun
 from .solvers import SOLVERS
 from .system.codes import Code, ExitStatus
@@ -32,6 +35,7 @@ from .system.errors import (
     WrongOption,
 )
 from .system.signals import Interrupted
+from .system.version import VERSION
 
 
 class Run:
@@ -135,6 +139,24 @@ class Run:
         write_outputs(outcome, self.model, self.options.outputs(), self.options.objno - 1)
         self.is_put = self.writes()
         return ExitStatus.DONE if self.words.ampl else exit_status(outcome)
+
+    def report(self, call: ReportedCall, status: int) -> Report:
+        """What is known at the end, for programs."""
+        call.program = self.bridge_words
+        call.read_model(self.model)
+        call.model = self.model.name or None
+        if self.fault is not None:
+            told: Report = api.report_of_error(call, self.fault, self.name).report
+            return replace(told, status=status)
+        assert self.outcome is not None
+        wanted = self.options.wantsol
+        return api.report_of_outcome(
+            call,
+            self.outcome,
+            status,
+            wants_values=bool(wanted & 2),
+            wants_duals=bool(wanted & 4),
+        )
 
     def failed(self, fault: BridgeError) -> int:
         """With -AMPL a .sol with the code, and exit 0 with it."""
@@ -249,7 +271,28 @@ class Driver(Run):
         return super().failed(fault)
 
 
+def reported(driver: Driver, argv: Sequence[str]) -> int:
+    """The exit status of a driver's call.
+
+    With json=1, also where other words are wrong, what it tells goes into an object on standard output,
+    and what else it prints nowhere, or to standard error.
+    """
+    asked, options = words_of(argv), Options(own_options(driver.solver.name))
+    try:
+        options.environment(driver.name)
+        options.take(asked.options)
+    except WrongOption:
+        options.json = int("json=1" in asked.options)
+    if asked.ask is not None or not options.json:
+        return driver.main(argv)
+    call = ReportedCall(driver.name)
+    with contextlib.redirect_stdout(sys.stderr if options.outlev else io.StringIO()):
+        status = driver.main(argv)
+    print(driver.report(call, status).json(), flush=True)
+    return status
+
+
 def main(name: str = "") -> None:
     """Without a name that of the command: bridge-NAME."""
     name = name or os.path.basename(sys.argv[0]).removesuffix(".exe").removeprefix("bridge-")
-    console.run("bridge-" + name, lambda: interface.reported(Driver(name), sys.argv[1:]))
+    console.run("bridge-" + name, lambda: reported(Driver(name), sys.argv[1:]))

@@ -10,7 +10,7 @@ import signal
 import sys
 from typing import TYPE_CHECKING, Callable, Iterable, Mapping, NamedTuple, Sequence
 
-from . import VERSION, commands, console, interface
+from . import api, commands, console
 from .program.bridge import PACKAGE, build_facts, find_program, sha256_of_file
 from .program.calls import files_of_call, is_utf8
 from .program.mps_forms import import_mps
@@ -21,10 +21,11 @@ from .system.errors import BridgeError, NotStarted
 from .commands import COMMANDS, NAME, VERDICTS, WORDS
 from .formats.file_kinds import is_mps_file, is_packed_file, start_of_file
 from .formats.source import Workspace, is_stream, name_of_model, read_source
-from .interface import Report
+from .pipeline.report import Report, ReportedCall
 from .system import processes
 from .system.deadline import Deadline
 from .system.processes import Streams
+from .system.version import VERSION
 from .options import OTHER_NAMES
 from .system.text import did_you_mean
 
@@ -189,7 +190,8 @@ def shown(call: Call) -> int:
     if fault and (call.json or not is_answer):
         sys.stderr.write(f"{NAME}: {fault}\n")
     if call.json:
-        return report.show()
+        print(report.json(), flush=True)
+        return report.status
     if fault and is_answer:
         more = report.refusal["more"] if report.refusal else []
         print("\n".join([fault, *(f"  {line}" for line in more)]))
@@ -210,10 +212,10 @@ def explained(call: Call) -> Report:
     rest = call.rest
     if len(rest) > 1 and rest[0] in PROVED:
         with Workspace() as workspace:
-            return interface.called([rest[0], *plain_files(workspace, rest)], rest)
+            return api.refusal_report([rest[0], *plain_files(workspace, rest)], rest)
     if len(rest) == 1 or NUMBER.fullmatch(rest[1]):
-        return interface.explain(rest[0], objective=int((*rest, "0")[1]))
-    return interface.explain(
+        return api.explain(rest[0], objective=int((*rest, "0")[1]))
+    return api.explain(
         rest[0],
         rest[1],
         html=call.pages.get("html", ""),
@@ -225,7 +227,8 @@ def explained(call: Call) -> Report:
 def version(call: Call) -> Report:
     """Program, sum, toolchain and drivers, one a line."""
     place = find_program()
-    told = Report(NAME, program=place)
+    reported = ReportedCall(NAME)
+    reported.program = place
     digest = sha256_of_file(place[0]) if len(place) == 1 else None
     facts = build_facts(place[0]) if len(place) == 1 else {}
     trial = "" if facts.get("proved") == "yes" else " (NOT PROVED: a build for trials)"
@@ -234,31 +237,32 @@ def version(call: Call) -> Report:
         if facts
         else "not told: there is no note on this program, so that it may not be proved"
     )
-    told.text = f"{NAME} {VERSION}"
-    told.lines = [
-        told.text,
+    text = f"{NAME} {VERSION}"
+    lines = [
+        text,
         f"program    {' '.join(map(os.path.normpath, place))}",
         f"sha256     {digest or 'cannot be read'}",
         f"toolchain  {toolchain}",
         f"drivers    {VERSION} {PACKAGE}",
     ]
-    told.more = {
+    more = {
         "program": list(place),
         "toolchain": facts.get("toolchain"),
         "proved": facts.get("proved") == "yes" if facts else None,
         "drivers": PACKAGE,
     }
-    return told.end()
+    return reported.report(text, lines, more=more)
 
 
 def import_into(call: Call) -> Report:
     """An MPS text into a file, with its names beside it."""
-    told = Report(NAME, model=call.rest[0])
-    with interface.asked(told, "") as (bridge, workspace):
+    reported = ReportedCall(NAME)
+    reported.model = call.rest[0]
+    with api.opened_bridge(reported) as (bridge, workspace):
         path = plain(workspace, "MPS", call.rest[0])
         bridge.file_names[path] = call.rest[0]
-        told.say(import_mps(bridge, path, call.rest[1], overwrite=call.overwrite))
-    return told
+        text = import_mps(bridge, path, call.rest[1], overwrite=call.overwrite)
+        return reported.report(text, [text])
 
 
 def completion(shell: str) -> str:
@@ -272,8 +276,8 @@ REPORTS: Mapping[str, Callable[[Call], Report]] = {
     "explain": explained,
     "version": version,
     "import": import_into,
-    "verify": lambda call: interface.verify(*call.rest),
-    "stats": lambda call: interface.figures(call.rest[0], objective=int((*call.rest, "0")[1])),
+    "verify": lambda call: api.verify(*call.rest),
+    "stats": lambda call: api.figures(call.rest[0], objective=int((*call.rest, "0")[1])),
 }
 
 

@@ -45,8 +45,12 @@ class Subject(NamedTuple):
 
 
 def subject(bridge: Bridge, workspace: Workspace, word: str) -> Subject:
-    """With `verify` of this bridge being that of the model. Refused where an MPS file is none, or as `read_model`."""
-    given = read_model(word, workspace)
+    """The model that a word names. Refused where an MPS file is none, or as `read_model`."""
+    return subject_of(bridge, workspace, read_model(word, workspace))
+
+
+def subject_of(bridge: Bridge, workspace: Workspace, given: Source) -> Subject:
+    """A model that was read, with `verify` of this bridge being that of it. Refused where an MPS file is none."""
     bridge.file_names[given.path] = given.name
     if not given.is_mps:
         path, notes = text_of_nl(given.path, workspace.new_path())

@@ -37,6 +37,10 @@ class Progress:
     def tell(self, detail: str) -> None:
         self.detail = detail
 
+    def tell_numbers(self, known: Mapping[str, float]) -> None:
+        """What is known, by the names of `detailed`."""
+        self.tell(detailed(known))
+
     def line(self) -> str:
         seconds = f"{time.monotonic() - self.began:.0f}"
         seconds += f" of {self.limit:g} s" if self.limit else " s"

@@ -98,7 +98,7 @@ class Solves(Case):
             self.assertEqual(
                 (self.solve(SOLVERS[0], problem, options=["outlev=0"]), x.value()), ("optimal 4", 2)
             )
-            self.command(SOLVERS[0]).written(problem, self.stub)
+            pulp_solver.write_problem(problem, self.stub)
             self.assertIn(f" G  {told}\n", Path(self.stub).read_text())
             os.unlink(self.stub)
 
@@ -124,88 +124,3 @@ class Solves(Case):
         problem.solve(self.command(SOLVERS[0], keepFiles=True))
         self.assertEqual(sorted(os.listdir(self.folder)), ["kept-pulp.json", "kept-pulp.mps"])
         self.assertIn(" G  both\n", Path(self.folder, "kept-pulp.mps").read_text())
-
-
-@unittest.skipIf(pulp is None, "no PuLP")
-class Manners(unittest.TestCase):
-    """What needs neither solver nor bridge."""
-
-    def test_completed(self) -> None:
-        """The sense and the objective's constant are put back."""
-        text = "*SENSE:Maximize\nNAME          MODEL\n{}ROWS\n N  OBJ\nCOLUMNS\nRHS\n{}BOUNDS\nENDATA\n".format
-        self.assertEqual(
-            pulp_solver.completed(text("", ""), True, "OBJ", 2.5),
-            text("OBJSENSE\n MAX\n", "    RHS       OBJ  -2.5\n"),
-        )
-        self.assertEqual(pulp_solver.completed(text("", ""), False, "OBJ", 0), text("", ""))
-
-    def test_empty_interval(self) -> None:
-        """Also one that PuLP's own MPS would lose."""
-        for low, high in ((3, 2), (0, -1)):
-            command = pulp_solver.BridgeCmd("/nonexistent", msg=False)
-            problem = problem_of(1 * pulp.LpVariable("x", low, high))
-            problem.solve(command)
-            self.assertEqual(pulp.LpStatus[problem.status], "Infeasible")
-            self.assertEqual(
-                command.message,
-                f"infeasible: x has the lower bound {low} and the upper bound {high}",
-            )
-
-    def test_what_is_not_there(self) -> None:
-        problem = problem_of(1 * pulp.LpVariable("x", 0, 1))
-        with self.assertRaisesRegex(pulp.PulpSolverError, "no driver of nonexistent: cbc, "):
-            problem.solve(pulp_solver.BridgeCmd("/nonexistent", msg=False))
-        self.assertFalse(pulp_solver.BridgeCmd("/nonexistent").available())
-        for name in SOLVERS:
-            self.assertEqual(
-                pulp_solver.BridgeCmd("/x/bridge-" + name).available(), shutil.which(name)
-            )
-        with self.assertRaisesRegex(
-            pulp.PulpSolverError, "was not found: install it or give options=.'solver=PATH'."
-        ):
-            problem.solve(
-                pulp_solver.BridgeCmd(msg=False, options=["solver=/no"], bridge="/bin/true")
-            )
-
-    def test_words(self) -> None:
-        command = pulp_solver.BridgeCmd(
-            "d", mip=False, timeLimit=2.5, gapRel=0.1, threads=3, prove=True, options=["outlev=1"]
-        )
-        self.assertEqual(
-            command.given(),
-            {
-                "format": "free",
-                "prove": True,
-                "relax": True,
-                "timelim": 2.5,
-                "mipgap": 0.1,
-                "threads": 3,
-                "outlev": "1",
-            },
-        )
-
-    def test_statuses(self) -> None:
-        found, none = pulp.LpSolutionIntegerFeasible, pulp.LpSolutionNoSolutionFound
-        for last, solution in (
-            ("feasible 3", found),
-            ("within 2 3", found),
-            ("bound 3", none),
-            ("not proved: time", none),
-        ):
-            self.assertEqual(pulp_solver.statuses_of(100, last), (pulp.LpStatusNotSolved, solution))
-        told = {
-            code: pulp.LpStatus[pulp_solver.statuses_of(code)[0]]
-            for code in (0, 100, 200, 290, 300, 400, 450)
-        }
-        self.assertEqual(
-            told,
-            {
-                0: "Optimal",
-                100: "Not Solved",
-                200: "Infeasible",
-                290: "Undefined",
-                300: "Unbounded",
-                400: "Not Solved",
-                450: "Not Solved",
-            },
-        )

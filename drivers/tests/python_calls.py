@@ -33,10 +33,11 @@ from support import (
 from models import MODELS, rows_of, text_of as model_text
 
 import bridge_drivers
-from bridge_drivers import BridgeError, Report, certify, explain, figures, interface, solve, verify
+from bridge_drivers import BridgeError, Report, certify, explain, figures, solve, verify
 from bridge_drivers.program.bridge import build_facts, sha256_of_file
 from bridge_drivers.program.calls import Reply
 from bridge_drivers.program.verdict import Verdict
+from bridge_drivers.pipeline.report import ReportedCall, number_object
 from bridge_drivers.explained import page
 from bridge_drivers.explained.command import Explaining, Files
 from bridge_drivers.explained.picture import MOST_DEPTH, MOST_SHOWN, Picture
@@ -89,7 +90,7 @@ class Calls(Case):
             self.checked(figures("knap"))
         self.assertEqual((sorted(os.listdir(".")), out.getvalue()), (before, ""))
         self.assertEqual(
-            (told.code, told.values, told.value), (0, {"a": "1", "b": "1", "z": "0"}, F(17))
+            (told.code, told.values, told.value), (0, {"a": F(1), "b": F(1), "z": F(0)}, F(17))
         )
         solve("knap", "cbc", wantsol=1)
         self.assertEqual(sorted(os.listdir(".")), sorted([*before, "knap.sol"]))
@@ -144,13 +145,13 @@ class Reports(unittest.TestCase):
         )
 
     def test_numbers(self) -> None:
-        self.assertEqual(interface.number(F(173, 4)), {"exact": "173/4", "double": 43.25})
-        self.assertEqual(interface.number(F(10) ** 400), {"exact": "1" + "0" * 400, "double": None})
-        self.assertIsNone(interface.number(None))
+        self.assertEqual(number_object(F(173, 4)), {"exact": "173/4", "double": 43.25})
+        self.assertEqual(number_object(F(10) ** 400), {"exact": "1" + "0" * 400, "double": None})
+        self.assertIsNone(number_object(None))
 
     def test_claims(self) -> None:
-        told = Report("c")
-        told.take_verdict(Verdict(Reply(0, b"within 19 35/2 of objective 2\n", "")))
+        verdict = Verdict(Reply(0, b"within 19 35/2 of objective 2\n", ""))
+        told = ReportedCall("c").report(verdict.line, [verdict.line], verdict.statement)
         self.assertEqual(
             (told.claim, told.value, told.bound, told.objective), ("within", F(35, 2), F(19), 2)
         )
@@ -250,7 +251,7 @@ class Explained(Case):
                 files = self.given(name, words)
                 self.put(names.replace("-", "").replace(" ", "\n").encode(), ".col")
                 try:
-                    told = interface.explain(self.stub, files.certificate)
+                    told = explain(self.stub, files.certificate)
                 except BridgeError as fault:
                     told = fault.report
                 self.as_schema(told.object())

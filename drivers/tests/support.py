@@ -79,6 +79,7 @@ KNOWN = {
     "description",
     "title",
     "$schema",
+    "version",
 }
 
 

@@ -9,10 +9,10 @@ import sys
 import time
 from typing import Sequence
 
-from .. import console, interface
+from .. import console
 from ..system.codes import ExitStatus
 from ..system.errors import BridgeError, WrongOption
-from ..driver import Driver, Run
+from ..driver import Driver, Run, reported
 from ..options import AMOUNT, FILE, SWITCH, Option, Options, Text
 from ..pipeline.solve import Outcome
 from ..solvers import SOLVERS
@@ -122,7 +122,7 @@ def run(argv: Sequence[str]) -> int:
         command = Command(solver_of(argv))
     except WrongOption as fault:
         return Command(next(iter(SOLVERS))).failed(fault)
-    return interface.reported(command, argv)
+    return reported(command, argv)
 
 
 def main() -> None:

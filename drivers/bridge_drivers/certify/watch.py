@@ -9,7 +9,7 @@ import time
 from typing import Callable, ContextManager, Iterator
 
 from ..system.signals import SIGNALS
-from ..progress import Progress, detailed
+from ..progress import Progress
 from ..system.errors import SearchEnded, SearchPaused
 
 EVERY = 0.5  # seconds between what is told of the progress
@@ -91,9 +91,9 @@ class Watch:
 
     def tell(self, **known: float) -> None:
         """Of a search: nodes, open ones, cuts, the best bound."""
-        self.progress.tell(
-            detailed(known if self.incumbent is None else {"incumbent": self.incumbent, **known})
-        )
+        if self.incumbent is not None:
+            known = {"incumbent": self.incumbent, **known}
+        self.progress.tell_numbers(known)
 
     @contextlib.contextmanager
     def alarmed(self, seconds: float) -> Iterator[None]:

@@ -19,10 +19,10 @@ from concurrent.futures import BrokenExecutor, Executor, Future, ProcessPoolExec
 from multiprocessing import connection
 from typing import Any, Dict, Iterable, Iterator, List, NamedTuple, Optional, Sequence
 
-from .. import VERSION
 from ..certify import points
 from ..certify.watch import Watch
 from ..model.integer_form import IntegerProgram, Point, Row
+from ..system.version import VERSION
 from ..system.errors import SearchEnded, SearchPaused
 from ..system.signals import HANDLED_SIGNALS, SIGNALS
 from .branching import Pseudocosts, PseudocostBranching

@@ -13,7 +13,6 @@ from ..formats.file_kinds import model_kind_of_start
 from ..system.errors import FileFault
 from ..system.files import OutputFiles
 from ..inputs import Subject
-from ..interface import Report
 from ..system.text import one_line
 from .bounds import Bounds
 from .page import text_of
@@ -113,13 +112,21 @@ class Explaining:
         return text_of(self)
 
 
-def explained(model: Subject, files: Files, report: Report) -> None:
-    """What a certificate says, into the report, and the pages that are asked for. The status is
-    that of `verify`, or 5 where a page could not be written. Refused where it is none."""
+class Explained(NamedTuple):
+    """What a certificate says: the verdict, lines, an object for programs, and an exit status."""
+
+    verdict: Verdict
+    lines: list[str]
+    object: dict[str, object]
+    status: int
+
+
+def explained(model: Subject, files: Files) -> Explained:
+    """What a certificate says, and the pages that are asked for. The status is that of `verify`, or 5
+    where a page could not be written. Refused where it is none."""
     verdict = model.bridge.verify(model.path, files.judged())
     told = Explaining(model, files, verdict)
-    report.take_verdict(verdict)
-    report.status = ExitStatus.DONE if told.holds else ExitStatus.FAILED
+    status = ExitStatus.DONE if told.holds else ExitStatus.FAILED
     lines = [*map(one_line, told.lines()), *model.notes]
     reads = [model.given.path, model.given.name, files.certificate]
     outputs = OutputFiles(reads, model_kind_of_start, overwrite=files.overwrite)
@@ -129,6 +136,6 @@ def explained(model: Subject, files: Files, report: Report) -> None:
                 outputs.write(path, text().encode("utf-8", "backslashreplace"))
                 lines.append(f"{path} is written")
             except FileFault as fault:
-                report.status = ExitStatus.UNWRITTEN
+                status = ExitStatus.UNWRITTEN
                 lines.append(f"{path} is not written: {fault.reason}")
-    report.lines, report.explained = lines, told.object()
+    return Explained(verdict, lines, told.object(), status)

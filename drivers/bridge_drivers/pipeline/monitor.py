@@ -6,15 +6,59 @@ import contextlib
 import logging
 import shlex
 import time
-from typing import Callable, Iterator, Mapping, Sequence
+from typing import Callable, Iterator, Mapping, NamedTuple, Sequence
 
-from ..progress import Progress, detailed
+from ..progress import Progress
 from ..solvers.run import RunObserver
 
 LOGGER = logging.getLogger("bridge_drivers")
 SOLVER_LOGGER = LOGGER.getChild("solver")  # the lines of a solver's log, with their ends
+PROGRESS_LOGGER = LOGGER.getChild("progress")  # what is known while something goes on
 
 Numbers = Mapping[str, float]
+
+
+class ProgressEvent(NamedTuple):
+    """What is known while something goes on.
+
+    Attributes:
+        stage: What goes on: the name of a solver, or `certificate`.
+        seconds: Since it began.
+        numbers: What is known, by name: `incumbent` and `bound` in the objective's own sense, `objective`
+            of a relaxation, `nodes`, `open`, `iterations`, `cuts`.
+    """
+
+    stage: str
+    seconds: float
+    numbers: Numbers
+
+    @property
+    def incumbent(self) -> float | None:
+        """The objective of the best point that is known; None where none is."""
+        return self.numbers.get("incumbent")
+
+    @property
+    def bound(self) -> float | None:
+        """What no point is better than, as far as it is known; None where nothing is."""
+        return self.numbers.get("bound")
+
+
+class ObservedProgress(Progress):
+    """A line of progress whose numbers are told to others too."""
+
+    def __init__(self, name: str, on_progress: Callable[[ProgressEvent], None] | None) -> None:
+        super().__init__(name)
+        self.on_progress = on_progress
+
+    def tell_numbers(self, known: Numbers) -> None:
+        super().tell_numbers(known)
+        event = ProgressEvent(self.stage, time.monotonic() - self.began, dict(known))
+        PROGRESS_LOGGER.debug("%s: %s", event.stage, self.detail)
+        if self.on_progress is not None:
+            try:
+                self.on_progress(event)
+            except Exception:  # a fault of the caller's function does not end the run
+                LOGGER.exception("on_progress")
 
 
 class Monitor(RunObserver):
@@ -27,11 +71,13 @@ class Monitor(RunObserver):
         read_line: What a line of the solver's log tells, by name.
     """
 
-    def __init__(self, name: str) -> None:
+    def __init__(
+        self, name: str, on_progress: Callable[[ProgressEvent], None] | None = None
+    ) -> None:
         self.name = name
         self.began = time.monotonic()
         self.seconds: dict[str, float] = {}
-        self.progress = Progress(name)
+        self.progress = ObservedProgress(name, on_progress)
         self.read_line: Callable[[str], Numbers] = lambda line: {}
         self._known: dict[str, float] = {}
 
@@ -62,7 +108,7 @@ class Monitor(RunObserver):
         found = self.read_line(line)
         if found:
             self._known.update(found)
-            self.progress.tell(detailed(self._known))
+            self.progress.tell_numbers(self._known)
 
     def summary(self) -> str:
         """The seconds of each part, and of all, in a line."""

@@ -34,6 +34,7 @@ KNOWN_RULES = {
     "description",
     "title",
     "$schema",
+    "version",
 }
 
 

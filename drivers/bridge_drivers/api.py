@@ -1,0 +1,470 @@
+"""The calls of this package. They are functions of values: no argument is taken apart as a command's word.
+
+Each answers a `Report`, or raises a `BridgeError` that has one. A model is a path, as commands take it,
+the bytes of such a file, or a program. No file is written but those that are named; nothing is printed;
+the log `bridge_drivers` tells what goes on.
+"""
+
+from __future__ import annotations
+
+import contextlib
+import os
+import signal
+import threading
+from typing import Any, Callable, Iterator, Mapping, NamedTuple, Sequence, Union
+
+from .explained.command import Files, explained
+from .formats.source import Source, Workspace, read_source
+from .inputs import Subject, subject_of
+from .pipeline.memory import GivenModel, is_in_memory, read_given_model
+from .pipeline.monitor import Monitor, ProgressEvent
+from .pipeline.option_values import RunSettings, checked_values, run_settings, values_of_words
+from .pipeline.outcome import code_of_error
+from .pipeline.outputs import (
+    exit_status,
+    named_duals,
+    named_reduced_costs,
+    named_values,
+    write_outputs,
+)
+from .pipeline.report import ExactNumbers, Report, ReportedCall
+from .pipeline.solve import Outcome, SolveRun
+from .program.bridge import Bridge, find_program
+from .program.calls import files_of_call
+from .program.refusal import Refusal
+from .solvers import SOLVERS
+from .stats import Stats
+from .system.codes import Code, ExitStatus
+from .system.errors import (
+    BridgeError,
+    DriverFault,
+    FileAction,
+    FileFault,
+    RunInterrupted,
+    WrongOption,
+)
+from .system.signals import SIGNALS, Interrupted
+
+Path = Union[str, "os.PathLike[str]"]
+OnProgress = Callable[[ProgressEvent], None]
+FRONT = "nl-bridge"
+CERTIFY = "bridge-certify"
+CERTIFY_SECONDS = 60.0  # of the solver, and again of the search
+
+
+class SolveInterrupted(KeyboardInterrupt):
+    """Ctrl-C ended a run. The best answer that was found is in `report`, and was kept where files are named."""
+
+    def __init__(self, report: Report) -> None:
+        super().__init__(report.text)
+        self.report = report
+
+
+def solve(
+    model: GivenModel,
+    solver: str = "cbc",
+    *,
+    prove: bool = False,
+    certificate: Path | None = None,
+    timelim: float | None = None,
+    program: Path | None = None,
+    on_progress: OnProgress | None = None,
+    **options: Any,
+) -> Report:
+    """What bridge-SOLVER answers, with values, duals and reduced costs.
+
+    Args:
+        model: A path, the bytes of a file, or a program.
+        solver: The name of the solver.
+        prove: A certificate that the answer is optimal is searched for.
+        certificate: Where an accepted certificate is kept.
+        timelim: Seconds of the solver, and again of the search.
+        program: The solver's program, where it is not on the PATH.
+        on_progress: Is called with what is known while the run goes on, such as incumbents and bounds.
+        options: Further options of the driver, by name.
+
+    Raises:
+        BridgeError: There is no answer. A file that is named and cannot be written is a `FileFault`.
+        SolveInterrupted: Ctrl-C ended the run.
+    """
+    given = {"prove": prove, "certificate": certificate, "timelim": timelim, "solver": program}
+    call = ReportedCall("bridge-" + solver)
+    return _solved(call, model, solver, {**given, **options}, on_progress)
+
+
+def certify(
+    model: GivenModel,
+    *,
+    solver: str = "cbc",
+    certificate: Path | None = None,
+    timelim: float | None = None,
+    program: Path | None = None,
+    on_progress: OnProgress | None = None,
+    **options: Any,
+) -> Report:
+    """What is true of a model, as bridge-certify finds it by a solver and a search.
+
+    The status of the report is 1 where nothing is proved.
+
+    Args:
+        model: A path, the bytes of a file, or a program.
+        solver: The name of the solver.
+        certificate: Where the certificate is kept.
+        timelim: Seconds of the solver, and again of the search: 60 where nothing is said, 0 for no limit.
+        program: The solver's program, where it is not on the PATH.
+        on_progress: As of `solve`.
+        options: Further options of the driver, by name.
+
+    Raises:
+        BridgeError: As of `solve`.
+        SolveInterrupted: As of `solve`.
+    """
+    given = {
+        "prove": True,
+        "certificate": certificate,
+        "timelim": CERTIFY_SECONDS if timelim is None else timelim,
+        "solver": program,
+    }
+    return _solved(ReportedCall(CERTIFY), model, solver, {**given, **options}, on_progress)
+
+
+def verify(model: GivenModel, certificate: Path, *, bridge: str = "") -> Report:
+    """The verdict of the proved program on a certificate.
+
+    The status of the report is 0 where the claim holds, else 1, with the reason in `text`.
+
+    Args:
+        model: A path, the bytes of a file, or a program.
+        certificate: The path of the certificate, packed or not.
+        bridge: The words that start the proved program, where it is elsewhere.
+
+    Raises:
+        BridgeError: The model or the certificate is refused, or a file cannot be read.
+    """
+    call = ReportedCall(FRONT)
+    call.certificate = os.fspath(certificate)
+    with _opened_model(call, model, bridge) as opened:
+        source = opened.read_certificate(certificate)
+        verdict = opened.subject.bridge.verify(opened.subject.path, source.path)
+        status = ExitStatus.DONE if verdict.is_proved else ExitStatus.FAILED
+        lines = [*opened.subject.notes, verdict.line]
+        return call.report(verdict.line, lines, verdict.statement, status=status)
+
+
+def explain(
+    model: GivenModel,
+    certificate: Path | None = None,
+    *,
+    objective: int = 0,
+    html: Path = "",
+    svg: Path = "",
+    overwrite: bool = False,
+    bridge: str = "",
+) -> Report:
+    """What a certificate says, or where it fails; without one, whether the model is refused.
+
+    Args:
+        model: A path, the bytes of a file, or a program.
+        certificate: The path of the certificate.
+        objective: Without a certificate, the number of the objective that the model is asked for.
+        html: Where a page on the certificate is written.
+        svg: Where a picture of its tree is written.
+        overwrite: What stands at those paths is replaced.
+        bridge: The words that start the proved program, where it is elsewhere.
+
+    Raises:
+        ModelRefused: The model is refused: `report.refusal` says why and what helps.
+        BridgeError: A file cannot be read.
+    """
+    call = ReportedCall(FRONT)
+    with _opened_model(call, model, bridge) as opened:
+        subject = opened.subject
+        if certificate is None:
+            if subject.own is None:
+                subject.bridge.export(subject.path, objective)
+            text = f"{subject.given.name}: is not refused"
+            return call.report(text, [*subject.notes, text])
+        source = opened.read_certificate(certificate)
+        pages = Files(
+            subject.given.name,
+            source.name,
+            os.fspath(html),
+            os.fspath(svg),
+            overwrite,
+            source.path,
+        )
+        found = explained(subject, pages)
+        verdict = found.verdict
+        return call.report(
+            verdict.line,
+            found.lines,
+            verdict.statement,
+            status=found.status,
+            explained=found.object,
+        )
+
+
+def figures(model: GivenModel, *, objective: int = 0, bridge: str = "") -> Report:
+    """Sizes and kinds of a model, in `lines` and in `stats`.
+
+    Args:
+        model: A path, the bytes of a file, or a program.
+        objective: The number of the objective that is looked at.
+        bridge: The words that start the proved program, where it is elsewhere.
+
+    Raises:
+        BridgeError: The model is refused, or cannot be read.
+    """
+    call = ReportedCall(FRONT)
+    with _opened_model(call, model, bridge) as opened:
+        stats = Stats(opened.subject, str(objective))
+        return call.report("stats", stats.lines(), stats=stats.object())
+
+
+def solver_path(solver: str) -> str | None:
+    """Where the program of a solver is; None where it is not installed, or there is no such driver."""
+    return SOLVERS[solver].find() if solver in SOLVERS else None
+
+
+def options_of_words(solver: str, words: Sequence[str]) -> Mapping[str, object]:
+    """Options for `solve`, of words `name=value` as a command takes them.
+
+    Raises:
+        WrongOption: There is no such driver or option, or a value is of another kind.
+    """
+    _check_solver(solver)
+    return values_of_words(solver, words)
+
+
+class OpenedModel(NamedTuple):
+    """A model that was read, in one call.
+
+    Attributes:
+        call: The call.
+        subject: The model with the proved program's calls that are about it.
+        workspace: Room for files.
+    """
+
+    call: ReportedCall
+    subject: Subject
+    workspace: Workspace
+
+    def read_certificate(self, certificate: Path) -> Source:
+        """A certificate, packed or a stream as a model may be."""
+        source = read_source(os.fspath(certificate), self.workspace)
+        self.call.read_certificate(source)
+        self.subject.bridge.file_names[source.path] = source.name
+        return source
+
+
+@contextlib.contextmanager
+def opened_bridge(call: ReportedCall, bridge: str = "") -> Iterator[tuple[Bridge, Workspace]]:
+    """The proved program, and room for files, for a block whose errors become those of the call.
+
+    Args:
+        call: The call.
+        bridge: The words that start the proved program; "" looks for it.
+    """
+    with Workspace() as workspace:
+        try:
+            call.program = place = find_program(bridge)
+            yield Bridge(place), workspace
+            return
+        except Refusal as fault:
+            error = call.failed(fault.as_error(), refusal=fault.details())
+        except BridgeError as fault:
+            error = call.failed(fault)
+        except OSError as fault:
+            error = call.failed(FileFault.of(fault, "", FileAction.READ))
+    raise error from None
+
+
+def refusal_report(call_words: Sequence[str], words: Sequence[str]) -> Report:
+    """Whether a call of another command of the proved program is refused.
+
+    Args:
+        call_words: The command and its words, with paths that it can read.
+        words: The same as the user knows them.
+
+    Raises:
+        BridgeError: It is, and why.
+    """
+    call = ReportedCall(FRONT)
+    shown = dict(zip(files_of_call(call_words), files_of_call(words)))
+    with opened_bridge(call) as (bridge, _):
+        reply = bridge.call(*call_words)
+        if reply.status not in (ExitStatus.DONE, ExitStatus.FAILED):
+            raise Refusal(call_words[0], reply, call_words, shown)
+        said = "is not refused"
+        if reply.status:
+            said = reply.out.decode("utf-8", "replace").strip()
+        text = f"{''.join([*shown.values()][:1])}: {said}"
+        return call.report(text, [text], status=reply.status)
+
+
+def report_of_outcome(
+    call: ReportedCall,
+    outcome: Outcome,
+    status: int,
+    *,
+    wants_values: bool,
+    wants_duals: bool,
+) -> Report:
+    """The report of a run that has an outcome."""
+    answer = outcome.answer
+    fields: dict[str, ExactNumbers] = {}
+    if answer is not None and wants_values and answer.values is not None:
+        fields["values"] = ExactNumbers(named_values(answer))
+    if answer is not None and wants_duals and answer.duals is not None:
+        fields["duals"] = ExactNumbers(named_duals(answer))
+    if answer is not None and wants_duals and answer.reduced_costs is not None:
+        fields["costs"] = ExactNumbers(named_reduced_costs(answer))
+    call.certificate = outcome.stored.path if outcome.stored else None
+    return call.report(
+        outcome.lines[-1],
+        outcome.lines,
+        outcome.said,
+        status=status,
+        code=int(outcome.code),
+        **fields,
+    )
+
+
+def report_of_error(call: ReportedCall, error: BridgeError, name: str) -> BridgeError:
+    """The error of a run, with its report, in which the command is named."""
+    code = code_of_error(error)
+    told = None if code == Code.STOPPED else int(code)
+    return call.failed(error, prefix=f"{name}: ", code=told)
+
+
+@contextlib.contextmanager
+def _opened_model(call: ReportedCall, model: GivenModel, bridge: str) -> Iterator[OpenedModel]:
+    if not is_in_memory(model):
+        call.model = os.fspath(model)  # type: ignore[arg-type]
+    with opened_bridge(call, bridge) as (program, workspace):
+        source = read_given_model(model, workspace)
+        call.read_model(source)
+        yield OpenedModel(call, subject_of(program, workspace, source), workspace)
+
+
+def _solved(
+    call: ReportedCall,
+    model: GivenModel,
+    solver: str,
+    given: Mapping[str, object],
+    on_progress: OnProgress | None,
+) -> Report:
+    """One run by values."""
+    try:
+        _check_solver(solver)
+        wanted = run_settings(solver, checked_values(solver, given))
+    except WrongOption as fault:
+        raise call.failed(fault, code=int(Code.BAD_OPTION)) from None
+    with Workspace() as workspace, _keyboard() as keyboard:
+        try:
+            source = _read(call, model, workspace)
+            _check_fit(source, wanted, in_memory=is_in_memory(model))
+            report = _run(call, source, wanted, on_progress)
+        except Interrupted as fault:
+            error: BridgeError = RunInterrupted(fault.number)
+        except BridgeError as fault:
+            error = fault
+        except OSError as fault:
+            error = FileFault.of(fault, "", FileAction.READ)
+        except Exception as fault:
+            if wanted.settings.shows_faults:
+                raise
+            error = DriverFault(repr(fault))
+        else:
+            if keyboard.was_pressed:
+                raise SolveInterrupted(report)
+            return report
+    error = report_of_error(call, error, call.command)
+    if keyboard.was_pressed:
+        raise SolveInterrupted(error.report)
+    raise error from None
+
+
+def _check_solver(solver: str) -> None:
+    if solver not in SOLVERS:
+        raise WrongOption(f"no driver of {solver}: {', '.join(SOLVERS)}")
+
+
+def _read(call: ReportedCall, model: GivenModel, workspace: Workspace) -> Source:
+    """The model's source, of which the report tells."""
+    if not is_in_memory(model):
+        call.model = os.fspath(model)  # type: ignore[arg-type]
+    source = read_given_model(model, workspace)
+    call.read_model(source)
+    return source
+
+
+def _check_fit(source: Source, wanted: RunSettings, *, in_memory: bool) -> None:
+    """Whether what is wanted can be had of such a model.
+
+    Raises:
+        WrongOption: It cannot.
+    """
+    settings = wanted.settings
+    if settings.mps_form and not source.is_mps:
+        raise WrongOption(f"format is for MPS files, and {source.name} is none")
+    if source.is_mps and wanted.outputs.sol:
+        raise WrongOption("a .sol is the answer to an .nl file")
+    if source.is_mps and settings.shortest_numbers:
+        raise WrongOption("shortest is for .nl files: an MPS file is read as it stands")
+    if in_memory and (wanted.outputs.sol or wanted.writes_input_alone):
+        raise WrongOption("beside a model in memory no file can stand")
+
+
+def _run(
+    call: ReportedCall, source: Source, wanted: RunSettings, on_progress: OnProgress | None
+) -> Report:
+    """Solves and writes what is wanted; a certificate that could not be kept is an error."""
+    settings = wanted.settings
+    run = SolveRun(source, settings, Monitor(call.command, on_progress))
+    try:
+        if wanted.writes_input_alone:
+            overwrite = wanted.outputs.overwrite
+            outcome = run.input_outcome(overwrite=overwrite, named=settings.solver_path)
+        else:
+            outcome = run.outcome()
+    finally:
+        call.program = run.bridge_words
+    write_outputs(outcome, source, wanted.outputs, settings.objective)
+    if outcome.stored is not None and outcome.stored.has_failed:
+        raise FileFault("", outcome.stored.line, FileAction.WRITE)
+    status = exit_status(outcome)
+    if call.command == CERTIFY and outcome.lines[-1].startswith("not proved"):
+        status = ExitStatus.FAILED
+    has_values, has_duals = wanted.wants_values, wanted.wants_duals
+    return report_of_outcome(call, outcome, status, wants_values=has_values, wants_duals=has_duals)
+
+
+class _Keyboard:
+    """Whether Ctrl-C was pressed in a block."""
+
+    was_pressed = False
+
+
+@contextlib.contextmanager
+def _keyboard() -> Iterator[_Keyboard]:
+    """A block in which Ctrl-C ends what goes on in order: first the solver or the search, then the run.
+
+    Only where Python's own handler would raise KeyboardInterrupt, and in the main thread.
+    """
+    keyboard = _Keyboard()
+    is_main = threading.current_thread() is threading.main_thread()
+    if not is_main or signal.getsignal(signal.SIGINT) is not signal.default_int_handler:
+        yield keyboard
+        return
+
+    def press(number: int, frame: object) -> None:
+        keyboard.was_pressed = True
+        SIGNALS.receive(number, frame)
+
+    signal.signal(signal.SIGINT, press)
+    try:
+        yield keyboard
+    finally:
+        signal.signal(signal.SIGINT, signal.default_int_handler)
+        SIGNALS.is_ending = False

@@ -1,0 +1,251 @@
+"""Options by the names that commands have, with values of Python: what each may be, and the settings that they make."""
+
+from __future__ import annotations
+
+import math
+import os
+import shlex
+from typing import Any, Callable, Dict, List, Mapping, NamedTuple, Sequence
+
+from ..solvers import SOLVERS
+from ..solvers.settings import SolverOption, SolverSettings
+from ..system.errors import WrongOption
+from ..system.text import did_you_mean
+from .settings import CertificateSettings, OutputSettings, Settings
+
+PRINTED_VALUES, PRINTED_DUALS, WRITTEN_SOL = 2, 4, 1  # parts of `wantsol`
+
+
+class Kind(NamedTuple):
+    """What the value of an option may be.
+
+    Attributes:
+        title: The same in words.
+        take: Makes a value of what is given; ValueError or TypeError where it is of another kind.
+        read: Makes it of a text.
+    """
+
+    title: str
+    take: Callable[[Any], object]
+    read: Callable[[str], object]
+
+
+class RunSettings(NamedTuple):
+    """What options make.
+
+    Attributes:
+        settings: How the model is solved.
+        outputs: Which files are written.
+        wants_values: The values are wanted in the report.
+        wants_duals: Duals and reduced costs are wanted in the report.
+        writes_input_alone: Nothing is solved; the text that the solver reads is written.
+    """
+
+    settings: Settings
+    outputs: OutputSettings
+    wants_values: bool
+    wants_duals: bool
+    writes_input_alone: bool
+
+
+def _switch(value: Any) -> bool:
+    if value not in (0, 1) or isinstance(value, float):
+        raise ValueError(value)
+    return bool(value)
+
+
+def _whole(low: int, high: float = math.inf) -> Callable[[Any], int]:
+    def take(value: Any) -> int:
+        if isinstance(value, bool) or value != int(value) or not low <= value <= high:
+            raise ValueError(value)
+        return int(value)
+
+    return take
+
+
+def _amount(high: float = math.inf) -> Callable[[Any], float]:
+    def take(value: Any) -> float:
+        number = float(value)
+        if isinstance(value, (str, bool)) or not (0 <= number < math.inf and number <= high):
+            raise ValueError(value)
+        return number
+
+    return take
+
+
+def _path(value: Any) -> str:
+    return os.fsdecode(os.fspath(value))
+
+
+def _text(value: Any) -> str:
+    if not isinstance(value, str):
+        raise TypeError(value)
+    return value
+
+
+def _choice(*known: str) -> Callable[[Any], str]:
+    def take(value: Any) -> str:
+        if value not in known:
+            raise ValueError(value)
+        return str(value)
+
+    return take
+
+
+def _words(value: Any) -> List[str]:
+    """One text is split as a shell does."""
+    if isinstance(value, str):
+        return shlex.split(value)
+    return [_text(word) for word in value]
+
+
+def _kind(title: str, take: Callable[[Any], object], read: Callable[[str], object] = str) -> Kind:
+    return Kind(title, take, read)
+
+
+SWITCH = _kind("0 or 1", _switch, int)
+COUNT = _kind("a whole number from 0 on", _whole(0), int)
+FILE = _kind("a path", _path)
+TEXT = _kind("a text", _text)
+COMMON: Mapping[str, Kind] = {
+    "bound": SWITCH,
+    "bridge": TEXT,
+    "certificate": FILE,
+    "check": SWITCH,
+    "cluster": TEXT,
+    "extra": _kind("a list of words", _words),
+    "failexit": SWITCH,
+    "format": _kind("free or fixed", _choice("", "free", "fixed")),
+    "jobs": COUNT,
+    "keep": FILE,
+    "objno": _kind("a whole number from 1 on", _whole(1), int),
+    "only": _kind("mps", _choice("", "mps")),
+    "outlev": _kind("0, 1 or 2", _whole(0, 2), int),
+    "overwrite": SWITCH,
+    "prove": SWITCH,
+    "relax": SWITCH,
+    "round": SWITCH,
+    "shortest": SWITCH,
+    "shorten": SWITCH,
+    "solution": FILE,
+    "solver": FILE,
+    "strict": SWITCH,
+    "timelim": _kind("a number of seconds from 0 on", _amount(), float),
+    "wantsol": _kind("a whole number from 0 to 15", _whole(0, 15), int),
+}
+OF_SOLVERS: Mapping[str, SolverOption] = {
+    "mipgap": SolverOption.MIP_GAP,
+    "threads": SolverOption.THREADS,
+    "xcheck": SolverOption.EXACT_CHECK,
+}
+KINDS_OF_SOLVERS: Mapping[SolverOption, Kind] = {
+    SolverOption.MIP_GAP: _kind("a number from 0 to 1", _amount(1.0), float),
+    SolverOption.THREADS: COUNT,
+    SolverOption.EXACT_CHECK: SWITCH,
+}
+
+
+def kinds_of(solver: str) -> Dict[str, Kind]:
+    """What each option of a driver may be, by its name."""
+    taken = SOLVERS[solver].options
+    own = {name: KINDS_OF_SOLVERS[option] for name, option in OF_SOLVERS.items() if option in taken}
+    return {**COMMON, **own}
+
+
+def checked_values(solver: str, given: Mapping[str, object]) -> Dict[str, Any]:
+    """The values of options by name; None counts as not given.
+
+    Raises:
+        WrongOption: An option is unknown, or its value is of another kind.
+    """
+    kinds = kinds_of(solver)
+    values: Dict[str, Any] = {}
+    for name, value in given.items():
+        if name not in kinds:
+            raise WrongOption(f"unknown option {name};{did_you_mean(name, kinds)}".rstrip(";"))
+        if value is None:
+            continue
+        try:
+            values[name] = kinds[name].take(value)
+        except (TypeError, ValueError):
+            raise WrongOption(f"{name}={value!r}: {kinds[name].title} is wanted") from None
+    return values
+
+
+def values_of_words(solver: str, words: Sequence[str]) -> Dict[str, object]:
+    """Options that are given as words `name=value`.
+
+    Raises:
+        WrongOption: As `checked_values`, or a word is none of these.
+    """
+    kinds = kinds_of(solver)
+    values: Dict[str, object] = {}
+    for word in words:
+        name, equals, text = word.partition("=")
+        kind = kinds.get(name)
+        if not equals or kind is None:
+            raise WrongOption(f"unknown option {word};{did_you_mean(name, kinds)}".rstrip(";"))
+        try:
+            values[name] = kind.read(text)
+        except ValueError:
+            raise WrongOption(f"{word}: {kind.title} is wanted") from None
+    return values
+
+
+def run_settings(solver: str, values: Mapping[str, Any]) -> RunSettings:
+    """The settings that checked values make; what is not given is as the commands have it.
+
+    Raises:
+        WrongOption: Two values do not go together.
+    """
+    get = values.get
+    strict = bool(get("strict"))
+    proves = bool(get("prove")) or strict
+    check = bool(get("check", True))
+    if proves and not check:
+        raise WrongOption("check=0 proves nothing: it does not go with prove=1 or strict=1")
+    wanted = get("wantsol", PRINTED_VALUES + PRINTED_DUALS)
+    writes_sol = bool(wanted & WRITTEN_SOL)
+    overwrite = bool(get("overwrite"))
+    certificate = CertificateSettings(
+        check=check,
+        prove=proves,
+        strict=strict,
+        bound=bool(get("bound", True)),
+        shorten=bool(get("shorten")),
+        processes=get("jobs", 0),
+        cluster=get("cluster", ""),
+        path=get("certificate", ""),
+        overwrite=overwrite,
+    )
+    settings = Settings(
+        solver=solver,
+        solver_path=get("solver", ""),
+        bridge=get("bridge", ""),
+        solver_settings=_solver_settings(values),
+        time_limit=get("timelim", 0.0),
+        certificate=certificate,
+        objective=get("objno", 1) - 1,
+        round_integers=bool(get("round", True)),
+        shortest_numbers=get("shortest"),
+        mps_form=get("format", ""),
+        keep_folder=get("keep", ""),
+        makes_sol=writes_sol,
+        refuses_unclear=bool(get("failexit")),
+        shows_faults=get("outlev", 0) >= 2,
+    )
+    outputs = OutputSettings(writes_sol, get("solution", ""), overwrite)
+    has_values, has_duals = bool(wanted & PRINTED_VALUES), bool(wanted & PRINTED_DUALS)
+    return RunSettings(settings, outputs, has_values, has_duals, bool(get("only")))
+
+
+def _solver_settings(values: Mapping[str, Any]) -> SolverSettings:
+    get = values.get
+    return SolverSettings(
+        relax=bool(get("relax")),
+        mip_gap=get("mipgap", 0.0),
+        threads=get("threads", 0),
+        exact_check=bool(get("xcheck")),
+        shows_log=get("outlev", 0) >= 1,
+        arguments=get("extra", ()),
+    )
