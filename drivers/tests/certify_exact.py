@@ -9,7 +9,8 @@ from unittest import TestCase
 
 from certify_search import Certified
 from support import NEEDS_CLP, NEEDS_PROGRAM, Case
-from bridge_drivers.certify import points, spine
+from bridge_drivers.certify import spine
+from bridge_drivers.exact import points
 from bridge_drivers.certify.claims import Given, certified
 from bridge_drivers.exact.clp import LpStatus
 from bridge_drivers.exact.relaxation import relaxation

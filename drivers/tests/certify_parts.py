@@ -9,7 +9,6 @@ from types import SimpleNamespace
 from unittest import TestCase
 
 from bridge_drivers import miss
-from bridge_drivers.certify import points
 from bridge_drivers.model.integer_form import IntegerProgram, UnsupportedModel
 from bridge_drivers.exact.portfolio import TURN_SECONDS, Portfolio, Strategy
 from bridge_drivers.model.linear_program import Program
@@ -144,36 +143,6 @@ class Models(TestCase):
             program, x = Program(text), {"x0": "1", "x1": "2"}
             self.assertEqual(miss.miss(program, x, ["x0", "x1"]).is_much(), is_much)
             self.assertFalse(miss.miss(program, x, ["x0"]).is_much())
-            p = IntegerProgram(text, {}, 1).with_integers([True, True])
-            self.assertEqual(points.broken(p, [1.0, 2.0]) > F(1, 10**12), is_much)
-
-
-class Points(TestCase):
-    def test_near(self) -> None:
-        p = model()
-        for x, wanted in (
-            ([0.66666666, 1.0000001, 0.0], [F(2, 3), F(1), F(0)]),
-            ([F(1, 7), F(1), F(0)], [F(1, 7), F(1), F(0)]),
-        ):
-            self.assertEqual(next(points.near(p, x)), wanted)
-        self.assertIsNone(next(points.near(p, [5.0, 1.0, 0.0]), None))
-
-    def test_vertex(self) -> None:
-        p = model()
-        fixed = points.with_fixed(p, {1: F(1), 2: F(0)})
-        found = points.vertex(fixed, points.Basis([0], [0]), [0.6666, 1.0, 0.0])
-        self.assertEqual(found, [F(2, 3), F(1), F(0)])
-
-    def test_ray(self) -> None:
-        p = model().with_costs([F(1), F(0), F(0)]).recession_cone()
-        self.assertTrue(points.is_ray(p, [F(-1), F(0), F(0)]))
-        for wrong in ([F(1), F(0), F(0)], [F(0), F(0), F(0)], [F(-1), F(1), F(0)]):
-            self.assertFalse(points.is_ray(p, wrong))
-
-    def test_near_a_bound_that_does_not_fit(self) -> None:
-        """A large value that is near its bound in doubles, and not at it."""
-        p = IntegerProgram(LARGE_BOUND, {}, 1)
-        self.assertEqual(points.nearest(p, [999999999999.5]), [F(1999999999999, 2)])
 
 
 class Forecasts(TestCase):

@@ -65,7 +65,7 @@ class Claims(Case):
             (open_end, (100, "feasible 17")),
         ):
             self.put(text)
-            with mock.patch("bridge_drivers.certify.points.ray", side_effect=Over("time")):
+            with mock.patch("bridge_drivers.exact.points.find_ray", side_effect=Over("time")):
                 self.replay("cbc", "knap", self.stub, "-AMPL")
             self.assertEqual((self.sol().code, self.sol().message[-1]), wanted)
         self.assertIn("(code 100: no bound is proved)", self.sol().message[0])

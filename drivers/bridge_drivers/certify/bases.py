@@ -8,9 +8,10 @@ from fractions import Fraction
 from typing import Iterator, List, Sequence, Tuple
 
 from ..model.double_form import DoubleProgram
+from ..system.deadline import Deadline
 from ..exact.clp import Basis, Clp, LpStatus
 from ..model.integer_form import Bound, IntegerProgram, Point, over_common_denominator
-from .points import Placed, place
+from ..exact.points import BasicSystem, basic_system
 from ..exact.linear_systems import (
     LiftedSystem,
     RationalVector,
@@ -41,12 +42,12 @@ def can_be_large() -> bool:
 def optimum(p: IntegerProgram, basis: Basis, x: Sequence[float]) -> tuple[Point, Multipliers]:
     """Point and duals of a basis whose values are near x. NotSolved where it has none, and where the basis is not
     optimal; TooManyBits where its numbers have too many bits to be found."""
-    placed = place(p, basis, x)
+    placed = basic_system(p, basis, x)
     if len(placed.columns) != len(placed.rows):
         raise NotSolved("the basis is not square")
     found, duals = systems(p, placed)
     den = found.denominator
-    full = [v * den for v in placed.at]
+    full = [v * den for v in placed.values]
     for j, v in zip(placed.columns, found.numerators):
         full[j] = v
     y = {i: v for i, v in zip(placed.rows, duals.numerators) if v}
@@ -63,9 +64,9 @@ def optimum(p: IntegerProgram, basis: Basis, x: Sequence[float]) -> tuple[Point,
     )
 
 
-def systems(p: IntegerProgram, placed: Placed) -> tuple[RationalVector, RationalVector]:
+def systems(p: IntegerProgram, placed: BasicSystem) -> tuple[RationalVector, RationalVector]:
     """The basic columns times `unit`, and the duals of tight rows times `cost_scale` over `scale`."""
-    rows, sides = placed.inside, placed.rest
+    rows, sides = placed.matrix, placed.rhs
     costs, n = [p.costs[j] for j in placed.columns], len(placed.columns)
     if can_be_large() and n:
         try:
@@ -98,11 +99,11 @@ def check_duals(
     den: int,
     y: dict[int, int],
     dual_den: int,
-    placed: Placed,
+    placed: BasicSystem,
 ) -> None:
     """That each dual and each reduced cost has the sign of the end that its row or column stands at."""
     for i, v in y.items():
-        if (p.row_lower[i] if v > 0 else p.row_upper[i]) != placed.side[i]:
+        if (p.row_lower[i] if v > 0 else p.row_upper[i]) != placed.row_bounds[i]:
             raise NotSolved(f"the dual of row {i} has no side")
     for j, r in enumerate(p.terms.without([c * dual_den for c in p.costs], y)):
         if r:
@@ -116,8 +117,8 @@ class Refining:
     were made greater. Rows that are no equations get a column that has their value, whose cost is their dual.
     """
 
-    def __init__(self, p: IntegerProgram, clp: Clp, seconds: float) -> None:
-        self.p, self.seconds = p, seconds
+    def __init__(self, p: IntegerProgram, clp: Clp, deadline: Deadline) -> None:
+        self.p, self.deadline = p, deadline
         self.x = [fixed(v) for v in clp.values()]
         self.y = [fixed(v) for v in clp.duals()]
         self.open = [
@@ -133,7 +134,7 @@ class Refining:
             self.up = next_up(self.up, missed)
             self.dual_up = next_up(self.dual_up, dual_missed)
             clp = Clp(self.enlarged(linear))
-            clp.seconds = self.seconds
+            clp.limit(self.deadline)
             clp.set_tolerance(1e-9)
             self.restart(clp)
             if clp.solve_by_either() is not LpStatus.OPTIMAL:

@@ -5,11 +5,12 @@ it show, and its relaxation."""
 from __future__ import annotations
 
 import itertools
-import math
 from fractions import Fraction
 from typing import Callable, Iterable, Iterator, Sequence
 
-from . import points, short, simplex
+from . import short, simplex
+from ..system.deadline import Deadline
+from ..exact import points
 from .bases import Near, Refining, can_be_large, optimum
 from ..exact.clp import Clp, ClpNotInstalled, LpStatus
 from .contradictions import Contradicting
@@ -61,9 +62,9 @@ class Certifying(Contradicting):
         assert x is not None
         point = self.exact(x)
         if point is None:
-            by = points.broken(self.model, x)
-            self.contradicted = by > ROUNDING or points.is_contradicted(
-                self.model, x, self.clp_seconds()
+            by = points.integer_residual(self.model, x)
+            self.contradicted = by > ROUNDING or points.integers_are_infeasible(
+                self.model, x, self.deadline()
             )
             if by > ROUNDING:
                 point = self.mended(x)
@@ -125,7 +126,7 @@ class Certifying(Contradicting):
             )
         self.note = self.note or "no basis was found that is exactly optimal"
         if clp is not None:
-            self.know_leaves(short.short_duals(p, clp, self.clp_seconds()))
+            self.know_leaves(short.short_duals(p, clp, self.deadline()))
             yield from self.short_points(clp)
         if self.point is None:
             yield Verdict(NO_POINT)
@@ -150,20 +151,20 @@ class Certifying(Contradicting):
         """Near the answer, else the vertex of its basis; then the vertex of CLP's, and near that."""
         p, count = self.model, 0
         if given.values is not None:
-            for count, point in enumerate(points.near(p, given.values), 1):
+            for count, point in enumerate(points.nearby_points(p, given.values), 1):
                 yield point
             if given.basis is not None and not count:
                 yield points.vertex(p, given.basis, given.doubles())
         if clp is not None:
             self.watch.progress.tell("the exact vertex")
             yield points.vertex(p, clp.basis(), clp.values())
-            yield from points.near(p, clp.values())
+            yield from points.nearby_points(p, clp.values())
 
     def bases(self, clp: Clp) -> Iterator[Near]:
         """CLP's, then such that come nearer to the exact optimum."""
         yield clp.basis(), clp.values()
         if self.model.terms.count() <= MOST_REFINED:
-            yield from Refining(self.model, clp, self.clp_seconds()).bases()
+            yield from Refining(self.model, clp, self.deadline()).bases()
 
     def by_bases(self, bases: Iterable[Near]) -> Iterator[Verdict]:
         """`optimal` by the first basis that is exactly optimal, where its numbers are narrow."""
@@ -184,7 +185,7 @@ class Certifying(Contradicting):
         far: list[tuple[Fraction, Point]] = []
         for by_rows in (False, True) if p.terms.count() <= MOST_REFINED else (False,):
             for made in short.Rounding(
-                p, clp.saved_basis(), clp.values(), self.clp_seconds(), by_rows
+                p, clp.saved_basis(), clp.values(), self.deadline(), by_rows
             ).points():
                 self.know_point(made.point)
                 if bound is None:
@@ -240,7 +241,7 @@ class Certifying(Contradicting):
         """A point beside an answer some of whose whole values are off by the digits that a solver
         prints, or are given by equations."""
         for frees in (False, True):
-            near = points.loosened(self.model, x, frees)
+            near = points.restricted_to(self.model, x, frees_equations=frees)
             try:
                 until = self.watch.spent() + self.watch.left() / 4
                 found = self.shared(near).resume(until, MOST_MENDED)
@@ -336,7 +337,7 @@ class Certifying(Contradicting):
         p, (clp, state) = self.model, self.relaxation()
         if clp is None or state is not LpStatus.OPTIMAL or not any(p.costs):
             return
-        self.know_leaves(short.short_duals(p, clp, self.clp_seconds()))
+        self.know_leaves(short.short_duals(p, clp, self.deadline()))
         duals = basis_duals(p, *clp.basis())
         proof = LeafProver(p, None).prove_from_fractions(
             duals, MultiplierKind.DUAL, Box(p.lower, p.upper)
@@ -399,7 +400,7 @@ def certified(work: Certifying, claim: str, given: Given = Given()) -> Verdict:
     """The verdict on what was answered; whatever goes wrong is told as its line."""
     watch = work.watch
     watch.progress.begin("certificate", watch.seconds)
-    Clp.restrict(watch.until_over())
+    Clp.restrict(Deadline(watch.until_over()))
     try:
         with watch.interruptible():
             try:
@@ -407,7 +408,7 @@ def certified(work: Certifying, claim: str, given: Given = Given()) -> Verdict:
                     return work.claimed_of(claim, given)
             except Over:
                 watch.disarm()
-                Clp.restrict(watch.to_end() - KEPT)
+                Clp.restrict(Deadline(watch.to_end() - KEPT))
                 found = work.by_doubles(work.best(work.known()))
                 return found._replace(is_open=work.is_open())
     except (Refusal, ProgramFailed) as fault:
@@ -415,5 +416,5 @@ def certified(work: Certifying, claim: str, given: Given = Given()) -> Verdict:
     except (UnsupportedModel, ClpNotInstalled, SearchEnded, Over) as fault:
         return Verdict(WITHOUT + str(fault))
     finally:
-        Clp.restrict(math.inf)
+        Clp.restrict(Deadline())
         watch.progress.begin("")

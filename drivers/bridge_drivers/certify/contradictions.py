@@ -5,7 +5,8 @@ from __future__ import annotations
 import math
 from typing import Iterator
 
-from . import points, simplex
+from . import simplex
+from ..exact import points
 from ..exact import certificate
 from ..exact.clp import ClpNotInstalled, LpStatus
 from ..exact.hermite import empty_interval, hermite_refutation
@@ -128,7 +129,7 @@ class Contradicting(Judging):
         if short_of_rays(p):
             return None
         cone = p.recession_cone()
-        found = points.ray(cone)
+        found = points.find_ray(cone)
         direction = self.ended(cone).point if found is None and simplex.is_small(cone) else None
         self.has_looked = True
         return direction if direction is not None and points.is_ray(cone, direction) else found
@@ -149,7 +150,7 @@ class Contradicting(Judging):
             clp = relaxation(p)
             found = None
             if clp.solve() is LpStatus.OPTIMAL:
-                found = next(points.near(p, clp.values()), None) or points.vertex(
+                found = next(points.nearby_points(p, clp.values()), None) or points.vertex(
                     p, clp.basis(), clp.values()
                 )
             return self.ended(p).point if found is None and simplex.is_small(p) else found

@@ -8,7 +8,8 @@ import os
 from fractions import Fraction
 from typing import Callable, Iterator, Mapping, NamedTuple, Sequence
 
-from . import points
+from ..system.deadline import Deadline
+from ..exact import points
 from ..exact import certificate
 from ..exact.clp import Basis, Clp, LpStatus, library
 from ..exact.relaxation import relaxation
@@ -30,7 +31,6 @@ from ..model.linear_program import Program
 WITHOUT = "not proved: "
 NO_POINT = WITHOUT + "no exact point was found near the answer"
 ONE_LEAF = 1.0  # seconds for it
-MOST_CLP_SECONDS = 30.0
 TREE = 0.75  # of the seconds that are left, to judge a tree
 MOST_POINTS = 4  # that are known at a time
 MOST_DIGITS = 15  # of a bound that is told as it is
@@ -140,7 +140,7 @@ class Judging:
             self.linear = not any(self.model.is_integer)
             if not self.proves:
                 self.watch.restart()
-                Clp.restrict(self.watch.until_over())
+                Clp.restrict(Deadline(self.watch.until_over()))
 
     def judged(
         self, lines: Iterator[str], is_tree: bool = False, point: Point | None = None
@@ -274,8 +274,8 @@ class Judging:
             self.note = f"the exact optimum: {verdict.line.partition(': ')[2]}"
             yield verdict
 
-    def clp_seconds(self) -> float:
-        return min(max(self.watch.left(), ONE_LEAF), MOST_CLP_SECONDS)
+    def deadline(self) -> Deadline:
+        return Deadline(self.watch.left(), of_processor=self.watch.of_processor)
 
     def relaxation(self, given: Given = Given()) -> tuple[Clp | None, LpStatus]:
         """None where CLP is not there. It starts from the answer's basis."""
@@ -285,11 +285,13 @@ class Judging:
         clp = relaxation(self.model)
         if given.basis is not None and given.values is not None:
             clp.warm_start(given.basis, given.doubles())
-        clp.seconds = self.clp_seconds() if self.proves or self.linear else ONE_LEAF
+        clp.seconds = ONE_LEAF
+        if self.proves or self.linear:
+            clp.limit(self.deadline())
         return clp, clp.solve_by_either()
 
     def exact(self, x: Sequence[float | Fraction]) -> Point | None:
-        return points.whole_point(self.model, x, self.clp_seconds())
+        return points.point_with_integers(self.model, x, self.deadline())
 
 
 def wide_note(bits: str) -> str:

@@ -13,6 +13,7 @@ from math import lcm
 from typing import Iterator, Mapping, NamedTuple, Sequence, Tuple
 
 from ..model.double_form import DoubleProgram
+from ..system.deadline import Deadline
 from ..exact.clp import Clp, LpStatus
 from ..exact.linear_systems import solve_exactly
 from ..model.integer_form import Box, IntegerProgram, Point, over_common_denominator
@@ -73,10 +74,10 @@ class Rounding:
         p: IntegerProgram,
         kept: bytes,
         x: Sequence[float],
-        seconds: float,
+        deadline: Deadline,
         by_rows: bool = False,
     ) -> None:
-        self.p, self.kept, self.seconds = p, kept, seconds
+        self.p, self.kept, self.deadline = p, kept, deadline
         self.size = max([abs(v) for v in x], default=0.0)
         self.alone = alone(p)
         self.equations = {
@@ -118,7 +119,7 @@ class Rounding:
         return None if x is None else self.point(x, places)
 
     def relaxed(self, room: float) -> list[float] | None:
-        clp = solved_again(self.tightened(room), self.kept, self.seconds, room / 10)
+        clp = solved_again(self.tightened(room), self.kept, self.deadline, room / 10)
         if clp is None:
             return None
         self.kept = clp.saved_basis()
@@ -315,24 +316,24 @@ def inner(lo: float | None, hi: float | None, room: float) -> tuple[float | None
 
 
 def solved_again(
-    linear: DoubleProgram, kept: bytes, seconds: float, tolerance: float
+    linear: DoubleProgram, kept: bytes, deadline: Deadline, tolerance: float
 ) -> Clp | None:
     """From a basis; None where it has no optimum then."""
     clp = Clp(linear)
-    clp.seconds = seconds
+    clp.limit(deadline)
     clp.set_tolerance(tolerance)
     clp.restore_basis(kept)
     return clp if clp.solve_by_either() is LpStatus.OPTIMAL else None
 
 
-def short_duals(p: IntegerProgram, clp: Clp, seconds: float) -> list[ShortDuals]:
+def short_duals(p: IntegerProgram, clp: Clp, deadline: Deadline) -> list[ShortDuals]:
     """Those of the least room whose bound is near CLP's objective, else all; the best first."""
     kept = clp.saved_basis()
     found: list[ShortDuals] = []
     size = max((abs(float(c)) for c in p.cost_fractions), default=0.0)
     top = clp.objective() + float(p.constant_fraction)
     for share in SHARES:
-        y = with_room(p, share * size, kept, seconds) if share else clp.duals()
+        y = with_room(p, share * size, kept, deadline) if share else clp.duals()
         found += roundings(p, dict(enumerate(y)))
         found.sort(key=lambda one: -one.bound())
         if found and top - float(found[0].bound()) <= NEAR * max(1.0, abs(top)):
@@ -340,14 +341,14 @@ def short_duals(p: IntegerProgram, clp: Clp, seconds: float) -> list[ShortDuals]
     return found
 
 
-def with_room(p: IntegerProgram, room: float, kept: bytes, seconds: float) -> list[float]:
+def with_room(p: IntegerProgram, room: float, kept: bytes, deadline: Deadline) -> list[float]:
     """The duals under costs that leave room in each column that has one bound."""
     linear = p.in_doubles()
     costs = [
         c - room * ((hi is None) - (lo is None))
         for c, lo, hi in zip(linear.costs, p.lower, p.upper)
     ]
-    clp = solved_again(linear._replace(costs=costs), kept, seconds, TOLERANCE)
+    clp = solved_again(linear._replace(costs=costs), kept, deadline, TOLERANCE)
     return clp.duals() if clp is not None else []
 
 

@@ -12,7 +12,7 @@ from typing import Callable, Dict, Iterable, List, NamedTuple, Optional
 
 from ..exact.linear_systems import IntegerRows
 from ..model.integer_form import Bound, IntegerProgram, Point, scaled
-from .points import end_near
+from ..exact.points import nearest_bound
 
 MOST_ROWS = 250
 MOST_NUMBERS = 6000  # coefficients of a program that is small
@@ -73,7 +73,9 @@ class Simplex(IntegerRows):
                 self.pivot(min(rows, key=lambda b: len(self.rows[b])), j)
         for k, near in enumerate([*x, *p.terms.activities(x)]):
             if k not in self.rows:
-                self.x[k] = Fraction(end_near(self.lo[k], self.hi[k], near * p.bound_scale) or 0)
+                self.x[k] = Fraction(
+                    nearest_bound(self.lo[k], self.hi[k], near * p.bound_scale) or 0
+                )
         for basic, line in self.rows.items():
             total = sum((a * self.x[k] for k, a in line.items() if k != basic), ZERO)
             self.x[basic] = -total / line[basic]

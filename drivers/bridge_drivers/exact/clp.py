@@ -14,11 +14,14 @@ import time
 from typing import Any, Iterable, List, Mapping, NamedTuple, Optional, Sequence, Tuple
 
 from ..model.double_form import DoubleBound, DoubleProgram
+from ..system.deadline import Deadline
 from ..system.errors import NotInstalled
 
 INFINITE = 1.7976931348623157e308  # COIN's own
 STATUS_BITS = 7  # of a byte of a basis: the other bits are flags of CLP's own
 ITERATIONS = 100_000  # of one relaxation
+LEAST_SOLVE_SECONDS = 1.0  # that a solve gets, however little time is left
+MOST_SOLVE_SECONDS = 30.0
 FIRST_SLICE = 1.0  # seconds of the processor, which is what CLP's own limit counts
 SMALL = 1e-3  # bounds and costs below are scaled up
 LIBRARY_NAMES = ("libClp.so.1", "libClp.so", "libClp.1.dylib", "libClp.dylib")
@@ -123,20 +126,20 @@ class Clp:
     are multiplied by a power of two, and so are small costs. CLP scales rows itself.
 
     Attributes:
-        stop_all_at: When each solve of any relaxation ends at last, by the monotonic clock.
+        deadline_of_all: With which each solve of any relaxation ends at last.
         seconds: How long one solve of this relaxation may take.
 
     Raises:
         ClpNotInstalled: There is no library of CLP.
     """
 
-    stop_all_at = math.inf
+    deadline_of_all = Deadline()
     seconds = math.inf
 
     @classmethod
-    def restrict(cls, seconds: float) -> None:
-        """All solves of all relaxations end within that time; `math.inf` takes the limit away."""
-        cls.stop_all_at = time.monotonic() + seconds
+    def restrict(cls, deadline: Deadline) -> None:
+        """From now on all solves of all relaxations end with it."""
+        cls.deadline_of_all = deadline
 
     def __init__(self, program: DoubleProgram) -> None:
         found = library()
@@ -159,6 +162,10 @@ class Clp:
         if getattr(self, "model", None):
             self.lib.Clp_deleteModel(self.model)
             self.model = None
+
+    def limit(self, deadline: Deadline) -> None:
+        """A solve of this relaxation gets the time that is left now, with a least and a most."""
+        self.seconds = min(max(deadline.left(), LEAST_SOLVE_SECONDS), MOST_SOLVE_SECONDS)
 
     def set_tolerance(self, tolerance: float) -> None:
         """By how much rows and bounds may be missed."""
@@ -187,7 +194,7 @@ class Clp:
         lib.Clp_setMaximumIterations(model, most_iterations)
         now = time.monotonic()
         portion = FIRST_SLICE
-        end = min(now + self.seconds, self.stop_all_at)
+        end = now + min(self.seconds, self.deadline_of_all.left())
         while True:
             seconds = max(min(end - now, portion), 0.0) if end < math.inf else -1.0
             lib.Clp_setMaximumSeconds(model, seconds)

@@ -11,7 +11,7 @@ from fractions import Fraction
 from typing import Callable, Dict, List, NamedTuple, Optional, Sequence, Union
 
 from ..model.integer_form import IntegerProgram, Point
-from ..certify.points import vertex
+from .points import vertex
 from ..certify.watch import Watch
 from ..system.errors import NodeLimit, SearchEnded
 from .branching import LEAST_GAP, STRONG_CANDIDATES, PseudocostBranching, Relaxed

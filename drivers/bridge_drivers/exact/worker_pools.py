@@ -19,9 +19,10 @@ from concurrent.futures import BrokenExecutor, Executor, Future, ProcessPoolExec
 from multiprocessing import connection
 from typing import Any, Dict, Iterable, Iterator, List, NamedTuple, Optional, Sequence
 
-from ..certify import points
+from . import points
 from ..certify.watch import Watch
 from ..model.integer_form import IntegerProgram, Point, Row
+from ..system.deadline import Deadline
 from ..system.version import VERSION
 from ..system.errors import SearchEnded, SearchPaused
 from ..system.signals import HANDLED_SIGNALS, SIGNALS
@@ -59,7 +60,7 @@ class SearchProblem(NamedTuple):
         searched = self.program.with_rows([*self.cuts, *map(Row, self.forms)])
 
         def near(x: Sequence[float]) -> Optional[Point]:
-            return points.whole_point(self.program, x, EXACT_POINT_SECONDS)
+            return points.point_with_integers(self.program, x, Deadline(EXACT_POINT_SECONDS))
 
         return BranchAndBound(searched, self.cutoff, watch, exact_point or near, len(self.forms))
 

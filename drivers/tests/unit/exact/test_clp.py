@@ -2,7 +2,6 @@
 
 from __future__ import annotations
 
-import math
 from fractions import Fraction
 
 import pytest
@@ -15,6 +14,7 @@ from bridge_drivers.exact.dual_bound import MultiplierKind, dual_bound
 from bridge_drivers.exact.leaf_proofs import LeafProver, from_fractions
 from bridge_drivers.exact.relaxation import phase_one, relaxation
 from bridge_drivers.model.integer_form import IntegerProgram
+from bridge_drivers.system.deadline import Deadline
 from programs import Column, Row, box_of, program
 
 pytestmark = pytest.mark.skipif(library() is None, reason="no library of CLP")
@@ -123,11 +123,11 @@ def test_small_bounds_and_costs_are_seen() -> None:
 
 
 def test_no_solve_goes_on_after_the_end_of_all() -> None:
-    Clp.restrict(0.0)
+    Clp.restrict(Deadline(0.0))
     try:
         assert relaxation(two_rows()).solve() is LpStatus.OTHER
     finally:
-        Clp.restrict(math.inf)
+        Clp.restrict(Deadline())
     assert relaxation(two_rows()).solve() is LpStatus.OPTIMAL
 
 
