@@ -7,7 +7,7 @@ in it rests on this package: the certificate is a text about the model's file.
 from __future__ import annotations
 
 from fractions import Fraction
-from typing import Mapping, NamedTuple
+from typing import Mapping, NamedTuple, Sequence
 
 from ..exact import clp
 from ..exact.worker_pools import open_pool
@@ -49,7 +49,7 @@ CLAIM_OF_STATUS: Mapping[SolverStatus, str] = {
 
 
 class Returned(NamedTuple):
-    """An answer with its .sol, which is empty of an MPS file."""
+    """An answer with its .sol, which is empty where none is made."""
 
     answer: Answer
     sol: bytes
@@ -100,14 +100,15 @@ class AnswerCertifier:
     def returned(
         self, answer: Answer, lines: list[str], name: str = "bridge", place: int = 0
     ) -> Returned:
-        """An answer and its .sol by `bridge return`.
+        """An answer and its .sol by `bridge return`, which is asked where a .sol is wanted or there are duals.
 
         Where its duals are too wide it is without them, and a line says so, at `place` of the lines.
 
         Raises:
             Refusal: The proved program does not take it.
         """
-        if self.is_mps:
+        wants_sol = self.settings.makes_sol or bool(self.settings.keep_folder)
+        if self.is_mps or (answer.duals is None and not wants_sol):
             return Returned(answer, b"")
         text = self.run.write(name + ".txt", answer.text(lines))
         try:
@@ -121,41 +122,48 @@ class AnswerCertifier:
         self.run.write(name + ".sol", sol)
         return Returned(answer, sol)
 
-    def checked(self, answer: Answer) -> str:
-        """What the proved program says of the values that are passed on, in words.
+    def checked(self, returned: Returned, verdict: Verdict) -> str:
+        """What the proved program says of the values and duals that are passed on, in words.
 
-        `bridge check` of the .sol wants duals: where there are none, zeros ask for feasibility alone.
+        A .sol with the duals of a linear program is judged as it is, by `bridge check`. Values alone are
+        judged by a certificate: the accepted one where its point is these values, else one that claims
+        that they are feasible, and no more.
         """
-        name = "bridge.sol"
+        answer, sol = returned
+        if not self.is_mps and answer.duals is not None and self.run.is_continuous():
+            path = self.run.path("bridge.sol")
+            try:
+                with self.monitor.timing("check"):
+                    return self.check_words(self.bridge.check(self.model, path))
+            except Refusal as fault:
+                return fault.text.removeprefix(path + ": ")
+        values = numbers_of(sol)[1] if sol else self._values_of_file(answer)
+        known = statement_of(verdict.line) if verdict.is_proved() else None
+        if known is not None and known.value is not None and is_point(values, verdict.point):
+            return feasible_words(known.value)
+        return self._judged_values(values)
+
+    def _values_of_file(self, answer: Answer) -> list[str]:
+        """The values of the file's variables: exported columns are these, and perhaps the objective's value."""
+        values = list(answer.values or ())
+        return values[:-1] if self.program.columns[-1:] == [TIED] else values
+
+    def _judged_values(self, values: Sequence[str]) -> str:
+        """What the proved program says of a certificate that has values alone, in words."""
+        objective = 0 if self.is_mps else self.settings.objective
+        text = "\n".join(lines_of_answer(values, [], objective)) + "\n"
+        path = self.run.write("values.certificate", text.encode())
         try:
-            if self.is_mps:
-                name = "values.certificate"
-                lines = lines_of_answer(self.numbers(answer).values, [], 0)
-                self.run.write(name, ("\n".join(lines) + "\n").encode())
-                return self.judged_values(name)
-            if answer.duals is None or not self.run.is_continuous():
-                name, zeros = "check.sol", ["0"] * len(self.program.constraints)
-                self.returned(answer.with_duals(zeros), [], "check")
             with self.monitor.timing("check"):
-                line = self.bridge.check(self.model, self.run.path(name))
+                judged = self.bridge.verify(self.model, path)
         except Refusal as fault:
-            return fault.text.removeprefix(self.run.path(name) + ": ")
-        return self.check_words(line, has_duals=name == "bridge.sol")
-
-    def judged_values(self, name: str) -> str:
-        """What the proved program says of a certificate that has values alone, in words.
-
-        Raises:
-            Refusal: It does not take the certificate.
-        """
-        with self.monitor.timing("check"):
-            judged = self.bridge.verify(self.model, self.run.path(name))
-        if judged.statement is not None:
-            return self.check_words(f"yes {judged.statement.value}", has_duals=False)
+            return fault.text.removeprefix(path + ": ")
+        if judged.statement is not None and judged.statement.value is not None:
+            return feasible_words(judged.statement.value)
         word, *rest = judged.line.split()
         if word == "variable":
             return f"{self.named_part('column', int(rest[0]))} is not whole"
-        return self.check_words(judged.line, has_duals=False)
+        return self.check_words(judged.line)
 
     def certify(self, answer: Answer) -> Verdict:
         """What is proved by a search.
@@ -223,10 +231,11 @@ class AnswerCertifier:
 
     def numbers(self, answer: Answer) -> WrittenNumbers:
         """The values and duals of an answer as they are written, duals of linear programs alone."""
-        if self.is_mps:
-            values, duals = list(answer.values or ()), list(answer.duals or ())
+        sol = self.returned(answer, [], "numbers").sol
+        if sol:
+            duals, values = numbers_of(sol)
         else:
-            duals, values = numbers_of(self.returned(answer, [], "numbers").sol)
+            values, duals = self._values_of_file(answer), list(answer.duals or ())
         return WrittenNumbers(values, duals if self.run.is_continuous() else [])
 
     def answer_by_place(self, answer: Answer) -> Given:
@@ -333,19 +342,13 @@ class AnswerCertifier:
                 text += ": prove=1 goes on"
         return ["in words: " + text]
 
-    def check_words(self, verdict: str, *, has_duals: bool) -> str:
-        """A verdict of `bridge check` in words; without duals what values alone can break."""
-        words = verdict.split()
-        is_broken = words[-1] == "broken" or verdict.startswith("too wide at row ")
-        has_value = words[0] in ("yes", "gap")
-        if not has_duals and not is_broken and (has_value or words[0] in ("bound", "too")):
-            return "feasible" + (
-                f", objective exactly {decimal_or_fraction(words[1])}" if has_value else ""
-            )
-        if has_value:
+    def check_words(self, line: str) -> str:
+        """A line of `bridge check`, or of `bridge verify` where it accepts no point, in words."""
+        words = line.split()
+        if words[0] in ("yes", "gap"):
             return " ".join([words[0], *map(decimal_or_fraction, words[1:])])
         if words[0] not in ("row", "bound"):
-            return f"exact values do not fit 128 bits ({verdict})"
+            return f"exact values do not fit 128 bits ({line})"
         part = self.named_part(words[0], int(words[1]))
         if words[-1] == "broken":
             return f"{part if words[0] == 'row' else f'a bound of {part}'} is broken"
@@ -362,3 +365,16 @@ class AnswerCertifier:
         """A row or column of the exported text."""
         kind, digits = "row" if exported.startswith("c") else "column", exported[1:]
         return self.named_part(kind, int(digits)) if digits.isdigit() else "the objective's row"
+
+
+def is_point(values: Sequence[str], point: Sequence[Fraction] | None) -> bool:
+    """Whether decimals, one for each variable of the file, are a point exactly."""
+    if point is None or len(point) != len(values):
+        return False
+    known = {text: Fraction(text) for text in set(values)}
+    return all(known[text] == value for text, value in zip(values, point))
+
+
+def feasible_words(value: Fraction) -> str:
+    """That values are a feasible point, with their objective."""
+    return f"feasible, objective exactly {decimal_or_fraction(str(value))}"

@@ -72,7 +72,7 @@ def write_outputs(
     """
     if outputs.solution:
         outcome.lines.insert(1, write_solution(outcome, source, outputs))
-    if source.is_mps:
+    if source.is_mps or not (outputs.sol or outcome.kept_folder):
         return
     data = sol_data(outcome, source, objective)
     if outputs.sol:

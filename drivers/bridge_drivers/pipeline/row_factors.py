@@ -19,6 +19,10 @@ from ..program.bridge import Bridge
 from ..sol import numbers_of
 
 
+DIVISION = b"3"  # the operator's number in an .nl text
+LONGEST_OPCODE = 8  # bytes that are looked at behind `o`
+
+
 class WholeForm(NamedTuple):
     """A program in whole numbers, with the factors of its rows.
 
@@ -35,19 +39,34 @@ def factors_of(
 ) -> Dict[str, str]:
     """By name of an exported row what it was multiplied by, as a text.
 
+    The proved program is asked only where the file divides: else no row is multiplied.
+
     Args:
         nl: The path of the file.
         rows: The names of the exported rows.
         objective: The number of the objective that was exported.
     """
-    if not rows:
-        return {}
+    if not rows or not has_division(nl):
+        return dict.fromkeys(rows, "1")
     answer = f"answer 1\nobjno {objective}\n" + "".join(f"row {r} 1\n" for r in rows)
     with tempfile.TemporaryDirectory(prefix="nl-bridge-") as folder:
         duals, _ = numbers_of(
             bridge.return_(nl, write_new(os.path.join(folder, "ones.txt"), answer.encode()))
         )
     return {row: duals[int(row[1:])] for row in rows}
+
+
+def has_division(nl: str) -> bool:
+    """Whether an .nl text has a line `o3`, the operator of a division."""
+    with open(nl, "rb") as file:
+        text = file.read()
+    place = text.find(b"\no")
+    while place >= 0:
+        opcode = text[place + 2 : place + 2 + LONGEST_OPCODE].split(None, 1)
+        if opcode and opcode[0].lstrip(b"0") == DIVISION:
+            return True
+        place = text.find(b"\no", place + 1)
+    return False
 
 
 def whole_form(bridge: Bridge, nl: str, program: Program) -> WholeForm:

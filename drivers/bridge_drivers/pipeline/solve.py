@@ -64,7 +64,7 @@ class Outcome:
     Attributes:
         code: AMPL's code.
         lines: The message; the last line is the verdict, or why there is none.
-        sol: The .sol that `bridge return` made, empty of an MPS file; None where there is no answer to
+        sol: The .sol that `bridge return` made, empty where none is wanted; None where there is no answer to
             return, and a .sol can have the code alone.
         answer: What is passed on; None where nothing was solved.
         figures: A line of figures of the certificate.
@@ -481,11 +481,11 @@ class AnsweredRun:
         returned = self.judge.returned(answer, lines, place=place)
         if not self.settings.certificate.check or answer.values is None:
             return returned
-        told = self.judge.checked(returned.answer)
+        told = self.judge.checked(returned, verdict)
         better = with_proved_duals(returned.answer, verdict, told)
         if better is not None:
             returned = self.judge.returned(better, lines, place=place)
-            told = self.judge.checked(returned.answer)
+            told = self.judge.checked(returned, verdict)
         lines.append(self.judge.check_line(returned.answer, verdict, told))
         return returned
 

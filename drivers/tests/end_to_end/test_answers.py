@@ -199,34 +199,14 @@ LINES_OF_CHECK = [
     ),
     Call(
         "bridge-cbc m -AMPL",
-        bridge_says={"check": Reply(0, "yes 19/2")},
-        stored="knap",
-        sol=SolContent(lines=["bridge check of the .sol: feasible, objective exactly 9.5"]),
-    ),
-    Call(
-        "bridge-cbc m -AMPL",
         bridge_says={"check": Reply(1, "gap 9 17/2")},
         stored="product",
         sol=SolContent(lines=["bridge check of the .sol: gap 9 8.5"]),
     ),
     Call(
         "bridge-cbc m -AMPL",
-        bridge_says={"check": Reply(1, "gap 9 17/2")},
-        stored="knap",
-        sol=SolContent(lines=["bridge check of the .sol: feasible, objective exactly 9"]),
-    ),
-    Call(
-        "bridge-cbc m -AMPL",
         bridge_says={"check": Reply(1, "row 1 has no side")},
         stored="product",
-        sol=SolContent(
-            lines=["bridge check of the .sol: the dual of constraint 1 has the wrong sign"]
-        ),
-    ),
-    Call(
-        "bridge-cbc m -AMPL",
-        bridge_says={"check": Reply(1, "row 1 has no side")},
-        stored="knap",
         sol=SolContent(
             lines=["bridge check of the .sol: the dual of constraint 1 has the wrong sign"]
         ),
@@ -244,12 +224,6 @@ LINES_OF_CHECK = [
     ),
     Call(
         "bridge-cbc m -AMPL",
-        bridge_says={"check": Reply(1, "bound 1 has no side")},
-        stored="knap",
-        sol=SolContent(lines=["bridge check of the .sol: feasible"]),
-    ),
-    Call(
-        "bridge-cbc m -AMPL",
         bridge_says={"check": Reply(1, "bound 1 broken")},
         stored="product",
         sol=SolContent(
@@ -261,29 +235,8 @@ LINES_OF_CHECK = [
     ),
     Call(
         "bridge-cbc m -AMPL",
-        bridge_says={"check": Reply(1, "bound 1 broken")},
-        stored="knap",
-        sol=SolContent(
-            lines=[
-                "bridge check of the .sol: no row or bound is missed by more than "
-                "1e-15 of its largest term, which is rounding"
-            ]
-        ),
-    ),
-    Call(
-        "bridge-cbc m -AMPL",
         bridge_says={"check": Reply(1, "too wide at row 1")},
         stored="product",
-        sol=SolContent(
-            lines=[
-                "bridge check of the .sol: exact values do not fit 128 bits (too " "wide at row 1)"
-            ]
-        ),
-    ),
-    Call(
-        "bridge-cbc m -AMPL",
-        bridge_says={"check": Reply(1, "too wide at row 1")},
-        stored="knap",
         sol=SolContent(
             lines=[
                 "bridge check of the .sol: exact values do not fit 128 bits (too " "wide at row 1)"
@@ -302,12 +255,6 @@ LINES_OF_CHECK = [
     ),
     Call(
         "bridge-cbc m -AMPL",
-        bridge_says={"check": Reply(1, "too wide at cost 1")},
-        stored="knap",
-        sol=SolContent(lines=["bridge check of the .sol: feasible"]),
-    ),
-    Call(
-        "bridge-cbc m -AMPL",
         bridge_says={"check": Reply(1, "too wide at total")},
         stored="product",
         sol=SolContent(
@@ -315,12 +262,6 @@ LINES_OF_CHECK = [
                 "bridge check of the .sol: exact values do not fit 128 bits (too " "wide at total)"
             ]
         ),
-    ),
-    Call(
-        "bridge-cbc m -AMPL",
-        bridge_says={"check": Reply(1, "too wide at total")},
-        stored="knap",
-        sol=SolContent(lines=["bridge check of the .sol: feasible"]),
     ),
 ]
 
