@@ -13,7 +13,7 @@ import signal
 import threading
 from typing import Any, Callable, Iterator, Mapping, NamedTuple, Sequence, Union
 
-from .explained.command import Files, explained
+from .pages.explain import PagePaths, explain_certificate
 from .formats.source import Source, Workspace, read_source
 from .inputs import Subject, subject_of
 from .pipeline.memory import GivenModel, is_in_memory, read_given_model
@@ -185,22 +185,15 @@ def explain(
             text = f"{subject.given.name}: is not refused"
             return call.report(text, [*subject.notes, text])
         source = opened.read_certificate(certificate)
-        pages = Files(
-            subject.given.name,
-            source.name,
-            os.fspath(html),
-            os.fspath(svg),
-            overwrite,
-            source.path,
-        )
-        found = explained(subject, pages)
+        paths = PagePaths(os.fspath(html), os.fspath(svg), overwrite)
+        found = explain_certificate(subject, source, paths)
         verdict = found.verdict
         return call.report(
             verdict.line,
             found.lines,
             verdict.statement,
             status=found.status,
-            explained=found.object,
+            explained=found.details,
         )
 
 

@@ -9,7 +9,6 @@ import os
 import re
 import shutil
 import unittest
-import xml.etree.ElementTree as xml
 from fractions import Fraction as F
 from pathlib import Path
 from typing import Any
@@ -23,7 +22,6 @@ from support import (
     PROGRAM,
     RULE,
     Case,
-    bridge,
     content,
     ended,
     faults,
@@ -38,16 +36,9 @@ from bridge_drivers.program.bridge import build_facts, sha256_of_file
 from bridge_drivers.program.calls import Reply
 from bridge_drivers.program.verdict import Verdict
 from bridge_drivers.pipeline.report import ReportedCall, number_object
-from bridge_drivers.explained import page
-from bridge_drivers.explained.command import Explaining, Files
-from bridge_drivers.explained.picture import MOST_DEPTH, MOST_SHOWN, Picture
-from bridge_drivers.formats.source import Source
-from bridge_drivers.inputs import Subject
-from bridge_drivers.system.text import printable
 
 PAGE = Path(DRIVERS, "PYTHON.md")
 BROWSER = shutil.which("chromium") or shutil.which("google-chrome")
-SVG = "{http://www.w3.org/2000/svg}"
 TEXTS = {name: model_text(cells) for name, *cells in rows_of("explains", "model")}
 
 
@@ -233,25 +224,20 @@ def certificate(words: str) -> bytes:
 
 @NEEDS_PROGRAM
 class Explained(Case):
-    def given(self, name: str, words: str) -> Files:
+    def given(self, name: str, words: str) -> str:
+        """The path of a certificate beside its model."""
         self.put(model(name))
         self.put(certificate(words), ".certificate")
-        return Files(self.stub + ".nl", self.stub + ".certificate")
-
-    def object(self, name: str = "knap", words: str = "example knap.certificate") -> Explaining:
-        files = self.given(name, words)
-        verdict = bridge().verify(*files[:2])
-        given = Source(files.model, files.model, self.stub)
-        return Explaining(Subject(bridge(), given, given.path), files, verdict)
+        return self.stub + ".certificate"
 
     def test_lines(self) -> None:
         """Of each the model, names of variables, the certificate, the status, and lines in their order."""
         for name, names, words, status, *wanted in rows_of("explains", "case"):
             with self.subTest(certificate=words):
-                files = self.given(name, words)
+                path = self.given(name, words)
                 self.put(names.replace("-", "").replace(" ", "\n").encode(), ".col")
                 try:
-                    told = explain(self.stub, files.certificate)
+                    told = explain(self.stub, path)
                 except BridgeError as fault:
                     told = fault.report
                 self.as_schema(told.object())
@@ -260,106 +246,12 @@ class Explained(Case):
                 found = [line for line in lines if line in wanted]
                 self.assertEqual((told.status, found), (int(status), wanted), lines)
 
-    def test_sums(self) -> None:
-        """Their lines add up to what the program tells of a leaf, in one width, nothing cut."""
-        for name, given in rows_of("explains", "sum"):
-            told = self.object(name, given)
-            assert told.bounds is not None
-            found = re.fullmatch(r"leaf (\d+) gap (\S+)", told.verdict)
-            if found is not None:
-                at = told.certificate.place_of_leaf(int(found[1]))
-                self.assertEqual(told.bounds.shown(at, told.bounds.part(at)), F(found[2]))
-            for one in page.sums(
-                told.wording,
-                [d.place for d in told.tree().drawn if told.certificate.nodes[d.place].is_leaf],
-            ):
-                products = [
-                    F(line.split(")")[-1].split("=")[0].strip())
-                    for line in one.lines
-                    if "\u00d7" in line
-                ]
-                total = told.bounds.shown(one.place, told.bounds.part(one.place))
-                self.assertEqual((sum(products), F(one.lines[-1].split("=")[0])), (total, total))
-                self.assertEqual(len({len(line) for line in one.lines}), 1)
-                self.assertIn(one.lines[-1].strip(), told.page())
-
-    def test_the_objective_by_its_name(self) -> None:
-        """A plane on it, whatever it is multiplied by, and turned."""
-        for factor, low, high in (
-            (1, "objective \u2264 16", "objective \u2265 17"),
-            (-1, "objective \u2265 -16", "objective \u2264 -17"),
-        ):
-            pairs = " / ".join(f"{j} {factor * a}" for j, a in enumerate((10, 7, 12)))
-            told = self.object("knap", f"bound 0 17 / plane 3 16 / {pairs} / duals 0 / duals 0")
-            parts = [part.part for part in told.tree().drawn]
-            self.assertEqual(parts, ["all points", low, high])
-
-    def test_picture(self) -> None:
-        told = self.object()
-        root = xml.fromstring(told.picture())
-        groups = root.findall(SVG + "g")
-        self.assertEqual(
-            [g.get("class") for g in groups],
-            ["cut", "duals", "cut", "cut", "duals", "weights", "weights"],
-        )
-        self.assertEqual(
-            [[t.text for t in g.findall(SVG + "text")] for g in groups[:3]],
-            [
-                ["6", "all points", "bound 17", "split x2"],
-                ["7", "x2 \u2264 0", "bound 17", "closes by bounds alone"],
-                ["8", "x2 \u2265 1", "bound 12", "split x0"],
-            ],
-        )
-        self.assertEqual(len(root.findall(SVG + "path")), 6 + 1)
-
-    def test_without_a_tree(self) -> None:
-        told = self.object("endless", "feasible 0 / point 0")
-        texts = [t.text for t in xml.fromstring(told.picture()).iter(SVG + "text")]
-        self.assertEqual(texts, ["the certificate has no tree"])
-        self.assertNotIn("Its tree", told.page())
-
-    def test_folded(self) -> None:
-        """A large tree is folded to a depth, but for the path to the leaf that fails."""
-        for claim, fails in (("bound 0 45", False), ("bound 0 40", True)):
-            told = self.object("wide", f"tree 9 {claim}")
-            picture = Picture(told.wording, told.fails, told.holds)
-            depths = [told.certificate.nodes[d.place].depth for d in picture.drawn]
-            root = xml.fromstring(picture.svg(True))
-            kinds = [g.get("class") for g in root.findall(SVG + "g")]
-            if fails:
-                self.assertIn(told.fails, [d.place for d in picture.drawn])
-                self.assertGreaterEqual(kinds.count("fails"), 1)
-            else:
-                self.assertNotIn("fails", kinds)
-                self.assertLessEqual(len(depths), MOST_SHOWN)
-                self.assertLessEqual(max(depths), MOST_DEPTH)
-            self.assertGreater(kinds.count("folded"), 1)
-            self.assertIn("+ 30 nodes, 16 leaves", [t.text for t in root.iter(SVG + "text")])
-
-    def test_all_that_do_not_close_are_marked(self) -> None:
-        told = self.object("knap", "tree 3 bound 0 10")
-        picture = Picture(told.wording, told.fails, told.holds)
-        self.assertEqual(
-            [picture.closes(at) for at, node in enumerate(told.certificate.nodes) if node.is_leaf],
-            [True, False, True, False, True, False, False, False],
-        )
-
-    def test_names_are_escaped(self) -> None:
-        self.put(b"<b>&\n\x1b[31mb\nz\n", ".col")
-        told = self.object()
-        for text in (told.page(), told.picture()):
-            self.assertNotIn("<b>", text)
-            self.assertEqual(printable(text), text)
-            self.assertIn("&lt;b&gt;&amp; \u2264 0", text)
-        xml.fromstring(told.picture())
-
     @unittest.skipUnless(BROWSER, "no chromium")
     def test_in_a_browser(self) -> None:
-        """In two widths: nothing but the tree is wider than the page, no sum is cut off, nothing is
-        fetched, and the tree is drawn."""
-        told = self.object("wide", "tree 9 bound 0 40")
-        page = told.page()
-        self.assertNotRegex(page, r"""(?i)<script|<link|<img|url\(|src=|href=""")
+        """In two widths: nothing but the tree is wider than the page, no sum is cut off, and the tree is drawn."""
+        path = self.given("wide", "tree 9 bound 0 40")
+        explain(self.stub, path, html=self.stub + ".html")
+        page = Path(self.stub + ".html").read_text(encoding="utf-8")
         probe = (
             "<script>document.title = [document.documentElement.scrollWidth <= innerWidth, "
             "[...document.querySelectorAll('pre')].filter(it => it.scrollWidth <= it.clientWidth).length, "
