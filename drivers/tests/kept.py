@@ -7,10 +7,9 @@ import os
 from pathlib import Path
 from unittest import mock
 
-from support import NEEDS_PROGRAM, Case
-from models import MODELS, rows_of
+from support import Case
+from models import rows_of
 
-from bridge_drivers import solvers
 from bridge_drivers.program.bridge import Bridge
 from bridge_drivers.program.calls import Reply
 from bridge_drivers.program.verdict import statement_of
@@ -104,34 +103,3 @@ class Certificates(Case):
         self.assertEqual((kept.has_failed, self.bytes_of(".certificate")), (True, OPTIMAL[:-8]))
         self.assertIn("it may not be written", kept.line)
         self.assertEqual(sorted(os.listdir(self.folder)), ["source", "stub.certificate", "stub.nl"])
-
-
-class Folders(Case):
-    @NEEDS_PROGRAM
-    def test_kept_folders(self) -> None:
-        """Also the folder of the model, with files of each name that a run writes."""
-        names = (
-            "text.nl",
-            "model.mps",
-            "answer.txt",
-            "bridge.sol",
-            "solver.log",
-            "certificate",
-            "stub.mps",
-        )
-        for driver in solvers.SOLVERS:
-            with self.subTest(driver=driver):
-                self.put(MODELS["product"].text)
-                for name in names:
-                    Path(self.folder, name).write_bytes(OLDER)
-                before = {
-                    path: path.read_bytes()
-                    for path in Path(self.folder).rglob("*")
-                    if path.is_file()
-                }
-                with mock.patch("os.getcwd", lambda: self.folder):
-                    done = self.replay(driver, "product", self.stub, "keep=" + self.folder)
-                self.assertEqual({path: path.read_bytes() for path in before}, before)
-                own = os.path.join(self.folder, f"bridge-{driver}-1")
-                self.assertIn(f"the files in between are in {own}\n", done.stdout)
-                self.assertIn("bridge.sol", os.listdir(own))

@@ -3,17 +3,8 @@ expressions, places, names, and what a file is that is no model."""
 
 from __future__ import annotations
 
-import os
-import pty
-import re
-import select
-import shutil
-import signal
-import time
 import unittest
-from pathlib import Path
 
-from support import BIN, Case, called, ended
 from models import rows_of
 
 from bridge_drivers import commands, front, solvers
@@ -22,73 +13,6 @@ from bridge_drivers.driver import Driver
 from bridge_drivers.system.text import did_you_mean
 from bridge_drivers.options import OTHER_NAMES, Option, Options, Range, words_of
 from bridge_drivers.system.errors import WrongOption
-
-ASK = """source {folder}/completion
-COMP_WORDS=({words}) COMP_CWORD=$(({count} - 1))
-_nl_bridge 2>/dev/null
-printf '%s\\n' "${{COMPREPLY[@]}}"
-"""
-HEAD = b"g3 1 1 0\n 3 1 1 0 0\n" + b" 0 0\n" * 8
-PRODUCT = HEAD + (
-    b"C0\no54\n3\no2\nn5\nv1\no2\nv0\no0\nv1\nn3\nv2\nO0 0\nn0\nr\n1 4\nb\n0 0 1\n0 0 1\n0 0 1\n"
-)
-NONLINEAR = "line 17: nonlinear"
-WORKED = ("refusals", "export")  # the second has what is wide
-
-
-class Help(unittest.TestCase):
-    def same(self, *texts: "tuple[int, str, str]") -> str:
-        """What is printed in each way, on standard output, with status 0."""
-        self.assertEqual(len(set(texts)), 1, texts)
-        status, out, err = texts[0]
-        self.assertEqual((status, err), (0, ""))
-        return out
-
-    def test_of_each_word(self) -> None:
-        """In three ways the same, with an example that is a call of it."""
-        for word in set(commands.WORDS) - {"help"}:
-            out = self.same(
-                *(
-                    called(lambda: front.command(call))
-                    for call in (
-                        ["help", word],
-                        [word, "--help"],
-                        [word, "-h"],
-                        [word, "x", "json=1", "-h"],
-                    )
-                )
-            )
-            self.assertTrue(out.startswith("usage: nl-bridge "), out)
-            for line in re.findall(r"(?m)^example: nl-bridge (.*)$", out):
-                self.assertEqual(line.split()[0], word)
-                front.read(line.split())
-            self.assertLessEqual(max(map(len, out.split("\n"))), 100)
-        ways = (
-            called(lambda: front.command([word])) for word in ("help", "-h", "-?", "--help", "-=")
-        )
-        self.assertEqual(self.same(*ways), commands.usage())
-        self.assertEqual(called(lambda: front.command([])), (3, "", commands.usage()))
-
-    def test_of_each_driver(self) -> None:
-        for name in (*solvers.SOLVERS, "certify"):
-            driver = Command("cbc") if name == "certify" else Driver(name)
-            out = self.same(
-                *(
-                    called(lambda: driver.main(call))
-                    for call in (["-h"], ["--help"], ["help"], ["knap", "timelim=9", "-?"])
-                ),
-                called(lambda: front.command(["help", "bridge-" + name])),
-            )
-            example = out.rstrip("\n").split("\n")[-1]
-            self.assertTrue(example.startswith(f"example: bridge-{name} "), example)
-            driver.options.take(example.split()[3:])
-            for option in driver.options.known.values():
-                self.assertRegex(out, rf"(?m)^  {option.name} ")
-                told = called(lambda: driver.main(["help", option.name]))
-                self.assertEqual(told, (0, option.line() + "\n", ""))
-            flat = re.sub(r"\s+", " ", out)
-            self.assertIn("(0, 1 or 2; 0)", flat)
-            self.assertIn("a number from 0 on", flat)
 
 
 class Words(unittest.TestCase):
@@ -170,72 +94,3 @@ class Words(unittest.TestCase):
         for call, is_wrong in rows_of("front", "words"):
             self.assertEqual(bool(front.wrong_words(call.split())), is_wrong == "wrong", call)
         self.assertFalse(front.wrong_words(["nl", "\udcff"]))
-
-
-class Completion(Case):
-    """By the shells themselves where they are there."""
-
-    def setUp(self) -> None:
-        super().setUp()
-        shell = self._testMethodName.split("_")[1]
-        if shell != "all" and not shutil.which(shell):
-            self.skipTest("no " + shell)
-        self.path = Path(self.folder, "_nl-bridge" if shell == "zsh" else "completion")
-        self.path.write_text(front.completion(shell) if shell != "all" else "", encoding="utf-8")
-
-    def test_all_commands(self) -> None:
-        for text in map(front.completion, ("bash", "fish", "zsh")):
-            for name in os.listdir(BIN):
-                self.assertIn(f" {name}", text)
-
-    def test_bash(self) -> None:
-        for name in ("a.nl", "a.certificate", "b.txt", "c.mps", "c.mps.gz", "c.gz"):
-            Path(self.folder, name).touch()
-        for call, answers in rows_of("completions", "bash"):
-            quoted = " ".join("'" + word + "'" for word in call.split())
-            code = ASK.format(folder=self.folder, words=quoted, count=len(call.split()))
-            status, out, err = ended(["bash", "-c", code], cwd=self.folder)
-            self.assertEqual((sorted(out.split()), err), (answers.split(), ""), call)
-
-    def test_fish(self) -> None:
-        rows = rows_of("completions", "fish")
-        code = f"source {self.path}; " + "; ".join(
-            f"complete -C '{call}'; echo END" for call, _ in rows
-        )
-        status, out, err = ended(
-            ["fish", "--no-config", "-c", code],
-            cwd=self.folder,
-            env={**os.environ, "HOME": self.folder},
-        )
-        answers = [re.findall(r"(?m)^[^\t\n]+", part) for part in out.split("END\n")[:-1]]
-        self.assertEqual((answers, err), ([wanted.split() for _, wanted in rows], ""))
-
-    def test_zsh(self) -> None:
-        """As it is typed, on a terminal of its own."""
-        child, terminal = pty.fork()
-        if child == 0:
-            os.execvpe("zsh", ["zsh", "-f", "-i"], {**os.environ, "TERM": "dumb"})
-        try:
-            os.write(
-                terminal,
-                f"PS1='> '; fpath=({self.folder} $fpath); autoload -Uz compinit; "
-                f"compinit -u -d {self.folder}/dump; print rea''dy\n".encode(),
-            )
-            seen(terminal, "ready")
-            for typed, answer in rows_of("completions", "zsh"):
-                os.write(terminal, f"{typed}\t".encode())
-                self.assertIn(typed + answer, seen(terminal, answer).replace("\x07", ""))
-                os.write(terminal, b"\x15\n")
-        finally:
-            os.kill(child, signal.SIGKILL)
-            os.waitpid(child, 0)
-            os.close(terminal)
-
-
-def seen(terminal: int, text: str) -> str:
-    """What a terminal shows until the text is there, or thirty seconds are over."""
-    shown, end = "", time.monotonic() + 30
-    while text not in shown and time.monotonic() < end:
-        if select.select([terminal], [], [], 0.2)[0]:
-            shown += os.read(terminal, 4096).decode("utf-8", "replace")
-    return shown

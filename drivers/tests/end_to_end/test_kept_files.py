@@ -8,6 +8,8 @@ import pytest
 
 from builders.mps_models import MPS_MODELS
 from builders.small_models import MODELS
+from running.places import SOLVERS
+from running.stored_runs import stored_runs
 from running.workspace import Call, SolContent, Workspace
 
 
@@ -213,3 +215,31 @@ def test_failures(workspace: Workspace) -> None:
             files={"m.certificate": "certificate 1\noptimal 0\npoint 0\nduals 0\n"},
         )
     )
+
+
+FILES_OF_A_RUN = (
+    "text.nl",
+    "model.mps",
+    "answer.txt",
+    "bridge.sol",
+    "solver.log",
+    "certificate",
+    "m.mps",
+)
+
+
+@pytest.mark.needs("program")
+@pytest.mark.parametrize("driver", SOLVERS)
+def test_kept_folder(workspace: Workspace, driver: str) -> None:
+    """The folder of the model, too, with files of each name that a run writes: all stay."""
+    workspace.write_model("product")
+    for name in FILES_OF_A_RUN:
+        workspace.write(name, "letters\n")
+    before = {name: workspace.read(name) for name in (*FILES_OF_A_RUN, "m.nl")}
+    run = stored_runs(driver)["product"]
+    ended = workspace.replay(driver, run, "m", f"keep={workspace.folder}")
+    assert ended.status == 0, ended.text
+    assert {name: workspace.read(name) for name in before} == before
+    own = workspace.path(f"bridge-{driver}-1")
+    assert f"the files in between are in {own}\n" in ended.out
+    assert (own / "bridge.sol").exists()
