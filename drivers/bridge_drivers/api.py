@@ -33,7 +33,7 @@ from .program.bridge import Bridge, find_program
 from .program.calls import files_of_call
 from .program.refusal import Refusal
 from .solvers import SOLVERS
-from .stats import Stats
+from .pipeline.statistics import ModelStatistics
 from .system.codes import Code, ExitStatus
 from .system.errors import (
     BridgeError,
@@ -210,8 +210,8 @@ def figures(model: GivenModel, *, objective: int = 0, bridge: str = "") -> Repor
     """
     call = ReportedCall(FRONT)
     with _opened_model(call, model, bridge) as opened:
-        stats = Stats(opened.subject, str(objective))
-        return call.report("stats", stats.lines(), stats=stats.object())
+        stats = ModelStatistics(opened.subject, str(objective))
+        return call.report("stats", stats.lines(), stats=stats.values())
 
 
 def solver_path(solver: str) -> str | None:

@@ -11,7 +11,7 @@ from .system.codes import ExitStatus
 from .formats.source import Source, Workspace, read_model
 from .formats.names import NameLists
 from .formats.nl import read_header, text_of_nl
-from .model.linear_program import Program
+from .model.linear_program import LinearProgram
 
 
 class Subject(NamedTuple):
@@ -20,21 +20,21 @@ class Subject(NamedTuple):
     bridge: Bridge
     given: Source
     path: str
-    own: Program | None = None
+    own: LinearProgram | None = None
     notes: Sequence[str] = ()
 
     def constraints(self) -> int:
-        return read_header(self.path).constraints if self.own is None else len(self.own.constraints)
+        return read_header(self.path).constraints if self.own is None else len(self.own.names.rows)
 
     def names(self) -> NameLists:
         if self.own is not None:
-            return self.own.names
+            return self.own.own_names
         head = read_header(self.path)
         return NameLists(self.given.stub, head.variables, head.constraints)
 
-    def program(self, objective: str = "0") -> Program:
+    def program(self, objective: str = "0") -> LinearProgram:
         if self.own is None:
-            return Program(self.bridge.export(self.path, int(objective)))
+            return LinearProgram.of(self.bridge.export(self.path, int(objective)))
         if objective != "0":
             reply = Reply(
                 ExitStatus.REFUSED, b"", f"refused objective {objective}: no such objective"

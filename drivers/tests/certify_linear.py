@@ -180,7 +180,7 @@ class Linear(Certified):
 
     def test_basis_of_equations(self) -> None:
         """Equations of which none has a column of its own: what rounding leaves goes through a basis of them."""
-        p = IntegerProgram(self.work(made("decimal_flow", 300)).program, {}, 18)
+        p = IntegerProgram.of(self.work(made("decimal_flow", 300)).program, {}, 18)
         found = next(rounding(p).points())
         self.assertEqual(found.way, "rounding is taken up by a basis of 18 equations")
         self.assertTrue(p.is_feasible(found.point))

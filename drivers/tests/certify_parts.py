@@ -8,10 +8,9 @@ from fractions import Fraction as F
 from types import SimpleNamespace
 from unittest import TestCase
 
-from bridge_drivers import miss
-from bridge_drivers.model.integer_form import IntegerProgram, UnsupportedModel
+from bridge_drivers.model.integer_form import IntegerProgram
 from bridge_drivers.exact.portfolio import TURN_SECONDS, Portfolio, Strategy
-from bridge_drivers.model.linear_program import Program
+from bridge_drivers.model.linear_program import LinearProgram
 
 SECTIONS = ("OBJSENSE", "ROWS", "COLUMNS", "RHS", "RANGES", "BOUNDS")
 
@@ -34,6 +33,10 @@ LARGE_BOUND = exported(
 STEEP = exported(
     "ROWS; N obj; G c0; COLUMNS; x0 obj 1; x0 c0 3; x1 obj 1e9; x1 c0 3e9; RHS; RHS c0 7"
 )
+
+
+def integer_form(text: bytes, factors, constraints: int) -> IntegerProgram:
+    return IntegerProgram.of(LinearProgram.of(text), factors, constraints)
 
 
 def built(columns, rows=(), sense: str = "min", costs=()) -> IntegerProgram:
@@ -63,86 +66,12 @@ def built(columns, rows=(), sense: str = "min", costs=()) -> IntegerProgram:
     for j, (_, lo, hi) in enumerate(columns):
         text += [f" FR BND x{j}"] if lo is None else [f" LO BND x{j} {lo}"]
         text += [] if hi is None else [f" UP BND x{j} {hi}"]
-    return IntegerProgram("\n".join([*text, "ENDATA", ""]).encode(), {}, len(rows))
+    return integer_form("\n".join([*text, "ENDATA", ""]).encode(), {}, len(rows))
 
 
 def model() -> IntegerProgram:
     """max x0 + 2 x1 + 1/2; the row c0 was written times 2, the row c1 has no sides."""
-    return IntegerProgram(TEXT, {0: 2}, 3)
-
-
-class Models(TestCase):
-    def test_program(self) -> None:
-        p = model()
-        self.assertEqual((p.n, p.m, p.sign, p.is_integer), (3, 3, -1, [False, True, True]))
-        self.assertEqual(
-            [[(j, F(a, p.row_scale)) for j, a in row] for row in p.rows],
-            [[(0, F(3, 2)), (1, 2), (2, -1)], [], [(1, 2), (2, 4)]],
-        )
-        self.assertEqual([s and F(s, p.bound_scale) for s in p.row_lower], [None, None, 1])
-        self.assertEqual([s and F(s, p.bound_scale) for s in p.row_upper], [3, None, 5])
-        self.assertEqual((p.value([F(1), F(1), F(0)]), p.objective_lattice()), (F(-7, 2), None))
-        self.assertTrue(p.is_feasible([F(2, 3), F(1), F(0)]))
-        for x in (
-            [F(2, 3), F(1, 2), F(0)],
-            [F(1), F(1), F(0)],
-            [F(0), F(0), F(0)],
-            [F(-9), F(3), F(0)],
-        ):
-            self.assertFalse(p.is_feasible(x), x)
-
-    def test_step(self) -> None:
-        p = model().with_costs([F(0), F(3, 2), F(-9, 4)])
-        self.assertEqual(p.objective_lattice(), (F(3, 4), {1: 2, 2: -3}))
-
-    def test_unfit(self) -> None:
-        self.assertRaises(UnsupportedModel, IntegerProgram, TEXT.replace(b" x2 ", b" x7 "), {}, 3)
-
-    def test_miss(self) -> None:
-        program = Program(TEXT)
-        for x, share, name in (
-            ({"x0": "0", "x1": "1", "x2": "0"}, 0.0, ""),
-            ({"x0": "4", "x1": "1", "x2": "0"}, 10 / 12, "c0"),
-            ({"x0": "0", "x1": "0", "x2": "0"}, 1 / 4, "c2"),
-            ({"x0": "-9", "x1": "0", "x2": "4"}, 11 / 16, "c2"),
-        ):
-            found = miss.miss(program, x)
-            self.assertEqual((round(found.share, 9), found.name), (round(share, 9), name))
-
-    def test_miss_by_a_row_of_its_own_size(self) -> None:
-        """Without a floor; what is near 0 beside a coefficient is measured by that."""
-
-        def program(a: str, b: str, side: str, bound: str = "20") -> Program:
-            return Program(
-                exported(
-                    f"ROWS; N obj; L c0; COLUMNS; x0 c0 {a}; x1 c0 {b}; RHS; RHS c0 {side}; BOUNDS; "
-                    f"UP BND x0 {bound}"
-                )
-            )
-
-        for words, x, share, is_much in (
-            (("3e-11", "2e-11", "5e-11"), ("20", "20"), 95 / 60, True),
-            (("3e-11", "2e-11", "5e-11"), ("1", "1"), 0, False),
-            (("1", "-1e6", "0"), ("1e-9", "0"), 1e-15, False),
-            (("1", "1", "1"), ("1", "1e-9"), 1e-9, False),
-            (("1", "1", "1", "1e-9"), ("2e-9", "0"), 0.5, True),
-        ):
-            found = miss.miss(program(*words), dict(zip(("x0", "x1"), x)))
-            self.assertAlmostEqual(found.share, share)
-            self.assertEqual(found.is_much(), is_much, words)
-
-    def test_miss_of_whole_numbers(self) -> None:
-        """More than rounding is much there."""
-        for side, is_much in (
-            ("3.000001", True),
-            ("3.00000000001", True),
-            ("2.9999999999999", False),
-            ("3.0000000000000004", False),
-        ):
-            text = exported(f"ROWS; N obj; G c0; COLUMNS; x0 c0 1; x1 c0 1; RHS; RHS c0 {side}")
-            program, x = Program(text), {"x0": "1", "x1": "2"}
-            self.assertEqual(miss.miss(program, x, ["x0", "x1"]).is_much(), is_much)
-            self.assertFalse(miss.miss(program, x, ["x0"]).is_much())
+    return integer_form(TEXT, {0: 2}, 3)
 
 
 class Forecasts(TestCase):

@@ -33,7 +33,7 @@ from bridge_drivers.exact.portfolio import Portfolio
 from bridge_drivers.exact.worker_pools import ProcessPool, WorkerPool, open_pool
 from bridge_drivers.system.errors import SearchEnded, SearchPaused
 from bridge_drivers.system.signals import SIGNALS, Interrupted
-from bridge_drivers.model.linear_program import Program
+from bridge_drivers.model.linear_program import LinearProgram
 from models import nl, real, whole
 from builders import families
 
@@ -352,7 +352,7 @@ def long(path: str, folder: str) -> None:
     parallel.NODES_BEFORE_PARALLEL = 3
     bridge, pool = Bridge(PROGRAM), ProcessPool(2)
     work = Certifying(
-        bridge, path, folder, Program(bridge.export(path)), 0, Watch(600.0), pool=pool
+        bridge, path, folder, LinearProgram.of(bridge.export(path)), 0, Watch(600.0), pool=pool
     )
     try:
         print(certified(work, "infeasible").line)

@@ -26,7 +26,7 @@ from bridge_drivers.exact.parallel import ParallelSearch
 from bridge_drivers.exact.portfolio import Portfolio, TreeText
 from bridge_drivers.exact.cuts import CutKind
 from bridge_drivers.exact.search import BranchAndBound
-from bridge_drivers.model.linear_program import Program
+from bridge_drivers.model.linear_program import LinearProgram
 from builders import families
 from models import BINARY, CLAIMED, MODELS, nl, real, whole
 
@@ -44,7 +44,7 @@ class Certified(Case):
             bridge,
             path,
             self.folder,
-            Program(bridge.export(path)),
+            LinearProgram.of(bridge.export(path)),
             0,
             Watch(SECONDS),
             proves,

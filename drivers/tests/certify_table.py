@@ -145,7 +145,7 @@ def shape(bridge: list[str], path: str) -> list[str]:
     try:
         with Workspace() as workspace:
             p = subject(Bridge(bridge), workspace, path).program()
-            return [str(len(p.columns)), str(len(p.whole)), str(len(p.constraints))]
+            return [str(p.n), str(p.integer_count), str(p.m)]
     except (Refusal, Damaged):
         return ["", "", ""]
 

@@ -17,7 +17,7 @@ from bridge_drivers.program.verdict import statement_of
 from bridge_drivers.certify.claims import Certifying, Verdict, certified
 from bridge_drivers.certify.plans import Plans
 from bridge_drivers.certify.watch import Over, Watch
-from bridge_drivers.model.linear_program import Program
+from bridge_drivers.model.linear_program import LinearProgram
 from bridge_drivers.progress import Progress, detailed
 from builders.families import family_model as made
 from models import MODELS, rows_of, text_of
@@ -168,7 +168,7 @@ class Told(Case):
     def told(self, name: str, size: int, proves: bool) -> tuple[Noting, str]:
         """What was told of a search from no point, and the last line."""
         self.put(made(name, size))
-        program = Program(bridge().export(self.stub + ".nl"))
+        program = LinearProgram.of(bridge().export(self.stub + ".nl"))
         noting = Noting(program.maximise)
         work = Certifying(
             bridge(),

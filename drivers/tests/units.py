@@ -10,42 +10,21 @@ import pty
 import subprocess
 import sys
 import time
-from fractions import Fraction as F
 from pathlib import Path
 from unittest import mock
 
-from support import BIN, EXAMPLES, NEEDS_PROGRAM, Case, bridge as program
-from bridge_drivers import console, progress, sol, solvers, stats
+from support import HERE, BIN, EXAMPLES, NEEDS_PROGRAM, Case, bridge as program
+from bridge_drivers import console, progress, sol, solvers
 from bridge_drivers.pipeline.row_factors import factors_of
 from bridge_drivers.program.bridge import Bridge
 from bridge_drivers.program.calls import Reply
 from bridge_drivers.program.mps_forms import import_mps
 from bridge_drivers.formats.names import NameLists
-from bridge_drivers.model.linear_program import Program
+from bridge_drivers.model.linear_program import LinearProgram
 from models import MODELS, rows_of
-
-TEXTS = {name: text.encode() for name, text in rows_of("figures", "text")}
 
 
 class Texts(Case):
-    def test_program(self) -> None:
-        p = Program(TEXTS["program"])
-        self.assertEqual(
-            (p.rows, p.columns, p.whole), (["obj", "c0"], ["x0", "x1", "x2", "z"], {"x1", "x2"})
-        )
-        self.assertEqual(
-            (p.maximise, p.costs, p.objective_rhs), (True, {"x0": "2", "x2": "5"}, "-3")
-        )
-        self.assertEqual(p.at([1, 9, 0.5, 9]).value, 7.5)
-        self.assertTrue(solvers.SOLVERS["cbc"].mps_text(p).startswith(b"NAME nl FREE\nOBJSENSE"))
-        self.assertNotIn(b"OBJSENSE", solvers.SOLVERS["glpsol"].mps_text(p))
-        empty = Program(b"NAME nl\nROWS\n N obj\nCOLUMNS\nRHS\nENDATA\n")
-        self.assertEqual((empty.columns, empty.constraints, empty.whole), ([], [], set()))
-
-    def test_far_sides_and_bounds(self) -> None:
-        p = Program(TEXTS["far"])
-        self.assertEqual([p.far(size) for size in (1e20, 1e21, 1e25, 1e30, 1e31)], [4, 2, 2, 1, 0])
-
     def test_bare_sol(self) -> None:
         self.put(MODELS["knap"].text)
         text = sol.bare(self.stub + ".nl", 501, 2, ["bridge-cbc: no"])
@@ -58,27 +37,7 @@ class Texts(Case):
             self.assertRaises((ValueError, IndexError), sol.bare, self.stub + ".nl", 501, 0, [""])
 
 
-class Figures(Case):
-    def test_lines(self) -> None:
-        figures = stats.Figures(Program(TEXTS["exported"]))
-        lines = stats.lines_of(figures, {"c0": "3", "c2": "1"}, NameLists(""))
-        self.assertEqual([[line] for line in lines], rows_of("figures", "line"))
-
-    def test_a_tied_objective(self) -> None:
-        lines = stats.lines_of(stats.Figures(Program(TEXTS["tied"])), {}, NameLists(""))
-        self.assertEqual(lines[0], "sense         minimise; tied to column z by row zdef, times 3")
-        self.assertTrue(lines[1].startswith("columns       1: 1 continuous"))
-
-    def test_what_doubles_hold(self) -> None:
-        self.assertEqual(
-            [
-                text
-                for text in ("0.1", "0.5", "1e400", str(2**100), str(2**100 + 1), "1e-400", "0")
-                if not stats.is_held(F(text))
-            ],
-            ["1e400", str(2**100 + 1), "1e-400"],
-        )
-
+class Factors(Case):
     def test_factors(self) -> None:
         """They are what `return` makes of duals of 1."""
 
@@ -95,7 +54,7 @@ class Importing(Case):
     @NEEDS_PROGRAM
     def test_against_the_program(self) -> None:
         """The kinds of the .nl are those of the names, and so are the bounds."""
-        self.put(TEXTS["kinds"], ".mps")
+        self.put(Path(HERE, "data", "mps", "kinds.mps").read_bytes(), ".mps")
         line = import_mps(program(), self.stub + ".mps", self.stub + ".nl")
         self.assertEqual(
             line,
@@ -160,7 +119,7 @@ class Shown(Case):
         """What solvers tell, in the objective's own sense."""
         for name, sense, line, known in rows_of("units", "log"):
             text = f"NAME nl\nOBJSENSE\n {sense.upper()}\nROWS\n N obj\nCOLUMNS\nRHS\nENDATA\n"
-            told = solvers.SOLVERS[name].progress_of_line(line, Program(text.encode()))
+            told = solvers.SOLVERS[name].progress_of_line(line, LinearProgram.of(text.encode()))
             pairs = (word.split("=") for word in known.split())
             self.assertEqual(told, {key: float(value) for key, value in pairs}, line)
 

@@ -105,7 +105,7 @@ def check_duals(
     for i, v in y.items():
         if (p.row_lower[i] if v > 0 else p.row_upper[i]) != placed.row_bounds[i]:
             raise NotSolved(f"the dual of row {i} has no side")
-    for j, r in enumerate(p.terms.without([c * dual_den for c in p.costs], y)):
+    for j, r in enumerate(p.matrix.minus_combination([c * dual_den for c in p.costs], y)):
         if r:
             end = p.lower[j] if r > 0 else p.upper[j]
             if end is None or full[j] != end * den:
@@ -168,9 +168,9 @@ class Refining:
                 less(a, at * p.bound_scale, p.bound_scale, p.row_scale),
                 less(b, at * p.bound_scale, p.bound_scale, p.row_scale),
             )
-            for at, a, b in zip(p.terms.sums(self.x), p.row_lower, p.row_upper)
+            for at, a, b in zip(p.matrix.activities(self.x), p.row_lower, p.row_upper)
         ]
-        reduced = p.terms.without(
+        reduced = p.matrix.minus_combination(
             [c * p.row_scale * one for c in p.costs], dict(enumerate(self.y)), p.cost_scale
         )
         cost = [r / (p.row_scale * p.cost_scale << BITS) for r in reduced]

@@ -15,7 +15,8 @@ from .bases import Near, Refining, can_be_large, optimum
 from ..exact.clp import Clp, ClpNotInstalled, LpStatus
 from .contradictions import Contradicting
 from .judging import NO_POINT, WITHOUT, Bound, Given, Verdict, wide_note
-from ..model.integer_form import Box, Point, UnsupportedModel
+from ..model.integer_form import Box, Point
+from ..system.errors import UnsupportedModel
 from ..exact.portfolio import Portfolio
 from .watch import KEPT, Over
 from ..exact.search import ImprovedIncumbent
@@ -108,7 +109,7 @@ class Certifying(Contradicting):
         """`optimal` from short numbers, else from a basis, else in fractions; a large program from
         a basis at once. Where its numbers are too wide, a point and a bound in short ones."""
         p = self.model
-        is_large = p.terms.count() > LARGE and can_be_large() and any(p.costs)
+        is_large = p.matrix.count > LARGE and can_be_large() and any(p.costs)
         if is_large and given.basis is not None and given.values is not None:
             yield from self.by_bases([(given.basis, given.doubles())])
         clp, state = self.relaxation(given)
@@ -163,7 +164,7 @@ class Certifying(Contradicting):
     def bases(self, clp: Clp) -> Iterator[Near]:
         """CLP's, then such that come nearer to the exact optimum."""
         yield clp.basis(), clp.values()
-        if self.model.terms.count() <= MOST_REFINED:
+        if self.model.matrix.count <= MOST_REFINED:
             yield from Refining(self.model, clp, self.deadline()).bases()
 
     def by_bases(self, bases: Iterable[Near]) -> Iterator[Verdict]:
@@ -183,7 +184,7 @@ class Certifying(Contradicting):
         """`within` by short numbers, at the first that is near the bound, else at the best."""
         p, note, bound, refused = self.model, self.note, self.shown, ""
         far: list[tuple[Fraction, Point]] = []
-        for by_rows in (False, True) if p.terms.count() <= MOST_REFINED else (False,):
+        for by_rows in (False, True) if p.matrix.count <= MOST_REFINED else (False,):
             for made in short.Rounding(
                 p, clp.saved_basis(), clp.values(), self.deadline(), by_rows
             ).points():

@@ -26,7 +26,7 @@ from ..system.errors import DeadlineExceeded, ProgramFailed
 from ..program.bridge import Bridge
 from ..program.refusal import Refusal
 from ..system.files import new_text
-from ..model.linear_program import Program
+from ..model.linear_program import LinearProgram
 
 WITHOUT = "not proved: "
 NO_POINT = WITHOUT + "no exact point was found near the answer"
@@ -104,7 +104,7 @@ class Judging:
         bridge: Bridge,
         nl: str,
         folder: str,
-        program: Program,
+        program: LinearProgram,
         objective: int,
         watch: Watch,
         proves: bool = True,

@@ -160,7 +160,7 @@ class Rounding:
         p, linear = self.p, self.p.in_doubles()
         lows, highs, lo, hi = linear.row_lower, linear.row_upper, linear.lower, linear.upper
         weights, least = [10 ** (self.most - by) for by in self.more], unit * 10.0**-self.most
-        rooms = [(size / p.row_scale + 1) * least for size in p.terms.sizes(weights)]
+        rooms = [(size / p.row_scale + 1) * least for size in p.matrix.weighted_norms(weights)]
         for i, room in enumerate(rooms):
             if self.tight is None or i in self.tight:
                 lows[i], highs[i] = inner(lows[i], highs[i], room)
@@ -301,7 +301,7 @@ def alone(p: IntegerProgram) -> dict[int, tuple[int, int]]:
     ]
     found: dict[int, tuple[int, int]] = {}
     for j in single:
-        ((i, a),) = p.terms.column(j)
+        ((i, a),) = p.matrix.column(j)
         if p.row_lower[i] is not None and p.row_lower[i] == p.row_upper[i]:
             if i not in found or abs(a) == p.row_scale != abs(found[i][1]):
                 found[i] = j, a
@@ -380,7 +380,7 @@ def met_exactly(p: IntegerProgram, leaf: Multipliers, judged: DualBound) -> Shor
     ]
     for _ in range(ROUNDS):
         system = [
-            ({i: a * p.cost_scale for i, a in p.terms.column(j) if free[i]}, base[j])
+            ({i: a * p.cost_scale for i, a in p.matrix.column(j) if free[i]}, base[j])
             for j in columns
         ]
         moves = solve_exactly(system)

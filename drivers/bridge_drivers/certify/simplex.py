@@ -40,7 +40,7 @@ class Step(NamedTuple):
 
 
 def is_small(p: IntegerProgram) -> bool:
-    return p.m <= MOST_ROWS and p.terms.count() + p.n <= MOST_NUMBERS
+    return p.m <= MOST_ROWS and p.matrix.count + p.n <= MOST_NUMBERS
 
 
 class Simplex(IntegerRows):
@@ -71,7 +71,7 @@ class Simplex(IntegerRows):
             if j not in self.rows and rows:
                 self.look()
                 self.pivot(min(rows, key=lambda b: len(self.rows[b])), j)
-        for k, near in enumerate([*x, *p.terms.activities(x)]):
+        for k, near in enumerate([*x, *p.matrix.activities_in_doubles(x)]):
             if k not in self.rows:
                 self.x[k] = Fraction(
                     nearest_bound(self.lo[k], self.hi[k], near * p.bound_scale) or 0

@@ -21,7 +21,7 @@ from fractions import Fraction
 from typing import Dict, Iterable, List, Mapping, NamedTuple, Optional, Sequence
 
 from ..model.integer_form import Bound, Box, IntegerProgram
-from ..miss import OWN as ROUNDING_OF_A_ROW
+from ..model.analysis import ROUNDING_OF_A_ROW
 from ..formats.numbers import LARGEST_INTEGER
 
 UNIT_ROUNDOFF = 2.0**-53
@@ -154,7 +154,7 @@ def dual_bound(program: IntegerProgram, multipliers: Multipliers, box: Box) -> D
         row_bound = needed_row_bound(program, row, numerator)
         assert row_bound is not None, f"row {row} lacks the bound that its multiplier needs"
         bound += numerator * row_bound * cost_scale * program.row_scale
-    reduced_costs = program.terms.without(costs, multipliers.numerators, cost_scale)
+    reduced_costs = program.matrix.minus_combination(costs, multipliers.numerators, cost_scale)
     unbounded = []
     for column, reduced_cost in enumerate(reduced_costs):
         if reduced_cost:  # most are 0; no call for each, since this is the inner loop of a search

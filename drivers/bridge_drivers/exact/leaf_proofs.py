@@ -278,14 +278,14 @@ def _with_column_repaired(
     else:
         cost_scale = program.cost_scale
         cost = program.costs[column] * multipliers.denominator * program.row_scale
-    entries = program.terms.column(column)
+    entries = program.matrix.column(column)
     reduced_cost = cost - cost_scale * sum(numerators.get(row, 0) * a for row, a in entries)
     if not reduced_cost or (lower if reduced_cost > 0 else upper) is not None:
         return multipliers
     is_free = lower is None and upper is None
 
     def rank(entry: Tuple[int, int]) -> Tuple[bool, int]:
-        return entry[0] not in numerators, program.terms.lengths[entry[0]]
+        return entry[0] not in numerators, program.matrix.lengths[entry[0]]
 
     for row, a in sorted(entries, key=rank):
         found = _absorbed(program, multipliers, row, reduced_cost, cost_scale * a, is_free)

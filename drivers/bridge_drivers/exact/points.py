@@ -14,7 +14,7 @@ from typing import Dict, Iterator, List, Mapping, NamedTuple, Optional, Sequence
 
 from ..model.integer_form import Bound, IntegerProgram, Point
 from ..system.deadline import Deadline
-from ..terms import Pairs
+from ..model.sparse_rows import Pairs
 from .clp import Basis, LpStatus, library
 from .dual_bound import fits_certificate
 from .linear_systems import solve_exactly
@@ -69,10 +69,12 @@ def basic_system(program: IntegerProgram, basis: Basis, x: Sequence[float]) -> B
         for basic, lower, upper, v in zip(is_basic, program.lower, program.upper, x)
     ]
     row_bounds = _row_bounds_near(program, basis.rows, x)
-    activities = program.terms.sums(values)
+    activities = program.matrix.activities(values)
     columns, rows = list(basis.columns), list(row_bounds)
     rhs = [row_bounds[i] * program.row_scale - activities[i] for i in rows]
-    return BasicSystem(columns, rows, values, row_bounds, program.terms.inside(rows, columns), rhs)
+    return BasicSystem(
+        columns, rows, values, row_bounds, program.matrix.submatrix(rows, columns), rhs
+    )
 
 
 def _row_bounds_near(
@@ -80,7 +82,7 @@ def _row_bounds_near(
 ) -> Dict[int, int]:
     """By row its bound near x; rows without a bound are left out."""
     ranged = [i for i in rows if _is_ranged(program.row_lower[i], program.row_upper[i])]
-    entries = program.terms.inside(ranged, range(program.n)) if ranged else []
+    entries = program.matrix.submatrix(ranged, range(program.n)) if ranged else []
     activities = {i: sum([a * x[j] for j, a in row]) for i, row in zip(ranged, entries)}
     found = {}
     for i in rows:

@@ -40,20 +40,16 @@ INTERVALS = {"0": "dd", "1": "d", "2": "d", "3": "", "4": "d", "5": "ii"}
 REAL_SUFFIX = 4  # this bit of a suffix's kind says that its values are doubles
 
 
-class DamagedBinary(ValueError):
-    """The file ends too soon, or has what no .nl file has; the text says what."""
-
-
 def text_of_binary(data: bytes) -> bytes:
     """The same program as text.
 
     Raises:
-        DamagedBinary: It is no binary .nl file, or is one that is cut or damaged.
+        ValueError: It is no binary .nl file, or is one that is cut or damaged; the text says how.
     """
     try:
         return _BinaryReader(data).text()
-    except (struct.error, IndexError, ValueError) as fault:
-        raise DamagedBinary(str(fault)) from None
+    except (struct.error, IndexError) as fault:
+        raise ValueError(str(fault)) from None
 
 
 class _BinaryReader:

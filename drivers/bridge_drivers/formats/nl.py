@@ -12,7 +12,7 @@ from typing import List, NamedTuple, Tuple
 
 from ..system.files import write_new
 from ..system.errors import Damaged, ModelRefused
-from .binary_nl import DamagedBinary, text_of_binary
+from .binary_nl import text_of_binary
 from .numbers import shortest_decimal
 
 HEAD_LINE_LIMIT = 1000  # bytes of a line of the head
@@ -103,7 +103,7 @@ def text_of_nl(
 def _text_of_binary_file(path: str, data: bytes, target: str) -> TextOfNl:
     try:
         text = text_of_binary(data)
-    except DamagedBinary as fault:
+    except ValueError as fault:
         reason = f"the binary .nl file ends too soon or is damaged ({fault})"
         raise Damaged(path, reason) from None
     note = "the binary .nl file was turned into text, which is not proved"

@@ -83,7 +83,7 @@ class _Node:
             texts.append(LEFT_OUT)
         text = self._with_operands(texts)
         if self.is_fault:
-            return _Phrase(MARK_OPENS + _Phrase(text).shortened() + MARK_CLOSES, True)
+            return _Phrase(MARK_OPENS + _Phrase(text).shortened() + MARK_CLOSES, is_marked=True)
         return _Phrase(text, any(operand.is_marked for operand in self.operands))
 
     def _with_operands(self, texts: List[str]) -> str:

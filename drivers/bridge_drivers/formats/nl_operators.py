@@ -27,7 +27,7 @@ class Operator(NamedTuple):
 
 
 def _infix(name: str) -> Operator:
-    return Operator(name, 2, True)
+    return Operator(name, 2, is_infix=True)
 
 
 def _over_list(name: str) -> Operator:

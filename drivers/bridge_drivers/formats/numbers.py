@@ -14,7 +14,7 @@ from functools import lru_cache
 from math import gcd
 from typing import List, NamedTuple, Optional, Sequence, Tuple, Union
 
-from ..system.errors import BridgeError
+from ..system.errors import NotDecimal
 
 Number = Union[int, float, Fraction]
 
@@ -30,10 +30,6 @@ SIGNIFICANT = decimals_module.Context(
 MOST_DIGITS_READ = 4000
 LARGEST_EXPONENT_READ = 9999
 EXPONENT_DIGITS_READ = 6  # with a sign
-
-
-class NotDecimal(BridgeError):
-    """A value or a text that no decimal stands for: infinite, not a number, or too long."""
 
 
 class ScientificNumber(NamedTuple):

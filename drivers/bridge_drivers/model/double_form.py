@@ -8,7 +8,9 @@ from __future__ import annotations
 from array import array
 from typing import Any, Iterable, List, NamedTuple, Optional, Sequence, Tuple
 
-from ..terms import Arrays, Terms, numpy
+import numpy as np
+
+from .sparse_rows import SparseRows
 
 DoubleBound = Optional[float]  # None: there is no such bound
 
@@ -60,18 +62,28 @@ class DoubleProgram(NamedTuple):
     columns: SparseColumns
 
 
-def columns_of(terms: Terms, m: int, scale: int) -> SparseColumns:
-    """The terms of `m` rows divided by their scale; those of a column stand in the order of rows."""
-    if isinstance(terms, Arrays):
-        np = numpy()
-        key = terms.column_of.astype(np.int64) * m + terms.row
-        order = slice(None) if (np.diff(key) > 0).all() else np.argsort(key, kind="stable")
-        starts = np.concatenate([[0], np.cumsum(np.bincount(terms.column_of, minlength=terms.n))])
-        values = np.array([a / scale for a in terms.table])[terms.number[order]]
-        rows = np.ascontiguousarray(terms.row[order])
-        return SparseColumns(starts.astype(np.int32), rows, values)
-    starts, rows, values = array("i", [0]), array("i"), array("d")
-    for column in terms.columns:
+def columns_of(matrix: SparseRows, scale: int) -> SparseColumns:
+    """Coefficients divided by their scale; those of a column stand in the order of rows."""
+    if not matrix.is_large:
+        return _columns_of_lists(matrix, scale)
+    entries = matrix.entries
+    key = entries.columns.astype(np.int64) * matrix.m + entries.rows
+    order = np.arange(len(key))
+    if not (np.diff(key) > 0).all():
+        order = np.argsort(key, kind="stable")
+    counts = np.bincount(entries.columns, minlength=matrix.n)
+    starts = np.concatenate([[0], np.cumsum(counts)])
+    values = np.array([a / scale for a in matrix.table])[entries.numbers[order]]
+    rows = np.ascontiguousarray(entries.rows[order])
+    return SparseColumns(starts.astype(np.int32), rows, values)
+
+
+def _columns_of_lists(matrix: SparseRows, scale: int) -> SparseColumns:
+    """The same of few entries."""
+    starts = array("i", [0])
+    rows = array("i")
+    values = array("d")
+    for column in matrix.columns:
         rows.extend([i for i, _ in column])
         values.extend([a / scale for _, a in column])
         starts.append(len(rows))

@@ -15,25 +15,24 @@ text has its rows multiplied are divided out.
 from __future__ import annotations
 
 import copy
-from array import array
+from dataclasses import dataclass
 from fractions import Fraction
 from functools import cached_property
 from math import gcd, lcm
 from typing import Iterable, Iterator, List, Mapping, NamedTuple, Optional, Sequence, Tuple
 
-from ..mps_reader import OBJECTIVE, Text
-from .double_form import DoubleProgram, SparseColumns, columns_of
-from .linear_program import TIED, TIED_ROW, Program
-from ..terms import Pairs, Terms, entries_of, terms_of
+import numpy as np
+
+from ..formats.mps import OBJECTIVE
 from ..formats.numbers import decimals_over_common_denominator, lowest_terms
+from ..system.errors import UnsupportedModel
+from .double_form import DoubleProgram, SparseColumns, columns_of
+from .linear_program import EPIGRAPH_ROW, LinearProgram
+from .sparse_rows import Entries, Pairs, SparseRows, sparse_rows_of
 
 Bound = Optional[int]  # over a scale; None: there is no such bound
 Bounds = List[Optional[int]]
 Point = List[Fraction]
-
-
-class UnsupportedModel(Exception):
-    """A program that the search does not take; the text says why."""
 
 
 class Row(NamedTuple):
@@ -70,116 +69,58 @@ class ObjectiveLattice(NamedTuple):
     coefficients: dict[int, int]
 
 
+@dataclass(eq=False)
 class IntegerProgram:
     """A program with `n` columns and `m` rows, in whole numbers over three scales.
 
     Attributes:
-        n: The count of columns.
-        m: The count of rows, added ones too.
-        constraint_count: How many rows are the file's own; rows from this one on were added.
         maximise: Whether the file maximises.
-        sign: -1 if the file maximises, else 1: times this a value is the file's own.
         is_integer: By column.
-        terms: Coefficients over `row_scale`.
-        costs: By column, over `cost_scale`.
+        costs: By column, over `cost_scale`; they are minimised.
         constant: Of the objective, over `cost_scale`.
+        matrix: Coefficients over `row_scale`.
         lower: Lower bounds of columns, over `bound_scale`; None: there is none.
         upper: The same from above.
         row_lower: Lower bounds of rows, over `bound_scale`; None: there is none.
         row_upper: The same from above.
+        sign: -1 if the file maximises, else 1: times this a value is the file's own.
+        n: The count of columns.
+        m: The count of rows, added ones too.
+        constraint_count: How many rows are the file's own; rows from this one on were added.
     """
 
-    def __init__(
-        self, given: Program | bytes, factors: Mapping[int, int], constraints: int
-    ) -> None:
-        """Of a program as it is exported.
+    maximise: bool
+    is_integer: List[bool]
+    costs: List[int]
+    constant: int
+    cost_scale: int
+    matrix: SparseRows
+    row_scale: int
+    lower: Bounds
+    upper: Bounds
+    row_lower: Bounds
+    row_upper: Bounds
+    bound_scale: int
+
+    def __post_init__(self) -> None:
+        self.sign = -1 if self.maximise else 1
+        self.n = len(self.lower)
+        self.m = len(self.row_lower)
+        self.constraint_count = self.m
+
+    @staticmethod
+    def of(program: LinearProgram, factors: Mapping[int, int], constraints: int) -> IntegerProgram:
+        """Of a program as solvers read it.
 
         Args:
-            given: The program, or its text.
-            factors: What `export` multiplied rows by, where that is not 1.
+            factors: What `export` multiplied rows by, by their own numbers, where that is not 1.
             constraints: How many rows the file has. Those without bounds are not exported, and have
-                no terms here.
+                no coefficients here.
 
         Raises:
             UnsupportedModel: The columns are not those of a file.
         """
-        program = Program(given) if isinstance(given, bytes) else given
-        is_tied = TIED in program.kinds or TIED in program.columns
-        self.maximise = program.maximise
-        self.sign = -1 if program.maximise else 1
-        self.n = len(program.columns) - is_tied
-        self.m = constraints
-        self.constraint_count = self.m
-        if program.columns[: self.n] != [f"x{j}" for j in range(self.n)]:
-            raise UnsupportedModel("the exported program has other columns than the file")
-        self.is_integer = program.read.whole[: self.n]
-        places = [-1 if name == TIED_ROW else int(name[1:]) for name in program.constraints]
-        self._set_costs(program, places.index(-1) if is_tied else OBJECTIVE)
-        self._set_terms(program.read, places, factors)
-        self._set_bounds(program.read, places, factors)
-
-    def _set_costs(self, program: Program, row: int) -> None:
-        """From the objective, or from the row zdef in which it stands as factor (objective - z) = 0."""
-        read = program.read
-        entries = program.objective if row == OBJECTIVE else entries_of(read.entries(), row)
-        used = sorted(set(entries.numbers))
-        known, factor = decimals_over_common_denominator(
-            [read.rhs.get(row, b"0"), *(read.numbers[k] for k in used)]
-        )
-        over = dict(zip(used, known[1:]))
-        numbers = [known[0], *map(over.__getitem__, entries.numbers)]
-        if row != OBJECTIVE:
-            factor = -numbers.pop()  # of z, the last column
-        sign = self.sign if factor > 0 else -self.sign
-        numbers, self.cost_scale = lowest_terms([sign * v for v in numbers], abs(factor))
-        self.constant = -numbers[0]
-        self.costs = [0] * self.n
-        for j, v in zip(entries.columns, numbers[1:]):
-            self.costs[j] = v
-
-    def _set_terms(self, read: Text, places: Sequence[int], factors: Mapping[int, int]) -> None:
-        number = read.number
-        to = [*places, -1, -1]  # rows that are N stand last
-        used = sorted({k for i, k in zip(read.row, number) if to[i] >= 0})
-        by = [factors.get(i, 1) for i in to]
-        pairs: dict[tuple[int, int], int] = {}
-        if factors:
-            distinct = dict.fromkeys((k, by[i]) for i, k in zip(read.row, number))
-            pairs = {pair: k for k, pair in enumerate(distinct)}
-            number = array("i", [pairs[k, by[i]] for i, k in zip(read.row, number)])
-        whole, scale = decimals_over_common_denominator([read.numbers[k] for k in used])
-        table = [0] * len(read.numbers)
-        for k, v in zip(used, whole):
-            table[k] = v
-        if factors:
-            least = lcm(*by)
-            table = [table[k] * (least // f) for k, f in pairs]
-            scale *= least
-        table, self.row_scale = lowest_terms(table, scale)
-        self.terms = terms_of(self.m, self.n, (read.row, read.column, number), table, to)
-
-    def _set_bounds(self, read: Text, places: Sequence[int], factors: Mapping[int, int]) -> None:
-        low, high = (texts[: self.n] for texts in read.bounds())
-        texts = list({*low, *high} - {b""})
-        ends, scale = decimals_over_common_denominator(texts)
-        *sides, side_scale = read.sides()
-        unit = lcm(scale, side_scale * lcm(1, *factors.values()))
-        by = [unit // (side_scale * factors.get(i, 1)) for i in places]
-        made = [
-            {i: side * u for i, side, u in zip(places, part, by) if i >= 0 and side is not None}
-            for part in sides
-        ]
-        whole_ends = [v * (unit // scale) for v in ends]
-        common = gcd(unit, *whole_ends, *made[0].values(), *made[1].values())
-        self.bound_scale = unit // common
-        over: dict[bytes, Bound] = {text: v // common for text, v in zip(texts, whole_ends)}
-        over[b""] = None
-        self.lower = list(map(over.__getitem__, low))
-        self.upper = list(map(over.__getitem__, high))
-        rows: list[Bounds] = [
-            [part[i] // common if i in part else None for i in range(self.m)] for part in made
-        ]
-        self.row_lower, self.row_upper = rows
+        return _WholeNumbers(program, factors, constraints).program()
 
     @cached_property
     def cost_fractions(self) -> list[Fraction]:
@@ -195,17 +136,17 @@ class IntegerProgram:
     @property
     def rows(self) -> Pairs:
         """By row its columns and coefficients over `row_scale`."""
-        return self.terms.rows
+        return self.matrix.rows
 
     @property
     def by_column(self) -> Pairs:
         """By column its rows and coefficients over `row_scale`."""
-        return self.terms.columns
+        return self.matrix.columns
 
     @cached_property
     def columns(self) -> SparseColumns:
         """The coefficients in doubles."""
-        return columns_of(self.terms, self.m, self.row_scale)
+        return columns_of(self.matrix, self.row_scale)
 
     def with_rows(self, added: Iterable[Row]) -> IntegerProgram:
         """The same program with more rows at its end."""
@@ -218,7 +159,7 @@ class IntegerProgram:
             new.row_lower.append(scaled(row.lower, self.bound_scale))
             new.row_upper.append(scaled(row.upper, self.bound_scale))
         new.m = len(rows)
-        new.terms = Terms(self.n, rows)
+        new.matrix = SparseRows.of_lists(self.n, rows)
         vars(new).pop("columns", None)
         return new
 
@@ -313,7 +254,7 @@ class IntegerProgram:
 
     def violated_rows(self, values: Sequence[int], denominator: int) -> Iterator[Tuple[int, int]]:
         """Each row that misses one of its bounds, with that bound; `values` as above."""
-        activities = self.terms.sums(values)
+        activities = self.matrix.activities(values)
         return violations(activities, self.row_lower, self.row_upper, denominator * self.row_scale)
 
     def value(self, x: Point) -> Fraction:
@@ -358,3 +299,147 @@ def violations(
             yield place, low
         elif high is not None and v > high * denominator:
             yield place, high
+
+
+class _Costs(NamedTuple):
+    """An objective, minimised, over a scale."""
+
+    costs: List[int]
+    constant: int
+    scale: int
+
+
+class _RowsOfFile(NamedTuple):
+    """Coefficients of the file's own rows, over a scale."""
+
+    matrix: SparseRows
+    scale: int
+
+
+class _AllBounds(NamedTuple):
+    """Bounds of columns and of the file's own rows, over one scale."""
+
+    columns: Box
+    rows: Box
+    scale: int
+
+
+class _WholeNumbers:
+    """Turns the numbers of a program into whole ones, each kind over the least scale that it has.
+
+    Attributes:
+        places: By row of the text its own number in the file; -1 of the row that ties z.
+    """
+
+    def __init__(
+        self, program: LinearProgram, factors: Mapping[int, int], constraints: int
+    ) -> None:
+        names = program.names
+        self.given = program
+        self.written = program.written
+        self.factors = factors
+        self.m = constraints
+        self.n = len(names.columns) - names.has_epigraph_column
+        if names.columns[: self.n] != [f"x{j}" for j in range(self.n)]:
+            raise UnsupportedModel("the exported program has other columns than the file")
+        self.places = [-1 if name == EPIGRAPH_ROW else int(name[1:]) for name in names.rows]
+
+    def program(self) -> IntegerProgram:
+        objective = self._costs()
+        matrix, row_scale = self._matrix()
+        bounds = self._bounds()
+        return IntegerProgram(
+            maximise=self.given.maximise,
+            is_integer=self.written.is_integer[: self.n],
+            costs=objective.costs,
+            constant=objective.constant,
+            cost_scale=objective.scale,
+            matrix=matrix,
+            row_scale=row_scale,
+            lower=bounds.columns.lower,
+            upper=bounds.columns.upper,
+            row_lower=bounds.rows.lower,
+            row_upper=bounds.rows.upper,
+            bound_scale=bounds.scale,
+        )
+
+    def _costs(self) -> _Costs:
+        """The objective's own row, or the row zdef, which says: factor (objective - z) = 0."""
+        written = self.written
+        is_tied = self.given.names.has_epigraph_column
+        row = self.places.index(-1) if is_tied else OBJECTIVE
+        chosen = np.flatnonzero(written.entry_rows == row)
+        numbers = written.entry_numbers[chosen].tolist()
+        used = sorted(set(numbers))
+        texts = [written.rhs.get(row, b"0"), *(written.numbers[k] for k in used)]
+        (side, *known), factor = decimals_over_common_denominator(texts)
+        value_of = dict(zip(used, known))
+        values = [value_of[k] for k in numbers]
+        if is_tied:
+            factor = -values.pop()  # of z, the last column
+        sign = -1 if self.given.maximise != (factor < 0) else 1
+        (side, *values), scale = lowest_terms([sign * v for v in (side, *values)], abs(factor))
+        costs = [0] * self.n
+        for column, value in zip(written.entry_columns[chosen].tolist(), values):
+            costs[column] = value
+        return _Costs(costs, -side, scale)
+
+    def _matrix(self) -> _RowsOfFile:
+        """Each number that differs is turned once, and once more for each factor of its rows."""
+        written = self.written
+        row_of = np.array([*self.places, -1, -1], np.int32)  # N rows stand last
+        rows = row_of[written.entry_rows]
+        kept = np.flatnonzero(rows >= 0)
+        numbers = written.entry_numbers[kept]
+        used = np.unique(numbers).tolist()
+        known, scale = decimals_over_common_denominator([written.numbers[k] for k in used])
+        table = [0] * len(written.numbers)
+        for k, value in zip(used, known):
+            table[k] = value
+        if self.factors:
+            # of a number k in a row with the f-th factor, the place k * len(factors) + f
+            factors = sorted({1, *self.factors.values()})
+            place_of = {factor: place for place, factor in enumerate(factors)}
+            by_row = np.array([place_of[self.factors.get(i, 1)] for i in range(self.m)], np.int64)
+            pairs = numbers.astype(np.int64) * len(factors) + by_row[rows[kept]]
+            distinct, inverse = np.unique(pairs, return_inverse=True)
+            numbers = inverse.astype(np.int32)
+            least = lcm(*factors)
+            split = (divmod(pair, len(factors)) for pair in distinct.tolist())
+            table = [table[k] * (least // factors[f]) for k, f in split]
+            scale *= least
+        table, scale = lowest_terms(table, scale)
+        entries = Entries(rows[kept], written.entry_columns[kept], numbers)
+        matrix = sparse_rows_of(self.m, self.n, entries, table, range(self.m))
+        return _RowsOfFile(matrix, scale)
+
+    def _bounds(self) -> _AllBounds:
+        """Rows are divided by their factors, so that the scale may be a multiple of those."""
+        lower, upper = (texts[: self.n] for texts in self.written.bounds())
+        texts = list({*lower, *upper} - {b""})
+        numerators, denominator = decimals_over_common_denominator(texts)
+        rows = self.written.row_bounds()
+        scale = lcm(denominator, rows.denominator * lcm(1, *self.factors.values()))
+        values = [v * (scale // denominator) for v in numerators]
+        row_lower = self._by_own_number(rows.lower, scale // rows.denominator)
+        row_upper = self._by_own_number(rows.upper, scale // rows.denominator)
+        common = gcd(scale, *values, *row_lower.values(), *row_upper.values())
+        value_of: dict[bytes, Bound] = {text: v // common for text, v in zip(texts, values)}
+        value_of[b""] = None
+        own = range(self.m)
+        return _AllBounds(
+            Box(list(map(value_of.__getitem__, lower)), list(map(value_of.__getitem__, upper))),
+            Box(
+                [row_lower[i] // common if i in row_lower else None for i in own],
+                [row_upper[i] // common if i in row_upper else None for i in own],
+            ),
+            scale // common,
+        )
+
+    def _by_own_number(self, bounds: Bounds, scale: int) -> dict[int, int]:
+        """Bounds of the text's rows by their own number, times a scale and over their factor."""
+        return {
+            i: bound * (scale // self.factors.get(i, 1))
+            for i, bound in zip(self.places, bounds)
+            if i >= 0 and bound is not None
+        }

@@ -1,269 +1,316 @@
-"""The program of an MPS text in the form that `bridge export` writes, which all stages take: its names beside what
-`mps_reader` reads of it. Columns are x0, x1, .. in order, and then perhaps z, the tied objective. A text with names of
-its own is written so in its own numbering: the row i of those that are not N is ci, the column j is xj."""
+"""One linear program: what an MPS text says of it, exactly and in doubles.
+
+A text has few numbers that differ. `LinearProgram.written` keeps each once, as it is written, and
+arrays of places; all else is made from that when it is asked for: doubles for messages and for
+HiGHS here, whole numbers for the search in `integer_form`. Other solvers read the text.
+
+A text that `bridge export` writes has the columns x0, x1, .. and the rows c0, c1, .. of the file.
+Where the file's objective is nonlinear, a last column z stands for its value, which the row zdef
+ties to it. A file of MPS has its own names; it is written here once more, in its own numbering.
+"""
 
 from __future__ import annotations
 
 import copy
 import math
-import re
-from array import array
+from dataclasses import dataclass
 from functools import cached_property
-from itertools import compress
-from operator import mul
-from typing import Iterator, Sequence
+from typing import Dict, List, NamedTuple, Optional, Sequence
 
-from ..formats.numbers import read_fraction
-from ..mps_reader import MARKS, OBJECTIVE, OTHER, Text
+import numpy as np
+from numpy.typing import NDArray
+
+from ..formats.mps import OBJECTIVE, MpsColumns, Places, canonical, read_mps, write_mps
 from ..formats.names import NameLists
+from ..formats.numbers import read_fraction
 from ..system.text import first_of, one_line
-from ..terms import Terms, entries_of, terms_of
+from .sparse_rows import Entries, SparseRows, sparse_rows_of
 
-TIED, TIED_ROW = "z", "zdef"
-INFINITE = math.inf
+EPIGRAPH_COLUMN, EPIGRAPH_ROW = "z", "zdef"
 MOST_NAMED = 3  # columns that a note names
-BOUND = re.compile(rb"^ (LO|UP) (\S+) (\S+) (\S*[.eE]\S*)$", re.M)
+BOUNDS_HEADING = b"\nBOUNDS\n"
+
+Doubles = NDArray[np.float64]
 
 
-class Objective:
-    """That of a program in doubles, for messages, never for a claim: a constant and terms."""
+class ObjectiveTerms:
+    """An objective at a point, term by term in doubles: for messages, and never for a claim."""
 
-    def __init__(self, start: float, terms: list[float]) -> None:
-        self.start, self.terms = start, terms
+    def __init__(self, constant: float, terms: Sequence[float]) -> None:
+        self.constant = constant
+        self.terms = terms
 
     @cached_property
     def value(self) -> float:
-        return math.fsum([self.start, *self.terms])
+        return math.fsum([self.constant, *self.terms])
 
     @cached_property
     def largest(self) -> float:
-        return max([abs(term) for term in (self.start, *self.terms)])
+        """The size of the greatest term, the constant among them."""
+        return max([abs(term) for term in (self.constant, *self.terms)])
 
     @cached_property
     def total(self) -> float:
-        """The sum of the sizes of terms without the constant."""
+        """The sum of the sizes of the terms without the constant."""
         return sum([abs(term) for term in self.terms])
 
 
-class Program:
-    """`read` has all numbers by place. `rows` are the names in order, the objective's first, `kinds` their letters (N,
-    E, L, G); `columns` the names in order, `whole` those that are integer. `objective` are its columns and which
-    numbers, `costs` its coefficients as texts, `objective_rhs` is minus its constant. `names` are those of a file that
-    has its own, with `notes` on what other readers take otherwise; else `is_exported`: `bridge export` wrote it, which
-    scales rows and leaves those without sides out."""
+class DoubleCosts(NamedTuple):
+    """The columns of the objective with their coefficients, those that are not 0."""
+
+    columns: Places
+    values: Doubles
+
+
+@dataclass(frozen=True)
+class NameTable:
+    """The names of rows and columns in a text, by place; the N rows are not among them."""
+
+    rows: List[str]
+    columns: List[str]
+
+    @staticmethod
+    def of(written: MpsColumns) -> NameTable:
+        return NameTable(_decoded(written.rows), _decoded(written.columns))
+
+    @property
+    def has_epigraph_column(self) -> bool:
+        """Whether the last column stands for the value of the objective."""
+        return self.columns[-1:] == [EPIGRAPH_COLUMN]
+
+
+class LinearProgram:
+    """A linear program with integer marks, as solvers read it.
+
+    Attributes:
+        text: The program in MPS, as solvers read it.
+        written: Its numbers as they are written there, by place.
+        names: The names in the text.
+        is_exported: Whether `bridge export` wrote the text: it multiplies rows by factors, and
+            leaves out those without bounds.
+        own_names: The names that the user knows, by the file's own numbers.
+        notes: What other readers of a file of MPS take otherwise.
+    """
 
     def __init__(
         self,
         text: bytes,
-        read: Text | None = None,
-        names: NameLists | None = None,
+        written: MpsColumns,
+        own_names: Optional[NameLists] = None,
         notes: Sequence[str] = (),
     ) -> None:
-        self.text, self.read = text, read or Text(text)
-        self.is_exported, self.names, self.notes = names is None, names or NameLists(""), notes
-        self.maximise = self.read.maximise
-        self.constraints = decoded(self.read.constraints)
-        self.columns = decoded(self.read.columns)
-        self.rows = [self.read.objective.decode(), *self.constraints]
-        self.kinds = dict(zip(self.rows, ["N", *self.read.kinds]))
-        self.whole = {name for name, whole in zip(self.columns, self.read.whole) if whole}
-        self.objective_rhs = self.read.rhs.get(OBJECTIVE, b"0").decode()
-        self.objective = entries_of(self.read.entries(), OBJECTIVE)
+        self.text = text
+        self.written = written
+        self.names = NameTable.of(written)
+        self.is_exported = own_names is None
+        self.own_names = own_names or NameLists("")
+        self.notes = notes
+
+    @staticmethod
+    def of(text: bytes) -> LinearProgram:
+        """Of a text that `bridge export` wrote."""
+        return LinearProgram(text, read_mps(text))
+
+    @staticmethod
+    def of_named(text: bytes) -> LinearProgram:
+        """Of a text in the written form with names of its own, as `bridge mps` writes it."""
+        read = read_mps(text)
+        own = canonical(read)
+        rows = [*read.rows, read.objective] if read.objective else read.rows
+        names = NameLists.of(
+            list(map(_shown, rows)), list(map(_shown, read.columns)), len(read.rows)
+        )
+        return LinearProgram(write_mps(own), own, names, _notes_of(read))
+
+    @property
+    def maximise(self) -> bool:
+        return self.written.maximise
+
+    @property
+    def m(self) -> int:
+        """The count of rows."""
+        return len(self.names.rows)
+
+    @property
+    def n(self) -> int:
+        """The count of columns."""
+        return len(self.names.columns)
+
+    @property
+    def is_integer(self) -> List[bool]:
+        """By column."""
+        return self.written.is_integer
 
     @cached_property
-    def costs(self) -> dict[str, str]:
-        numbers = self.read.numbers
-        return {
-            self.columns[j]: numbers[k].decode()
-            for j, k in zip(*self.objective)
-            if numbers[k] != b"0"
-        }
+    def integer_count(self) -> int:
+        """How many columns are integer."""
+        return sum(self.written.is_integer)
+
+    @property
+    def objective_rhs(self) -> str:
+        """Minus the constant of the objective, as it is written."""
+        return self.written.rhs.get(OBJECTIVE, b"0").decode()
+
+    @cached_property
+    def cost_texts(self) -> Dict[int, bytes]:
+        """The coefficients of the objective by column, as they are written, those that are not 0."""
+        numbers = self.written.numbers
+        entries = self._objective
+        pairs = zip(entries.columns.tolist(), entries.numbers.tolist())
+        return {column: numbers[k] for column, k in pairs if numbers[k] != b"0"}
 
     def has_objective(self) -> bool:
         """Whether the objective is anything but the constant 0."""
-        return self.objective_rhs != "0" or any(
-            self.read.numbers[k] != b"0" for k in self.objective.numbers
+        return self.objective_rhs != "0" or bool(self.cost_texts)
+
+    def has_empty_domain(self) -> bool:
+        """Whether an integer column has no whole number between its bounds."""
+        if not self.integer_count:
+            return False
+        return any(
+            is_integer
+            and lower
+            and upper
+            and math.floor(read_fraction(upper)) < math.ceil(read_fraction(lower))
+            for is_integer, lower, upper in zip(self.is_integer, *self.written.bounds())
         )
 
-    def at(self, x: Sequence[float]) -> Objective:
-        columns, costs = self.cost_doubles
-        return Objective(
-            -float(self.objective_rhs), list(map(mul, costs, map(x.__getitem__, columns)))
+    def count_of_huge(self, size: float) -> int:
+        """How many right-hand sides, ranges and bounds are at least of that size."""
+        written = self.written
+        texts = [text for row, text in written.rhs.items() if row != OBJECTIVE]
+        texts += written.ranges.values()
+        for pair in zip(written.lower, written.upper):
+            texts += [bound for bound in set(pair) if bound]
+        is_huge = {text: abs(float(text)) >= size for text in set(texts)}
+        return sum(map(is_huge.__getitem__, texts)) if any(is_huge.values()) else 0
+
+    def with_rounded_bounds(self) -> LinearProgram:
+        """The bounds of integer columns rounded inwards, since GLPK takes no others.
+
+        The program itself where none changes. Only the text is another one.
+        """
+        start = self.text.find(BOUNDS_HEADING)
+        if not self.integer_count or start < 0:
+            return self
+        integers = {
+            name for name, is_integer in zip(self.written.columns, self.is_integer) if is_integer
+        }
+        lines = self.text[start:].split(b"\n")
+        rounded = [_rounded_bound(line, integers) for line in lines]
+        if rounded == lines:
+            return self
+        other = copy.copy(self)
+        other.text = self.text[:start] + b"\n".join(rounded)
+        return other
+
+    @cached_property
+    def matrix(self) -> SparseRows:
+        """The coefficients of rows in doubles."""
+        written = self.written
+        entries = Entries(written.entry_rows, written.entry_columns, written.entry_numbers)
+        no_objectives = [*range(self.m), -1, -1]
+        return sparse_rows_of(self.m, self.n, entries, self._doubles, no_objectives)
+
+    @cached_property
+    def costs(self) -> DoubleCosts:
+        """The objective in doubles."""
+        entries = self._objective
+        values = np.array(self._doubles, dtype=np.float64)[entries.numbers]
+        used = values != 0
+        return DoubleCosts(entries.columns[used], values[used])
+
+    @cached_property
+    def lower(self) -> Doubles:
+        """Lower bounds of columns in doubles, minus infinity where there is none."""
+        return _in_doubles(self.written.bounds()[0], -math.inf)
+
+    @cached_property
+    def upper(self) -> Doubles:
+        """Upper bounds of columns in doubles, infinity where there is none."""
+        return _in_doubles(self.written.bounds()[1], math.inf)
+
+    @cached_property
+    def row_lower(self) -> Doubles:
+        """Lower bounds of rows in doubles, minus infinity where there is none."""
+        lower, _, denominator = self.written.row_bounds()
+        return np.array([-math.inf if v is None else v / denominator for v in lower], np.float64)
+
+    @cached_property
+    def row_upper(self) -> Doubles:
+        """Upper bounds of rows in doubles, infinity where there is none."""
+        _, upper, denominator = self.written.row_bounds()
+        return np.array([math.inf if v is None else v / denominator for v in upper], np.float64)
+
+    def objective_terms(self, x: Sequence[float]) -> ObjectiveTerms:
+        """The objective at values of the columns."""
+        columns, values = self.costs
+        terms = values * np.array(x, dtype=np.float64)[columns]
+        return ObjectiveTerms(-float(self.objective_rhs), terms.tolist())
+
+    @cached_property
+    def _objective(self) -> Entries:
+        """The entries of the objective."""
+        chosen = np.flatnonzero(self.written.entry_rows == OBJECTIVE)
+        written = self.written
+        return Entries(
+            written.entry_rows[chosen],
+            written.entry_columns[chosen],
+            written.entry_numbers[chosen],
         )
 
     @cached_property
-    def cost_doubles(self) -> tuple[array[int], array[float]]:
-        """Columns and coefficients of the objective, but for those that are 0."""
-        known = list(map(float, self.read.numbers))
-        costs = array("d", map(known.__getitem__, self.objective.numbers))
-        if all(costs):
-            return self.objective.columns, costs
-        return array("i", compress(self.objective.columns, costs)), array("d", filter(None, costs))
-
-    def far(self, size: float) -> int:
-        """How many sides, ranges and bounds are at least of that size."""
-        read = self.read
-        sides = [text for i, text in read.rhs.items() if i != OBJECTIVE]
-        ends = [end for pair in zip(read.low, read.high) for end in set(pair) if end]
-        texts = [*sides, *read.ranges.values(), *ends]
-        are_far = {text: abs(float(text)) >= size for text in set(texts)}
-        return sum(map(are_far.__getitem__, texts)) if any(are_far.values()) else 0
-
-    def terms(self) -> Terms:
-        """Of the constraints."""
-        m, numbers = len(self.constraints), list(map(float, self.read.numbers))
-        return terms_of(m, len(self.columns), self.read.entries(), numbers, [*range(m), -1, -1])
-
-    def sides(self) -> tuple[list[float], list[float]]:
-        """Of the constraints, lower and upper."""
-        low, high, scale = self.read.sides()
-        return (
-            [-INFINITE if side is None else side / scale for side in low],
-            [INFINITE if side is None else side / scale for side in high],
-        )
-
-    def bounds(self) -> tuple[list[float], list[float]]:
-        """Of the columns."""
-        texts = self.read.bounds()
-        known = {text: float(text) for part in texts for text in set(part) if text}
-        low, high = (
-            [known.get(text, end) for text in part]
-            for part, end in zip(texts, (-INFINITE, INFINITE))
-        )
-        return low, high
+    def _doubles(self) -> List[float]:
+        """Each number of entries."""
+        return list(map(float, self.written.numbers))
 
 
-def decoded(names: list[bytes]) -> list[str]:
-    """Names and numbers, which hold no ends of lines."""
+def _decoded(names: List[bytes]) -> List[str]:
+    """Names hold no ends of lines, so that all of them are decoded at once."""
     return b"\n".join(names).decode().split("\n") if names else []
 
 
-def given(program: Program, relaxed: bool = False) -> Program:
-    """The bounds of whole columns rounded inwards, since GLPK takes no others; the same program where none changes."""
-    start = program.text.find(b"\nBOUNDS\n")
-    if relaxed or not program.whole or start < 0:
-        return program
-    whole = {name.encode() for name in program.whole}
-
-    def rounded(found: re.Match[bytes]) -> bytes:
-        kind, label, name, text = found.groups()
-        rounds = math.ceil if kind == b"LO" else math.floor
-        return (
-            b" %s %s %s %d" % (kind, label, name, rounds(read_fraction(text)))
-            if name in whole
-            else found.group()
-        )
-
-    other = copy.copy(program)
-    other.text = program.text[:start] + BOUND.sub(rounded, program.text[start:])
-    return program if other.text == program.text else other
+def _in_doubles(texts: List[bytes], infinity: float) -> Doubles:
+    known = {text: float(text) for text in set(texts) if text}
+    return np.array([known.get(text, infinity) for text in texts], np.float64)
 
 
-def is_hollow(program: Program) -> bool:
-    """Whether a whole column has no whole number between its bounds."""
-    ends = zip(program.read.whole, *program.read.bounds()) if program.whole else ()
-    return any(
-        whole and low and high and math.floor(read_fraction(high)) < math.ceil(read_fraction(low))
-        for whole, low, high in ends
-    )
+def _rounded_bound(line: bytes, integers: set[bytes]) -> bytes:
+    """A line ` LO SET COLUMN VALUE` or ` UP ..` of an integer column, its value rounded inwards."""
+    if b"." not in line and b"e" not in line.lower():
+        return line
+    words = line.split(b" ")
+    if len(words) != 5 or words[1] not in (b"LO", b"UP") or words[3] not in integers:
+        return line
+    value = words[4]
+    if not any(mark in value for mark in (b".", b"e", b"E")):
+        return line
+    round_inwards = math.ceil if words[1] == b"LO" else math.floor
+    return b" ".join([*words[:4], b"%d" % round_inwards(read_fraction(value))])
 
 
-def program_of(text: bytes) -> Program:
-    """Of a text in its written form, with the file's own names."""
-    read = Text(text)
-    own = exported(read)
-    rows = [*read.constraints, read.objective] if read.objective else read.constraints
-    names = NameLists.of(
-        list(map(shown, rows)), list(map(shown, read.columns)), len(read.constraints)
-    )
-    return Program(b"\n".join(lines(own)) + b"\n", own, names, notes_of(read))
-
-
-def exported(read: Text) -> Text:
-    """The same as it is exported: without other N rows, ranges as those of rows G and L, and all bounds set."""
-    own, (low, high) = copy.copy(read), read.bounds()
-    own.objective, own.low, own.high = b"obj", list(low), list(high)
-    own.constraints = [b"c%d" % i for i in range(len(read.constraints))]
-    own.columns = [b"x%d" % j for j in range(len(read.columns))]
-    own.kinds, own.ranges = list(read.kinds), {}
-    own.rhs = {
-        i: text for i, text in read.rhs.items() if i >= 0 or i == OBJECTIVE and read_fraction(text)
-    }
-    for i, text in read.ranges.items():
-        if i >= 0 and (read.kinds[i] != "E" or read_fraction(text)):
-            own.ranges[i] = text.lstrip(b"-")
-            if read.kinds[i] == "E":
-                own.kinds[i] = "L" if text.startswith(b"-") else "G"
-    if OTHER in read.row:
-        kept = [i != OTHER for i in read.row]
-        own.row, own.column, own.number = (
-            array("i", compress(numbers, kept)) for numbers in (read.row, read.column, read.number)
-        )
-    return own
-
-
-def lines(own: Text) -> Iterator[bytes]:
-    rows = [*own.constraints, own.objective]
-    yield from (b"NAME nl", *((b"OBJSENSE", b" MAX") if own.maximise else ()), b"ROWS", b" N obj")
-    yield from (b" %s %s" % (kind.encode(), row) for kind, row in zip(own.kinds, rows))
-    yield b"COLUMNS"
-    yield from column_lines(own, rows)
-    yield b"RHS"
-    yield from (b" RHS %s %s" % (rows[i], text) for i, text in own.rhs.items())
-    yield from (b"RANGES",) * bool(own.ranges)
-    yield from (b" RNG %s %s" % (rows[i], text) for i, text in own.ranges.items())
-    yield from (b"BOUNDS",) * bool(own.columns)
-    for column, low, high in zip(own.columns, own.low, own.high):
-        yield from bound_lines(column, low, high)
-    yield b"ENDATA"
-
-
-def column_lines(own: Text, rows: list[bytes]) -> Iterator[bytes]:
-    """Whole ones between markers; each has a line."""
-    entries: list[list[bytes]] = [[] for _ in own.columns]
-    for i, j, k in zip(own.row, own.column, own.number):
-        entries[j].append(b" x%d %s %s" % (j, rows[i], own.numbers[k]))
-    marks, in_whole = 0, False
-    for j, (whole, written) in enumerate(zip(own.whole, entries)):
-        if whole != in_whole:
-            yield b" M%d 'MARKER' %s" % (marks, MARKS[int(in_whole)])
-            marks, in_whole = marks + 1, whole
-        yield from written or [b" x%d obj 0" % j]
-    if in_whole:
-        yield b" M%d 'MARKER' %s" % (marks, MARKS[1])
-
-
-def bound_lines(column: bytes, low: bytes | None, high: bytes | None) -> Iterator[bytes]:
-    if low and low == high:
-        yield b" FX BND %s %s" % (column, low)
-    elif not low and not high:
-        yield b" FR BND %s" % column
-    else:
-        yield b" LO BND %s %s" % (column, low) if low else b" MI BND %s" % column
-        yield b" UP BND %s %s" % (column, high) if high else b" PL BND %s" % column
-
-
-def notes_of(read: Text) -> list[str]:
+def _notes_of(read: MpsColumns) -> List[str]:
     """On columns whose bounds other readers take otherwise."""
-    bare = [
-        shown(name)
-        for name, whole, low, high in zip(read.columns, read.whole, read.low, read.high)
-        if whole and low is None and high is None
+    columns = zip(read.columns, read.is_integer, read.lower, read.upper)
+    without_bounds = [
+        _shown(name)
+        for name, is_integer, lower, upper in columns
+        if is_integer and lower is None and upper is None
     ]
-    below = [shown(read.columns[j]) for j in read.without_low()]
-    told = (
-        [
-            f"whole columns without bounds go from 0 on: {first_of(bare, MOST_NAMED)}; cbc and "
-            "glpsol, where they read the file, take 0 and 1 for their bounds"
-        ]
-        if bare
-        else []
-    )
-    return told + [
-        "columns with an upper bound below 0 and no lower one have no lower end: "
-        + first_of(below, MOST_NAMED)
-    ] * bool(below)
+    negative = [_shown(read.columns[column]) for column in read.negative_upper_bounds()]
+    notes = []
+    if without_bounds:
+        notes.append(
+            f"whole columns without bounds go from 0 on: {first_of(without_bounds, MOST_NAMED)}; "
+            "cbc and glpsol, where they read the file, take 0 and 1 for their bounds"
+        )
+    if negative:
+        notes.append(
+            "columns with an upper bound below 0 and no lower one have no lower end: "
+            + first_of(negative, MOST_NAMED)
+        )
+    return notes
 
 
-def shown(name: bytes) -> str:
+def _shown(name: bytes) -> str:
     return one_line(name.decode("utf-8", "surrogateescape"))

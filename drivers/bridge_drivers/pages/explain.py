@@ -8,7 +8,8 @@ from ..exact.certificate import Certificate, read_certificate
 from ..formats.file_kinds import model_kind_of_start
 from ..formats.source import Source
 from ..inputs import Subject
-from ..model.integer_form import IntegerProgram, UnsupportedModel
+from ..model.integer_form import IntegerProgram
+from ..system.errors import UnsupportedModel
 from ..pipeline.row_factors import whole_form
 from ..program.bridge import sha256_of_file
 from ..program.refusal import Refusal

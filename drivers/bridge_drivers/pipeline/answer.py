@@ -10,11 +10,10 @@ from itertools import islice
 from typing import Iterable, Iterator, Mapping, Sequence
 
 from ..system.codes import Code
-from ..miss import NONE, Miss, miss, missing
-from ..model.linear_program import Objective, Program
+from ..model.analysis import NO_RESIDUAL, Residual, residual_of, worst_residual
+from ..model.linear_program import LinearProgram, ObjectiveTerms
 from ..solvers.base import SolverAnswer, SolverStatus
 from ..formats.numbers import Number, decimals, nearest_double, require_finite
-from ..model.named_values import NamedValues
 from .settings import Settings
 
 NEAR_WHOLE = 1e-5  # from a whole number: so near, a value of an integer column is meant to be it
@@ -48,10 +47,10 @@ class Answer:
         rounded_values: How many values are only the nearest decimals of fractions.
         rounded_duals: How many duals are.
         distances: Of the integer columns that are not near a whole number, how far they are from one.
-        near_whole: The columns whose values are meant to be whole numbers.
+        rounds_integers: Whether values of integer columns are meant to be whole numbers.
     """
 
-    def __init__(self, program: Program, found: SolverAnswer, settings: Settings) -> None:
+    def __init__(self, program: LinearProgram, found: SolverAnswer, settings: Settings) -> None:
         self.program = program
         self.found = found
         self.settings = settings
@@ -63,7 +62,7 @@ class Answer:
         self.rounded_duals = 0
         self.distances: list[float] = []
         rounds = settings.round_integers and not settings.solver_settings.relax
-        self.near_whole = program.whole if rounds else set()
+        self.rounds_integers = rounds and program.integer_count > 0
         if found.values is not None:
             self.values, self.rounded_values = decimals(self._with_integers(found.values))
         if found.duals is not None:
@@ -74,7 +73,7 @@ class Answer:
     @property
     def is_continuous(self) -> bool:
         """Whether no column had to be a whole number."""
-        return not self.program.whole or self.settings.solver_settings.relax
+        return not self.program.integer_count or self.settings.solver_settings.relax
 
     @property
     def reduced_cost_texts(self) -> Sequence[str] | None:
@@ -90,23 +89,23 @@ class Answer:
         return list(map(known.__getitem__, texts))
 
     @cached_property
-    def objective_terms(self) -> Objective:
+    def objective_terms(self) -> ObjectiveTerms:
         """The objective in doubles at the values that are written."""
-        return self.program.at(self.doubles)
+        return self.program.objective_terms(self.doubles)
 
     @cached_property
-    def residual(self) -> Miss:
+    def residual(self) -> Residual:
         """By how much the values that are written miss the program, where they miss it most."""
         if self.distances:
-            return missing(max(self.distances), "a whole number")
+            return residual_of(max(self.distances), "a whole number")
         if self.values is None:
-            return NONE
-        return miss(self.program, NamedValues(self.program.columns, self.values), self.near_whole)
+            return NO_RESIDUAL
+        return worst_residual(self.program, self.values, wants_integers=self.rounds_integers)
 
     def is_usable(self) -> bool:
         """Whether it says what the program is, and does not miss it by much."""
         is_clear = self.code != Code.INFEASIBLE_OR_UNBOUNDED
-        return is_clear and not self.residual.is_much()
+        return is_clear and not self.residual.is_significant()
 
     def notes(self) -> list[str]:
         """Lines on values that are not what they should be."""
@@ -188,7 +187,7 @@ class Answer:
         self, values: Sequence[Number], duals: Mapping[int, Fraction], code: Code
     ) -> Answer:
         """At other values, with the proved duals where there is one for each row, and what they leave of the costs."""
-        has_duals = len(duals) == len(self.program.constraints) and self.is_continuous
+        has_duals = len(duals) == len(self.program.names.rows) and self.is_continuous
         given = [duals[row] for row in sorted(duals)] if has_duals else None
         found = replace(
             self.found,
@@ -213,10 +212,10 @@ class Answer:
 
     def _with_integers(self, values: Sequence[Number]) -> Sequence[Number]:
         """The values, integer columns at the whole numbers that they are near."""
-        if not self.near_whole:
+        if not self.rounds_integers:
             return values
         found = list(values)
-        for column, is_whole in enumerate(self.program.read.whole):
+        for column, is_whole in enumerate(self.program.written.is_integer):
             value = values[column]
             if is_whole and abs(float(value)) < float("inf"):
                 nearest = round(value)
@@ -230,7 +229,7 @@ class Answer:
     @cached_property
     def _body(self) -> bytes:
         """The lines of the numbers."""
-        columns, rows = self.program.columns, self.program.constraints
+        columns, rows = self.program.names.columns, self.program.names.rows
         parts: list[Iterator[bytes]] = []
         if self.values is not None:
             parts.append(_lines("col %s %s\n", zip(columns, self.values)))
@@ -247,13 +246,15 @@ class Answer:
         return b"".join(piece for part in parts for piece in part)
 
 
-def exact_reduced_costs(program: Program, duals: Sequence[Fraction]) -> list[Fraction]:
+def exact_reduced_costs(program: LinearProgram, duals: Sequence[Fraction]) -> list[Fraction]:
     """What duals, one for each row, leave of the costs: c - A'y."""
-    numbers = list(map(Fraction, map(bytes.decode, program.read.numbers)))
-    costs = [Fraction(0)] * len(program.columns)
-    for column, number in zip(*program.objective):
-        costs[column] = numbers[number]
-    for row, column, number in zip(*program.read.entries()):
+    numbers = list(map(Fraction, map(bytes.decode, program.written.numbers)))
+    costs = [Fraction(0)] * len(program.names.columns)
+    for column, text in program.cost_texts.items():
+        costs[column] = Fraction(text.decode())
+    written = program.written
+    places = (written.entry_rows, written.entry_columns, written.entry_numbers)
+    for row, column, number in zip(*(part.tolist() for part in places)):
         if row >= 0 and duals[row]:
             costs[column] -= duals[row] * numbers[number]
     return costs

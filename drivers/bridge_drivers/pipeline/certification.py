@@ -14,8 +14,8 @@ from ..exact.worker_pools import open_pool
 from ..certify.claims import WITHOUT, Certifying, Given, Verdict, certified
 from ..exact.certificate import lines_of_answer
 from ..certify.watch import Watch
-from ..miss import ROUNDING, miss
-from ..model.linear_program import TIED, TIED_ROW
+from ..model.analysis import TOLERANCE_OF_INTEGERS, worst_residual
+from ..model.linear_program import EPIGRAPH_COLUMN, EPIGRAPH_ROW
 from ..program.bridge import Bridge
 from ..program.refusal import Refusal
 from ..program.verdict import Claim, Statement, objective_lattice, sentence, statement_of
@@ -23,7 +23,6 @@ from ..sol import numbers_of
 from ..solvers.base import BasisStatus, SolverStatus
 from ..solvers.run import SolverRun
 from ..formats.numbers import decimal, decimal_or_fraction
-from ..model.named_values import NamedValues
 from .answer import Answer
 from .monitor import Monitor
 from .settings import CERTIFICATE_SECONDS, Settings
@@ -87,7 +86,7 @@ class AnswerCertifier:
         self.monitor = monitor
         self.program = run.program
         self.is_mps = not run.program.is_exported
-        self.is_relaxed = bool(run.program.whole) and run.settings.relax
+        self.is_relaxed = bool(run.program.integer_count) and run.settings.relax
         self.is_interrupted = False
         self.pool_note = ""
         self.store = CertificateStore(
@@ -146,7 +145,7 @@ class AnswerCertifier:
     def _values_of_file(self, answer: Answer) -> list[str]:
         """The values of the file's variables: exported columns are these, and perhaps the objective's value."""
         values = list(answer.values or ())
-        return values[:-1] if self.program.columns[-1:] == [TIED] else values
+        return values[:-1] if self.program.names.columns[-1:] == [EPIGRAPH_COLUMN] else values
 
     def _judged_values(self, values: Sequence[str]) -> str:
         """What the proved program says of a certificate that has values alone, in words."""
@@ -244,15 +243,15 @@ class AnswerCertifier:
         The column and the row that stand for a nonlinear objective's value are left out.
         """
         program, found = self.program, answer.found
-        count = len(program.columns) - (program.columns[-1:] == [TIED])
-        rows = [row for row, name in enumerate(program.constraints) if name != TIED_ROW]
-        numbers = {row: int(program.constraints[row][1:]) for row in rows}
+        count = len(program.names.columns) - (program.names.columns[-1:] == [EPIGRAPH_COLUMN])
+        rows = [row for row, name in enumerate(program.names.rows) if name != EPIGRAPH_ROW]
+        numbers = {row: int(program.names.rows[row][1:]) for row in rows}
         values: list[float | Fraction] | None = None
         if found.values is not None and answer.values is not None:
             exact_or_double = (float, Fraction)
             values = [v if type(v) in exact_or_double else float(v) for v in found.values[:count]]
-            if program.whole and not self.is_relaxed:
-                marked = zip(answer.values, program.read.whole, values)
+            if program.integer_count and not self.is_relaxed:
+                marked = zip(answer.values, program.written.is_integer, values)
                 values = [Fraction(text) if is_whole else v for text, is_whole, v in marked]
         duals = None
         if found.duals is not None:
@@ -319,12 +318,11 @@ class AnswerCertifier:
 
     def broken_words(self, answer: Answer, verdict: Verdict, told: str) -> str:
         """By how much the values miss what they break."""
-        values = NamedValues(self.program.columns, answer.values or [])
-        share = max(miss(self.program, values).share, LEAST_SHARE)
+        share = max(worst_residual(self.program, answer.values or []).relative, LEAST_SHARE)
         by = f"missed by more than {share:.2g} of its largest term"
         if verdict.is_proved() and verdict.point is not None and answer.rounded_values:
             return f"it has the exact point in decimals; no row or bound is {by}"
-        if share <= ROUNDING:
+        if share <= TOLERANCE_OF_INTEGERS:
             return f"no row or bound is {by}, which is rounding"
         return f"{told}; no row or bound is {by}"
 
@@ -358,7 +356,7 @@ class AnswerCertifier:
 
     def named_part(self, kind: str, number: int) -> str:
         """A constraint (of the kind `row`) or variable, by its name where there is one."""
-        names = self.program.names
+        names = self.program.own_names
         return names.constraint(number) if kind == "row" else names.variable(number)
 
     def named_place(self, exported: str) -> str:

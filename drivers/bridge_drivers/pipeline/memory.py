@@ -7,11 +7,11 @@ from dataclasses import replace
 from typing import Union
 
 from ..formats.source import Source, Workspace, read_model
-from ..model.linear_program import Program
+from ..model.linear_program import LinearProgram
 from ..system.files import write_new
 
 GivenModel = Union[
-    str, "os.PathLike[str]", bytes, Program
+    str, "os.PathLike[str]", bytes, LinearProgram
 ]  # a path, the bytes of a file, a program
 NAME_IN_MEMORY = "the given model"
 
@@ -22,7 +22,7 @@ def read_given_model(model: GivenModel, workspace: Workspace) -> Source:
     Bytes and programs are read from a private file, beside which nothing is written; what they are is
     told by their first bytes. Programs are judged as the MPS text that solvers get.
     """
-    if isinstance(model, Program):
+    if isinstance(model, LinearProgram):
         model = model.text
     if not isinstance(model, bytes):
         return read_model(os.fspath(model), workspace)
@@ -32,4 +32,4 @@ def read_given_model(model: GivenModel, workspace: Workspace) -> Source:
 
 def is_in_memory(model: GivenModel) -> bool:
     """Whether no file can stand beside a model."""
-    return isinstance(model, (bytes, Program))
+    return isinstance(model, (bytes, LinearProgram))

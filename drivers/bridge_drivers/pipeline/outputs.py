@@ -32,11 +32,11 @@ def named_duals(answer: Answer | None) -> NamedTexts:
     """The duals of the file's constraints."""
     if answer is None or answer.duals is None:
         return []
-    name_of = answer.program.names.row
+    name_of = answer.program.own_names.row
     has_names = bool(name_of(0))
     return [
         ((name_of(int(name[1:])) if has_names else "") or name, text)
-        for name, text in zip(answer.program.constraints, answer.duals)
+        for name, text in zip(answer.program.names.rows, answer.duals)
         if name[1:].isdigit()
     ]
 
@@ -45,11 +45,11 @@ def _by_column(answer: Answer | None, texts: Sequence[str] | None) -> NamedTexts
     """Not of the column that stands for the value of a nonlinear objective."""
     if answer is None or texts is None:
         return []
-    name_of = answer.program.names.column
+    name_of = answer.program.own_names.column
     has_names = bool(name_of(0))
     return [
         ((name_of(int(name[1:])) if has_names else "") or name, text)
-        for name, text in zip(answer.program.columns, texts)
+        for name, text in zip(answer.program.names.columns, texts)
         if name[1:].isdigit()
     ]
 

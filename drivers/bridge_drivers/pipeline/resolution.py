@@ -9,8 +9,13 @@ from typing import Mapping, NamedTuple, Sequence
 
 from ..certify.claims import Verdict
 from ..system.codes import Code
-from ..miss import NONE, OWN, ROUNDING, Miss
-from ..model.linear_program import TIED, Objective
+from ..model.analysis import (
+    NO_RESIDUAL,
+    ROUNDING_OF_A_ROW,
+    TOLERANCE_OF_INTEGERS,
+    Residual,
+)
+from ..model.linear_program import EPIGRAPH_COLUMN, ObjectiveTerms
 from ..program.verdict import Claim, Statement, statement_of
 from ..formats.numbers import nearest_double
 from .answer import Answer
@@ -40,7 +45,7 @@ class RunFacts(NamedTuple):
         is_strict: What is not proved is not solved.
     """
 
-    residual: Miss = NONE
+    residual: Residual = NO_RESIDUAL
     gap: float = 0.0
     is_checked: bool = True
     is_strict: bool = False
@@ -75,7 +80,7 @@ class ProvedPoint(NamedTuple):
     """
 
     values: Sequence[Fraction]
-    objective: Objective
+    objective: ObjectiveTerms
     has_other_objective: bool
     kind: str
 
@@ -102,7 +107,7 @@ def findings_of(
 ) -> Findings:
     """What decides on the code."""
     said = statement_of(verdict.line) if verdict.is_proved() else None
-    is_mixed = bool(answer.program.whole)
+    is_mixed = bool(answer.program.integer_count)
     is_same = proved is not None and not proved.kind
     return Findings(
         said=answer.code,
@@ -128,12 +133,12 @@ def findings_of(
     )
 
 
-def violation_of(answer: Answer, residual: Miss) -> Violation:
+def violation_of(answer: Answer, residual: Residual) -> Violation:
     """How much a residual is. Rows of integer columns are to be met but for far less than others."""
-    if residual.is_much():
+    if residual.is_significant():
         return Violation.MUCH
-    rounding = OWN if answer.is_continuous else ROUNDING
-    return Violation.LITTLE if residual.share > rounding else Violation.NOTHING
+    rounding = ROUNDING_OF_A_ROW if answer.is_continuous else TOLERANCE_OF_INTEGERS
+    return Violation.LITTLE if residual.relative > rounding else Violation.NOTHING
 
 
 def meets_bound(answer: Answer, proved: ProvedPoint | None, said: Statement) -> bool:
@@ -166,10 +171,10 @@ def proved_point(answer: Answer, verdict: Verdict) -> ProvedPoint | None:
         return None
     program = answer.program
     values: Sequence[Fraction] = verdict.point
-    if program.columns[-1:] == [TIED] and verdict.value is not None:
+    if program.names.columns[-1:] == [EPIGRAPH_COLUMN] and verdict.value is not None:
         values = [*values, verdict.value]
     doubles = nearest_doubles(values)
-    objective = program.at(doubles)
+    objective = program.objective_terms(doubles)
     if answer.values is None:
         return ProvedPoint(values, objective, False, "a")
     is_apart = have_other_values(answer.objective_terms, objective)
@@ -181,14 +186,14 @@ def proved_duals(answer: Answer, verdict: Verdict) -> dict[int, Fraction]:
     """The duals of a certificate of one leaf, by row."""
     if not verdict.duals:
         return {}
-    rows = enumerate(answer.program.constraints)
+    rows = enumerate(answer.program.names.rows)
     numbers = {row: int(name[1:]) for row, name in rows if name[1:].isdigit()}
     return {
         row: verdict.duals[number] for row, number in numbers.items() if number in verdict.duals
     }
 
 
-def kind_beside(answer: Answer, doubles: Sequence[float], objective: Objective) -> str:
+def kind_beside(answer: Answer, doubles: Sequence[float], objective: ObjectiveTerms) -> str:
     """What a point of another objective is beside the answer.
 
     "" where each value is the same up to the digits that solvers print.
@@ -200,7 +205,7 @@ def kind_beside(answer: Answer, doubles: Sequence[float], objective: Objective) 
     return "a better" if is_more == answer.program.maximise else "another"
 
 
-def have_other_values(old: Objective, new: Objective) -> bool:
+def have_other_values(old: ObjectiveTerms, new: ObjectiveTerms) -> bool:
     """Whether two objectives are not the same in doubles."""
     size = max(old.largest, new.largest, abs(old.value))
     return abs(old.value - new.value) > RELATIVE_DIFFERENCE * size

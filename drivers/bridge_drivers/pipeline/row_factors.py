@@ -12,8 +12,9 @@ from fractions import Fraction
 from typing import Dict, NamedTuple, Sequence
 
 from ..system.files import write_new
-from ..model.integer_form import IntegerProgram, UnsupportedModel
-from ..model.linear_program import TIED_ROW, Program
+from ..model.integer_form import IntegerProgram
+from ..system.errors import UnsupportedModel
+from ..model.linear_program import EPIGRAPH_ROW, LinearProgram
 from ..formats.nl import read_header
 from ..program.bridge import Bridge
 from ..sol import numbers_of
@@ -69,19 +70,19 @@ def has_division(nl: str) -> bool:
     return False
 
 
-def whole_form(bridge: Bridge, nl: str, program: Program) -> WholeForm:
+def whole_form(bridge: Bridge, nl: str, program: LinearProgram) -> WholeForm:
     """A file's program in whole numbers.
 
     Raises:
         UnsupportedModel: The search does not take it.
     """
-    names = [name for name in program.constraints if name != TIED_ROW]
+    names = [name for name in program.names.rows if name != EPIGRAPH_ROW]
     if not program.is_exported:
-        return WholeForm(IntegerProgram(program, {}, len(names)), {})
+        return WholeForm(IntegerProgram.of(program, {}, len(names)), {})
     known = {
         int(row[1:]): Fraction(factor) for row, factor in factors_of(bridge, nl, names).items()
     }
     if any(factor.denominator != 1 or factor < 0 for factor in known.values()):
         raise UnsupportedModel("a row's factor is not whole")
     factors = {i: int(factor) for i, factor in known.items() if factor > 1}
-    return WholeForm(IntegerProgram(program, factors, read_header(nl).constraints), factors)
+    return WholeForm(IntegerProgram.of(program, factors, read_header(nl).constraints), factors)

@@ -15,7 +15,7 @@ from ..formats.file_kinds import model_kind_of_start
 from ..formats.source import Source
 from ..system.files import OutputFiles, new_folder_in, private_folder
 from ..system.signals import SIGNALS, Interrupted
-from ..model.linear_program import Program, given, is_hollow
+from ..model.linear_program import LinearProgram
 from ..formats.names import NameLists
 from ..formats.nl import read_header, text_of_nl
 from ..program.bridge import Bridge, ModelForm, find_program
@@ -37,11 +37,11 @@ from ..system.errors import (
     NotStarted,
     ProgramFailed,
     SolverFailed,
+    NotDecimal,
     TakesNoIntegers,
     UnclearAnswer,
     UnusableAnswer,
 )
-from ..formats.numbers import NotDecimal
 from .answer import Answer
 from .certification import AnswerCertifier, Returned
 from .monitor import LOGGER, Monitor
@@ -132,7 +132,7 @@ class ReadProgram(NamedTuple):
     """
 
     path: str
-    program: Program
+    program: LinearProgram
     notes: Sequence[str]
 
 
@@ -195,7 +195,7 @@ class SolveRun:
             program = read_program.program
             relax = self.settings.solver_settings.relax
             path = f"{self.source.stub}.{self.solver.name}.mps"
-            text = self.solver.mps_text(given(program, relax))
+            text = self.solver.mps_text(program if relax else program.with_rounded_bounds())
             files = OutputFiles([self.source.path], model_kind_of_start, overwrite=overwrite)
             files.write(path, text)
         title = self.solver.title
@@ -262,8 +262,8 @@ class SolveRun:
         except Refusal as fault:
             return self._refused(fault, path)
         relax = self.settings.solver_settings.relax
-        if program.whole and not self.solver.takes_integers and not relax:
-            raise TakesNoIntegers(self.solver.title, len(program.whole))
+        if program.integer_count and not self.solver.takes_integers and not relax:
+            raise TakesNoIntegers(self.solver.title, program.integer_count)
         return ReadProgram(path, program, notes)
 
     def _prepared(self, target: str) -> tuple[str, list[str]]:
@@ -280,7 +280,7 @@ class SolveRun:
             )
         return self.source.path, []
 
-    def _exported(self, path: str) -> Program:
+    def _exported(self, path: str) -> LinearProgram:
         """An MPS file's own program, with what the proved program makes of the file."""
         if self.source.is_mps:
             with self.monitor.timing("reading"):
@@ -293,8 +293,8 @@ class SolveRun:
             program.notes = [*found.notes, *program.notes]
             return program
         with self.monitor.timing("export"):
-            program = Program(self.bridge.export(path, self.settings.objective))
-        program.names = NameLists(self.source.stub)
+            program = LinearProgram.of(self.bridge.export(path, self.settings.objective))
+        program.own_names = NameLists(self.source.stub)
         return program
 
     def _refused(self, fault: Refusal, path: str) -> Outcome:
@@ -344,7 +344,7 @@ class AnsweredRun:
 
     def answer(self) -> Answer:
         """What the solver answers. Where that misses the model by much, or says little, it is asked once more."""
-        if not self.run.settings.relax and is_hollow(self.run.program):
+        if not self.run.settings.relax and self.run.program.has_empty_domain():
             title = self.solver.title
             note = f"{title} was not asked: a whole variable has no whole number between its bounds"
             found = SolverAnswer(SolverStatus.INFEASIBLE, "infeasible", notes=[note])
@@ -413,9 +413,9 @@ class AnsweredRun:
         """The .sol by `bridge return`, with a message whose last line is the verdict."""
         judge, residual = self.judge, answer.residual
         lines = [*self.notes, *answer.found.notes, *self.solver.huge_notes(self.run.program)]
-        if residual.is_much():
+        if residual.is_significant():
             place = judge.named_place(residual.name)
-            lines.append(f"its point misses {place} by {residual.share:.2g} of the largest term")
+            lines.append(f"its point misses {place} by {residual.relative:.2g} of the largest term")
         verdict = self._verdict(answer)
         if verdict.contradicted and answer.code == Code.SOLVED:
             other = self._retried(words_of_first(answer.found))

@@ -8,8 +8,8 @@ from typing import List, Mapping, NamedTuple, Optional, Sequence, Tuple
 
 from ..formats.file_kinds import model_kind_of_start
 from ..formats.numbers import read_fraction
-from ..model.linear_program import Program, program_of
-from ..mps_reader import Text
+from ..model.linear_program import LinearProgram
+from ..formats.mps import MpsColumns, read_mps
 from ..system.codes import ExitStatus
 from ..system.files import OutputFiles, write_new
 from .bridge import Bridge, ModelForm
@@ -121,7 +121,7 @@ def has_blank_name(path: str, number: int) -> bool:
     return not is_head and any(len(line[start:end].split()) > 1 for start, end in FIELDS_OF_NAMES)
 
 
-def program_of_mps(bridge: Bridge, path: str, trial: str, read: MpsText) -> Program:
+def program_of_mps(bridge: Bridge, path: str, trial: str, read: MpsText) -> LinearProgram:
     """The program of an MPS file. From now on certificates are judged over it in its form.
 
     Args:
@@ -133,14 +133,14 @@ def program_of_mps(bridge: Bridge, path: str, trial: str, read: MpsText) -> Prog
     Raises:
         Refusal: The file has no linear program. That is asked only where it may be so.
     """
-    program = program_of(read.text)
+    program = LinearProgram.of_named(read.text)
     bridge.forms[path] = read.form
-    if not is_surely_linear_program(program.read):
+    if not is_surely_linear_program(program.written):
         _try_to_judge(bridge, path, write_new(trial, TRIAL_CERTIFICATE), program)
     return program
 
 
-def _try_to_judge(bridge: Bridge, path: str, certificate: str, program: Program) -> None:
+def _try_to_judge(bridge: Bridge, path: str, certificate: str, program: LinearProgram) -> None:
     """Refused where the program judges nothing over the file; the line has the file's names."""
     command = bridge.forms[path].judge.value
     reply = bridge.call(command, path, certificate)
@@ -150,19 +150,19 @@ def _try_to_judge(bridge: Bridge, path: str, certificate: str, program: Program)
     refusal.place = reply.told.removeprefix("refused ").partition(":")[0]
     kind, _, number = refusal.place.partition(" ")
     if number.isdigit() and kind == "row":
-        refusal.name = program.names.row(int(number))
+        refusal.name = program.own_names.row(int(number))
     elif number.isdigit() and kind == "column":
-        refusal.name = program.names.column(int(number))
+        refusal.name = program.own_names.column(int(number))
     raise refusal
 
 
-def is_surely_linear_program(read: Text) -> bool:
+def is_surely_linear_program(read: MpsColumns) -> bool:
     """Whether a text has a linear program whose numbers the proved program holds.
 
     Where it has none, which `verify_mps` would say at each certificate, this is false. It is false
     of some others, too: it looks at sizes, at the bounds of columns, and at each number by itself.
     """
-    if max(len(read.constraints), len(read.columns)) > MOST_ROWS or len(read.row) > MOST_ENTRIES:
+    if max(len(read.rows), len(read.columns)) > MOST_ROWS or len(read.entry_rows) > MOST_ENTRIES:
         return False
     low, high = read.bounds()
     for lower, upper in set(zip(low, high)):
@@ -205,19 +205,19 @@ def lists_of_names(text: bytes) -> Tuple[List[bytes], List[bytes]]:
     Returns:
         The names of constraints, then of the objective; those of variables.
     """
-    read = Text(text)
+    read = read_mps(text)
     objective = [read.objective] if read.objective else []
     columns = [read.columns[column] for column in _in_nl_order(read)]
-    return [*read.constraints, *objective], columns
+    return [*read.rows, *objective], columns
 
 
-def _in_nl_order(read: Text) -> List[int]:
+def _in_nl_order(read: MpsColumns) -> List[int]:
     """The columns of an MPS text, by their places, in the order of the .nl file."""
     low, high = read.bounds()
 
     def group(column: int) -> int:
         lower, upper = low[column], high[column]
-        if not read.whole[column]:
+        if not read.is_integer[column]:
             return 0
         is_binary = lower and read_fraction(lower) >= 0 and upper and read_fraction(upper) <= 1
         return 1 if is_binary else 2

@@ -17,7 +17,7 @@ from math import gcd
 from typing import NamedTuple, Optional
 
 from ..formats.numbers import decimals_over_common_denominator, exact_decimal
-from ..model.linear_program import Program
+from ..model.linear_program import LinearProgram
 from ..system.errors import ProgramFailed
 from .calls import Reply
 
@@ -210,11 +210,11 @@ class ObjectiveLattice(NamedTuple):
         return self.start + self.step * (math.floor(steps) if maximise else math.ceil(steps))
 
 
-def objective_lattice(program: Program) -> Optional[ObjectiveLattice]:
+def objective_lattice(program: LinearProgram) -> Optional[ObjectiveLattice]:
     """None where a column with a cost is continuous, or none has a cost."""
-    texts = [text.encode() for text in program.costs.values()]
-    numbers, scale = decimals_over_common_denominator(texts)
-    if not any(numbers) or any(name not in program.whole for name in program.costs):
+    costs = program.cost_texts
+    numbers, scale = decimals_over_common_denominator(list(costs.values()))
+    if not any(numbers) or not all(program.is_integer[column] for column in costs):
         return None
     return ObjectiveLattice(-Fraction(program.objective_rhs), Fraction(gcd(*numbers), scale))
 

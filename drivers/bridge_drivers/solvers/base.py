@@ -9,7 +9,7 @@ import shutil
 from dataclasses import dataclass, field
 from typing import NamedTuple, Sequence
 
-from ..model.linear_program import Program
+from ..model.linear_program import LinearProgram
 from ..system.errors import UnclearAnswer
 from ..formats.numbers import Number
 from .run import Finished, SolverRun
@@ -140,15 +140,15 @@ class Solver:
         """The path of the executable: the named one, or the one on the PATH."""
         return shutil.which(named or self.executable)
 
-    def mps_text(self, program: Program) -> bytes:
+    def mps_text(self, program: LinearProgram) -> bytes:
         """The program as MPS that this solver reads rightly."""
         return program.text
 
-    def reading_arguments(self, program: Program, path: str) -> list[str]:
+    def reading_arguments(self, program: LinearProgram, path: str) -> list[str]:
         """The words by which the solver reads the MPS file at a path and solves it."""
         return [path]
 
-    def command_line(self, program: Program, path: str, named: str = "") -> list[str]:
+    def command_line(self, program: LinearProgram, path: str, named: str = "") -> list[str]:
         """How one calls it by hand on the MPS file at a path."""
         return [named or self.executable, *self.reading_arguments(program, path)]
 
@@ -157,9 +157,9 @@ class Solver:
         found = re.search(self.version_pattern, log) if self.version_pattern else None
         return f"{self.title} {found[1]}" if found else self.title
 
-    def huge_notes(self, program: Program) -> list[str]:
+    def huge_notes(self, program: LinearProgram) -> list[str]:
         """A line where the program has sides or bounds that this solver may take for none."""
-        count = program.far(float(self.infinite)) if self.infinite else 0
+        count = program.count_of_huge(float(self.infinite)) if self.infinite else 0
         if not count:
             return []
         ends = "side or bound" if count == 1 else "sides or bounds"
@@ -168,7 +168,7 @@ class Solver:
             "take for none"
         ]
 
-    def progress_of_line(self, line: str, program: Program) -> dict[str, float]:
+    def progress_of_line(self, line: str, program: LinearProgram) -> dict[str, float]:
         """The numbers that a line of the log tells, by the names of the patterns' groups."""
         matches = (re.search(pattern, line) for pattern in self.progress_patterns)
         found = next(filter(None, matches), None)

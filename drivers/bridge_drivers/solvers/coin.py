@@ -10,7 +10,7 @@ import struct
 from array import array
 from typing import NamedTuple
 
-from ..model.linear_program import Program
+from ..model.linear_program import LinearProgram
 from ..system.errors import UnclearAnswer
 from .base import (
     GAP_SOLUTION,
@@ -77,7 +77,7 @@ class Coin(Solver):
         r"Clp0006I +(?P<iterations>\d+) +Obj (?P<objective>\S+)",
     )
 
-    def progress_of_line(self, line: str, program: Program) -> dict[str, float]:
+    def progress_of_line(self, line: str, program: LinearProgram) -> dict[str, float]:
         """CBC minimises, and tells of what it minimises."""
         known = super().progress_of_line(line, program)
         if program.maximise and "Cbc00" in line:
@@ -102,14 +102,14 @@ class Coin(Solver):
             words += ["-basisOut", run.path("answer.bas")]
         return read_answer(run, run.start([*words, "-quit"]))
 
-    def mps_text(self, program: Program) -> bytes:
+    def mps_text(self, program: LinearProgram) -> bytes:
         """To CoinUtils a line `NAME nl` means fixed columns; and numbers of more digits than it reads are doubles."""
         text = FREE_NAME + program.text[len(WRITTEN_NAME) :]
         if b"0" * (MOST_DIGITS + 1) not in text.translate(AS_ZEROS):
             return text
         return b"\n".join(map(_with_double, text.split(b"\n")))
 
-    def reading_arguments(self, program: Program, path: str) -> list[str]:
+    def reading_arguments(self, program: LinearProgram, path: str) -> list[str]:
         sense = ["-max"] if program.maximise else []
         return [path, *sense, "-solve", "-solution", "stdout"]
 
@@ -163,7 +163,7 @@ def _with_double(line: bytes) -> bytes:
     return start + blank + repr(float(number)).encode()
 
 
-def read_saved_solution(program: Program, path: str) -> SavedSolution:
+def read_saved_solution(program: LinearProgram, path: str) -> SavedSolution:
     """The doubles of -saveSolution; what -solution prints has eight digits.
 
     The file has two ints, the numbers of rows and columns, then doubles: the objective, the activities
@@ -177,7 +177,7 @@ def read_saved_solution(program: Program, path: str) -> SavedSolution:
             data = file.read()
     except FileNotFoundError:
         raise UnclearAnswer("no saved answer") from None
-    rows, columns = len(program.constraints), len(program.columns)
+    rows, columns = len(program.names.rows), len(program.names.columns)
     is_of_program = struct.pack("=ii", rows, columns) == data[:8]
     if len(data) != 16 + 16 * (rows + columns) or not is_of_program:
         raise UnclearAnswer("the saved answer is of another model")

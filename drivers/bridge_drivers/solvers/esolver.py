@@ -9,7 +9,7 @@ from __future__ import annotations
 from fractions import Fraction
 from typing import NamedTuple, Sequence
 
-from ..model.linear_program import Program
+from ..model.linear_program import LinearProgram
 from .base import (
     OPTIMAL_SOLUTION,
     TIME_LIMIT,
@@ -88,17 +88,17 @@ class Esolver(Solver):
             return limit_answer("a limit")
         return answer_of_status(told, head, has_point=False)
 
-    def mps_text(self, program: Program) -> bytes:
+    def mps_text(self, program: LinearProgram) -> bytes:
         """With a row and a column where there are none: without them it is a `Data Error`."""
         text = program.text
-        if not program.constraints:
+        if not program.names.rows:
             text = text.replace(b"\nCOLUMNS\n", b"\n L none\nCOLUMNS\n", 1)
-        if not program.columns:
+        if not program.names.columns:
             text = text.replace(b"\nCOLUMNS\n", b"\nCOLUMNS\n none obj 0\n", 1)
         return text
 
 
-def optimal_answer(program: Program, lines: Sequence[str], basis_file: str) -> SolverAnswer:
+def optimal_answer(program: LinearProgram, lines: Sequence[str], basis_file: str) -> SolverAnswer:
     """Exact numbers; the objective with the constant that esolver leaves out."""
     read = read_values(program, lines)
     answer = SolverAnswer(
@@ -115,7 +115,7 @@ def optimal_answer(program: Program, lines: Sequence[str], basis_file: str) -> S
     return answer
 
 
-def read_values(program: Program, lines: Sequence[str]) -> ReadValues:
+def read_values(program: LinearProgram, lines: Sequence[str]) -> ReadValues:
     """The line `Value = p/q`, and the lines `NAME = p/q` below each heading; what has no line is 0."""
     sections: dict[str, dict[str, Fraction]] = {name: {} for name in SECTIONS}
     section: dict[str, Fraction] | None = None
@@ -134,7 +134,7 @@ def read_values(program: Program, lines: Sequence[str]) -> ReadValues:
 
     return ReadValues(
         objective,
-        listed(VALUES, program.columns),
-        listed(REDUCED_COSTS, program.columns),
-        listed(DUALS, program.constraints),
+        listed(VALUES, program.names.columns),
+        listed(REDUCED_COSTS, program.names.columns),
+        listed(DUALS, program.names.rows),
     )

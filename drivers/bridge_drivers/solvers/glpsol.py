@@ -5,7 +5,7 @@ from __future__ import annotations
 import math
 from typing import Sequence
 
-from ..model.linear_program import Program
+from ..model.linear_program import LinearProgram
 from ..system.errors import UnclearAnswer
 from .base import (
     GAP_SOLUTION,
@@ -136,7 +136,7 @@ class Glpsol(Solver):
         words += self.arguments(run.settings, is_retry=run.is_retry)
         return read_answer(run, run.start([run.executable, *words]))
 
-    def mps_text(self, program: Program) -> bytes:
+    def mps_text(self, program: LinearProgram) -> bytes:
         """Without OBJSENSE, which is an error to it, and with minus the side of the objective row, which it adds."""
         text = program.text.replace(b"OBJSENSE\n MAX\n", b"", 1)
         side = program.objective_rhs
@@ -147,7 +147,7 @@ class Glpsol(Solver):
             negated = side[1:]
         return text.replace(f"\n RHS obj {side}\n".encode(), f"\n RHS obj {negated}\n".encode(), 1)
 
-    def reading_arguments(self, program: Program, path: str) -> list[str]:
+    def reading_arguments(self, program: LinearProgram, path: str) -> list[str]:
         return ["--freemps", path, "--max" if program.maximise else "--min"]
 
 
@@ -176,16 +176,16 @@ def read_answer(run: SolverRun, finished: Finished) -> SolverAnswer:
         if answer.status is SolverStatus.OPTIMAL and not is_mip:
             read_basic_solution(run.program, lines, answer)
         else:
-            columns = _records(lines, "j ", len(run.program.columns))
+            columns = _records(lines, "j ", len(run.program.names.columns))
             place = -1 if is_mip else 3
             answer.values = [float(words[place]) for words in columns]
     return answer
 
 
-def read_basic_solution(program: Program, lines: Sequence[str], answer: SolverAnswer) -> None:
+def read_basic_solution(program: LinearProgram, lines: Sequence[str], answer: SolverAnswer) -> None:
     """Lines `i ROW letter activity dual` and `j COLUMN letter value cost` into an answer."""
-    rows = _records(lines, "i ", len(program.constraints))
-    columns = _records(lines, "j ", len(program.columns))
+    rows = _records(lines, "i ", len(program.names.rows))
+    columns = _records(lines, "j ", len(program.names.columns))
     answer.values = [float(words[3]) for words in columns]
     answer.duals = [float(words[4]) for words in rows]
     answer.reduced_costs = [float(words[4]) for words in columns]

@@ -8,7 +8,7 @@ import re
 import shutil
 from typing import Mapping
 
-from ..model.linear_program import Program
+from ..model.linear_program import LinearProgram
 from ..system.deadline import Deadline
 from ..system.errors import UnclearAnswer
 from ..system.processes import run as run_program
@@ -76,11 +76,11 @@ class Highs(Solver):
                 return path
         return None
 
-    def command_line(self, program: Program, path: str, named: str = "") -> list[str]:
+    def command_line(self, program: LinearProgram, path: str, named: str = "") -> list[str]:
         return [self.find(named) or PLACES[0], SCRIPT, path]
 
     def solve(self, run: SolverRun) -> SolverAnswer:
-        if not run.program.columns:
+        if not run.program.names.columns:
             raise UnclearAnswer("it takes no program without columns")
         words = {
             "mipgap": run.settings.mip_gap,
@@ -114,14 +114,14 @@ def read_answer(run: SolverRun, told: Mapping[str, object]) -> SolverAnswer:
     message = str(told["message"])
     own = STATUS_OF_HIGHS.search(message)
     number = own[1] if own else OF_SCIPY.get(int(str(told["status"])), "")
-    values = _numbers(told, "values", len(run.program.columns))
+    values = _numbers(told, "values", len(run.program.names.columns))
     first_line = message.strip().split("\n")[0]
     answer = answer_of_status(status_of(STATUSES, number), first_line, has_point=bool(values))
     if not answer.status.has_point():
         return answer
     answer.values = values
-    answer.duals = _numbers(told, "duals", len(run.program.constraints))
-    answer.reduced_costs = _numbers(told, "costs", len(run.program.columns))
+    answer.duals = _numbers(told, "duals", len(run.program.names.rows))
+    answer.reduced_costs = _numbers(told, "costs", len(run.program.names.columns))
     is_optimal = answer.status is SolverStatus.OPTIMAL
     if is_optimal and run.settings.mip_gap and float(str(told.get("gap") or 0)) > CLOSED_GAP:
         within_gap(answer)

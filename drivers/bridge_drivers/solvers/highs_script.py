@@ -4,7 +4,6 @@ there are, `values`, `duals` by row and `costs` by column, as rates of change of
 
 from __future__ import annotations
 
-import itertools
 import json
 import os
 import signal
@@ -19,7 +18,7 @@ from scipy.sparse import csr_matrix, vstack
 
 sys.dont_write_bytecode = True
 sys.path[0] = os.path.join(os.path.dirname(os.path.abspath(__file__)), "..", "..")
-from bridge_drivers.model.linear_program import Program  # noqa: E402
+from bridge_drivers.model.linear_program import LinearProgram  # noqa: E402
 
 INFINITE = float("inf")
 USUAL = {"mipgap": 0.0, "seconds": 0.0, "relax": False, "presolve": True, "disp": False}
@@ -28,19 +27,21 @@ USUAL = {"mipgap": 0.0, "seconds": 0.0, "relax": False, "presolve": True, "disp"
 class Arrays:
     """A program in doubles; rows without the objective's."""
 
-    def __init__(self, program: Program) -> None:
-        self.maximise, terms = program.maximise, program.terms()
-        self.lo, self.hi = map(numpy.array, program.sides())
-        self.bounds = numpy.array(program.bounds()).T
-        self.whole = numpy.array(program.read.whole, dtype=int)
-        self.cost = numpy.zeros(terms.n)
-        for j, k in zip(*program.objective):
-            self.cost[j] = float(program.read.numbers[k])
-        starts = numpy.cumsum([0, *map(len, terms.rows)])
-        columns, values = (
-            zip(*itertools.chain.from_iterable(terms.rows)) if starts[-1] else ((), ())
+    def __init__(self, program: LinearProgram) -> None:
+        matrix = program.matrix
+        self.maximise = program.maximise
+        self.lo = program.row_lower
+        self.hi = program.row_upper
+        self.bounds = numpy.column_stack([program.lower, program.upper])
+        self.whole = numpy.array(program.is_integer, dtype=int)
+        self.cost = numpy.zeros(matrix.n)
+        self.cost[program.costs.columns] = program.costs.values
+        order = numpy.argsort(matrix.entries.rows, kind="stable")
+        values = numpy.array(matrix.table, dtype=float)[matrix.entries.numbers[order]]
+        starts = numpy.cumsum([0, *matrix.lengths])
+        self.matrix = csr_matrix(
+            (values, matrix.entries.columns[order], starts), shape=(matrix.m, matrix.n)
         )
-        self.matrix = csr_matrix((values, columns, starts), shape=(len(starts) - 1, terms.n))
 
 
 def options_of(words: dict[str, Any]) -> dict[str, Any]:
@@ -102,7 +103,7 @@ def linear(p: Arrays, cost: Any, words: dict[str, Any], sign: float) -> dict[str
 def main() -> None:
     signal.signal(signal.SIGINT, signal.SIG_DFL)  # HiGHS keeps no point where it is ended
     with open(sys.argv[1], "rb") as source:
-        p = Arrays(Program(source.read()))
+        p = Arrays(LinearProgram.of(source.read()))
     words = json.loads(sys.argv[3]) if len(sys.argv) > 3 else USUAL
     print("HiGHS of SciPy", scipy.__version__, flush=True)
     sign = -1.0 if p.maximise else 1.0

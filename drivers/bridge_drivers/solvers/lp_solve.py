@@ -9,7 +9,7 @@ from __future__ import annotations
 import math
 from typing import Mapping, NamedTuple, Sequence
 
-from ..model.linear_program import Program
+from ..model.linear_program import LinearProgram
 from ..system.errors import UnclearAnswer
 from .base import (
     OPTIMAL_SOLUTION,
@@ -97,7 +97,7 @@ class LpSolve(Solver):
             return answer
         return read_answer(run, answer, finished, stops_at_gap=bool(GAP_WORDS.intersection(words)))
 
-    def reading_arguments(self, program: Program, path: str) -> list[str]:
+    def reading_arguments(self, program: LinearProgram, path: str) -> list[str]:
         """Without -mps_negobjconst it adds the side of the objective row."""
         return ["-fmps", path, "-S4", "-mps_negobjconst"]
 
@@ -130,9 +130,9 @@ def read_answer(
     """An answer with its numbers."""
     program = run.program
     read = read_values(finished.log)
-    if set(read.values) != set(program.columns):
+    if set(read.values) != set(program.names.columns):
         raise UnclearAnswer("not all columns have a value")
-    values = [read.values[name] for name in program.columns]
+    values = [read.values[name] for name in program.names.columns]
     assert answer.objective is not None
     if abs(float(answer.objective)) >= INFINITE and is_at_infinity(program, values):
         return SolverAnswer(SolverStatus.UNBOUNDED, "unbounded")
@@ -141,18 +141,18 @@ def read_answer(
     if answer.status is not SolverStatus.OPTIMAL:
         return answer
     if run.is_continuous():
-        duals = [read.rates[name] for name in program.constraints if name in read.rates]
-        if len(duals) == len(program.constraints):
+        duals = [read.rates[name] for name in program.names.rows if name in read.rates]
+        if len(duals) == len(program.names.rows):
             answer.duals = duals
-            answer.reduced_costs = [read.rates[name] for name in program.columns]
+            answer.reduced_costs = [read.rates[name] for name in program.names.columns]
     elif stops_at_gap:
         within_gap(answer)
     return answer
 
 
-def is_at_infinity(program: Program, values: Sequence[float]) -> bool:
+def is_at_infinity(program: LinearProgram, values: Sequence[float]) -> bool:
     """Whether a column at 1e30 is at no bound of its own."""
-    lower, upper = program.bounds()
+    lower, upper = program.lower.tolist(), program.upper.tolist()
     return any(
         abs(value) >= INFINITE and value not in (low, high)
         for value, low, high in zip(values, lower, upper)

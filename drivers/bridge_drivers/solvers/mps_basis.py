@@ -4,7 +4,7 @@ from __future__ import annotations
 
 from typing import NamedTuple
 
-from ..model.linear_program import Program
+from ..model.linear_program import LinearProgram
 from .base import BasisStatus, read_lines
 
 
@@ -15,7 +15,7 @@ class ReadBasis(NamedTuple):
     rows: list[BasisStatus]
 
 
-def read_mps_basis(program: Program, path: str) -> ReadBasis | None:
+def read_mps_basis(program: LinearProgram, path: str) -> ReadBasis | None:
     """The basis of a file; None where there is no file.
 
     Columns are at their lower bounds and rows are basic, but for those that the lines name: `XU` and
@@ -25,18 +25,19 @@ def read_mps_basis(program: Program, path: str) -> ReadBasis | None:
     lines = read_lines(path)
     if lines is None:
         return None
+    kinds = dict(zip(program.names.rows, program.written.kinds))
     moved: dict[str, BasisStatus] = {}
     for words in (line.split() for line in lines if line.startswith(" ")):
         if words and words[0] in ("XU", "XL"):
             side = BasisStatus.AT_UPPER if words[0] == "XU" else BasisStatus.AT_LOWER
             by_kind = {"E": BasisStatus.EQUAL, "L": BasisStatus.AT_UPPER}
             moved[words[1]] = BasisStatus.BASIC
-            moved[words[2]] = by_kind.get(program.kinds.get(words[2], ""), side)
+            moved[words[2]] = by_kind.get(kinds.get(words[2], ""), side)
         elif words and words[0] == "BS":
             moved[words[1]] = BasisStatus.BASIC
         elif words and words[0] == "UL":
             moved[words[1]] = BasisStatus.AT_UPPER
     return ReadBasis(
-        [moved.get(name, BasisStatus.AT_LOWER) for name in program.columns],
-        [moved.get(name, BasisStatus.BASIC) for name in program.constraints],
+        [moved.get(name, BasisStatus.AT_LOWER) for name in program.names.columns],
+        [moved.get(name, BasisStatus.BASIC) for name in program.names.rows],
     )

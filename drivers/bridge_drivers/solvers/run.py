@@ -10,7 +10,7 @@ from typing import NamedTuple, Sequence
 from ..system.deadline import Deadline
 from ..system.files import write_new
 from ..system.processes import Streams, run
-from ..model.linear_program import Program, given
+from ..model.linear_program import LinearProgram
 from .settings import SolverSettings
 
 LOG_NAME = "solver.log"
@@ -65,14 +65,14 @@ class SolverRun:
 
     def __init__(
         self,
-        program: Program,
+        program: LinearProgram,
         settings: SolverSettings,
         folder: str,
         executable: str,
         observer: RunObserver | None = None,
     ) -> None:
         self.program = program
-        self.written = given(program, settings.relax)
+        self.written = program if settings.relax else program.with_rounded_bounds()
         self.settings = settings
         self.folder = folder
         self.executable = executable
@@ -85,7 +85,7 @@ class SolverRun:
 
     def is_continuous(self) -> bool:
         """Whether no column has to be a whole number."""
-        return not self.program.whole or self.settings.relax
+        return not self.program.integer_count or self.settings.relax
 
     def path(self, name: str) -> str:
         return os.path.join(self.folder, name)

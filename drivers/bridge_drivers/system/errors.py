@@ -226,6 +226,14 @@ class RunInterrupted(BridgeError):
         self.status = ExitStatus(128 + number)
 
 
+class NotDecimal(BridgeError):
+    """A value or a text that no decimal stands for: infinite, not a number, or too long."""
+
+
+class UnsupportedModel(BridgeError):
+    """A program that the search does not take."""
+
+
 class SearchEnded(BridgeError):
     """A search ended without a tree; the reason says why."""
 

@@ -6,6 +6,7 @@ from fractions import Fraction
 from typing import Mapping, NamedTuple, Optional, Sequence, Union
 
 from bridge_drivers.model.integer_form import Box, IntegerProgram
+from bridge_drivers.model.linear_program import LinearProgram
 
 Number = Union[int, float, str, Fraction]
 
@@ -47,7 +48,8 @@ def program(
     for j, column in enumerate(columns):
         lines.append(f" FR BND x{j}" if column.lower is None else f" LO BND x{j} {column.lower}")
         lines += [] if column.upper is None else [f" UP BND x{j} {column.upper}"]
-    return IntegerProgram("\n".join([*lines, "ENDATA", ""]).encode(), {}, len(rows))
+    text = "\n".join([*lines, "ENDATA", ""]).encode()
+    return IntegerProgram.of(LinearProgram.of(text), {}, len(rows))
 
 
 def box_of(model: IntegerProgram) -> Box:

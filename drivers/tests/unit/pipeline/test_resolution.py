@@ -8,7 +8,7 @@ from typing import NamedTuple
 import pytest
 
 from bridge_drivers.certify.claims import Verdict
-from bridge_drivers.model.linear_program import Program
+from bridge_drivers.model.linear_program import LinearProgram
 from bridge_drivers.pipeline.answer import Answer
 from bridge_drivers.pipeline.resolution import Resolution, RunFacts, resolve
 from bridge_drivers.pipeline.settings import Settings
@@ -645,7 +645,7 @@ def resolution(case: Case) -> Resolution:
         value = Fraction(case.line.split()[-1])
         point = [value * 10**9 if case.program == "small" else value]
     verdict = Verdict(case.line, point, "kept" if is_proved else None, "", value)
-    answer = Answer(Program(PROGRAMS[case.program]), found, Settings())
+    answer = Answer(LinearProgram.of(PROGRAMS[case.program]), found, Settings())
     return resolve(answer, verdict, RunFacts(gap=float(case.gap or 0)))
 
 
@@ -669,6 +669,8 @@ def test_a_proved_claim_is_never_lost() -> None:
             continue
         for line, code in (("infeasible", Code.INFEASIBLE), ("unbounded", Code.UNBOUNDED)):
             values = [5.0] if status.has_point() else None
-            answer = Answer(Program(WHOLE), SolverAnswer(status, "told", values), Settings())
+            answer = Answer(
+                LinearProgram.of(WHOLE), SolverAnswer(status, "told", values), Settings()
+            )
             found = resolve(answer, Verdict(line, None, "kept"))
             assert (found.code, found.answer.values) == (code, None)

@@ -7,7 +7,7 @@ from typing import Dict, List, Sequence
 
 import pytest
 
-from bridge_drivers.mps_reader import Text
+from bridge_drivers.formats.mps import read_mps
 from bridge_drivers.program.bridge import Bridge, ModelForm
 from bridge_drivers.program.calls import Reply
 from bridge_drivers.program.mps_forms import (
@@ -137,7 +137,7 @@ def test_names_with_blanks(tmp_path: Path, line: str, has_blank: bool) -> None:
     ],
 )
 def test_what_is_surely_a_linear_program(old: bytes, new: bytes, is_sure: bool) -> None:
-    assert is_surely_linear_program(Text(MODEL.replace(old, new))) is is_sure
+    assert is_surely_linear_program(read_mps(MODEL.replace(old, new))) is is_sure
 
 
 def test_a_file_is_judged_in_its_form(tmp_path: Path) -> None:
@@ -145,7 +145,7 @@ def test_a_file_is_judged_in_its_form(tmp_path: Path) -> None:
     bridge = Answering({})
     read = MpsText(ModelForm.FIXED, MODEL)
     program = program_of_mps(bridge, "m.mps", str(tmp_path / "trial"), read)
-    assert program.columns == ["x0", "x1"]
+    assert program.names.columns == ["x0", "x1"]
     assert bridge.forms == {"m.mps": ModelForm.FIXED}
     assert bridge.calls == [] and not (tmp_path / "trial").exists()
 

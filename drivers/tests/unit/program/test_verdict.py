@@ -8,7 +8,7 @@ import pytest
 from hypothesis import given
 from hypothesis import strategies as st
 
-from bridge_drivers.model.linear_program import Program
+from bridge_drivers.model.linear_program import LinearProgram
 from bridge_drivers.program.calls import Reply
 from bridge_drivers.program.verdict import (
     Claim,
@@ -255,9 +255,9 @@ def test_a_bound_of_a_whole_objective(bound: str, maximise: bool, words: str) ->
 
 
 def test_the_lattice_of_a_program() -> None:
-    assert objective_lattice(Program(HALVES)) == LATTICE
+    assert objective_lattice(LinearProgram.of(HALVES)) == LATTICE
     with_continuous_cost = HALVES.replace(b" x2 c0 1", b" x2 c0 1\n x2 obj 1")
-    assert objective_lattice(Program(with_continuous_cost)) is None
+    assert objective_lattice(LinearProgram.of(with_continuous_cost)) is None
 
 
 @given(st.fractions(), st.fractions(), st.fractions(min_value=F(1, 100)))

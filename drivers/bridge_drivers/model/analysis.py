@@ -1,0 +1,303 @@
+"""What is counted of a program, and by how much a point misses it, in doubles: for messages alone."""
+
+from __future__ import annotations
+
+from collections import Counter
+from dataclasses import dataclass, field
+from fractions import Fraction
+from functools import cached_property, lru_cache
+from typing import Collection, Dict, Iterator, List, NamedTuple, Optional, Sequence, Union
+
+import numpy as np
+
+from ..formats.mps import OBJECTIVE
+from ..formats.numbers import nearest_double, read_fraction
+from .linear_program import EPIGRAPH_COLUMN, EPIGRAPH_ROW, LinearProgram
+
+Exact = Union[int, Fraction]
+Range = List[Optional[float]]
+
+INFINITE = 10**20  # a solver takes it for no bound
+COLUMN_KINDS = ("continuous", "binary", "integer")
+
+# As shares of the largest term of a row:
+TOLERANCE = 1e-6  # what counts as satisfied
+TOLERANCE_OF_INTEGERS = 1e-12  # the same where all columns have whole values
+ROUNDING_OF_A_ROW = 2.0**-45  # what rounding the terms of a row in doubles leaves
+
+
+class Residual(NamedTuple):
+    """By how much a row or bound is missed.
+
+    Attributes:
+        times_tolerance: `relative` over what counts as satisfied there.
+        relative: As a share of the row's largest term, at the values or at 1.
+        name: Of the row or column in the text; empty where nothing is missed.
+    """
+
+    times_tolerance: float
+    relative: float
+    name: str
+
+    def is_significant(self) -> bool:
+        """Whether the point counts as none."""
+        return self.times_tolerance > 1
+
+
+NO_RESIDUAL = Residual(0.0, 0.0, "")
+
+
+def residual_of(relative: float, name: str, *, has_integers: bool = False) -> Residual:
+    """One that is known.
+
+    Args:
+        has_integers: All terms are those of integer columns at whole values.
+    """
+    tolerance = TOLERANCE_OF_INTEGERS if has_integers else TOLERANCE
+    return Residual(relative / tolerance, relative, name)
+
+
+def worst_residual(
+    program: LinearProgram, values: Sequence[str], *, wants_integers: bool = False
+) -> Residual:
+    """The residual that counts most.
+
+    Args:
+        values: By column, as decimals.
+        wants_integers: Integer columns are meant to have whole values, and rows of such ones are
+            to be met but for rounding.
+    """
+    found = residuals(program, values, wants_integers=wants_integers)
+    return max(found, default=NO_RESIDUAL)
+
+
+def residuals(
+    program: LinearProgram, values: Sequence[str], *, wants_integers: bool = False
+) -> Iterator[Residual]:
+    """Of each row and bound that is missed. A bound is its own largest term, and 0 is measured by 1."""
+    x = list(map(float, values))
+    is_whole = [False] * len(x)
+    if wants_integers:
+        is_whole = [
+            is_integer and text.lstrip("-").isdigit()
+            for is_integer, text in zip(program.is_integer, values)
+        ]
+    yield from _row_residuals(program, x, is_whole)
+    bounds = zip(x, program.lower.tolist(), program.upper.tolist())
+    for column, (value, lower, upper) in enumerate(bounds):
+        if not lower <= value <= upper:
+            missed = lower if value < lower else upper
+            size = abs(value) if missed else max(1.0, abs(value))
+            name = program.names.columns[column]
+            yield _residual(name, value, lower, upper, size, has_integers=is_whole[column])
+
+
+def _row_residuals(
+    program: LinearProgram, x: Sequence[float], is_whole: Sequence[bool]
+) -> Iterator[Residual]:
+    activities = program.matrix.activities_in_doubles(x)
+    bounds = zip(activities, program.row_lower.tolist(), program.row_upper.tolist())
+    missed = [
+        (row, activity, lower, upper)
+        for row, (activity, lower, upper) in enumerate(bounds)
+        if not lower <= activity <= upper
+    ]
+    if not missed:
+        return
+    sizes = program.matrix.largest_terms([max(1.0, abs(value)) for value in x])
+    written = program.written
+    is_fractional = ~np.array(is_whole, dtype=bool)
+    mixed = set(np.unique(written.entry_rows[is_fractional[written.entry_columns]]).tolist())
+    for row, activity, lower, upper in missed:
+        yield _residual(
+            program.names.rows[row],
+            activity,
+            lower,
+            upper,
+            sizes[row],
+            has_integers=row not in mixed,
+        )
+
+
+def _residual(
+    name: str, value: float, lower: float, upper: float, size: float, *, has_integers: bool
+) -> Residual:
+    """Of a value between bounds, of which the one that it misses counts for its size too."""
+    by = max(lower - value, value - upper, 0.0)
+    if not by:
+        return NO_RESIDUAL
+    size = max(size, abs(lower if value < lower else upper))
+    return residual_of(by / size, name, has_integers=has_integers)
+
+
+class LostNumber(NamedTuple):
+    """A number that doubles do not hold, and where it stands.
+
+    Attributes:
+        place: A row and perhaps a column, or a column, by their names in the text.
+        text: As it is written.
+    """
+
+    place: str
+    text: str
+
+
+@dataclass
+class Statistics:
+    """What is counted of a program.
+
+    Attributes:
+        columns: How many of each kind in COLUMN_KINDS, and how many are free or fixed.
+        row_kinds: L, G or E by the name of each row, without the one that ties z.
+        two_sided: How many rows have a range.
+        entries: How many coefficients of rows are not 0.
+        costs: How many of the objective are not 0.
+        infinite: How many sides and bounds are at least 1e20.
+        epigraph_factor: By what the row that ties z is multiplied; None: there is none.
+        sizes: Of coefficients of rows, each size once.
+        cost_sizes: Of coefficients of the objective.
+        sides: Of right-hand sides and ranges, but for 0.
+        lost: The numbers that doubles do not hold.
+    """
+
+    program: LinearProgram
+    columns: Dict[str, int] = field(init=False)
+    row_kinds: Dict[str, str] = field(init=False)
+    entries: int = 0
+    costs: int = 0
+    infinite: int = 0
+    epigraph_factor: Optional[Exact] = None
+    sizes: List[Exact] = field(default_factory=list)
+    cost_sizes: List[Exact] = field(default_factory=list)
+    sides: List[Exact] = field(default_factory=list)
+    lost: List[LostNumber] = field(default_factory=list)
+
+    def __post_init__(self) -> None:
+        program = self.program
+        kinds = zip(program.names.rows, program.written.kinds)
+        self.row_kinds = {name: kind for name, kind in kinds if name != EPIGRAPH_ROW}
+        self.columns = _columns_by_kind(program)
+        self._count_entries()
+        self._count_sides()
+        self._count_bounds()
+
+    def rows_of(self, kind: str) -> int:
+        """How many rows are L, G or E."""
+        return sum(found == kind for found in self.row_kinds.values())
+
+    @property
+    def two_sided(self) -> int:
+        return len(self.program.written.ranges)
+
+    @cached_property
+    def constant(self) -> str:
+        """The constant of the objective."""
+        return str(-Fraction(self.program.objective_rhs))
+
+    def _count_entries(self) -> None:
+        """Those of rows, and those of the objective, which may stand in the row zdef."""
+        written, names = self.program.written, self.program.names
+        numbers = [parsed(text) for text in written.numbers]
+        is_cost = written.entry_rows == OBJECTIVE
+        if EPIGRAPH_ROW in names.rows:
+            is_cost = is_cost | (written.entry_rows == names.rows.index(EPIGRAPH_ROW))
+        z = names.columns.index(EPIGRAPH_COLUMN) if names.has_epigraph_column else -1
+        cost_entries = zip(
+            written.entry_columns[is_cost].tolist(), written.entry_numbers[is_cost].tolist()
+        )
+        for column, k in cost_entries:
+            value = _size(numbers[k].value)
+            if column == z:
+                self.epigraph_factor = value
+            elif value:
+                self.costs += 1
+                self.cost_sizes.append(value)
+        counts = np.bincount(written.entry_numbers[~is_cost], minlength=len(numbers)).tolist()
+        for number, count in zip(numbers, counts):
+            if count and number.value:
+                self.entries += count
+                self.sizes.append(_size(number.value))
+        self._find_lost([number.is_held for number in numbers])
+
+    def _find_lost(self, is_held: Sequence[bool]) -> None:
+        """Entries whose numbers doubles do not hold."""
+        written, names = self.program.written, self.program.names
+        rows = [*names.rows, "", written.objective.decode()]  # N rows stand last
+        entries = np.flatnonzero(~np.array(is_held, dtype=bool)[written.entry_numbers])
+        for k in entries.tolist():
+            row = rows[written.entry_rows[k]]
+            column = names.columns[written.entry_columns[k]]
+            text = written.numbers[written.entry_numbers[k]].decode()
+            self.lost.append(LostNumber(f"{row} {column}", text))
+
+    def _count_sides(self) -> None:
+        written = self.program.written
+        rows = [*self.program.names.rows, "", written.objective.decode()]
+        for row, text in [*written.rhs.items(), *written.ranges.items()]:
+            value = self._number(rows[row], text)
+            if row != OBJECTIVE and value:
+                self.sides.append(_size(value))
+                self.infinite += _size(value) >= INFINITE
+
+    def _count_bounds(self) -> None:
+        written = self.program.written
+        for name, lower, upper in zip(self.program.names.columns, written.lower, written.upper):
+            for bound in (lower,) if lower == upper else (lower, upper):
+                value = self._number(name, bound) if bound else 0
+                self.infinite += _size(value) >= INFINITE
+
+    def _number(self, place: str, text: bytes) -> Exact:
+        """The value of a number, which is lost where doubles do not hold it."""
+        number = parsed(text)
+        if not number.is_held:
+            self.lost.append(LostNumber(place, text.decode()))
+        return number.value
+
+
+class ParsedNumber(NamedTuple):
+    """A number of the text, and whether a solver that reads doubles reads it."""
+
+    value: Exact
+    is_held: bool
+
+
+@lru_cache(maxsize=1 << 16)
+def parsed(text: bytes) -> ParsedNumber:
+    """It is remembered: most numbers stand many times."""
+    value = read_fraction(text)
+    exact: Exact = value.numerator if value.denominator == 1 else value
+    return ParsedNumber(exact, is_double_or_shortest(value))
+
+
+def _size(value: Exact) -> Exact:
+    return -value if value < 0 else value
+
+
+def is_double_or_shortest(value: Fraction) -> bool:
+    """Whether a number is a double, or the shortest decimal of the double that is read for it."""
+    double = nearest_double(value)
+    return double is not None and value in (Fraction(double), Fraction(repr(double)))
+
+
+def range_in_doubles(sizes: Collection[Exact]) -> Range:
+    """The least and the greatest, None beyond doubles; nothing where there are none."""
+    return [nearest_double(end) for end in (min(sizes), max(sizes))] if sizes else []
+
+
+def _columns_by_kind(program: LinearProgram) -> Dict[str, int]:
+    """Without the column that stands for the objective."""
+    count = program.n - program.names.has_epigraph_column
+    lower, upper = (texts[:count] for texts in program.written.bounds())
+    pairs = Counter(zip(program.is_integer, lower, upper))
+    columns = dict.fromkeys((*COLUMN_KINDS, "free", "fixed"), 0)
+    for (is_integer, low, high), times in pairs.items():
+        low_value = parsed(low).value if low else None
+        high_value = parsed(high).value if high else None
+        is_binary = is_integer and (low_value, high_value) == (0, 1)
+        kind = "integer" if is_integer else "continuous"
+        columns["binary" if is_binary else kind] += times
+        if low_value is None and high_value is None:
+            columns["free"] += times
+        if low_value is not None and low_value == high_value:
+            columns["fixed"] += times
+    return columns

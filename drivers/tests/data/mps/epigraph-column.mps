@@ -1,0 +1,18 @@
+NAME nl
+OBJSENSE
+ MAX
+ROWS
+ N obj
+ L c0
+COLUMNS
+ x0 obj 2
+ M0 'MARKER' 'INTORG'
+ x1 c0 1
+ x2 obj 5
+ x2 c0 1
+ M1 'MARKER' 'INTEND'
+ z c0 1
+RHS
+ RHS obj -3
+ RHS c0 1
+ENDATA

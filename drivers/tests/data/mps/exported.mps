@@ -1,0 +1,31 @@
+NAME nl
+OBJSENSE
+ MAX
+ROWS
+ N obj
+ L c0
+ G c2
+ E c3
+COLUMNS
+ x0 obj 2
+ x0 c0 0.5
+ x0 c2 1e31
+ M0 'MARKER' 'INTORG'
+ x1 c0 -3
+ x1 c3 0
+ x2 c2 0.30000000000000004441
+ M1 'MARKER' 'INTEND'
+ x3 obj 0
+RHS
+ RHS obj -7
+ RHS c0 1e30
+RANGES
+ RNG c2 5
+BOUNDS
+ LO BND x0 0
+ UP BND x0 1
+ LO BND x1 0
+ UP BND x1 1
+ FX BND x2 4
+ FR BND x3
+ENDATA

@@ -1,0 +1,34 @@
+NAME nl
+OBJSENSE
+ MAX
+ROWS
+ N obj
+ L c0
+ L c1
+ G c2
+COLUMNS
+ x0 obj 1
+ x0 c0 2
+ M0 'MARKER' 'INTORG'
+ x1 obj 0
+ x2 c1 -4
+ x3 c2 1
+ M1 'MARKER' 'INTEND'
+ x4 c0 0
+RHS
+ RHS obj -5
+ RHS c0 6
+RANGES
+ RNG c0 2
+ RNG c1 3
+ RNG c2 1
+BOUNDS
+ MI BND x0
+ UP BND x0 -1
+ LO BND x1 0
+ PL BND x1
+ FX BND x2 2
+ LO BND x3 0
+ UP BND x3 7
+ FR BND x4
+ENDATA
