@@ -6,6 +6,7 @@ answer and check it. `solve`, `certify`, `verify` and `explain` are the calls th
 
 from . import certify as searches  # noqa: F401  read before the call of this name
 from .api import SolveInterrupted, certify, explain, figures, solve, verify
+from .model.array_model import model_of_arrays
 from .pipeline.monitor import ProgressEvent
 from .pipeline.report import ExactNumbers, Report
 from .system.errors import (
@@ -31,6 +32,7 @@ __all__ = [
     "certify",
     "explain",
     "figures",
+    "model_of_arrays",
     "solve",
     "verify",
 ]

@@ -1,0 +1,73 @@
+"""Programs in arrays: the model that is made of them has each number."""
+
+from __future__ import annotations
+
+import math
+from typing import Any
+
+import numpy
+import pytest
+from hypothesis import given
+from hypothesis import strategies as st
+
+from bridge_drivers import model_of_arrays
+from bridge_drivers.model.linear_program import program_of
+
+ROWS = [[6.0, 5.0, 8.0], [0.0, 1.0, -0.1]]
+
+
+def program(**changes: Any) -> Any:
+    given = {"row_upper": [14, 3], "integer": True, "upper": 1, "maximise": True, **changes}
+    return program_of(model_of_arrays([10, 7, 12], ROWS, **given))
+
+
+def test_numbers() -> None:
+    found = program(constant=2.5, row_lower=[-math.inf, 1.1])
+    assert (found.maximise, found.objective_rhs, len(found.whole)) == (True, "-2.5", 3)
+    assert found.costs == {"x0": "10.0", "x1": "7.0", "x2": "12.0"}
+    low, high = found.sides()
+    assert (low, high) == ([-math.inf, 1.1], [14.0, 3.0])
+    assert found.bounds() == ([0.0, 0.0, 0.0], [1.0, 1.0, 1.0])
+    assert found.terms().activities([1.0, 1.0, 1.0]) == [19.0, 0.9]
+
+
+def test_a_sparse_matrix_is_the_same() -> None:
+    sparse = pytest.importorskip("scipy.sparse")
+    whole = model_of_arrays([10, 7, 12], ROWS, row_upper=14)
+    assert model_of_arrays([10, 7, 12], sparse.csr_matrix(ROWS), row_upper=14) == whole
+    assert model_of_arrays(numpy.array([10, 7, 12]), numpy.array(ROWS), row_upper=14) == whole
+
+
+def test_kinds_of_rows_and_bounds() -> None:
+    found = program(row_lower=[14, -math.inf], lower=[-math.inf, 0, 2], upper=[math.inf, 1, 2])
+    assert [found.kinds[name] for name in ("c0", "c1")] == ["E", "L"]
+    assert found.bounds() == ([-math.inf, 0.0, 2.0], [math.inf, 1.0, 2.0])
+
+
+def test_no_rows() -> None:
+    found = program_of(model_of_arrays([1.0, 2.0], lower=1))
+    assert (found.columns, found.constraints) == (["x0", "x1"], [])
+
+
+@pytest.mark.parametrize(
+    "changes",
+    [
+        {"row_upper": [1, 2, 3]},
+        {"row_upper": math.nan},
+        {"upper": [1, 2]},
+        {"row_lower": [15, 0]},
+        {"row_lower": [-1e300, 0]},  # a decimal of its distance to 14 has 300 digits
+    ],
+)
+def test_what_does_not_fit(changes: Any) -> None:
+    with pytest.raises(ValueError):
+        program(**changes)
+
+
+FINITE = st.floats(allow_nan=False, allow_infinity=False, min_value=-1e30, max_value=1e30)
+
+
+@given(st.lists(FINITE, min_size=1, max_size=4))
+def test_costs_are_the_same_doubles(costs: Any) -> None:
+    found = program_of(model_of_arrays(costs))
+    assert [float(found.costs.get(f"x{j}", "0")) for j in range(len(costs))] == costs
