@@ -18,7 +18,7 @@ from ..system.errors import DeadlineExceeded, NotFound, NotInstalled, NotStarted
 from ..system.processes import OutputLimits, run
 from .calls import Command, Reply, is_utf8
 from .refusal import Refusal
-from .verdict import Verdict
+from .verdict import Verdict, read_check
 
 PACKAGE = os.path.dirname(os.path.dirname(os.path.abspath(__file__)))
 DRIVERS = os.path.dirname(PACKAGE)
@@ -244,9 +244,9 @@ class Bridge:
 
         Raises:
             Refusal: The program refuses one of the files.
+            NoVerdict: What it answers is no verdict.
         """
-        reply = self._judged(Command.CHECK, model, sol)
-        return reply.out.decode("utf-8", "replace").strip()
+        return read_check(self._judged(Command.CHECK, model, sol))
 
     def _judged(self, command: Command, model: str, other: str) -> Reply:
         """A reply with one of the two statuses that go with a verdict."""

@@ -4,6 +4,7 @@
 `optimal 17`, or with status 1 and one line that says why the certificate does not show its claim,
 such as `leaf 0 gap 20`. Every other pair of a status and a text is no verdict. A `Verdict` is made
 of the reply to a call alone, so that no line can pass for one without the status that goes with it.
+`bridge check` ends so, too, with lines of its own.
 """
 
 from __future__ import annotations
@@ -41,6 +42,13 @@ NOT_PROVED = re.compile(
     rf"|leaf {PLACE} (?:too wide|gap {NUMBER}|(?:row|bound) {PLACE} has no side)",
     re.ASCII,
 )  # docs/verify/theorems.md says what each of these lines means
+CHECKED = re.compile(rf"yes {NUMBER}", re.ASCII)
+NOT_CHECKED = re.compile(
+    rf"gap {NUMBER} {NUMBER}"
+    rf"|(?:row|bound) {PLACE} (?:broken|has no side)"
+    rf"|too wide at (?:objective|total|(?:row|cost) {PLACE})",
+    re.ASCII,
+)  # of `bridge check`
 
 
 class Claim(enum.Enum):
@@ -113,7 +121,7 @@ class Statement(NamedTuple):
 
 
 class NoVerdict(ProgramFailed):
-    """The reply to `verify` is no verdict: the program is not the proved one, or it is broken.
+    """What should be a verdict is none: the program is not the proved one, or it is broken.
 
     Attributes:
         reply: A pair of a status and a text that the proved program never gives.
@@ -125,7 +133,7 @@ class NoVerdict(ProgramFailed):
         self.reply = reply
 
     def describe(self) -> str:
-        return f"bridge verify: {self.reason}"
+        return f"the program `bridge` is not the proved one: {self.reason}"
 
 
 @dataclass(frozen=True)
@@ -159,15 +167,37 @@ class Verdict:
 
 def _read_reply(reply: Reply) -> Optional[Statement]:
     """What a reply proves; None where its line says why nothing is proved."""
+    line = _only_line(reply)
+    statement = statement_of(line)
+    if reply.status == 0 and statement is not None:
+        return statement
+    if reply.status == 1 and NOT_PROVED.fullmatch(line):
+        return None
+    raise NoVerdict(reply)
+
+
+def read_check(reply: Reply) -> str:
+    """The line of `bridge check` on the point and the duals of a .sol file.
+
+    Returns:
+        `yes V` where they show the optimum V of the relaxed program; else what they do not show.
+
+    Raises:
+        NoVerdict: The line does not belong to the status, or is none.
+    """
+    line = _only_line(reply)
+    if (CHECKED if reply.status == 0 else NOT_CHECKED).fullmatch(line) and reply.status in (0, 1):
+        return line
+    raise NoVerdict(reply)
+
+
+def _only_line(reply: Reply) -> str:
+    """The one line of a reply, without its end."""
     text = reply.out[: LONGEST_LINE + 1].decode("latin-1")
     line, end, more = text.partition("\n")
-    if end and not more:
-        statement = statement_of(line)
-        if reply.status == 0 and statement is not None:
-            return statement
-        if reply.status == 1 and NOT_PROVED.fullmatch(line):
-            return None
-    raise NoVerdict(reply)
+    if more or not end:
+        raise NoVerdict(reply)
+    return line
 
 
 def statement_of(line: str) -> Optional[Statement]:

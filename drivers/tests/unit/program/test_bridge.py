@@ -125,7 +125,6 @@ def test_each_command(script: Script) -> None:
     assert bridge.export("m.nl") == b"export m.nl\n"
     assert bridge.export("m.nl", 2) == b"export m.nl 2\n"
     assert bridge.return_("m.nl", "a.txt") == b"return m.nl a.txt\n"
-    assert bridge.check("m.nl", "m.sol") == "check m.nl m.sol"
     assert bridge.text(Command.IMPORT, "m.mps") == b"import m.mps\n"
 
 
@@ -161,6 +160,13 @@ def test_the_form_of_a_model_decides_by_what_it_is_judged(
 def test_a_false_program_gives_no_verdict(script: Script, line: str) -> None:
     with pytest.raises(NoVerdict):
         Bridge([script("one", line)]).verify("m.nl", "m.certificate")
+
+
+def test_the_line_of_check(script: Script) -> None:
+    answering = '[ "$*" = "check m.nl m.sol" ] && echo gap 9 8; exit 1'
+    assert Bridge([script("one", answering)]).check("m.nl", "m.sol") == "gap 9 8"
+    with pytest.raises(NoVerdict):
+        Bridge([script("two", "echo yes 9; exit 1")]).check("m.nl", "m.sol")
 
 
 @pytest.mark.parametrize("status", [2, 3, 4, 5, 6, 7, 127])

@@ -2,7 +2,9 @@
 
 from __future__ import annotations
 
+import sys
 from fractions import Fraction as F
+from pathlib import Path
 
 import pytest
 from hypothesis import given
@@ -19,6 +21,7 @@ from bridge_drivers.program.verdict import (
     decimal,
     objective_lattice,
     percentage,
+    read_check,
     sentence,
     statement_of,
 )
@@ -78,7 +81,9 @@ def test_each_line_has_one_status(line: str, status: int) -> None:
     with pytest.raises(NoVerdict) as caught:
         Verdict(reply(status, line))
     assert isinstance(caught.value, BridgeError)
-    assert str(caught.value) == f"bridge verify: `{line}` with status {status} is no verdict"
+    assert str(caught.value) == (
+        f"the program `bridge` is not the proved one: `{line}` with status {status} is no verdict"
+    )
 
 
 @pytest.mark.parametrize("status", [0, 1])
@@ -130,6 +135,38 @@ def test_each_line_has_one_status(line: str, status: int) -> None:
 def test_other_texts_are_no_verdict(status: int, out: bytes) -> None:
     with pytest.raises(NoVerdict):
         Verdict(Reply(status, out, ""))
+
+
+@pytest.mark.parametrize(
+    "status, line, is_verdict",
+    [
+        (0, "yes 22/5", True),
+        (1, "yes 22/5", False),
+        (2, "yes 22/5", False),
+        (1, "gap 9 17/2", True),
+        (0, "gap 9 17/2", False),
+        (1, "gap 9", False),
+        (1, "row 3 broken", True),
+        (1, "bound 3 broken", True),
+        (1, "row 3 has no side", True),
+        (1, "bound 3 has no side", True),
+        (1, "too wide at row 3", True),
+        (1, "too wide at cost 3", True),
+        (1, "too wide at objective", True),
+        (1, "too wide at total", True),
+        (0, "too wide at total", False),
+        (0, "optimal 17", False),
+        (1, "leaf 0 gap 3", False),
+        (0, "yes 1\nyes 2", False),
+        (0, "", False),
+    ],
+)
+def test_lines_of_check(status: int, line: str, is_verdict: bool) -> None:
+    if is_verdict:
+        assert read_check(reply(status, line)) == line
+        return
+    with pytest.raises(NoVerdict):
+        read_check(reply(status, line))
 
 
 def test_a_verdict_cannot_be_changed() -> None:
@@ -274,3 +311,23 @@ def test_the_tightest_value_is_one_of_the_lattice(bound: F, start: F, step: F) -
 )
 def test_percentages(share: F, text: str) -> None:
     assert percentage(share) == text
+
+
+def test_what_the_worked_texts_answer_are_verdicts() -> None:
+    """Each line that the worked texts of `verify` and `check` want of the program is read."""
+    sys.path.append(str(Path(__file__).resolve().parents[4] / "acceptance"))
+    import texts
+
+    count = 0
+    for name in ("verify", "verify_mps", "check", "limits"):
+        for case in texts.cases(name):
+            command = case.words[0]
+            if case.status not in (0, 1) or not command.startswith(("verify", "check")):
+                continue
+            answer = Reply(case.status, case.out.content(), "")
+            if command == "check":
+                read_check(answer)
+            else:
+                assert Verdict(answer).is_proved is (case.status == 0)
+            count += 1
+    assert count > 100
