@@ -3,94 +3,19 @@ judged by other means."""
 
 from __future__ import annotations
 
-import itertools
-import random
-from unittest import TestCase
 
 from certify_search import Certified
 from support import NEEDS_CLP, NEEDS_PROGRAM, Case
-from bridge_drivers.certify import spine
-from bridge_drivers.exact import points
+from bridge_drivers.exact import cliques
 from bridge_drivers.certify.claims import Given, certified
 from bridge_drivers.exact.clp import LpStatus
 from bridge_drivers.exact.relaxation import relaxation
-from bridge_drivers.model.integer_form import Box, IntegerProgram, Row
-from bridge_drivers.certify.simplex import Ended, Simplex
-from bridge_drivers.exact.dual_bound import MultiplierKind, is_optimal_in_doubles
-from bridge_drivers.exact.leaf_proofs import LeafProver, from_fractions
+from bridge_drivers.model.integer_form import Row
+from bridge_drivers.exact.dual_bound import is_optimal_in_doubles
 from certify_parts import built
 from builders.misleading import Misleading
 from builders.misleading_kinds import models
-from models import BINARY, MODELS, nl, real, whole
-
-MOST_STEPS = 3000
-
-
-def program(rng: random.Random, n: int, m: int) -> IntegerProgram:
-    """Of n columns and m rows of all kinds, with ranges, free columns, and small numbers."""
-    columns, rows, costs = [], [], ["1", "-2", "0.5", "3", "-1e-12", "0"]
-    for _ in range(n):
-        ends = [(None, None), (0, "4"), (0, "1e20"), (0, "0.5"), (-3, 7), (0, None), (0, None)]
-        columns.append(real(*rng.choice(ends)))
-    for _ in range(m):
-        terms = {
-            j: rng.choice(["1", "-1", "2", "0.3", "-7", "1e-9"])
-            for j in range(n)
-            if rng.random() < 0.6
-        }
-        at = rng.choice([0, 1, 5, -2, 2.5])
-        rows.append(
-            (*rng.choice([(at, at), (None, at), (at, None), (at, at + rng.choice([1, 3]))]), terms)
-        )
-    return built(columns, rows, rng.choice(["min", "max"]), [rng.choice(costs) for _ in range(n)])
-
-
-def ended(p: IntegerProgram, rng: random.Random) -> Ended:
-    """From a basis of any columns, and any values."""
-    steps = itertools.count()
-
-    def look() -> None:
-        assert next(steps) < MOST_STEPS
-
-    tableau = Simplex(p, look)
-    columns = rng.sample(range(p.n), min(p.n, rng.randint(0, p.m)))
-    tableau.start(columns, [rng.uniform(-2, 6) for _ in range(p.n)])
-    return tableau.run()
-
-
-class Fractions(TestCase):
-    def test_random_programs(self) -> None:
-        """A point with duals that close at it, weights that close, or a point and a ray."""
-        claims = set()
-        for seed in range(400):
-            rng = random.Random(seed)
-            p = program(rng, rng.randint(1, 8), rng.randint(1, 7))
-            found, box = ended(p, rng), Box(p.lower, p.upper)
-            claims.add(found.claim)
-            with self.subTest(seed=seed, claim=found.claim):
-                if found.claim == "infeasible":
-                    prover = LeafProver(p, None)
-                    proof = prover.prove(from_fractions(p, found.rows, MultiplierKind.FARKAS), box)
-                    self.assertIsNotNone(proof)
-                    continue
-                assert found.point is not None
-                self.assertTrue(p.is_feasible(found.point))
-                if found.claim == "unbounded":
-                    self.assertTrue(points.is_ray(p.recession_cone(), found.ray))
-                else:
-                    prover = LeafProver(p, p.value(found.point))
-                    proof = prover.prove(from_fractions(p, found.rows, MultiplierKind.DUAL), box)
-                    self.assertIsNotNone(proof)
-        self.assertEqual(claims, {"optimal", "infeasible", "unbounded"})
-
-    def test_any_start_ends_alike(self) -> None:
-        for seed in range(100):
-            p = program(random.Random(seed), 6, 5)
-            found = [ended(p, random.Random(start)) for start in range(3)]
-            self.assertEqual(len({one.claim for one in found}), 1)
-            if found[0].claim == "optimal":
-                self.assertEqual(len({p.value(one.point) for one in found}), 1)
-
+from models import BINARY, MODELS, nl, whole
 
 @NEEDS_PROGRAM
 class Programs(Case):
@@ -194,11 +119,11 @@ class Cliques(Case):
                 (None, 7, {0: 5, 1: 4, 2: 1}),
             ],
         )
-        near = spine.conflicts(p)
+        near = cliques.conflict_graph(p)
         self.assertEqual(near[(0, 1)], {(1, 1), (2, 1)})
         self.assertEqual(near[(1, -1)], {(2, -1)})
         q = p.with_rows([Row({1: 1, 2: 1}, None, 1)])
-        found = list(spine.cliques(q, [0.5, 0.5, 0.5]))
+        found = list(cliques.clique_cuts(q, [0.5, 0.5, 0.5]))
         self.assertEqual(
             [(c.violation, c.coefficients, c.rhs) for c in found], [(0.5, {0: 1, 1: 1, 2: 1}, 1)]
         )

@@ -10,13 +10,15 @@ from unittest import TestCase, mock
 
 from certify_search import Certified
 from support import NEEDS_CLP, NEEDS_PROGRAM
-from bridge_drivers.certify import bases, short
+from bridge_drivers.certify import short
+from bridge_drivers.exact import basis
 from bridge_drivers.certify.claims import Given, certified
 from bridge_drivers.exact.clp import LpStatus
 from bridge_drivers.exact.relaxation import relaxation
 from bridge_drivers.model.integer_form import Box, IntegerProgram, over_common_denominator
-from bridge_drivers.exact.dual_bound import MultiplierKind, Multipliers, bit_width, dual_bound
-from bridge_drivers.exact.linear_systems import NotSolved, scipy_or_none
+from bridge_drivers.exact.dual_bound import MultiplierKind, Multipliers, dual_bound
+from bridge_drivers.exact.linear_systems import scipy_or_none
+from bridge_drivers.system.deadline import Deadline
 from builders.families import family_model as made, uneven
 from certify_parts import built
 from models import nl, real
@@ -40,40 +42,11 @@ def rounding(p: IntegerProgram) -> short.Rounding:
     """From CLP's optimum."""
     clp = relaxation(p)
     assert clp.solve() is LpStatus.OPTIMAL
-    return short.Rounding(p, clp.saved_basis(), clp.values(), 1.0)
+    return short.Rounding(p, clp.saved_basis(), clp.values(), Deadline(1.0))
 
 
 def without_scipy():
-    return mock.patch.object(bases, "scipy_or_none", lambda: None)
-
-
-class Bases(TestCase):
-    def judged(self) -> None:
-        p = two()
-        point, leaf = bases.optimum(p, bases.Basis([0, 1], [0, 1]), [1.3, 0.04])
-        self.assertEqual(point, OPTIMUM)
-        self.assertEqual(
-            {i: F(y, leaf.denominator) for i, y in leaf.numerators.items()},
-            {0: F(12, 13), 1: F(-10, 13)},
-        )
-        self.assertEqual(bit_width(point), 5)
-        for columns, rows, x, why in (
-            ([0], [0], [1.3, 0.0], "row 1 is broken"),
-            ([1], [0], [0.0, 2.0], "column 0 could be better"),
-            ([0, 1], [1], [1.3, 0.0], "not square"),
-        ):
-            with self.assertRaisesRegex(NotSolved, why):
-                bases.optimum(p, bases.Basis(columns, rows), x)
-
-    def test_by_hand(self) -> None:
-        with without_scipy():
-            self.assertFalse(bases.can_be_large())
-            self.judged()
-
-    @NEEDS_SCIPY
-    def test_by_scipy(self) -> None:
-        self.assertTrue(bases.can_be_large())
-        self.judged()
+    return mock.patch.object(basis, "scipy_or_none", lambda: None)
 
 
 class Shorts(TestCase):

@@ -32,7 +32,7 @@ sys.path[:0] = [os.path.join(HERE, ".."), HERE]
 from bridge_drivers import VERSION, solvers  # noqa: E402
 from bridge_drivers.program.bridge import Bridge, find_program  # noqa: E402
 from bridge_drivers.program.calls import Reply  # noqa: E402
-from bridge_drivers.certify import simplex  # noqa: E402
+from bridge_drivers.exact import rational_simplex as simplex  # noqa: E402
 from bridge_drivers.exact import clp  # noqa: E402
 from bridge_drivers.driver import Driver  # noqa: E402
 from bridge_drivers.pipeline.solve import SolveRun  # noqa: E402

@@ -8,10 +8,11 @@ import itertools
 from fractions import Fraction
 from typing import Callable, Iterable, Iterator, Sequence
 
-from . import short, simplex
+from . import short
+from ..exact import rational_simplex
 from ..system.deadline import Deadline
 from ..exact import points
-from .bases import Near, Refining, can_be_large, optimum
+from ..exact.basis import IterativeRefinement, NearBasis, can_lift, exact_optimum
 from ..exact.clp import Clp, ClpNotInstalled, LpStatus
 from .contradictions import Contradicting
 from .judging import NO_POINT, WITHOUT, Bound, Given, Verdict, wide_note
@@ -109,9 +110,9 @@ class Certifying(Contradicting):
         """`optimal` from short numbers, else from a basis, else in fractions; a large program from
         a basis at once. Where its numbers are too wide, a point and a bound in short ones."""
         p = self.model
-        is_large = p.matrix.count > LARGE and can_be_large() and any(p.costs)
+        is_large = p.matrix.count > LARGE and can_lift() and any(p.costs)
         if is_large and given.basis is not None and given.values is not None:
-            yield from self.by_bases([(given.basis, given.doubles())])
+            yield from self.by_bases([NearBasis(given.basis, given.doubles())])
         clp, state = self.relaxation(given)
         if state is not LpStatus.OPTIMAL:
             clp = None
@@ -121,7 +122,7 @@ class Certifying(Contradicting):
             yield self.unbounded()
         if clp is not None:
             yield from self.by_bases(self.bases(clp))
-        if not self.note and simplex.is_small(p):
+        if not self.note and rational_simplex.is_small(p):
             yield from self.by_simplex(
                 given if clp is None else Given(clp.values(), None, clp.basis())
             )
@@ -161,17 +162,17 @@ class Certifying(Contradicting):
             yield points.vertex(p, clp.basis(), clp.values())
             yield from points.nearby_points(p, clp.values())
 
-    def bases(self, clp: Clp) -> Iterator[Near]:
+    def bases(self, clp: Clp) -> Iterator[NearBasis]:
         """CLP's, then such that come nearer to the exact optimum."""
-        yield clp.basis(), clp.values()
+        yield NearBasis(clp.basis(), clp.values())
         if self.model.matrix.count <= MOST_REFINED:
-            yield from Refining(self.model, clp, self.deadline()).bases()
+            yield from IterativeRefinement(self.model, clp, self.deadline()).bases()
 
-    def by_bases(self, bases: Iterable[Near]) -> Iterator[Verdict]:
+    def by_bases(self, bases: Iterable[NearBasis]) -> Iterator[Verdict]:
         """`optimal` by the first basis that is exactly optimal, where its numbers are narrow."""
         for basis, x in bases if not self.note else ():
             try:
-                point, leaf = optimum(self.model, basis, x)
+                point, leaf = exact_optimum(self.model, basis, x)
             except NotSolved:
                 continue
             except TooManyBits as wide:

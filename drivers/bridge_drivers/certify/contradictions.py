@@ -5,7 +5,8 @@ from __future__ import annotations
 import math
 from typing import Iterator
 
-from . import simplex
+from ..exact import rational_simplex
+from ..exact.rational_simplex import RationalSimplex, SimplexResult
 from ..exact import points
 from ..exact import certificate
 from ..exact.clp import ClpNotInstalled, LpStatus
@@ -30,7 +31,7 @@ class Contradicting(Judging):
         """By a plane, by weights, or by a tree; where a point is found the search goes on to the optimum."""
         yield from self.planes()
         try:
-            if self.linear and simplex.is_small(self.model):
+            if self.linear and rational_simplex.is_small(self.model):
                 yield from self.by_simplex()
             found = self.contradiction()
         except (ClpNotInstalled, SearchEnded) as fault:
@@ -68,7 +69,7 @@ class Contradicting(Judging):
     def in_the_end(self) -> Iterator[Verdict]:
         """Of a small integer program whose search ends without a tree, in the time that is left: what its relaxation
         has in fractions."""
-        if not self.linear and simplex.is_small(self.model):
+        if not self.linear and rational_simplex.is_small(self.model):
             yield from (
                 verdict._replace(duals={}) for verdict in self.by_simplex() if verdict.is_proved()
             )
@@ -82,21 +83,27 @@ class Contradicting(Judging):
         except SearchEnded as fault:
             yield Verdict(f"{WITHOUT}{fault}")
             return
-        point, is_infeasible = ended.point, ended.claim == "infeasible"
+        point, is_infeasible = ended.point, ended.status is LpStatus.INFEASIBLE
         kind = MultiplierKind.FARKAS if is_infeasible else MultiplierKind.DUAL
-        leaf = from_fractions(self.model, ended.rows, kind)
+        leaf = from_fractions(self.model, ended.multipliers, kind)
         if is_infeasible:
             yield self.one_leaf(leaf, "infeasible", None)
-        elif point is not None and self.model.is_feasible(point) and ended.claim == "unbounded":
+        elif (
+            point is not None
+            and self.model.is_feasible(point)
+            and ended.status is LpStatus.UNBOUNDED
+        ):
             yield self.without_end(point, ended.ray)
         elif point is not None and self.model.is_feasible(point):
             self.know_point(point)
             self.know_leaf(leaf)
             yield from self.at_optimum(point, leaf)
 
-    def ended(self, p: IntegerProgram, given: Given = Given()) -> simplex.Ended:
-        tableau = simplex.Simplex(p, lambda: self.watch.look(0, math.inf))
-        tableau.start(given.basis.columns if given.basis else [], given.doubles() or [0.0] * p.n)
+    def ended(self, p: IntegerProgram, given: Given = Given()) -> SimplexResult:
+        tableau = RationalSimplex(p, lambda: self.watch.look(0, math.inf))
+        tableau.install_basis(
+            given.basis.columns if given.basis else [], given.doubles() or [0.0] * p.n
+        )
         return tableau.run()
 
     def unbounded(self) -> Verdict:
@@ -130,7 +137,9 @@ class Contradicting(Judging):
             return None
         cone = p.recession_cone()
         found = points.find_ray(cone)
-        direction = self.ended(cone).point if found is None and simplex.is_small(cone) else None
+        direction = (
+            self.ended(cone).point if found is None and rational_simplex.is_small(cone) else None
+        )
         self.has_looked = True
         return direction if direction is not None and points.is_ray(cone, direction) else found
 
@@ -153,7 +162,7 @@ class Contradicting(Judging):
                 found = next(points.nearby_points(p, clp.values()), None) or points.vertex(
                     p, clp.basis(), clp.values()
                 )
-            return self.ended(p).point if found is None and simplex.is_small(p) else found
+            return self.ended(p).point if found is None and rational_simplex.is_small(p) else found
         try:
             ended = self.shared(p).resume(self.watch.spent() + self.watch.left())
         except SearchEnded:
