@@ -241,10 +241,19 @@ class Statistics:
 
     def _count_bounds(self) -> None:
         written = self.program.written
-        for name, lower, upper in zip(self.program.names.columns, written.lower, written.upper):
-            for bound in (lower,) if lower == upper else (lower, upper):
-                value = self._number(name, bound) if bound else 0
-                self.infinite += _size(value) >= INFINITE
+        pairs = Counter(zip(written.lower, written.upper))
+        lost = set()
+        for pair, times in pairs.items():
+            for bound in filter(None, set(pair)):
+                number = parsed(bound)
+                self.infinite += times * (_size(number.value) >= INFINITE)
+                if not number.is_held:
+                    lost.add(bound)
+        if not lost:
+            return
+        for name, *bounds in zip(self.program.names.columns, written.lower, written.upper):
+            distinct = bounds[:1] if bounds[0] == bounds[1] else bounds
+            self.lost += [LostNumber(name, text.decode()) for text in distinct if text in lost]
 
     def _number(self, place: str, text: bytes) -> Exact:
         """The value of a number, which is lost where doubles do not hold it."""

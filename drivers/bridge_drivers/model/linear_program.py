@@ -197,7 +197,10 @@ class LinearProgram:
             name for name, is_integer in zip(self.written.columns, self.is_integer) if is_integer
         }
         lines = self.text[start:].split(b"\n")
-        rounded = [_rounded_bound(line, integers) for line in lines]
+        rounded = [
+            _rounded_bound(line, integers) if b"." in line or b"e" in line or b"E" in line else line
+            for line in lines
+        ]
         if rounded == lines:
             return self
         other = copy.copy(self)
@@ -277,8 +280,6 @@ def _in_doubles(texts: List[bytes], infinity: float) -> Doubles:
 
 def _rounded_bound(line: bytes, integers: set[bytes]) -> bytes:
     """A line ` LO SET COLUMN VALUE` or ` UP ..` of an integer column, its value rounded inwards."""
-    if b"." not in line and b"e" not in line.lower():
-        return line
     words = line.split(b" ")
     if len(words) != 5 or words[1] not in (b"LO", b"UP") or words[3] not in integers:
         return line

@@ -214,7 +214,7 @@ class SparseRows:
     @cached_property
     def _digit_bits(self) -> int:
         """The bits of a digit of a coefficient."""
-        return min(max(int(v).bit_length() for v in self.table), DIGIT_BITS)
+        return min(max((int(v).bit_length() for v in self.table), default=1), DIGIT_BITS)
 
     @cached_property
     def _digits(self) -> List[Tuple[int, NDArray[np.float64]]]:
