@@ -145,7 +145,8 @@ def test_arrays(in_folder: Workspace) -> None:
     costs, weights = KNAP
     model = model_of_arrays(costs, weights, row_upper=12, upper=1, integer=True, maximise=True)
     report = solve(model, "cbc", prove=True)
-    assert (report.text, report.values) == ("optimal 17", {"x0": 1, "x1": 1, "x2": 0})
+    assert report.text == "optimal 17" and report.values is not None
+    assert list(report.values.values()) == [1, 1, 0]
     relaxed = certify(
         model_of_arrays(costs, weights, -math.inf, 12, upper=1, maximise=True), solver="clp"
     )
