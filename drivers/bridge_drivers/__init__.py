@@ -5,7 +5,7 @@ answer and check it. `solve`, `certify`, `verify` and `explain` are the calls th
 """
 
 from . import certify as searches  # noqa: F401  read before the call of this name
-from .api import SolveInterrupted, certify, explain, figures, solve, verify
+from .api import certify, explain, figures, solve, verify
 from .model.array_model import model_of_arrays
 from .pipeline.monitor import ProgressEvent
 from .pipeline.report import ExactNumbers, Report
@@ -14,6 +14,7 @@ from .system.errors import (
     FileFault,
     ModelRefused,
     NotInstalled,
+    SolveInterrupted,
     WrongOption,
 )
 from .system.version import VERSION

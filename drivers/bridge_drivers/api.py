@@ -28,7 +28,8 @@ from .pipeline.outputs import (
     write_outputs,
 )
 from .pipeline.report import ExactNumbers, Report, ReportedCall
-from .pipeline.solve import Outcome, SolveRun
+from .pipeline.answered_run import Outcome
+from .pipeline.solve import SolveRun
 from .program.bridge import Bridge, find_program
 from .program.calls import files_of_call
 from .program.refusal import Refusal
@@ -41,6 +42,7 @@ from .system.errors import (
     FileAction,
     FileFault,
     RunInterrupted,
+    SolveInterrupted,
     WrongOption,
 )
 from .system.signals import SIGNALS, Interrupted
@@ -50,14 +52,6 @@ OnProgress = Callable[[ProgressEvent], None]
 FRONT = "nl-bridge"
 CERTIFY = "bridge-certify"
 CERTIFY_SECONDS = 60.0  # of the solver, and again of the search
-
-
-class SolveInterrupted(KeyboardInterrupt):
-    """Ctrl-C ended a run. The best answer that was found is in `report`, and was kept where files are named."""
-
-    def __init__(self, report: Report) -> None:
-        super().__init__(report.text)
-        self.report = report
 
 
 def solve(

@@ -23,7 +23,8 @@ from .pipeline.outputs import (
     write_sol,
 )
 from .pipeline.report import Report, ReportedCall
-from .pipeline.solve import Outcome, SolveRun
+from .pipeline.answered_run import Outcome
+from .pipeline.solve import SolveRun
 from .solvers import SOLVERS
 from .system.codes import Code, ExitStatus
 from .system.errors import (

@@ -14,7 +14,7 @@ from ..system.codes import ExitStatus
 from ..system.errors import BridgeError, WrongOption
 from ..driver import Driver, Run, reported
 from ..options import AMOUNT, FILE, SWITCH, Option, Options, Text
-from ..pipeline.solve import Outcome
+from ..pipeline.answered_run import Outcome
 from ..solvers import SOLVERS
 
 NAME = "bridge-certify"

@@ -167,16 +167,12 @@ class AnswerCertifier:
     def certify(self, answer: Answer) -> Verdict:
         """What is proved by a search.
 
-        It has the time limit, and without `prove` a second of it, or more by the size of the program.
-        Where a large program has no certificate then, the answer is tried as it stands.
+        Where a large program has no certificate when the time of a search is over, the answer is tried as
+        it stands.
         """
         settings = self.settings.certificate
         proves = settings.prove and not self.run.is_interrupted
-        size = len(self.program.text)
-        seconds = self.settings.time_limit or CERTIFICATE_SECONDS
-        if not proves:
-            seconds = min(max(size / LARGE_PROGRAM, ONE_LEAF_SECONDS), seconds)
-        watch = Watch(seconds, self.monitor.progress, not proves)
+        watch = self._watch(is_search=proves)
         pool = open_pool(settings.processes, settings.cluster) if proves else None
         work = Certifying(
             self.bridge,
@@ -203,13 +199,27 @@ class AnswerCertifier:
                     self.pool_note = "the search went on in one process: " + pool.fault
         self.is_interrupted = watch.is_stopped
         is_open = claim == POINT and not self.is_relaxed and not verdict.is_proved()
-        if is_open and size > LARGE_PROGRAM:
-            stands = self.from_answer_itself(work, answer)
-            if stands.is_proved():
-                return stands._replace(
-                    by_doubles=verdict.by_doubles, note=verdict.note, is_open=verdict.is_open
-                )
+        if is_open and len(self.program.text) > LARGE_PROGRAM:
+            return self._by_answer_itself(work, answer, verdict)
         return verdict
+
+    def _watch(self, *, is_search: bool) -> Watch:
+        """The time of a search: the limit, and of a short one a second of it, or more by the program's size."""
+        limit = self.settings.time_limit or CERTIFICATE_SECONDS
+        if is_search:
+            return Watch(limit, self.monitor.progress)
+        by_size = len(self.program.text) / LARGE_PROGRAM
+        limit = min(max(by_size, ONE_LEAF_SECONDS), limit)
+        return Watch(limit, self.monitor.progress, of_processor=True)
+
+    def _by_answer_itself(self, work: Certifying, answer: Answer, verdict: Verdict) -> Verdict:
+        """The answer's own certificate where it is accepted, with what is known without it."""
+        stands = self.from_answer_itself(work, answer)
+        if not stands.is_proved():
+            return verdict
+        return stands._replace(
+            by_doubles=verdict.by_doubles, note=verdict.note, is_open=verdict.is_open
+        )
 
     def from_answer_itself(self, work: Certifying, answer: Answer) -> Verdict:
         """The .sol's values and duals are the certificate, or the same numbers in fewer digits."""

@@ -51,6 +51,7 @@ class ObservedProgress(Progress):
         self.on_progress = on_progress
 
     def tell_numbers(self, known: Numbers) -> None:
+        """To the line, to the log, and to the function that was given."""
         super().tell_numbers(known)
         event = ProgressEvent(self.stage, time.monotonic() - self.began, dict(known))
         PROGRESS_LOGGER.debug("%s: %s", event.stage, self.detail)
@@ -88,10 +89,11 @@ class Monitor(RunObserver):
         try:
             yield
         finally:
-            self.add_seconds(part, time.monotonic() - start)
+            self.add_time(part, time.monotonic() - start)
 
-    def add_seconds(self, part: str, seconds: float) -> None:
-        self.seconds[part] = self.seconds.get(part, 0.0) + seconds
+    def add_time(self, part: str, spent: float) -> None:
+        """Seconds that a part of the run took."""
+        self.seconds[part] = self.seconds.get(part, 0.0) + spent
 
     def command_starts(self, argv: Sequence[str], folder: str = "") -> None:
         if LOGGER.isEnabledFor(logging.DEBUG):
@@ -99,9 +101,9 @@ class Monitor(RunObserver):
             elapsed = time.monotonic() - self.began
             LOGGER.debug("%s: %.2f s: %s%s", self.name, elapsed, shlex.join(argv), where)
 
-    def stage_begins(self, stage: str, seconds: float) -> None:
+    def stage_begins(self, stage: str, limit: float) -> None:
         self._known = {}
-        self.progress.begin(stage, seconds)
+        self.progress.begin(stage, limit)
 
     def log_line(self, line: str) -> None:
         SOLVER_LOGGER.info("%s", line)

@@ -13,7 +13,9 @@ from ..system.errors import WrongOption
 from ..system.text import did_you_mean
 from .settings import CertificateSettings, OutputSettings, Settings
 
-PRINTED_VALUES, PRINTED_DUALS, WRITTEN_SOL = 2, 4, 1  # parts of `wantsol`
+WRITTEN_SOL = 1  # parts of `wantsol`
+PRINTED_VALUES = 2
+PRINTED_DUALS = 4
 
 
 class Kind(NamedTuple):

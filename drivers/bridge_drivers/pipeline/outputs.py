@@ -13,7 +13,7 @@ from ..system.signals import SIGNALS
 from ..system.codes import ExitStatus
 from .answer import Answer
 from .settings import OutputSettings
-from .solve import Outcome
+from .answered_run import Outcome
 
 NamedTexts = List[Tuple[str, str]]  # a name and a decimal each, in the order of the file
 

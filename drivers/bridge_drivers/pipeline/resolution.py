@@ -176,7 +176,7 @@ def proved_point(answer: Answer, verdict: Verdict) -> ProvedPoint | None:
     doubles = nearest_doubles(values)
     objective = program.objective_terms(doubles)
     if answer.values is None:
-        return ProvedPoint(values, objective, False, "a")
+        return ProvedPoint(values, objective, has_other_objective=False, kind="a")
     is_apart = have_other_values(answer.objective_terms, objective)
     kind = kind_beside(answer, doubles, objective) if is_apart else ""
     return ProvedPoint(values, objective, is_apart, kind)
@@ -239,7 +239,8 @@ def _at_proved_point(
     answer: Answer, verdict: Verdict, proved: ProvedPoint, ruling: Ruling
 ) -> Resolution:
     """At the point that was proved. A solver's `optimal` stands beside one that is feasible with the same objective."""
-    code, kind, shortfall = ruling.code, proved.kind, ruling.shortfall
+    code, shortfall = ruling.code, ruling.shortfall
+    kind = proved.kind
     duals = proved_duals(answer, verdict) if code == Code.SOLVED else {}
     if kind:
         moved = answer.moved_to(proved.values, duals, code)

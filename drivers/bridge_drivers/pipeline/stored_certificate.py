@@ -57,7 +57,7 @@ class CertificateStore:
             proves = self.still_proves(target, line) if isinstance(fault, FileStays) else ""
             if not proves:
                 text = f"the certificate is not kept: {target}: {fault.reason}"
-                return StoredCertificate(text, None, True)
+                return StoredCertificate(text, has_failed=True)
             stays = f"{target} stays as it is: it proves `{proves}`; overwrite=1 replaces it"
             return StoredCertificate(stays, target)
         told = f"{target} is written: the certificate of `{line}`, {len(data)} bytes"

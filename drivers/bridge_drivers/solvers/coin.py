@@ -32,7 +32,7 @@ from .settings import SolverOption, SolverSettings
 # the first line of -solution, up to the objective
 STATUSES = (
     ToldStatus("Optimal", SolverStatus.OPTIMAL, OPTIMAL_SOLUTION),
-    ToldStatus("Optimal (within gap tolerance)", SolverStatus.FEASIBLE, GAP_SOLUTION, True),
+    ToldStatus("Optimal (within gap tolerance)", SolverStatus.FEASIBLE, GAP_SOLUTION, is_gap=True),
     ToldStatus("Infeasible", SolverStatus.INFEASIBLE, "infeasible"),
     ToldStatus("Integer infeasible", SolverStatus.INFEASIBLE, "integer infeasible"),
     ToldStatus("Unbounded", SolverStatus.UNBOUNDED, "unbounded"),
@@ -115,6 +115,8 @@ class Coin(Solver):
 
 
 class Cbc(Coin):
+    """CBC, for mixed integer programs."""
+
     name = "cbc"
     executable = "cbc"
     title = "CBC"
@@ -124,6 +126,7 @@ class Cbc(Coin):
     options = (SolverOption.MIP_GAP, SolverOption.THREADS)
 
     def arguments(self, settings: SolverSettings, *, is_retry: bool = False) -> list[str]:
+        """Its time limit is one of the clock, not of the processor."""
         words = []
         if settings.time_limit:
             words += ["-timeMode", "elapsed", "-sec", f"{settings.time_limit:g}"]
@@ -137,6 +140,8 @@ class Cbc(Coin):
 
 
 class Clp(Coin):
+    """CLP, for linear programs."""
+
     name = "clp"
     executable = "clp"
     title = "CLP"

@@ -57,6 +57,8 @@ class ReadValues(NamedTuple):
 
 
 class Esolver(Solver):
+    """QSopt_ex, for linear programs in fractions."""
+
     name = "esolver"
     executable = "esolver"
     title = "QSopt_ex"
@@ -69,6 +71,7 @@ class Esolver(Solver):
         return [*limit, *settings.arguments]
 
     def solve(self, run: SolverRun) -> SolverAnswer:
+        """By the status in its answer; where there is none, by the limits in its log."""
         solution = run.path("answer.sol")
         basis_file = run.path("answer.bas")
         path = run.write("esolver.mps", self.mps_text(run.written))

@@ -54,7 +54,7 @@ LOG_STATUSES = (
         "RELATIVE MIP GAP TOLERANCE REACHED; SEARCH TERMINATED",
         SolverStatus.FEASIBLE,
         GAP_SOLUTION,
-        True,
+        is_gap=True,
     ),
     ToldStatus("TIME LIMIT EXCEEDED; SEARCH TERMINATED", SolverStatus.LIMIT, TIME_LIMIT),
     ToldStatus(
@@ -100,6 +100,8 @@ FAULT_PATTERN = r"glpsol\.mps:|glp_\w+:"
 
 
 class Glpsol(Solver):
+    """GLPK, for mixed integer programs."""
+
     name = "glpsol"
     executable = "glpsol"
     title = "GLPK"

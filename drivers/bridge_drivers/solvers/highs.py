@@ -59,6 +59,8 @@ STATUS_OF_HIGHS = re.compile(r"HiGHS Status (\d+)")
 
 
 class Highs(Solver):
+    """HiGHS of SciPy, which `highs_script` calls in another Python."""
+
     name = "highs"
     executable = "a python3 with SciPy"
     package = "python3-scipy"
@@ -80,6 +82,7 @@ class Highs(Solver):
         return [self.find(named) or PLACES[0], SCRIPT, path]
 
     def solve(self, run: SolverRun) -> SolverAnswer:
+        """By the object that the script writes."""
         if not run.program.names.columns:
             raise UnclearAnswer("it takes no program without columns")
         words = {

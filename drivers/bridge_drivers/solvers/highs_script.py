@@ -1,6 +1,11 @@
-"""HiGHS on an exported program, by a python3 that has SciPy and need not be the driver's: `highs_script.py MPS [ANSWER
-WORDS]`, WORDS a JSON text. ANSWER, else standard output, gets one: `status` as SciPy tells it, `message`, and where
-there are, `values`, `duals` by row and `costs` by column, as rates of change of the objective in its own sense."""
+"""HiGHS on an exported program, by a Python that has SciPy and need not be that of the drivers.
+
+    highs_script.py MPS [ANSWER WORDS]
+
+WORDS is a JSON text. The file ANSWER, else standard output, gets one: `status` as SciPy tells it, `message`,
+and where there are any, `values` and `costs` by column and `duals` by row, as rates of change of the
+objective in its own sense.
+"""
 
 from __future__ import annotations
 
@@ -8,8 +13,7 @@ import json
 import os
 import signal
 import sys
-from pathlib import Path
-from typing import Any
+from typing import Any, Dict, Mapping
 
 import numpy
 import scipy
@@ -19,100 +23,122 @@ from scipy.sparse import csr_matrix, vstack
 sys.dont_write_bytecode = True
 sys.path[0] = os.path.join(os.path.dirname(os.path.abspath(__file__)), "..", "..")
 from bridge_drivers.model.linear_program import LinearProgram  # noqa: E402
+from bridge_drivers.system.files import write_new  # noqa: E402
 
 INFINITE = float("inf")
-USUAL = {"mipgap": 0.0, "seconds": 0.0, "relax": False, "presolve": True, "disp": False}
+USUAL_WORDS = {"mipgap": 0.0, "seconds": 0.0, "relax": False, "presolve": True, "disp": False}
+LARGEST_GAP = 1.0  # that is told
+
+Words = Mapping[str, Any]
 
 
-class Arrays:
-    """A program in doubles; rows without the objective's."""
+class DoubleArrays:
+    """A program in arrays of doubles, minimised.
+
+    Attributes:
+        sign: -1 where the program is maximised, else 1.
+        costs: One for each column, times the sign.
+        lower: Of the columns.
+        upper: Of the columns.
+        is_integer: 1 for each integer column, else 0.
+        row_lower: Of the rows.
+        row_upper: Of the rows.
+        matrix: The rows.
+    """
 
     def __init__(self, program: LinearProgram) -> None:
-        matrix = program.matrix
-        self.maximise = program.maximise
-        self.lo = program.row_lower
-        self.hi = program.row_upper
-        self.bounds = numpy.column_stack([program.lower, program.upper])
-        self.whole = numpy.array(program.is_integer, dtype=int)
-        self.cost = numpy.zeros(matrix.n)
-        self.cost[program.costs.columns] = program.costs.values
-        order = numpy.argsort(matrix.entries.rows, kind="stable")
-        values = numpy.array(matrix.table, dtype=float)[matrix.entries.numbers[order]]
-        starts = numpy.cumsum([0, *matrix.lengths])
-        self.matrix = csr_matrix(
-            (values, matrix.entries.columns[order], starts), shape=(matrix.m, matrix.n)
-        )
+        rows = program.matrix
+        self.sign = -1.0 if program.maximise else 1.0
+        self.row_lower = program.row_lower
+        self.row_upper = program.row_upper
+        self.lower = program.lower
+        self.upper = program.upper
+        self.is_integer = numpy.array(program.is_integer, dtype=int)
+        self.costs = numpy.zeros(rows.n)
+        self.costs[program.costs.columns] = self.sign * program.costs.values
+        order = numpy.argsort(rows.entries.rows, kind="stable")
+        values = numpy.array(rows.table, dtype=float)[rows.entries.numbers[order]]
+        starts = numpy.cumsum([0, *rows.lengths])
+        places = rows.entries.columns[order]
+        self.matrix = csr_matrix((values, places, starts), shape=(rows.m, rows.n))
 
 
-def options_of(words: dict[str, Any]) -> dict[str, Any]:
+def options_of(words: Words) -> Dict[str, Any]:
+    """The options that SciPy's two functions have in common."""
     limit = {"time_limit": words["seconds"]} if words["seconds"] else {}
     return {"disp": words["disp"], "presolve": words["presolve"], **limit}
 
 
-def mixed(p: Arrays, cost: Any, words: dict[str, Any]) -> dict[str, Any]:
+def solve_mip(arrays: DoubleArrays, words: Words) -> Dict[str, Any]:
+    """A mixed integer program by `milp`."""
+    constraints = None
+    if len(arrays.row_lower):
+        constraints = LinearConstraint(arrays.matrix, arrays.row_lower, arrays.row_upper)
     found = milp(
-        cost,
-        integrality=p.whole,
-        bounds=Bounds(p.bounds[:, 0], p.bounds[:, 1]),
-        constraints=LinearConstraint(p.matrix, p.lo, p.hi) if len(p.lo) else None,
+        arrays.costs,
+        integrality=arrays.is_integer,
+        bounds=Bounds(arrays.lower, arrays.upper),
+        constraints=constraints,
         options={"mip_rel_gap": words["mipgap"], **options_of(words)},
     )
     gap = found.get("mip_gap")
     return {
         "status": int(found.status),
         "message": found.message,
-        "gap": None if gap is None else min(float(gap), 1.0),
-        "values": None if found.x is None else [float(v) for v in found.x],
+        "gap": None if gap is None else min(float(gap), LARGEST_GAP),
+        "values": None if found.x is None else found.x.tolist(),
     }
 
 
-def linear(p: Arrays, cost: Any, words: dict[str, Any], sign: float) -> dict[str, Any]:
-    """Equations, upper sides and lower sides go apart."""
-    lo, hi, a = p.lo, p.hi, p.matrix
-    equal = numpy.flatnonzero(lo == hi)
-    up = numpy.flatnonzero((lo != hi) & (hi < INFINITE))
-    down = numpy.flatnonzero((lo != hi) & (lo > -INFINITE))
-    upper = vstack([a[up], -a[down]]) if len(up) + len(down) else None
+def solve_lp(arrays: DoubleArrays, words: Words) -> Dict[str, Any]:
+    """A linear program by `linprog`, which takes equations, and rows with an upper side alone."""
+    lower, upper = arrays.row_lower, arrays.row_upper
+    equal = numpy.flatnonzero(lower == upper)
+    below = numpy.flatnonzero((lower != upper) & (upper < INFINITE))
+    above = numpy.flatnonzero((lower != upper) & (lower > -INFINITE))
+    inequalities = sides = None
+    if len(below) + len(above):
+        inequalities = vstack([arrays.matrix[below], -arrays.matrix[above]])
+        sides = numpy.concatenate([upper[below], -lower[above]])
     found = linprog(
-        cost,
-        upper,
-        None if upper is None else numpy.concatenate([hi[up], -lo[down]]),
-        a[equal] if len(equal) else None,
-        lo[equal] if len(equal) else None,
-        p.bounds,
+        arrays.costs,
+        inequalities,
+        sides,
+        arrays.matrix[equal] if len(equal) else None,
+        lower[equal] if len(equal) else None,
+        numpy.column_stack([arrays.lower, arrays.upper]),
         method="highs",
         options=options_of(words),
     )
     answer = {"status": int(found.status), "message": found.message, "values": None}
-    if found.status == 0:
-        y = numpy.zeros(len(lo))
-        if upper is not None:
-            numpy.add.at(y, up, found.ineqlin.marginals[: len(up)])
-            numpy.add.at(y, down, -found.ineqlin.marginals[len(up) :])
-        if len(equal):
-            y[equal] += found.eqlin.marginals
-        costs = found.lower.marginals + found.upper.marginals
-        answer.update(
-            values=[float(v) for v in found.x],
-            duals=[float(v) for v in sign * y],
-            costs=[float(v) for v in sign * costs],
-        )
+    if found.status != 0:
+        return answer
+    duals = numpy.zeros(len(lower))
+    if inequalities is not None:
+        numpy.add.at(duals, below, found.ineqlin.marginals[: len(below)])
+        numpy.add.at(duals, above, -found.ineqlin.marginals[len(below) :])
+    if len(equal):
+        duals[equal] += found.eqlin.marginals
+    costs = found.lower.marginals + found.upper.marginals
+    answer["values"] = found.x.tolist()
+    answer["duals"] = (arrays.sign * duals).tolist()
+    answer["costs"] = (arrays.sign * costs).tolist()
     return answer
 
 
 def main() -> None:
+    """The script."""
     signal.signal(signal.SIGINT, signal.SIG_DFL)  # HiGHS keeps no point where it is ended
     with open(sys.argv[1], "rb") as source:
-        p = Arrays(LinearProgram.of(source.read()))
-    words = json.loads(sys.argv[3]) if len(sys.argv) > 3 else USUAL
+        arrays = DoubleArrays(LinearProgram.of(source.read()))
+    words = json.loads(sys.argv[3]) if len(sys.argv) > 3 else USUAL_WORDS
     print("HiGHS of SciPy", scipy.__version__, flush=True)
-    sign = -1.0 if p.maximise else 1.0
-    is_mixed = p.whole.any() and not words["relax"]
-    answer = mixed(p, sign * p.cost, words) if is_mixed else linear(p, sign * p.cost, words, sign)
+    is_mixed = arrays.is_integer.any() and not words["relax"]
+    answer = json.dumps(solve_mip(arrays, words) if is_mixed else solve_lp(arrays, words))
     if len(sys.argv) > 2:
-        Path(sys.argv[2]).write_text(json.dumps(answer))
+        write_new(sys.argv[2], answer.encode("ascii"))
     else:
-        print(json.dumps(answer))
+        print(answer)
 
 
 if __name__ == "__main__":

@@ -60,6 +60,8 @@ class ReadValues(NamedTuple):
 
 
 class LpSolve(Solver):
+    """lp_solve, for mixed integer programs."""
+
     name = "lp_solve"
     executable = "lp_solve"
     title = "lp_solve"
@@ -82,6 +84,7 @@ class LpSolve(Solver):
         return [*words, *settings.arguments]
 
     def solve(self, run: SolverRun) -> SolverAnswer:
+        """By what it prints: a status, or values without one, which are optimal."""
         path = run.write("lp_solve.mps", run.written.text)
         words = self.reading_arguments(run.program, path)
         words += self.arguments(run.settings, is_retry=run.is_retry)

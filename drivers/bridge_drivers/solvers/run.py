@@ -39,8 +39,8 @@ class RunObserver:
     def command_starts(self, argv: Sequence[str], folder: str) -> None:
         """A process is started in a folder."""
 
-    def stage_begins(self, stage: str, seconds: float) -> None:
-        """What is worked at from now on, and the limit of time for it, 0 for none; "" when it ends."""
+    def stage_begins(self, stage: str, limit: float) -> None:
+        """What is worked at from now on, and its limit of time in seconds, 0 for none; "" when it ends."""
 
     def log_line(self, line: str) -> None:
         """A line of the log, with its end."""

@@ -264,3 +264,16 @@ class TooManyBits(BridgeError):
     def __init__(self, bits: int) -> None:
         super().__init__(f"more than {bits} bits")
         self.bits = bits
+
+
+class SolveInterrupted(KeyboardInterrupt):
+    """Ctrl-C ended a call of the package.
+
+    Attributes:
+        report: The best answer that was found until then, which was kept where files are named; or that
+            there is none.
+    """
+
+    def __init__(self, report: Any) -> None:
+        super().__init__(report.text)
+        self.report = report

@@ -11,24 +11,24 @@ from hypothesis import given
 from hypothesis import strategies as st
 
 from bridge_drivers import model_of_arrays
-from bridge_drivers.model.linear_program import program_of
+from bridge_drivers.model.linear_program import LinearProgram
 
 ROWS = [[6.0, 5.0, 8.0], [0.0, 1.0, -0.1]]
 
 
 def program(**changes: Any) -> Any:
     given = {"row_upper": [14, 3], "integer": True, "upper": 1, "maximise": True, **changes}
-    return program_of(model_of_arrays([10, 7, 12], ROWS, **given))
+    return LinearProgram.of_named(model_of_arrays([10, 7, 12], ROWS, **given))
 
 
 def test_numbers() -> None:
     found = program(constant=2.5, row_lower=[-math.inf, 1.1])
-    assert (found.maximise, found.objective_rhs, len(found.whole)) == (True, "-2.5", 3)
-    assert found.costs == {"x0": "10.0", "x1": "7.0", "x2": "12.0"}
-    low, high = found.sides()
-    assert (low, high) == ([-math.inf, 1.1], [14.0, 3.0])
-    assert found.bounds() == ([0.0, 0.0, 0.0], [1.0, 1.0, 1.0])
-    assert found.terms().activities([1.0, 1.0, 1.0]) == [19.0, 0.9]
+    assert (found.maximise, found.objective_rhs, found.integer_count) == (True, "-2.5", 3)
+    assert found.costs.values.tolist() == [10.0, 7.0, 12.0]
+    assert found.row_lower.tolist() == [-math.inf, 1.1]
+    assert found.row_upper.tolist() == [14.0, 3.0]
+    assert (found.lower.tolist(), found.upper.tolist()) == ([0.0] * 3, [1.0] * 3)
+    assert list(found.matrix.activities([1.0, 1.0, 1.0])) == [19.0, 0.9]
 
 
 def test_a_sparse_matrix_is_the_same() -> None:
@@ -40,13 +40,15 @@ def test_a_sparse_matrix_is_the_same() -> None:
 
 def test_kinds_of_rows_and_bounds() -> None:
     found = program(row_lower=[14, -math.inf], lower=[-math.inf, 0, 2], upper=[math.inf, 1, 2])
-    assert [found.kinds[name] for name in ("c0", "c1")] == ["E", "L"]
-    assert found.bounds() == ([-math.inf, 0.0, 2.0], [math.inf, 1.0, 2.0])
+    assert found.row_lower.tolist() == [14.0, -math.inf]
+    assert found.row_upper.tolist() == [14.0, 3.0]
+    assert found.lower.tolist() == [-math.inf, 0.0, 2.0]
+    assert found.upper.tolist() == [math.inf, 1.0, 2.0]
 
 
 def test_no_rows() -> None:
-    found = program_of(model_of_arrays([1.0, 2.0], lower=1))
-    assert (found.columns, found.constraints) == (["x0", "x1"], [])
+    found = LinearProgram.of_named(model_of_arrays([1.0, 2.0], lower=1))
+    assert (found.n, found.m) == (2, 0)
 
 
 @pytest.mark.parametrize(
@@ -69,5 +71,6 @@ FINITE = st.floats(allow_nan=False, allow_infinity=False, min_value=-1e30, max_v
 
 @given(st.lists(FINITE, min_size=1, max_size=4))
 def test_costs_are_the_same_doubles(costs: Any) -> None:
-    found = program_of(model_of_arrays(costs))
-    assert [float(found.costs.get(f"x{j}", "0")) for j in range(len(costs))] == costs
+    found = LinearProgram.of_named(model_of_arrays(costs))
+    known = {column: float(text) for column, text in found.cost_texts.items()}
+    assert [known.get(column, 0.0) for column in range(len(costs))] == costs

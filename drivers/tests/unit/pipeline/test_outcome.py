@@ -24,9 +24,13 @@ from bridge_drivers.system import errors
 from bridge_drivers.system.codes import Code
 
 CODES_PAGE = Path(__file__).parents[3] / "CODES.md"
-SOLVED, UNSURE, LIMIT = Code.SOLVED, Code.UNSURE, Code.LIMIT
-STOPPED, EITHER = Code.LIMIT_WITH_POINT, Code.INFEASIBLE_OR_UNBOUNDED
-INFEASIBLE, UNBOUNDED = Code.INFEASIBLE, Code.UNBOUNDED
+SOLVED = Code.SOLVED
+UNSURE = Code.UNSURE
+LIMIT = Code.LIMIT
+STOPPED = Code.LIMIT_WITH_POINT
+EITHER = Code.INFEASIBLE_OR_UNBOUNDED
+INFEASIBLE = Code.INFEASIBLE
+UNBOUNDED = Code.UNBOUNDED
 SAID = (SOLVED, UNSURE, STOPPED, LIMIT, INFEASIBLE, EITHER, UNBOUNDED)
 CLAIMS = ("", "optimal", "within", "feasible", "bound", "infeasible", "unbounded")
 FLAGS = (
@@ -108,19 +112,24 @@ PROVED, OWN = PointSource.PROVED, PointSource.ANSWER
 @pytest.mark.parametrize(
     "found, ruling",
     [
-        (Findings(SOLVED, "within", True, is_bound_met=True), Ruling(SOLVED, PROVED)),
-        (Findings(SOLVED, "within", True), Ruling(UNSURE, PROVED, BOUND_AWAY)),
-        (Findings(SOLVED, "feasible", True), Ruling(UNSURE, PROVED, NO_BOUND)),
-        (Findings(SOLVED, "feasible", True, is_met_in_doubles=True), Ruling(SOLVED, PROVED)),
-        (Findings(SOLVED, "bound", True, is_bound_met=True), Ruling(SOLVED, OWN)),
-        (Findings(SOLVED, "bound", True), Ruling(UNSURE, OWN, BOUND_AWAY)),
+        (Findings(SOLVED, "within", is_continuous=True, is_bound_met=True), Ruling(SOLVED, PROVED)),
+        (Findings(SOLVED, "within", is_continuous=True), Ruling(UNSURE, PROVED, BOUND_AWAY)),
+        (Findings(SOLVED, "feasible", is_continuous=True), Ruling(UNSURE, PROVED, NO_BOUND)),
         (
-            Findings(SOLVED, "bound", True, is_bound_met=True, violation=Violation.LITTLE),
+            Findings(SOLVED, "feasible", is_continuous=True, is_met_in_doubles=True),
+            Ruling(SOLVED, PROVED),
+        ),
+        (Findings(SOLVED, "bound", is_continuous=True, is_bound_met=True), Ruling(SOLVED, OWN)),
+        (Findings(SOLVED, "bound", is_continuous=True), Ruling(UNSURE, OWN, BOUND_AWAY)),
+        (
+            Findings(
+                SOLVED, "bound", is_continuous=True, is_bound_met=True, violation=Violation.LITTLE
+            ),
             Ruling(UNSURE, OWN, "no exact point is near it"),
         ),
-        (Findings(SOLVED, "", True, is_met_in_doubles=True), Ruling(SOLVED, OWN)),
-        (Findings(SOLVED, "", True), Ruling(UNSURE, OWN, NO_BOUND)),
-        (Findings(SOLVED, "", True, is_checked=False), Ruling(SOLVED, OWN)),
+        (Findings(SOLVED, "", is_continuous=True, is_met_in_doubles=True), Ruling(SOLVED, OWN)),
+        (Findings(SOLVED, "", is_continuous=True), Ruling(UNSURE, OWN, NO_BOUND)),
+        (Findings(SOLVED, "", is_continuous=True, is_checked=False), Ruling(SOLVED, OWN)),
         (Findings(SOLVED, "feasible"), Ruling(SOLVED, PROVED)),
         (Findings(SOLVED, "feasible", is_ray_open=True), Ruling(UNSURE, PROVED, NO_BOUND)),
         (Findings(SOLVED, "within", is_ray_open=True), Ruling(SOLVED, PROVED)),
