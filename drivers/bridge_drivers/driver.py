@@ -9,7 +9,8 @@ import sys
 from dataclasses import replace
 from typing import Sequence
 
-from . import api, console, minizinc, sol
+from . import api, console, minizinc
+from .formats.sol import failure_sol, short_table, value_lines
 from .formats.source import Source, Workspace, missing_source, read_model
 from .options import EXAMPLE, MODEL, USAGE, Option, Options, Words, own_options, words_of
 from .pipeline.monitor import Monitor
@@ -168,7 +169,7 @@ class Run:
                 message = [f"{self.name}: {fault.text}"]
                 objective = self.options.objno - 1
                 code = code_of_error(fault)
-                write_sol(self.model, sol.bare(self.model.path, code, objective, message))
+                write_sol(self.model, failure_sol(self.model.path, code, objective, message))
                 return ExitStatus.DONE
         return fault.status
 
@@ -256,13 +257,15 @@ class Driver(Run):
             or o.json
             or any(word.startswith("wantsol=") for word in o.given)
         )
-        tells = sol.lines if o.wantsol & 2 else sol.screen if self.shows and not is_asked else None
+        tells = (
+            value_lines if o.wantsol & 2 else short_table if self.shows and not is_asked else None
+        )
         answer = self.outcome.answer if self.outcome else None
         duals = named_duals(answer) if o.wantsol & 4 else []
         return [
             *(tells(named_values(answer)) if tells else ()),
             *["duals"] * bool(duals),
-            *sol.lines(duals),
+            *value_lines(duals),
         ]
 
     def failed(self, fault: BridgeError) -> int:

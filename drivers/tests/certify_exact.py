@@ -17,6 +17,7 @@ from builders.misleading import Misleading
 from builders.misleading_kinds import models
 from models import BINARY, MODELS, nl, whole
 
+
 @NEEDS_PROGRAM
 class Programs(Case):
     work = Certified.work

@@ -11,7 +11,6 @@ from fractions import Fraction as F
 from unittest import mock
 
 from support import NEEDS_CLP, NEEDS_PROGRAM, Case, Injected, Reply, bridge, content
-from bridge_drivers import sol
 from bridge_drivers.pipeline.certification import AnswerCertifier
 from bridge_drivers.program.verdict import statement_of
 from bridge_drivers.certify.claims import Certifying, Verdict, certified
@@ -119,9 +118,6 @@ class Claims(Case):
             [line.split()[0] for line in ended.stdout.splitlines()],
             ["x0", "x1", "duals", "c0", "c1"],
         )  # z and zdef are not the model's
-        told = list(sol.screen([(f"x{j}", str(j % 2)) for j in range(100)]))
-        self.assertEqual((len(told), told[0]), (sol.SCREEN + 1, "x1 1"))
-        self.assertIn("(80 values more: wantsol=2 prints all", told[-1])
 
     def test_each_failure(self) -> None:
         """With -AMPL a .sol and 0, without it none, with failexit none and the status."""

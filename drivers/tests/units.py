@@ -14,27 +14,14 @@ from pathlib import Path
 from unittest import mock
 
 from support import HERE, BIN, EXAMPLES, NEEDS_PROGRAM, Case, bridge as program
-from bridge_drivers import console, progress, sol, solvers
+from bridge_drivers import console, progress, solvers
 from bridge_drivers.pipeline.row_factors import factors_of
 from bridge_drivers.program.bridge import Bridge
 from bridge_drivers.program.calls import Reply
 from bridge_drivers.program.mps_forms import import_mps
 from bridge_drivers.formats.names import NameLists
 from bridge_drivers.model.linear_program import LinearProgram
-from models import MODELS, rows_of
-
-
-class Texts(Case):
-    def test_bare_sol(self) -> None:
-        self.put(MODELS["knap"].text)
-        text = sol.bare(self.stub + ".nl", 501, 2, ["bridge-cbc: no"])
-        self.assertEqual(text, b"bridge-cbc: no\n\nOptions\n3\n1\n1\n0\n1\n0\n3\n0\nobjno 2 501\n")
-        self.assertEqual(
-            sol.with_message(text, ["a", "b"]), text.replace(b"bridge-cbc: no", b"a\nb")
-        )
-        for broken in (b"", b"g3 1 1", b"g3 1 1 0\nx y\n", b"gx\n1 1\n"):
-            self.put(broken)
-            self.assertRaises((ValueError, IndexError), sol.bare, self.stub + ".nl", 501, 0, [""])
+from models import rows_of
 
 
 class Factors(Case):

@@ -19,7 +19,7 @@ from ..model.linear_program import EPIGRAPH_COLUMN, EPIGRAPH_ROW
 from ..program.bridge import Bridge
 from ..program.refusal import Refusal
 from ..program.verdict import Claim, Statement, objective_lattice, sentence, statement_of
-from ..sol import numbers_of
+from ..formats.sol import read_sol
 from ..solvers.base import BasisStatus, SolverStatus
 from ..solvers.run import SolverRun
 from ..formats.numbers import decimal, decimal_or_fraction
@@ -136,7 +136,7 @@ class AnswerCertifier:
                     return self.check_words(self.bridge.check(self.model, path))
             except Refusal as fault:
                 return fault.text.removeprefix(path + ": ")
-        values = numbers_of(sol)[1] if sol else self._values_of_file(answer)
+        values = read_sol(sol)[1] if sol else self._values_of_file(answer)
         known = statement_of(verdict.line) if verdict.is_proved() else None
         if known is not None and known.value is not None and is_point(values, verdict.point):
             return feasible_words(known.value)
@@ -242,7 +242,7 @@ class AnswerCertifier:
         """The values and duals of an answer as they are written, duals of linear programs alone."""
         sol = self.returned(answer, [], "numbers").sol
         if sol:
-            duals, values = numbers_of(sol)
+            duals, values = read_sol(sol)
         else:
             values, duals = self._values_of_file(answer), list(answer.duals or ())
         return WrittenNumbers(values, duals if self.run.is_continuous() else [])

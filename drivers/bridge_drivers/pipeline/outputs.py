@@ -5,7 +5,7 @@ from __future__ import annotations
 import os
 from typing import List, Sequence, Tuple
 
-from .. import sol
+from ..formats.sol import failure_sol, solution_file, with_message
 from ..formats.file_kinds import model_kind_of_start
 from ..formats.source import Source
 from ..system.files import OutputFiles, write_new
@@ -84,8 +84,8 @@ def write_outputs(
 def sol_data(outcome: Outcome, source: Source, objective: int) -> bytes:
     """The .sol with the whole message."""
     if outcome.sol is not None:
-        return sol.with_message(outcome.sol, outcome.lines)
-    return sol.bare(source.path, outcome.code, objective, outcome.lines)
+        return with_message(outcome.sol, outcome.lines)
+    return failure_sol(source.path, outcome.code, objective, outcome.lines)
 
 
 def write_sol(source: Source, data: bytes) -> None:
@@ -106,7 +106,7 @@ def write_solution(outcome: Outcome, source: Source, outputs: OutputSettings) ->
     path, values = outputs.solution, named_values(outcome.answer)
     if not values:
         return f"{path} is not written: there are no values"
-    data = sol.solution(path, values, named_duals(outcome.answer))
+    data = solution_file(path, values, named_duals(outcome.answer))
     reads = [source.path, source.name]
     OutputFiles(reads, model_kind_of_start, overwrite=outputs.overwrite).write(path, data)
     return f"{path} is written"

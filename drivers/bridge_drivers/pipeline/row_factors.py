@@ -17,7 +17,7 @@ from ..system.errors import UnsupportedModel
 from ..model.linear_program import EPIGRAPH_ROW, LinearProgram
 from ..formats.nl import read_header
 from ..program.bridge import Bridge
-from ..sol import numbers_of
+from ..formats.sol import read_sol
 
 
 DIVISION = b"3"  # the operator's number in an .nl text
@@ -51,7 +51,7 @@ def factors_of(
         return dict.fromkeys(rows, "1")
     answer = f"answer 1\nobjno {objective}\n" + "".join(f"row {r} 1\n" for r in rows)
     with tempfile.TemporaryDirectory(prefix="nl-bridge-") as folder:
-        duals, _ = numbers_of(
+        duals, _ = read_sol(
             bridge.return_(nl, write_new(os.path.join(folder, "ones.txt"), answer.encode()))
         )
     return {row: duals[int(row[1:])] for row in rows}
