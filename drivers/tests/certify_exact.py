@@ -7,7 +7,7 @@ from __future__ import annotations
 from certify_search import Certified
 from support import NEEDS_CLP, NEEDS_PROGRAM, Case
 from bridge_drivers.exact import cliques
-from bridge_drivers.certify.claims import Given, certified
+from bridge_drivers.exact.evidence import AnswerByPlace, first_proved
 from bridge_drivers.exact.clp import LpStatus
 from bridge_drivers.exact.relaxation import relaxation
 from bridge_drivers.model.integer_form import Row
@@ -34,17 +34,17 @@ class Programs(Case):
                     else f"optimal {model.best}"
                 )
                 work = self.work(model.text())
-                work.load()
-                self.assertEqual(next(work.by_simplex()).line, wanted, model.name)
+                self.assertEqual(
+                    next(work.certifier.refuter.by_rational_simplex()).line, wanted, model.name
+                )
 
     def test_planes(self) -> None:
         """Columns, and rows with the same terms up to a factor, without a whole number between."""
         for model in models():
             if model.name.startswith(("two_rows", "crossing_bounds")):
                 work = self.work(model.text())
-                work.load()
-                found = work.best(work.planes())
-                self.assertEqual(found.is_proved(), model.best is None, model.name)
+                found = first_proved(work.certifier.refuter.rounding_refutations())
+                self.assertEqual(found.is_proved, model.best is None, model.name)
 
     @NEEDS_CLP
     def test_doubles_where_solvers_are_misled(self) -> None:
@@ -52,8 +52,7 @@ class Programs(Case):
         closed = 0
         for model in filter(Misleading.is_linear, models(12)):
             work = self.work(model.text())
-            work.load()
-            p, clp = work.model, relaxation(work.model)
+            p, clp = work.program, relaxation(work.program)
             if clp.solve() is not LpStatus.OPTIMAL or not is_optimal_in_doubles(
                 p, clp.values(), dict(enumerate(clp.duals()))
             ):
@@ -74,7 +73,7 @@ class Programs(Case):
         for model in models(10):
             if model.name.startswith("whole_singular"):
                 for claim in ("infeasible", "nothing"):
-                    verdict = certified(self.work(model.text(), False), claim)
+                    verdict = self.work(model.text(), False).certified(claim)
                     self.assertEqual(verdict.line, f"optimal {model.best}", (model.name, claim))
 
     @NEEDS_CLP
@@ -89,7 +88,7 @@ class Programs(Case):
             ("rowless", "optimal 1"),
         ):
             for proves in (False, True):
-                verdict = certified(self.work(MODELS[name].text, proves), "nothing")
+                verdict = self.work(MODELS[name].text, proves).certified("nothing")
                 self.assertEqual(verdict.line, line, name)
 
     @NEEDS_CLP
@@ -104,7 +103,7 @@ class Programs(Case):
             (near, [3.0], False, "not proved: rows of whole .* which is rounding"),
             (near, [3.0], True, "infeasible"),
         ):
-            verdict = certified(self.work(text, proves), "point", Given(x))
+            verdict = self.work(text, proves).certified("point", AnswerByPlace(x))
             self.assertRegex(verdict.line, f"^{line}$")
 
 

@@ -12,7 +12,7 @@ from certify_search import Certified
 from support import NEEDS_CLP, NEEDS_PROGRAM
 from bridge_drivers.certify import short
 from bridge_drivers.exact import basis
-from bridge_drivers.certify.claims import Given, certified
+from bridge_drivers.exact.evidence import AnswerByPlace
 from bridge_drivers.exact.clp import LpStatus
 from bridge_drivers.exact.relaxation import relaxation
 from bridge_drivers.model.integer_form import Box, IntegerProgram, over_common_denominator
@@ -126,12 +126,12 @@ class Linear(Certified):
 
     def verdict(self, text: bytes):
         work = self.work(text)
-        return work, certified(work, "point", Given())
+        return work, work.certified("point", AnswerByPlace())
 
     def within(self, text: bytes, way: str, most: F = F(1, 10**5)) -> None:
         """Whose point and bound are that near."""
         work, verdict = self.verdict(text)
-        self.assertEqual(verdict.claim(), "within", verdict.line)
+        self.assertEqual(verdict.claim, "within", verdict.line)
         self.assertLessEqual(
             abs(verdict.value - F(verdict.line.split()[1])), most * abs(verdict.value)
         )
@@ -174,8 +174,8 @@ class Linear(Certified):
             for seed in range(3):
                 text = uneven(size, random.Random(f"{size} {seed}"))
                 verdict = self.verdict(text)[1]
-                self.assertIn(verdict.claim(), ("optimal", "within", "infeasible"), verdict)
-                if verdict.claim() == "within":
+                self.assertIn(verdict.claim, ("optimal", "within", "infeasible"), verdict)
+                if verdict.claim == "within":
                     value, bound = map(F, verdict.line.split()[1:3])
                     self.assertLessEqual(abs(value - bound), max(1, abs(bound)) / 10**6)
                     self.assertIn("the exact optimum", verdict.note)
@@ -184,16 +184,16 @@ class Linear(Certified):
         """CLP's basis is not the exact one."""
         for size in (2, 3):
             work, verdict = self.verdict(made("parallel", size))
-            self.assertEqual(verdict.claim(), "optimal", verdict.line)
-            clp, _ = work.relaxation()
-            work.note, (own, *others) = "", work.bases(clp)
-            self.assertEqual(list(work.by_bases([own])), [])
-            self.assertEqual(next(work.by_bases(others)).value, verdict.value)
+            self.assertEqual(verdict.claim, "optimal", verdict.line)
+            clp, _ = work.task.solve_relaxation()
+            work.store.note, (own, *others) = "", work.certifier.linear.bases(clp)
+            self.assertEqual(list(work.certifier.linear.by_bases([own])), [])
+            self.assertEqual(next(work.certifier.linear.by_bases(others)).value, verdict.value)
 
     def test_refused_text(self) -> None:
         """An optimum that `bridge verify` finds too wide: short numbers come next."""
         _, verdict = self.verdict(made("diet", 30_000))
-        self.assertEqual(verdict.claim(), "within", verdict.line)
+        self.assertEqual(verdict.claim, "within", verdict.line)
         self.assertRegex(verdict.note, "^the exact optimum: bridge verify says `too wide at ")
 
     def test_contradiction(self) -> None:
@@ -219,14 +219,14 @@ class Linear(Certified):
             [("min", 0, {0: "0.3", 1: "0.9", 2: "0.7"})],
         )
         work, verdict = self.verdict(text)
-        self.assertEqual(verdict.claim(), "optimal", verdict.line)
-        for found in rounding(work.model).points():
-            self.assertTrue(work.model.is_feasible(found.point))
+        self.assertEqual(verdict.claim, "optimal", verdict.line)
+        for found in rounding(work.program).points():
+            self.assertTrue(work.program.is_feasible(found.point))
 
     def test_pairs(self) -> None:
         """Badly scaled equations, whose fractions together are too wide for the objective."""
         _, verdict = self.verdict(made("uneven", 2000))
-        self.assertEqual(verdict.claim(), "within", verdict.line)
+        self.assertEqual(verdict.claim, "within", verdict.line)
         bound, value = map(F, verdict.line.split()[1:])
         self.assertLess(abs(bound - value), value / 10**6)
 

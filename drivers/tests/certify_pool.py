@@ -22,18 +22,17 @@ from pathlib import Path
 from typing import Callable, Iterator
 from unittest import mock
 
-from certify_search import SECONDS, Certified
-from support import HERE, PROGRAM
-from bridge_drivers.program.bridge import Bridge
+from certify_search import SECONDS, Certified, Work
+from support import HERE
 from bridge_drivers.exact.certificate import claim_lines
-from bridge_drivers.certify.claims import Certifying, Verdict, certified
 from bridge_drivers.certify.watch import Watch
 from bridge_drivers.exact import parallel, worker_pools
+from bridge_drivers.exact.evidence import Evidence
+from bridge_drivers.exact.task import SearchOptions
 from bridge_drivers.exact.portfolio import Portfolio
 from bridge_drivers.exact.worker_pools import ProcessPool, WorkerPool, open_pool
 from bridge_drivers.system.errors import SearchEnded, SearchPaused
 from bridge_drivers.system.signals import SIGNALS, Interrupted
-from bridge_drivers.model.linear_program import LinearProgram
 from models import nl, real, whole
 from builders import families
 
@@ -93,9 +92,7 @@ class Pooled(Certified):
     def at_home(self, nodes: int = 3):
         return mock.patch("bridge_drivers.exact.parallel.NODES_BEFORE_PARALLEL", nodes)
 
-    def pooled(
-        self, pool: WorkerPool, found: Verdict, better: int = 0
-    ) -> tuple[Certifying, Portfolio]:
+    def pooled(self, pool: WorkerPool, found: Evidence, better: int = 0) -> tuple[Work, Portfolio]:
         """The plans for the value of what was found, or a worse one, by a pool."""
         work, plans = self.plans(self.bytes_of(".nl"), found.value - better)
         plans.pool = pool
@@ -107,21 +104,22 @@ class Pooled(Certified):
             self.assertLess(time.monotonic(), end)
             time.sleep(0.05)
 
-    def optimal(self, seed: int, count: int) -> Iterator[Verdict]:
+    def optimal(self, seed: int, count: int) -> Iterator[Evidence]:
         """Random models that have an optimum; each is the stub meanwhile."""
         rng = random.Random(seed)
         for k in range(count):
             found = self.found(random_model(rng, k % 2 == 1))
-            if found.claim() == "optimal":
+            if found.claim == "optimal":
                 yield found
 
-    def accepted(self, work: Certifying, plans: Portfolio, found: Verdict) -> None:
+    def accepted(self, work: Work, plans: Portfolio, found: Evidence) -> None:
         head = claim_lines("optimal", 0, None, found.point)
         self.assertEqual(
-            work.judged(itertools.chain(head, plans.best.lines()), True).line, found.line
+            work.store.judged(itertools.chain(head, plans.best.lines()), "", is_tree=True).line,
+            found.line,
         )
 
-    def searched(self, pool: WorkerPool, found: Verdict | None = None) -> None:
+    def searched(self, pool: WorkerPool, found: Evidence | None = None) -> None:
         """The verdict is that of one process."""
         self.addCleanup(pool.close)
         found = found or self.found(random_model(random.Random(11), False))
@@ -153,7 +151,7 @@ class Portions(Pooled):
                     if plans.best is not None:
                         break
                     most += 8
-                    self.assertLessEqual(self.bound(work, plans), work.model.sign * found.value)
+                    self.assertLessEqual(self.bound(work, plans), work.program.sign * found.value)
                     told += 1
             self.accepted(work, plans, found)
         self.assertGreater(told, 20)
@@ -165,7 +163,7 @@ class Portions(Pooled):
             work, plans = self.pooled(Here(2), found, 3)
             with self.few(0):
                 improved = plans.resume(plans.begin("plain"), SECONDS)
-            self.assertTrue(work.model.is_feasible(improved.point))
+            self.assertTrue(work.program.is_feasible(improved.point))
             caught += 1
             told += self.bound(work, plans) is not None
         self.assertGreater(min(caught, told), 5)
@@ -180,7 +178,7 @@ class Portions(Pooled):
             pool = Here(3)
             work = self.work(made, pool=pool)
             with self.few(1):
-                verdict = certified(work, "infeasible")
+                verdict = work.certified("infeasible")
             self.assertTrue(verdict.line.startswith(line), verdict.line)
             self.assertGreater(pool.portions, 0)
 
@@ -316,7 +314,7 @@ class OfACluster(Pooled):
         timer = threading.Timer(3, os.kill, (os.getpid(), signal.SIGINT))
         timer.start()
         self.addCleanup(timer.cancel)
-        self.assertEqual(certified(work, "infeasible").line, "not proved: interrupted")
+        self.assertEqual(work.certified("infeasible").line, "not proved: interrupted")
         self.assertEqual([worker.poll() for worker in workers], [None] * 3)
         workers[0].kill()
         with self.at_home():
@@ -350,12 +348,10 @@ def long(path: str, folder: str) -> None:
     """A long search by two processes, as a driver makes it."""
     SIGNALS.install()
     parallel.NODES_BEFORE_PARALLEL = 3
-    bridge, pool = Bridge(PROGRAM), ProcessPool(2)
-    work = Certifying(
-        bridge, path, folder, LinearProgram.of(bridge.export(path)), 0, Watch(600.0), pool=pool
-    )
+    pool = ProcessPool(2)
+    work = Work(path, folder, Watch(600.0), SearchOptions(), pool)
     try:
-        print(certified(work, "infeasible").line)
+        print(work.certified("infeasible").line)
     except Interrupted as fault:
         print(fault.number)
     finally:

@@ -19,12 +19,17 @@ from support import NEEDS_CLP, NEEDS_PROGRAM, PROGRAM, Case
 from bridge_drivers.program.bridge import Bridge
 from bridge_drivers.system.errors import DeadlineExceeded
 from bridge_drivers.exact.certificate import claim_lines
-from bridge_drivers.certify.claims import Certifying, Given, Verdict, certified
 from bridge_drivers.certify.short import trivial
 from bridge_drivers.certify.watch import Over, Watch
 from bridge_drivers.exact.parallel import ParallelSearch
 from bridge_drivers.exact.portfolio import Portfolio, TreeText
 from bridge_drivers.exact.cuts import CutKind
+from bridge_drivers.exact.certifier import Certifier
+from bridge_drivers.exact.evidence import AnswerByPlace, AnswerClaim, Evidence, EvidenceStore
+from bridge_drivers.exact.task import CertificationTask, SearchOptions
+from bridge_drivers.exact.worker_pools import WorkerPool
+from bridge_drivers.pipeline.judge import CertificateJudge
+from bridge_drivers.pipeline.row_factors import whole_form
 from bridge_drivers.exact.search import BranchAndBound
 from bridge_drivers.model.linear_program import LinearProgram
 from builders import families
@@ -34,49 +39,63 @@ SECONDS = 20.0
 KNAP = [F(1), F(1), F(0)]  # the point of `knap`
 
 
+class Work:
+    """One program with all that its certificate is searched by."""
+
+    def __init__(self, path: str, folder: str, watch: Watch, options: SearchOptions, pool) -> None:
+        self.bridge = Bridge(PROGRAM)
+        self.program, _ = whole_form(self.bridge, path, LinearProgram.of(self.bridge.export(path)))
+        self.watch = watch
+        self.judge = CertificateJudge(self.bridge, path, os.path.join(folder, "certificate"), watch)
+        self.store = EvidenceStore(self.program, self.judge, options.objective, watch)
+        self.task = CertificationTask(self.program, self.store, watch, options, pool=pool)
+        self.certifier = Certifier(self.task)
+
+    def certified(self, claim: str, answer: AnswerByPlace = AnswerByPlace()) -> Evidence:
+        self.task.answer = answer
+        return self.certifier.certify(AnswerClaim(claim))
+
+
 @NEEDS_PROGRAM
 @NEEDS_CLP
 class Certified(Case):
-    def work(self, text: bytes, proves: bool = True, **words) -> Certifying:
+    def work(
+        self,
+        text: bytes,
+        proves: bool = True,
+        pool: WorkerPool | None = None,
+        seconds=SECONDS,
+        **asked,
+    ):
         self.put(text)
-        bridge, path = Bridge(PROGRAM), self.stub + ".nl"
-        return Certifying(
-            bridge,
-            path,
-            self.folder,
-            LinearProgram.of(bridge.export(path)),
-            0,
-            Watch(SECONDS),
-            proves,
-            **words,
-        )
+        options = SearchOptions(proves=proves, **asked)
+        return Work(self.stub + ".nl", self.folder, Watch(seconds), options, pool)
 
-    def found(self, text: bytes) -> Verdict:
+    def found(self, text: bytes) -> Evidence:
         """Whatever is true: the search for a contradiction finds a point where there is one."""
-        return certified(self.work(text), "infeasible")
+        return self.work(text).certified("infeasible")
 
-    def claimed(self, name: str, *words, proves: bool = True, **others) -> Verdict:
+    def claimed(self, name: str, *words, proves: bool = True, **others) -> Evidence:
         """Of a small program, by what was answered."""
-        return certified(self.work(CLAIMED[name].text, proves, **others), *words)
+        return self.work(CLAIMED[name].text, proves, **others).certified(*words)
 
-    def plans(self, text: bytes, value: F) -> tuple[Certifying, Portfolio]:
+    def plans(self, text: bytes, value: F) -> tuple[Work, Portfolio]:
         work = self.work(text)
-        work.load()
-        return work, Portfolio(work.model, work.model.sign * value, work.exact, work.watch)
+        return work, work.task.portfolio(work.program, work.program.sign * value)
 
-    def bound(self, work: Certifying, plans: Portfolio) -> F | None:
+    def bound(self, work: Work, plans: Portfolio) -> F | None:
         """What the stopped searches have, where they have something."""
         found = plans.prove_bound()
         if found is None:
             return None
-        self.is_bound(work, work.model.sign * found.value, found.tree)
+        self.is_bound(work, work.program.sign * found.value, found.tree)
         return found.value
 
-    def is_bound(self, work: Certifying, value: F, tree: TreeText) -> None:
+    def is_bound(self, work: Work, value: F, tree: TreeText) -> None:
         lines = itertools.chain(claim_lines("bound", 0, value), tree.lines())
-        self.assertEqual(work.judged(lines, True).line, f"bound {value}")
+        self.assertEqual(work.store.judged(lines, "", is_tree=True).line, f"bound {value}")
 
-    def stopped(self, name: str, most: int) -> tuple[Certifying, Portfolio]:
+    def stopped(self, name: str, most: int) -> tuple[Work, Portfolio]:
         """A plain search that ended after so many nodes."""
         work, plans = self.plans(CLAIMED[name].text, CLAIMED[name].value)
         strategy = plans.begin("plain")
@@ -191,18 +210,17 @@ class Models(Certified):
                 rng, n, rng.randint(0, 3), range(-4, 9), [1, 2, -1, 3, -2, "0.5", 7], 0, 2
             )
             costs = {j: rng.choice([1, -2, 3, "0.25"]) for j in range(n)}
-            verdict = certified(
-                self.work(nl(columns, rows, [(rng.choice(["min", "max"]), 0, costs)])), "either"
-            )
-            self.assertTrue(verdict.is_proved(), f"{k}: {verdict.line}")
+            made = nl(columns, rows, [(rng.choice(["min", "max"]), 0, costs)])
+            verdict = self.work(made).certified("either")
+            self.assertTrue(verdict.is_proved, f"{k}: {verdict.line}")
 
     def test_linear(self) -> None:
         """The exact vertex and its duals, from what no solver told."""
         for name in ("product", "diet", "scaled", "thirds", "ranges", "rowless", "free_row"):
-            verdict = certified(self.work(MODELS[name].text, False), "point")
+            verdict = self.work(MODELS[name].text, False).certified("point")
             self.assertEqual(verdict.line, f"optimal {MODELS[name].objective}", name)
         for name in ("unbounded", "unbounded_rowless", "whole_unbounded"):
-            verdict = certified(self.work(MODELS[name].text, False), "unbounded")
+            verdict = self.work(MODELS[name].text, False).certified("unbounded")
             self.assertEqual(verdict.line, "unbounded", name)
 
     def test_one_leaf(self) -> None:
@@ -215,15 +233,16 @@ class Models(Certified):
             ("at_bound", (1, 0, 1)),
             ("at_bound", (1, 1, 1)),
         ):
-            verdict = self.claimed(name, "point", Given(x), proves=False)
+            verdict = self.claimed(name, "point", AnswerByPlace(x), proves=False)
             self.assertEqual(verdict.line, f"optimal {CLAIMED[name].value}")
-        given = Given(KNAP)
+        given = AnswerByPlace(KNAP)
         with mock.patch("bridge_drivers.exact.search.MOST_DEPTH", -1):
             for bounds, line in ((False, "feasible 17"), (True, "within 19 17")):
                 self.assertEqual(
-                    self.claimed("knap", "point", given, proves=False, bounds=bounds).line, line
+                    self.claimed("knap", "point", given, proves=False, wants_bound=bounds).line,
+                    line,
                 )
-        word, value = self.claimed("knap", "point", given, relaxed=True).line.split()
+        word, value = self.claimed("knap", "point", given, is_relaxation=True).line.split()
         self.assertEqual((word, f"{float(F(value)):.4f}"), ("bound", "19.2308"))
 
     def test_answers_that_are_mended(self) -> None:
@@ -237,9 +256,8 @@ class Models(Certified):
         best = 9 * 123457 + 2 * 98765
         for off, proves in itertools.product((-3, 4, 5000), (True, False)):
             with mock.patch.object(Portfolio, "resume", lambda *_: None):
-                verdict = certified(
-                    self.work(made, proves), "point", Given([9.0, 2.0, float(best + off)])
-                )
+                given = AnswerByPlace([9.0, 2.0, float(best + off)])
+                verdict = self.work(made, proves).certified("point", given)
             self.assertRegex(verdict.line, rf"^(feasible|optimal|within \S+) {best}$")
             self.assertEqual(verdict.point, [9, 2, best])
 
@@ -297,31 +315,30 @@ class Spines(Certified):
         )
         verdict = self.found(made)
         self.assertEqual(verdict.line, "infeasible")
-        self.assertLess(os.path.getsize(verdict.path), 2000)
+        self.assertLess(len(verdict.certificate), 2000)
 
     def test_cliques(self) -> None:
         """Pigeons of which no two share a hole: the program with cliques has no point. Each clique is a chain of planes
         whose parts beyond are one leaf each."""
         for size in (6, 9):
             work = self.work(families.family_model("pigeons", size))
-            work.load()
-            plans = work.plans_for(work.model.without_costs(), None)
+            plans = work.task.portfolio(work.program.without_costs(), None)
             self.below(plans, CutKind.CLIQUE, CutKind.MIR)
             self.assertLessEqual(plans.best.nodes, 2 * (size - 1) * (size - 2) + 1)
-            self.assertEqual(work.by_tree(plans.best).line, "infeasible")
+            self.assertEqual(work.store.claim_of_tree(plans.best).line, "infeasible")
 
     def test_no_point(self) -> None:
         """Numbers that no sum of coins makes: forms of a lattice, also where a solver has nothing."""
         for size, claim in itertools.product((4, 5), ("infeasible", "nothing")):
-            verdict = certified(self.work(families.family_model("frobenius", size)), claim)
+            verdict = self.work(families.family_model("frobenius", size)).certified(claim)
             self.assertEqual(verdict.line, "infeasible")
-            self.assertLess(os.path.getsize(verdict.path), 20_000)
+            self.assertLess(len(verdict.certificate), 20_000)
 
     def test_bounds(self) -> None:
         """What a search has that was stopped, for objectives with steps and without."""
         for name, most in (("odd_cycle", 0), ("mixed", 1), ("eqknap", 4), ("lots", 2)):
             work, plans = self.stopped(name, most)
-            self.assertLessEqual(self.bound(work, plans), work.model.sign * CLAIMED[name].value)
+            self.assertLessEqual(self.bound(work, plans), work.program.sign * CLAIMED[name].value)
 
     def test_first_tree(self) -> None:
         """It is told; a shorter text is looked for where that is wanted."""
@@ -340,7 +357,7 @@ class Spines(Certified):
                 BranchAndBound, "_bound_of_node", lambda search, branch: branch.bound
             ):
                 bound = self.bound(work, plans)
-            least = trivial(work.model)
+            least = trivial(work.program)
             self.assertTrue(least is None or least <= bound)
         self.assertEqual((least, plans.rounded_bound(-0.001)), (0, 0))
 
@@ -374,7 +391,7 @@ class Limits(Certified):
         ):
             work = self.work(made)
             with mock.patch.object(BranchAndBound, "check_limits", looking):
-                self.assertRegex(certified(work, "point", Given(point)).line, line)
+                self.assertRegex(work.certified("point", AnswerByPlace(point)).line, line)
 
     def test_a_step_that_never_looks_at_the_clock(self) -> None:
         """It is ended, and what is known then is judged: all within a tenth and 5 s."""
@@ -384,14 +401,14 @@ class Limits(Certified):
                 time.sleep(0.01)
 
         for part, claim, given, lines in (
-            ("certify.contradictions.parity", "infeasible", None, "not proved: time"),
+            ("exact.refutations.hermite_refutation", "infeasible", None, "not proved: time"),
             ("exact.parallel.ParallelSearch.resume", "point", KNAP, r"within \S+ 17"),
             ("exact.portfolio.Portfolio.prove_bound", "point", KNAP, r"(optimal|within \S+) 17"),
         ):
-            work = self.work(CLAIMED["knap"].text)
-            work.watch, start = Watch(1.0), time.monotonic()
+            work = self.work(CLAIMED["knap"].text, seconds=1.0)
+            start = time.monotonic()
             with mock.patch("bridge_drivers." + part, endless):
-                verdict = certified(work, claim, Given(given))
+                verdict = work.certified(claim, AnswerByPlace(given))
             self.assertLess(time.monotonic() - start, 30)
             self.assertRegex(verdict.line, f"^{lines}$", part)
             self.assertEqual(signal.getitimer(signal.ITIMER_REAL), (0.0, 0.0))
@@ -412,7 +429,8 @@ class Limits(Certified):
             BranchAndBound, "close_and_bound", lambda *_: -math.inf
         ):
             self.assertRegex(
-                self.claimed("eqknap", "point", Given([F(2), F(7), F(5)])).line, r"^within \S+ 14$"
+                self.claimed("eqknap", "point", AnswerByPlace([F(2), F(7), F(5)])).line,
+                r"^within \S+ 14$",
             )
 
     def test_late_verdict(self) -> None:
@@ -426,7 +444,7 @@ class Limits(Certified):
             raise DeadlineExceeded("verify")
 
         with mock.patch.object(work.bridge, "call", late):
-            verdict = certified(work, "point", Given(KNAP))
+            verdict = work.certified("point", AnswerByPlace(KNAP))
         self.assertEqual(
             verdict.line, "not proved: time: bridge verify was ended before its verdict"
         )

@@ -13,15 +13,17 @@ from unittest import mock
 from support import NEEDS_CLP, NEEDS_PROGRAM, Case, Injected, Reply, bridge, content
 from bridge_drivers.pipeline.certification import AnswerCertifier
 from bridge_drivers.program.verdict import statement_of
-from bridge_drivers.certify.claims import Certifying, Verdict, certified
-from bridge_drivers.certify.plans import Plans
 from bridge_drivers.certify.watch import Over, Watch
+from bridge_drivers.exact.evidence import Evidence, not_proved
+from bridge_drivers.exact.portfolio import Portfolio
+from bridge_drivers.exact.task import SearchOptions
 from bridge_drivers.model.linear_program import LinearProgram
 from bridge_drivers.progress import Progress, detailed
 from builders.families import family_model as made
+from certify_search import Work
 from models import MODELS, rows_of, text_of
 
-PLANS = "bridge_drivers.certify.plans."
+PORTFOLIO = "bridge_drivers.exact.portfolio."
 SECONDS = 1.5
 DIGITS = F(1, 10**9)  # ten digits are told
 FAMILIES = (
@@ -50,7 +52,7 @@ class Claims(Case):
         """A status of its own where the question is left open."""
         self.put(MODELS["knap"].text)
         for line, status, code in (("within 19 17", 7, 100), ("optimal 17", 0, 0)):
-            verdict = Verdict(line, [F(1), F(1), F(0)], "kept", value=F(17))
+            verdict = Evidence(line, [F(1), F(1), F(0)], b"kept", value=F(17))
             with mock.patch.object(AnswerCertifier, "certify", lambda *_: verdict):
                 ended = self.replay("cbc", "knap", self.stub, "strict=1", "-s")
                 self.assertEqual((ended.returncode, self.sol().code), (status, code))
@@ -87,8 +89,8 @@ class Claims(Case):
     def test_a_large_answer_as_it_stands(self) -> None:
         """Where the time of its certificate is over: where it is none itself, that is told."""
         late = mock.patch(
-            "bridge_drivers.pipeline.certification.certified",
-            lambda *_: Verdict("not proved: time"),
+            "bridge_drivers.pipeline.certification.certify",
+            lambda *_, **__: not_proved("time"),
         )
         with mock.patch("bridge_drivers.pipeline.certification.LARGE_PROGRAM", 1), late:
             self.assertEqual(self.last("lp_solve", "diet"), "optimal 22/5")
@@ -166,18 +168,11 @@ class Told(Case):
         self.put(made(name, size))
         program = LinearProgram.of(bridge().export(self.stub + ".nl"))
         noting = Noting(program.maximise)
-        work = Certifying(
-            bridge(),
-            self.stub + ".nl",
-            self.folder,
-            program,
-            0,
-            Watch(SECONDS, noting),
-            proves,
-            bounds=True,
-        )
+        options = SearchOptions(proves=proves, wants_bound=True)
+        watch = Watch(SECONDS, noting)
+        work = Work(self.stub + ".nl", self.folder, watch, options, None)
         with mock.patch("bridge_drivers.certify.watch.EVERY", 0.01):
-            return noting, certified(work, "nothing").line
+            return noting, work.certified("nothing").line
 
     def judge(self, name: str, size: int) -> int:
         """How much was told."""
@@ -194,20 +189,21 @@ class Told(Case):
 
     def test_families(self) -> None:
         """Also where no time is kept for a bound, and where it is over with a better point."""
-        count, whole = 0, Plans.try_all
+        count, whole = 0, Portfolio.race
 
-        def once(plans: Plans) -> None:
-            if plans.folder not in searched:
-                searched.append(plans.folder)
-                whole(plans)
+        def once(portfolio: Portfolio) -> object:
+            if searched:
+                return None
+            searched.append(portfolio)
+            return whole(portfolio)
 
         for name, size in FAMILIES:
             for way, patch in (
                 ("", contextlib.nullcontext()),
-                ("no time", mock.patch(PLANS + "RESERVE", 1.0)),
-                ("over", mock.patch(PLANS + "Plans.try_all", once)),
+                ("no time", mock.patch(PORTFOLIO + "RESERVE", 0.0)),
+                ("over", mock.patch(PORTFOLIO + "Portfolio.race", once)),
             ):
-                searched: list[str] = []
+                searched: list[Portfolio] = []
                 with self.subTest(family=name, size=size, way=way), patch:
                     count += self.judge(name, size)
         self.assertGreater(count, len(FAMILIES))

@@ -40,6 +40,7 @@ class Watch:
         self.started = self.told = time.monotonic()
         self.began = self.now()
         self.is_stopped = self.is_armed = self.is_held = False
+        self.verdict_share = 1.0
 
     def restart(self) -> None:
         """The seconds count from here, what has ended not."""
@@ -61,9 +62,18 @@ class Watch:
             else float("inf")
         )
 
-    def for_verdict(self, share: float = 1.0) -> float | None:
-        """Seconds for `bridge verify`, a share of what is left."""
-        return max(self.to_end() * share, LEAST) if self.seconds else None
+    def for_verdict(self) -> float | None:
+        """Seconds for a verdict, a share of what is left."""
+        return max(self.to_end() * self.verdict_share, LEAST) if self.seconds else None
+
+    @contextlib.contextmanager
+    def judging(self, share: float) -> Iterator[None]:
+        """A block that judges, by that share of the seconds that are left."""
+        self.verdict_share = share
+        try:
+            yield
+        finally:
+            self.verdict_share = 1.0
 
     def until_over(self) -> float:
         """Seconds until Over: to the limit, with some left for what is known then."""

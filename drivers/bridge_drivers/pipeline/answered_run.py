@@ -6,7 +6,7 @@ import signal
 from dataclasses import dataclass
 from typing import Sequence
 
-from ..certify.claims import WITHOUT, Verdict
+from ..exact.evidence import Evidence, not_proved
 from ..program.refusal import Refusal
 from ..program.verdict import FINAL, Statement, percentage, statement_of
 from ..solvers.base import Solver, SolverAnswer, SolverStatus
@@ -163,7 +163,7 @@ class AnsweredRun:
     def _outcome_of(self, answer: Answer) -> Outcome:
         """The outcome of an answer: what is proved decides what is passed on, and is told of it."""
         verdict = self._verdict(answer)
-        if verdict.contradicted and answer.code == Code.SOLVED:
+        if verdict.contradicts_answer and answer.code == Code.SOLVED:
             other = self._retried(words_of_first(answer.found))
             if other is not None:
                 return self._outcome_of(other)
@@ -180,7 +180,7 @@ class AnsweredRun:
             raise NotReturned(fault.text) from None
         if verdict.figures:
             LOGGER.info("certificate: %s", verdict.figures)
-        said = statement_of(verdict.line) if verdict.is_proved() else None
+        said = statement_of(verdict.line) if verdict.is_proved else None
         stored = self.judge.stored(verdict)
         last = self.judge.closing_lines(verdict, said, stored)
         return Outcome(
@@ -191,7 +191,7 @@ class AnsweredRun:
             verdict.figures,
             said,
             stored,
-            is_final=not settings.strict or verdict.claim() in FINAL,
+            is_final=not settings.strict or verdict.claim in FINAL,
         )
 
     def _notes_on_answer(self, answer: Answer, resolution: Resolution) -> list[str]:
@@ -239,7 +239,7 @@ class AnsweredRun:
             line += " (integer variables relaxed)"
         return line
 
-    def _checked(self, answer: Answer, verdict: Verdict, lines: list[str], place: int) -> Returned:
+    def _checked(self, answer: Answer, verdict: Evidence, lines: list[str], place: int) -> Returned:
         """What is passed on and its .sol, with a line of what the proved program says of it."""
         returned = self.judge.returned(answer, lines, place=place)
         if not self.settings.certificate.check or answer.values is None:
@@ -252,29 +252,29 @@ class AnsweredRun:
         lines.append(self.judge.check_line(returned.answer, verdict, told))
         return returned
 
-    def _verdict(self, answer: Answer) -> Verdict:
+    def _verdict(self, answer: Answer) -> Evidence:
         """What is proved. A fault of the search leaves the answer as it stands."""
         if not self.settings.certificate.check:
-            return Verdict(WITHOUT + "check=0")
+            return not_proved("check=0")
         try:
             return self.judge.certify(answer)
         except Refusal as fault:
             raise NotReturned(fault.text) from None
         except OSError as fault:
-            return Verdict(f"{WITHOUT}{fault.filename}: {fault.strerror}")
+            return not_proved(f"{fault.filename}: {fault.strerror}")
         except SEARCH_FAULTS as fault:
             if self.settings.shows_faults:
                 raise
-            return Verdict(f"{WITHOUT}a fault of the driver: {fault!r}")
+            return not_proved(f"a fault of the driver: {fault!r}")
 
 
-def with_proved_duals(answer: Answer, verdict: Verdict, told: str) -> Answer | None:
+def with_proved_duals(answer: Answer, verdict: Evidence, told: str) -> Answer | None:
     """With code 0, the answer with the duals of the certificate where its own show no optimum, or no bound.
 
     None where no others are known. `told` is what `bridge check` says of its own.
     """
     own, duals = answer.found.duals, proved_duals(answer, verdict)
-    shows = ("yes",) if verdict.claim() == "optimal" else ("yes", "gap")
+    shows = ("yes",) if verdict.claim == "optimal" else ("yes", "gap")
     if answer.code != Code.SOLVED or own is None or not duals:
         return None
     if told.startswith(shows) or told.endswith(" is broken"):

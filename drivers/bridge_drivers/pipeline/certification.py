@@ -10,12 +10,15 @@ from fractions import Fraction
 from typing import Mapping, NamedTuple, Sequence
 
 from ..exact import clp
-from ..exact.worker_pools import open_pool
-from ..certify.claims import WITHOUT, Certifying, Given, Verdict, certified
+from ..exact.worker_pools import WorkerPool, open_pool
 from ..exact.certificate import lines_of_answer
 from ..certify.watch import Watch
+from ..exact.certifier import certify
+from ..exact.evidence import NOT_PROVED, AnswerByPlace, AnswerClaim, Evidence, not_proved
+from ..exact.task import SearchOptions
 from ..model.analysis import TOLERANCE_OF_INTEGERS, worst_residual
 from ..model.linear_program import EPIGRAPH_COLUMN, EPIGRAPH_ROW
+from ..system.errors import ProgramFailed, UnsupportedModel
 from ..program.bridge import Bridge
 from ..program.refusal import Refusal
 from ..program.verdict import Claim, Statement, objective_lattice, sentence, statement_of
@@ -24,7 +27,9 @@ from ..solvers.base import BasisStatus, SolverStatus
 from ..solvers.run import SolverRun
 from ..formats.numbers import decimal, decimal_or_fraction
 from .answer import Answer
+from .judge import CertificateJudge
 from .monitor import Monitor
+from .row_factors import whole_form
 from .settings import CERTIFICATE_SECONDS, Settings
 from .stored_certificate import CertificateStore, StoredCertificate
 
@@ -35,15 +40,14 @@ PLACES = 9  # decimals that doubles are rounded to, where they do not pass as th
 NO_SEARCH = (
     "prove=1 needs the library of CLP, which is not there (Debian: apt install coinor-libclp1)"
 )
-POINT = "point"
-CLAIM_OF_STATUS: Mapping[SolverStatus, str] = {
-    SolverStatus.OPTIMAL: POINT,
-    SolverStatus.FEASIBLE: POINT,
-    SolverStatus.LIMIT_WITH_POINT: POINT,
-    SolverStatus.INFEASIBLE: "infeasible",
-    SolverStatus.UNBOUNDED: "unbounded",
-    SolverStatus.INFEASIBLE_OR_UNBOUNDED: "either",
-    SolverStatus.LIMIT: "nothing",
+CLAIM_OF_STATUS: Mapping[SolverStatus, AnswerClaim] = {
+    SolverStatus.OPTIMAL: AnswerClaim.POINT,
+    SolverStatus.FEASIBLE: AnswerClaim.POINT,
+    SolverStatus.LIMIT_WITH_POINT: AnswerClaim.POINT,
+    SolverStatus.INFEASIBLE: AnswerClaim.INFEASIBLE,
+    SolverStatus.UNBOUNDED: AnswerClaim.UNBOUNDED,
+    SolverStatus.INFEASIBLE_OR_UNBOUNDED: AnswerClaim.INFEASIBLE_OR_UNBOUNDED,
+    SolverStatus.LIMIT: AnswerClaim.UNKNOWN,
 }  # what is tried first
 
 
@@ -121,7 +125,7 @@ class AnswerCertifier:
         self.run.write(name + ".sol", sol)
         return Returned(answer, sol)
 
-    def checked(self, returned: Returned, verdict: Verdict) -> str:
+    def checked(self, returned: Returned, verdict: Evidence) -> str:
         """What the proved program says of the values and duals that are passed on, in words.
 
         A .sol with the duals of a linear program is judged as it is, by `bridge check`. Values alone are
@@ -137,7 +141,7 @@ class AnswerCertifier:
             except Refusal as fault:
                 return fault.text.removeprefix(path + ": ")
         values = read_sol(sol)[1] if sol else self._values_of_file(answer)
-        known = statement_of(verdict.line) if verdict.is_proved() else None
+        known = statement_of(verdict.line) if verdict.is_proved else None
         if known is not None and known.value is not None and is_point(values, verdict.point):
             return feasible_words(known.value)
         return self._judged_values(values)
@@ -164,7 +168,7 @@ class AnswerCertifier:
             return f"{self.named_part('column', int(rest[0]))} is not whole"
         return self.check_words(judged.line)
 
-    def certify(self, answer: Answer) -> Verdict:
+    def certify(self, answer: Answer) -> Evidence:
         """What is proved by a search.
 
         Where a large program has no certificate when the time of a search is over, the answer is tried as
@@ -173,35 +177,25 @@ class AnswerCertifier:
         settings = self.settings.certificate
         proves = settings.prove and not self.run.is_interrupted
         watch = self._watch(is_search=proves)
+        judge = CertificateJudge(self.bridge, self.model, self.run.path("certificate"), watch)
         pool = open_pool(settings.processes, settings.cluster) if proves else None
-        work = Certifying(
-            self.bridge,
-            self.model,
-            self.run.folder,
-            self.program,
-            self.settings.objective,
-            watch,
-            proves,
-            self.is_relaxed,
-            settings.bound,
-            settings.shorten,
-            pool,
-        )
-        claim = CLAIM_OF_STATUS[answer.found.status]
+        self.monitor.progress.begin("certificate", watch.seconds)
         try:
             with self.monitor.timing("certify"):
-                verdict = certified(work, claim, self.answer_by_place(answer))
+                evidence = self.searched(answer, judge, pool, proves=proves)
         finally:
+            self.monitor.progress.begin("")
             if pool is not None:
                 pool.close()
                 self.pool_note = pool.note
                 if pool.fault:
                     self.pool_note = "the search went on in one process: " + pool.fault
         self.is_interrupted = watch.is_stopped
-        is_open = claim == POINT and not self.is_relaxed and not verdict.is_proved()
+        is_point = CLAIM_OF_STATUS[answer.found.status] is AnswerClaim.POINT
+        is_open = is_point and not self.is_relaxed and not evidence.is_proved
         if is_open and len(self.program.text) > LARGE_PROGRAM:
-            return self._by_answer_itself(work, answer, verdict)
-        return verdict
+            return self._by_answer_itself(judge, answer, evidence)
+        return evidence
 
     def _watch(self, *, is_search: bool) -> Watch:
         """The time of a search: the limit, and of a short one a second of it, or more by the program's size."""
@@ -212,31 +206,79 @@ class AnswerCertifier:
         limit = min(max(by_size, ONE_LEAF_SECONDS), limit)
         return Watch(limit, self.monitor.progress, of_processor=True)
 
-    def _by_answer_itself(self, work: Certifying, answer: Answer, verdict: Verdict) -> Verdict:
+    def _by_answer_itself(
+        self, judge: CertificateJudge, answer: Answer, evidence: Evidence
+    ) -> Evidence:
         """The answer's own certificate where it is accepted, with what is known without it."""
-        stands = self.from_answer_itself(work, answer)
-        if not stands.is_proved():
-            return verdict
+        stands = self.from_answer_itself(judge, answer)
+        if not stands.is_proved:
+            return evidence
         return stands._replace(
-            by_doubles=verdict.by_doubles, note=verdict.note, is_open=verdict.is_open
+            is_optimal_in_doubles=evidence.is_optimal_in_doubles,
+            note=evidence.note,
+            may_be_unbounded=evidence.may_be_unbounded,
         )
 
-    def from_answer_itself(self, work: Certifying, answer: Answer) -> Verdict:
+    def searched(
+        self, answer: Answer, judge: CertificateJudge, pool: WorkerPool | None, *, proves: bool
+    ) -> Evidence:
+        """What the search proves, with duals of the rows as they are exported."""
+        settings = self.settings.certificate
+        options = SearchOptions(
+            objective=self.settings.objective,
+            proves=proves,
+            is_relaxation=self.is_relaxed,
+            wants_bound=settings.bound,
+            shortens=settings.shorten,
+        )
+        try:
+            program, factors = whole_form(self.bridge, self.model, self.program)
+        except (Refusal, ProgramFailed) as fault:
+            return not_proved(fault.text)
+        except UnsupportedModel as fault:
+            return not_proved(fault)
+        if not proves:
+            judge.watch.restart()
+        given = self.answer_by_place(answer)
+        if given.duals is not None:
+            duals = {row: factors.get(row, 1) * dual for row, dual in given.duals.items()}
+            given = given._replace(duals=duals)
+        evidence = certify(
+            program,
+            judge,
+            claim=CLAIM_OF_STATUS[answer.found.status],
+            watch=judge.watch,
+            answer=given,
+            options=options,
+            pool=pool,
+        )
+        exported = {row: dual / factors.get(row, 1) for row, dual in evidence.duals.items()}
+        return evidence._replace(duals=exported)
+
+    def from_answer_itself(self, judge: CertificateJudge, answer: Answer) -> Evidence:
         """The .sol's values and duals are the certificate, or the same numbers in fewer digits."""
         try:
             numbers = self.numbers(answer)
-            verdict = work.verified(lines_of_answer(*numbers, work.objective))
-            if verdict.is_proved():
-                return verdict
-            values, duals = (
-                [decimal(round(float(text), PLACES))[0] for text in texts] for texts in numbers
-            )
-            second = work.verified(lines_of_answer(values, duals, work.objective))
         except Refusal as fault:
-            return Verdict(WITHOUT + fault.text)
-        if not second.is_proved():
-            return verdict
+            return not_proved(fault.text)
+        evidence = self.judged(judge, *numbers)
+        if evidence.is_proved:
+            return evidence
+        values, duals = (
+            [decimal(round(float(text), PLACES))[0] for text in texts] for texts in numbers
+        )
+        second = self.judged(judge, values, duals)
+        if not second.is_proved:
+            return evidence
         return second._replace(point=list(map(Fraction, values)))
+
+    def judged(self, judge: CertificateJudge, values: list[str], duals: list[str]) -> Evidence:
+        """The certificate that an answer is itself."""
+        lines = list(lines_of_answer(values, duals, self.settings.objective))
+        judgement = judge(lines)
+        if not judgement.is_proved:
+            return not_proved(judgement.line)
+        return Evidence(judgement.line, certificate=("\n".join(lines) + "\n").encode("ascii"))
 
     def numbers(self, answer: Answer) -> WrittenNumbers:
         """The values and duals of an answer as they are written, duals of linear programs alone."""
@@ -247,7 +289,7 @@ class AnswerCertifier:
             values, duals = self._values_of_file(answer), list(answer.duals or ())
         return WrittenNumbers(values, duals if self.run.is_continuous() else [])
 
-    def answer_by_place(self, answer: Answer) -> Given:
+    def answer_by_place(self, answer: Answer) -> AnswerByPlace:
         """The answer for the search: the solver's numbers, those of integer columns as they are written.
 
         The column and the row that stand for a nonlinear objective's value are left out.
@@ -273,10 +315,10 @@ class AnswerCertifier:
                 [column for column, status in columns if status == BasisStatus.BASIC],
                 [numbers[row] for row in rows if found.row_basis[row] != BasisStatus.BASIC],
             )
-        return Given(values, duals, basis)
+        return AnswerByPlace(values, duals, basis)
 
     def closing_lines(
-        self, verdict: Verdict, said: Statement | None, stored: StoredCertificate | None
+        self, verdict: Evidence, said: Statement | None, stored: StoredCertificate | None
     ) -> list[str]:
         """The last lines of a message.
 
@@ -290,21 +332,21 @@ class AnswerCertifier:
         if settings.prove and settings.check and clp.library() is None and not is_settled:
             lines.append(NO_SEARCH)
             if said is not None:
-                last = f"{WITHOUT}there was no search; without it: {last}"
+                last = f"{NOT_PROVED}there was no search; without it: {last}"
         if stored is not None:
             lines.append(stored.line)
         return [line for line in (*lines, verdict.note, last) if line]
 
-    def stored(self, verdict: Verdict) -> StoredCertificate | None:
+    def stored(self, verdict: Evidence) -> StoredCertificate | None:
         """Keeps the accepted certificate where one is wanted; None where none is."""
         target = self.settings.certificate.path
         if not target:
             return None
-        if verdict.path is None:
+        if verdict.certificate is None:
             return self.store.without_certificate(target)
-        return self.store.store(verdict.path, verdict.line, target)
+        return self.store.store(verdict.certificate, verdict.line, target)
 
-    def check_line(self, answer: Answer, verdict: Verdict, told: str) -> str:
+    def check_line(self, answer: Answer, verdict: Evidence, told: str) -> str:
         """The line on what the proved program says of the values that are passed on, `told`.
 
         Where the values round a proved point, what they miss is told as rounding, and why they say
@@ -326,11 +368,11 @@ class AnswerCertifier:
         is_sol = self.settings.makes_sol and not self.is_mps
         return f"bridge check of the {'.sol' if is_sol else 'values'}: {told}"
 
-    def broken_words(self, answer: Answer, verdict: Verdict, told: str) -> str:
+    def broken_words(self, answer: Answer, verdict: Evidence, told: str) -> str:
         """By how much the values miss what they break."""
         share = max(worst_residual(self.program, answer.values or []).relative, LEAST_SHARE)
         by = f"missed by more than {share:.2g} of its largest term"
-        if verdict.is_proved() and verdict.point is not None and answer.rounded_values:
+        if verdict.is_proved and verdict.point is not None and answer.rounded_values:
             return f"it has the exact point in decimals; no row or bound is {by}"
         if share <= TOLERANCE_OF_INTEGERS:
             return f"no row or bound is {by}, which is rounding"

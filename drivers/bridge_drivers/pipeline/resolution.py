@@ -7,7 +7,7 @@ import math
 from fractions import Fraction
 from typing import Mapping, NamedTuple, Sequence
 
-from ..certify.claims import Verdict
+from ..exact.evidence import Evidence
 from ..system.codes import Code
 from ..model.analysis import (
     NO_RESIDUAL,
@@ -85,7 +85,7 @@ class ProvedPoint(NamedTuple):
     kind: str
 
 
-def resolve(answer: Answer, verdict: Verdict, facts: RunFacts = RunFacts()) -> Resolution:
+def resolve(answer: Answer, verdict: Evidence, facts: RunFacts = RunFacts()) -> Resolution:
     """What is passed on, by the ruling on all that was found."""
     proved = proved_point(answer, verdict)
     ruling = decide(findings_of(answer, verdict, facts, proved))
@@ -103,15 +103,15 @@ def resolve(answer: Answer, verdict: Verdict, facts: RunFacts = RunFacts()) -> R
 
 
 def findings_of(
-    answer: Answer, verdict: Verdict, facts: RunFacts, proved: ProvedPoint | None
+    answer: Answer, verdict: Evidence, facts: RunFacts, proved: ProvedPoint | None
 ) -> Findings:
     """What decides on the code."""
-    said = statement_of(verdict.line) if verdict.is_proved() else None
+    said = statement_of(verdict.line) if verdict.is_proved else None
     is_mixed = bool(answer.program.integer_count)
     is_same = proved is not None and not proved.kind
     return Findings(
         said=answer.code,
-        claim=verdict.claim(),
+        claim=verdict.claim,
         is_continuous=answer.is_continuous,
         is_gap=answer.found.is_gap,
         kind=proved.kind if proved else "",
@@ -125,9 +125,9 @@ def findings_of(
         beats_bound=said is not None
         and said.claim is Claim.BOUND
         and beats_proved_bound(answer, said.bound),
-        is_contradicted=verdict.contradicted,
-        is_met_in_doubles=verdict.by_doubles,
-        is_ray_open=verdict.is_open,
+        is_contradicted=verdict.contradicts_answer,
+        is_met_in_doubles=verdict.is_optimal_in_doubles,
+        is_ray_open=verdict.may_be_unbounded,
         is_checked=facts.is_checked,
         is_strict=facts.is_strict,
     )
@@ -165,9 +165,9 @@ def is_within(said: Statement, gap: float) -> bool:
     return abs(said.bound - said.value) <= Fraction(gap) * max(abs(said.bound), abs(said.value))
 
 
-def proved_point(answer: Answer, verdict: Verdict) -> ProvedPoint | None:
+def proved_point(answer: Answer, verdict: Evidence) -> ProvedPoint | None:
     """The point of a verdict beside an answer; None where the verdict has none."""
-    if not verdict.is_proved() or verdict.point is None:
+    if not verdict.is_proved or verdict.point is None:
         return None
     program = answer.program
     values: Sequence[Fraction] = verdict.point
@@ -182,7 +182,7 @@ def proved_point(answer: Answer, verdict: Verdict) -> ProvedPoint | None:
     return ProvedPoint(values, objective, is_apart, kind)
 
 
-def proved_duals(answer: Answer, verdict: Verdict) -> dict[int, Fraction]:
+def proved_duals(answer: Answer, verdict: Evidence) -> dict[int, Fraction]:
     """The duals of a certificate of one leaf, by row."""
     if not verdict.duals:
         return {}
@@ -236,7 +236,7 @@ def nearest_doubles(values: Sequence[Fraction]) -> list[float]:
 
 
 def _at_proved_point(
-    answer: Answer, verdict: Verdict, proved: ProvedPoint, ruling: Ruling
+    answer: Answer, verdict: Evidence, proved: ProvedPoint, ruling: Ruling
 ) -> Resolution:
     """At the point that was proved. A solver's `optimal` stands beside one that is feasible with the same objective."""
     code, shortfall = ruling.code, ruling.shortfall
@@ -251,5 +251,5 @@ def _at_proved_point(
     keeps_words = code == answer.code or bool(shortfall) or answer.found.is_gap
     if not kind and keeps_words:
         return Resolution(code, moved, None, kind, shortfall)
-    is_gap = code == Code.SOLVED and verdict.claim() == "within" and answer.found.is_gap
+    is_gap = code == Code.SOLVED and verdict.claim == "within" and answer.found.is_gap
     return Resolution(code, moved, WORDS_OF_GAP if is_gap else WORDS[code], kind, shortfall)

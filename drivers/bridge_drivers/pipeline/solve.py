@@ -9,7 +9,7 @@ import shutil
 from dataclasses import dataclass, field, replace
 from typing import Iterator, NamedTuple, Sequence
 
-from ..certify.claims import WITHOUT
+from ..exact.evidence import NOT_PROVED
 from ..formats.file_kinds import model_kind_of_start
 from ..formats.source import Source
 from ..system.files import OutputFiles, new_folder_in, private_folder
@@ -257,7 +257,7 @@ class SolveRun:
         if fault.told.endswith(": empty interval"):
             return Outcome(
                 Code.UNSURE if is_strict else Code.INFEASIBLE,
-                [f"infeasible: {line}", WITHOUT + "bridge refuses the model for this"],
+                [f"infeasible: {line}", NOT_PROVED + "bridge refuses the model for this"],
                 is_final=not is_strict,
             )
         if fault.told.endswith(": no such objective"):

@@ -3,7 +3,6 @@
 from __future__ import annotations
 
 import os
-from pathlib import Path
 from typing import NamedTuple
 
 from ..formats.file_kinds import model_kind_of_start
@@ -46,13 +45,12 @@ class CertificateStore:
         self.maximise = maximise
         self.overwrite = overwrite
 
-    def store(self, accepted: str, line: str, target: str) -> StoredCertificate:
-        """The file `accepted`, whose verdict is the line, at `target`, unless what stands there stays."""
+    def store(self, accepted: bytes, line: str, target: str) -> StoredCertificate:
+        """The text `accepted`, whose verdict is the line, at `target`, unless what stands there stays."""
         reads = [self.model, self.bridge.file_names.get(self.model, self.model)]
-        data = Path(accepted).read_bytes()
         try:
             files = OutputFiles(reads, model_kind_of_start, overwrite=self.overwrite)
-            files.write(target, data)
+            files.write(target, accepted)
         except FileFault as fault:
             proves = self.still_proves(target, line) if isinstance(fault, FileStays) else ""
             if not proves:
@@ -60,7 +58,7 @@ class CertificateStore:
                 return StoredCertificate(text, has_failed=True)
             stays = f"{target} stays as it is: it proves `{proves}`; overwrite=1 replaces it"
             return StoredCertificate(stays, target)
-        told = f"{target} is written: the certificate of `{line}`, {len(data)} bytes"
+        told = f"{target} is written: the certificate of `{line}`, {len(accepted)} bytes"
         return StoredCertificate(told, target)
 
     def without_certificate(self, target: str) -> StoredCertificate:

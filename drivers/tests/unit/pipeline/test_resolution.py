@@ -7,7 +7,7 @@ from typing import NamedTuple
 
 import pytest
 
-from bridge_drivers.certify.claims import Verdict
+from bridge_drivers.exact.evidence import Evidence
 from bridge_drivers.model.linear_program import LinearProgram
 from bridge_drivers.pipeline.answer import Answer
 from bridge_drivers.pipeline.resolution import Resolution, RunFacts, resolve
@@ -310,7 +310,7 @@ def resolution(case: Case) -> Resolution:
     if is_proved and not case.line.startswith("bound"):
         value = Fraction(case.line.split()[-1])
         point = [value * 10**9 if case.program == "small" else value]
-    verdict = Verdict(case.line, point, "kept" if is_proved else None, "", value)
+    verdict = Evidence(case.line, point, b"kept" if is_proved else None, "", value)
     answer = Answer(LinearProgram.of(PROGRAMS[case.program]), found, Settings())
     return resolve(answer, verdict, RunFacts(gap=float(case.gap or 0)))
 
@@ -338,5 +338,5 @@ def test_a_proved_claim_is_never_lost() -> None:
             answer = Answer(
                 LinearProgram.of(WHOLE), SolverAnswer(status, "told", values), Settings()
             )
-            found = resolve(answer, Verdict(line, None, "kept"))
+            found = resolve(answer, Evidence(line, None, b"kept"))
             assert (found.code, found.answer.values) == (code, None)

@@ -1,0 +1,206 @@
+"""The front of this package: a program in, a certificate out.
+
+Which proofs are tried for what a solver said, and what is told of them where the time is over. The
+judge alone decides what is proved: whatever goes wrong here costs a certificate, and no more.
+"""
+
+from __future__ import annotations
+
+import itertools
+from typing import Callable, Dict, Iterator, Mapping, Optional
+
+from ..certify import short
+from ..certify.watch import KEPT, Over, Watch
+from ..model.integer_form import IntegerProgram, Point
+from ..system.deadline import Deadline
+from ..system.errors import SearchEnded
+from .clp import Clp, ClpNotInstalled
+from .dual_bound import DOUBLES_NOTE, is_optimal_in_doubles
+from .evidence import (
+    AnswerByPlace,
+    AnswerClaim,
+    Evidence,
+    EvidenceStore,
+    Judge,
+    first_proved,
+    not_proved,
+)
+from .integer_certifier import IntegerCertifier
+from .linear_certifier import LinearCertifier
+from .refutations import Refuter
+from .task import CertificationTask, SearchOptions
+from .worker_pools import WorkerPool
+
+
+def certify(
+    program: IntegerProgram,
+    judge: Judge,
+    *,
+    claim: AnswerClaim,
+    watch: Watch,
+    answer: AnswerByPlace = AnswerByPlace(),
+    options: SearchOptions = SearchOptions(),
+    pool: Optional[WorkerPool] = None,
+) -> Evidence:
+    """What can be proved of a program, beginning with what a solver said of it.
+
+    Args:
+        judge: Is given certificates, and says what each of them proves.
+        claim: What the solver said.
+        watch: The time that there is.
+        answer: The solver's numbers.
+        pool: Other processes that search.
+
+    Returns:
+        The first evidence that is proved, else why nothing is.
+    """
+    store = EvidenceStore(program, judge, options.objective, watch)
+    task = CertificationTask(program, store, watch, options, answer, pool)
+    return Certifier(task).certify(claim)
+
+
+class Certifier:
+    """Tries proofs of one program."""
+
+    def __init__(self, task: CertificationTask) -> None:
+        self.task = task
+        self.store = task.store
+        self.refuter = Refuter(task)
+        self.linear = LinearCertifier(task, self.refuter)
+        self.integer = IntegerCertifier(task, self.refuter, self.linear)
+
+    def certify(self, claim: AnswerClaim) -> Evidence:
+        """Tries what fits the claim; where the time is over, what is known by then."""
+        watch = self.task.watch
+        Clp.restrict(Deadline(watch.until_over()))
+        try:
+            with watch.interruptible():
+                try:
+                    with watch.alarmed(watch.until_over()):
+                        return self._tried(claim)
+                except Over:
+                    watch.disarm()
+                    Clp.restrict(Deadline(watch.to_end() - KEPT))
+                    found = self._with_bound_in_doubles(first_proved(self._known()))
+                    return found._replace(may_be_unbounded=self.refuter.may_be_unbounded())
+        except (ClpNotInstalled, SearchEnded, Over) as ended:
+            return not_proved(ended)
+        finally:
+            Clp.restrict(Deadline())
+
+    def certify_point(self) -> Evidence:
+        """That a point is optimal, else that it is feasible, with a bound where there is one."""
+        if self.task.is_linear:
+            return first_proved(self.linear.certify(self.task.answer))
+        if self.task.options.is_relaxation:
+            return first_proved(self._bounds())
+        values = self.task.answer.values
+        assert values is not None, "a claim of a point has its values"
+        return self.integer.certify_answer(values)
+
+    def certify_infeasible(self) -> Evidence:
+        """That there is no point."""
+        return first_proved(self.refute())
+
+    def certify_unknown(self) -> Evidence:
+        """Where the solver has no point: a bound.
+
+        Of an integer program a disjunction comes first, and with `proves` a refutation or a point.
+        """
+        tried = [self._bounds()]
+        if not self.task.is_linear and not self.task.options.is_relaxation:
+            refutations = self.refuter.rounding_refutations()
+            proves = self.task.options.proves
+            tried = [refutations, self.refute(), *tried] if proves else [refutations, *tried]
+        return first_proved(itertools.chain(*tried))
+
+    def certify_unbounded(self) -> Evidence:
+        """By a point and a ray; else what is optimal, or a bound."""
+        first = self._refutation_or_ray()
+        options, is_linear = self.task.options, self.task.is_linear
+        if first.is_proved or options.is_relaxation and not is_linear:
+            return first
+        tried = self._bounds()
+        has_box_bound = short.trivial(self.task.program) is not None
+        if not is_linear and (options.proves or has_box_bound):
+            tried = itertools.chain(self.refute(), tried)
+        found = first_proved(tried)
+        return found if found.is_proved else first
+
+    def certify_infeasible_or_unbounded(self) -> Evidence:
+        """Where the solver does not say which of both it is."""
+        first = self._refutation_or_ray()
+        return first if first.is_proved else first_proved(self.refute())
+
+    def refute(self) -> Iterator[Evidence]:
+        """That there is no point; where one is found, what follows from it."""
+        return self.refuter.refute(self._certify_from_point)
+
+    def _tried(self, claim: AnswerClaim) -> Evidence:
+        ways: Mapping[AnswerClaim, Callable[[], Evidence]] = {
+            AnswerClaim.POINT: self.certify_point,
+            AnswerClaim.INFEASIBLE: self.certify_infeasible,
+            AnswerClaim.UNBOUNDED: self.certify_unbounded,
+            AnswerClaim.INFEASIBLE_OR_UNBOUNDED: self.certify_infeasible_or_unbounded,
+            AnswerClaim.UNKNOWN: self.certify_unknown,
+        }
+        return ways[claim]()
+
+    def _certify_from_point(self, point: Point) -> Iterator[Evidence]:
+        if self.task.is_linear:
+            return self.linear.certify_from_point(point)
+        return self.integer.certify_from_point(point)
+
+    def _refutation_or_ray(self) -> Evidence:
+        """By a disjunction, which is asked for first, or by a point and a ray."""
+        found = first_proved(self.refuter.rounding_refutations())
+        return found if found.is_proved else self.refuter.certify_ray()
+
+    def _bounds(self) -> Iterator[Evidence]:
+        """Of a linear program what is true of it, of another one a bound."""
+        if self.task.is_linear:
+            yield from self.linear.certify(AnswerByPlace())
+        else:
+            yield from self.integer.claim_bounds()
+        self.linear.add_box_bound()
+        yield from self.store.claims()
+        yield not_proved("there is no point")
+
+    def _known(self) -> Iterator[Evidence]:
+        """What there is where the time is over: a tree, the best point, the closest bound."""
+        yield from self.integer.claim_known_tree()
+        watch, options = self.task.watch, self.task.options
+        try:
+            with watch.alarmed(watch.to_end() - KEPT):
+                if self.task.is_linear and self.task.answer.duals is not None:
+                    duals = short.roundings(self.task.program, self._duals_in_doubles())
+                    self.linear.add_short_duals(duals)
+                elif not self.task.is_linear and self._has_point():
+                    if options.proves or options.wants_bound:
+                        self.integer.add_root_bound()
+        except Over:
+            watch.disarm()
+        yield from self.store.claims()
+        reason = watch.why("time")
+        is_contradicted = self.integer.is_answer_contradicted
+        yield not_proved(reason)._replace(contradicts_answer=is_contradicted)
+
+    def _has_point(self) -> bool:
+        return self.store.point is not None or self.integer.incumbent is not None
+
+    def _duals_in_doubles(self) -> Dict[int, float]:
+        """Those of the answer, as the program is minimised."""
+        sign = self.task.program.sign
+        return {row: float(sign * dual) for row, dual in (self.task.answer.duals or {}).items()}
+
+    def _with_bound_in_doubles(self, evidence: Evidence) -> Evidence:
+        """With what the answer's own duals say, where the time of a run without `proves` is over."""
+        task = self.task
+        answer, options = task.answer, task.options
+        is_told = answer.values is not None and answer.duals is not None
+        is_one_program = task.is_linear or options.is_relaxation
+        if options.proves or not is_told or not is_one_program or evidence.claim == "optimal":
+            return evidence
+        if not is_optimal_in_doubles(task.program, answer.doubles(), self._duals_in_doubles()):
+            return evidence
+        return evidence._replace(is_optimal_in_doubles=True, note=DOUBLES_NOTE)

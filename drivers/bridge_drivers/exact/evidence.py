@@ -1,0 +1,312 @@
+"""What is known of one program, and how it is judged: points, bounds, and the claims they make.
+
+Each claim is the text of a certificate that a judge accepts or not. What is known is never thrown
+away: the last claim has the best point and the closest bound.
+"""
+
+from __future__ import annotations
+
+import enum
+import itertools
+from dataclasses import dataclass
+from fractions import Fraction
+from typing import (
+    Callable,
+    Dict,
+    Iterable,
+    Iterator,
+    List,
+    Mapping,
+    NamedTuple,
+    Optional,
+    Protocol,
+    Sequence,
+    Union,
+)
+
+from ..certify.short import shortened
+from ..certify.watch import Watch
+from ..model.integer_form import Box, IntegerProgram, Point
+from .certificate import RowNumbering, claim_lines, leaf_lines
+from .clp import Basis
+from .dual_bound import Multipliers, bit_width, dual_bound, fits_certificate
+from .portfolio import TreeText
+
+NOT_PROVED = "not proved: "
+NO_POINT = NOT_PROVED + "no exact point was found near the answer"
+TREE_SHARE = 0.75  # of the seconds that are left, to judge a tree: then a smaller claim has some
+MOST_POINTS = 4  # that are known at a time
+MOST_BOUND_DIGITS = 15  # of a bound that is told as it is
+CERTIFICATE_BITS = 127  # of the numbers in a certificate
+
+Number = Union[float, Fraction]
+
+
+class Judgement(Protocol):
+    """What a judge says of a certificate."""
+
+    @property
+    def line(self) -> str:
+        """What is proved, or why nothing is."""
+
+    @property
+    def is_proved(self) -> bool:
+        """Whether the certificate shows what it claims."""
+
+
+# takes all the lines of a certificate, which have no ends
+Judge = Callable[[Iterable[str]], Judgement]
+
+
+class AnswerClaim(enum.Enum):
+    """What a solver said of a program, which decides what is tried first."""
+
+    POINT = "point"
+    INFEASIBLE = "infeasible"
+    UNBOUNDED = "unbounded"
+    INFEASIBLE_OR_UNBOUNDED = "either"
+    UNKNOWN = "nothing"
+
+
+class AnswerByPlace(NamedTuple):
+    """What a solver answered, None where it did not tell.
+
+    Attributes:
+        values: By column; fractions where they are exact.
+        duals: By row: rates of change of the objective in its own sense.
+    """
+
+    values: Optional[Sequence[Number]] = None
+    duals: Optional[Mapping[int, Number]] = None
+    basis: Optional[Basis] = None
+
+    def doubles(self) -> List[float]:
+        """The values; none where there are none."""
+        return [float(v) for v in self.values or ()]
+
+
+class Evidence(NamedTuple):
+    """What is proved of a program, or why nothing is.
+
+    Attributes:
+        line: The judge's, or `not proved: ..` with the reason.
+        point: That the claim speaks of.
+        certificate: The accepted text.
+        figures: Of the certificate, in a line.
+        value: The objective of the point in its own sense.
+        duals: By row, rates of change in that sense, where one leaf has them.
+        note: Why it is not `optimal`, where that is known.
+        contradicts_answer: No point is found that has the answer's integer columns.
+        is_optimal_in_doubles: The answer's duals, rounded to the safe side, bound its objective.
+        may_be_unbounded: No bound is known, and a ray was not looked for to the end.
+    """
+
+    line: str
+    point: Optional[Point] = None
+    certificate: Optional[bytes] = None
+    figures: str = ""
+    value: Optional[Fraction] = None
+    duals: Mapping[int, Fraction] = {}
+    note: str = ""
+    contradicts_answer: bool = False
+    is_optimal_in_doubles: bool = False
+    may_be_unbounded: bool = False
+
+    @property
+    def is_proved(self) -> bool:
+        return self.certificate is not None
+
+    @property
+    def claim(self) -> str:
+        """The first word of a line that is proved, nothing of another one."""
+        return self.line.split()[0] if self.is_proved else ""
+
+
+def not_proved(reason: object, point: Optional[Point] = None) -> Evidence:
+    return Evidence(f"{NOT_PROVED}{reason}", point)
+
+
+def first_proved(tried: Iterable[Evidence]) -> Evidence:
+    """The first that is proved, else the first; what comes behind it is not tried."""
+    first: Optional[Evidence] = None
+    for evidence in tried:
+        if evidence.is_proved:
+            return evidence
+        first = first or evidence
+    return first or not_proved("no certificate was found")
+
+
+@dataclass
+class BoundEvidence:
+    """That no point is better than the value.
+
+    Attributes:
+        value: Minimised.
+        lines: Makes the nodes that prove it.
+        figures: Of these, in a line.
+        duals: As those of Evidence.
+        is_tree: Whether it is more than a leaf.
+    """
+
+    value: Fraction
+    lines: Callable[[], Iterator[str]]
+    figures: str
+    duals: Mapping[int, Fraction]
+    is_tree: bool = False
+
+
+class EvidenceStore:
+    """Points and bounds of one program, and the claims that are made of them.
+
+    Attributes:
+        program: In whole numbers.
+        points: Exact ones that a certificate can hold, the best first.
+        bound: The closest that is known.
+        note: Why points and bound are apart.
+    """
+
+    def __init__(self, program: IntegerProgram, judge: Judge, objective: int, watch: Watch) -> None:
+        """
+        Args:
+            objective: Its number in the file, from 0.
+        """
+        self.program = program
+        self.judge = judge
+        self.objective = objective
+        self.watch = watch
+        self.points: List[Point] = []
+        self.bound: Optional[BoundEvidence] = None
+        self.note = ""
+
+    @property
+    def point(self) -> Optional[Point]:
+        """The best that is known."""
+        return self.points[0] if self.points else None
+
+    def add_point(self, point: Point) -> None:
+        """Of an exact point the best stay, where a certificate can hold them."""
+        if all(map(fits_certificate, point)) and point not in self.points:
+            points = sorted([*self.points, point], key=self.program.value)
+            self.points = points[:MOST_POINTS]
+
+    def add_bound(self, bound: BoundEvidence) -> None:
+        """The closest stays."""
+        if self.bound is None or bound.value > self.bound.value:
+            self.bound = bound
+
+    def add_leaf(self, leaf: Multipliers, *, is_exact: bool = False) -> None:
+        """The bound of one leaf.
+
+        It is told in few digits, unless it has few anyway, or `is_exact` says that it is meant.
+        """
+        box = Box(self.program.lower, self.program.upper)
+        bound = dual_bound(self.program, leaf, box)
+        if not bound.is_finite or not leaf.fits_certificate():
+            return
+        value = bound.value
+        digits = max(len(str(value.numerator)), len(str(value.denominator)))
+        if not fits_certificate(value) or digits > MOST_BOUND_DIGITS and not is_exact:
+            value = shortened(self.program, value)
+        self.add_bound(self.bound_of_leaf(leaf, value))
+
+    def bound_of_leaf(self, leaf: Multipliers, value: Fraction = Fraction(0)) -> BoundEvidence:
+        """A leaf as evidence of a bound, whose value some claims do not tell."""
+        sign, numerators = self.program.sign, leaf.numerators
+        duals: Dict[int, Fraction] = dict.fromkeys(range(self.program.m), Fraction(0))
+        duals.update((i, Fraction(sign * v, leaf.denominator)) for i, v in numerators.items())
+        numbering = RowNumbering({}, 0, sign)
+        return BoundEvidence(
+            value,
+            lambda: leaf_lines(leaf, numbering, {}),
+            f"one leaf, {len(numerators)} duals",
+            duals,
+        )
+
+    def claims(self) -> Iterator[Evidence]:
+        """What is known, the strongest claim first.
+
+        A better point may be too wide for a certificate where another one is not.
+        """
+        if self.bound is not None:
+            for point in self.points:
+                is_met = self.bound.value >= self.program.value(point)
+                yield self.claim_of_bound("optimal" if is_met else "within", self.bound, point)
+            yield self.claim_of_bound("bound", self.bound)
+        for point in self.points:
+            lines = claim_lines("feasible", self.objective, None, point)
+            yield self.judged(lines, "a point", point)._replace(note=self.note)
+
+    def claim_of_bound(
+        self, claim: str, bound: BoundEvidence, point: Optional[Point] = None
+    ) -> Evidence:
+        """One claim that rests on a bound: `optimal`, `within`, `bound` or `infeasible`."""
+        value = self.program.sign * bound.value if claim in ("within", "bound") else None
+        objective = None if claim == "infeasible" else self.objective
+        lines = itertools.chain(claim_lines(claim, objective, value, point), bound.lines())
+        found = self.judged(lines, bound.figures, point, is_tree=bound.is_tree)
+        return found._replace(duals=bound.duals, note="" if claim == "optimal" else self.note)
+
+    def claim_of_leaf(
+        self, claim: str, leaf: Multipliers, point: Optional[Point] = None
+    ) -> Evidence:
+        """`optimal` or `infeasible`, by one leaf."""
+        return self.claim_of_bound(claim, self.bound_of_leaf(leaf), point)
+
+    def claim_of_tree(self, tree: TreeText, point: Optional[Point] = None) -> Evidence:
+        """`optimal`, and without a point `infeasible`."""
+        figures = f"{tree.strategy} plan, {tree.nodes} nodes, {tree.cuts} rows, {tree.size} bytes"
+        if point is None:
+            head = claim_lines("infeasible", None)
+        else:
+            head = claim_lines("optimal", self.objective, None, point)
+        return self.judged(itertools.chain(head, tree.lines()), figures, point, is_tree=True)
+
+    def claim_of_optimum(self, point: Point, leaf: Multipliers) -> Iterator[Evidence]:
+        """Both are exact; where they are too wide for a certificate, the note says so."""
+        duals = (Fraction(y, leaf.denominator) for y in leaf.numerators.values())
+        bits = bit_width([*point, *duals])
+        self.note = too_wide_note(f"{bits} bits")
+        if bits <= CERTIFICATE_BITS:
+            found = self.claim_of_leaf("optimal", leaf, point)
+            self.note = f"the exact optimum: {found.line.partition(': ')[2]}"
+            yield found
+
+    def claim_of_ray(self, point: Point, ray: Optional[Point]) -> Evidence:
+        """`unbounded`."""
+        lines = claim_lines("unbounded", self.objective, None, point, ray)
+        return self.judged(lines, "a point and a ray", point)
+
+    def judged(
+        self,
+        lines: Iterable[str],
+        figures: str,
+        point: Optional[Point] = None,
+        *,
+        is_tree: bool = False,
+    ) -> Evidence:
+        """A certificate by the judge.
+
+        Args:
+            lines: Of the certificate.
+            figures: Of it, in a line.
+            point: That it claims something of.
+            is_tree: Whether judging it may take long.
+        """
+        text = bytearray()
+
+        def recorded() -> Iterator[str]:
+            for line in lines:
+                text.extend(line.encode("ascii"))
+                text.extend(b"\n")
+                yield line
+
+        with self.watch.held(), self.watch.judging(TREE_SHARE if is_tree else 1.0):
+            judgement = self.judge(recorded())
+        if not judgement.is_proved:
+            return not_proved(judgement.line, point)
+        value = None if point is None else self.program.sign * self.program.value(point)
+        return Evidence(judgement.line, point, bytes(text), figures, value)
+
+
+def too_wide_note(bits: str) -> str:
+    return f"the exact optimum needs numbers of {bits}; a certificate holds {CERTIFICATE_BITS}"

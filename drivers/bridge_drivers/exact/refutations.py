@@ -1,0 +1,196 @@
+"""Proofs that a program has no point, or that its objective has no bound.
+
+That there is no point is shown by one split disjunction that rounding gives, by Farkas multipliers,
+or by a tree whose leaves are such; that the objective has no bound, by a point and a ray.
+"""
+
+from __future__ import annotations
+
+import math
+from typing import Callable, Iterator, Optional, Union
+
+from ..model.integer_form import IntegerProgram, Point
+from ..system.errors import SearchEnded
+from . import points
+from .certificate import refutation_lines
+from .clp import ClpNotInstalled, LpStatus
+from .dual_bound import MultiplierKind
+from .evidence import AnswerByPlace, Evidence, not_proved
+from .hermite import empty_interval, hermite_refutation
+from .leaf_proofs import from_fractions
+from .rational_simplex import RationalSimplex, SimplexResult, is_small
+from .relaxation import relaxation
+from .search import ImprovedIncumbent
+from .task import CertificationTask
+
+# goes on where a search for a refutation finds a point
+OnPoint = Callable[[Point], Iterator[Evidence]]
+
+
+class Refuter:
+    """Refutes one program, as far as there is time.
+
+    Attributes:
+        has_sought_ray: A ray was looked for to the end.
+    """
+
+    def __init__(self, task: CertificationTask) -> None:
+        self.task = task
+        self.program = task.program
+        self.store = task.store
+        self.has_sought_ray = False
+
+    def refute(self, on_point: OnPoint) -> Iterator[Evidence]:
+        """That there is no point; where one is found, what follows from it."""
+        yield from self.rounding_refutations()
+        try:
+            if self.task.is_linear and is_small(self.program):
+                yield from self.by_rational_simplex()
+            found = self._refute_by_tree()
+        except (ClpNotInstalled, SearchEnded) as ended:
+            yield from self.by_relaxation_at_last()
+            yield not_proved(ended)
+            return
+        if isinstance(found, ImprovedIncumbent):
+            yield from on_point(found.point)
+        else:
+            yield found
+
+    def rounding_refutations(self) -> Iterator[Evidence]:
+        """By one split disjunction, which is asked for in each run.
+
+        An integer column or row of such has no integer between its bounds, or equations have no
+        integer solution.
+        """
+        for find_refutation, figures in (
+            (empty_interval, "no whole number between two ends"),
+            (hermite_refutation, "equations without a whole solution"),
+        ):
+            refutation = find_refutation(self.program)
+            if refutation is not None:
+                lines = refutation_lines(refutation, self.program.m)
+                yield self.store.judged(lines, figures)
+
+    def by_relaxation_at_last(self) -> Iterator[Evidence]:
+        """Of a small integer program whose search ended without a tree: what its relaxation proves
+        in fractions."""
+        if self.task.is_linear or not is_small(self.program):
+            return
+        for evidence in self.by_rational_simplex():
+            if evidence.is_proved:
+                yield evidence._replace(duals={})
+
+    def by_rational_simplex(self, answer: AnswerByPlace = AnswerByPlace()) -> Iterator[Evidence]:
+        """What is true of a small linear program, from the basis of an answer.
+
+        Of an integer program that is something where its relaxation has no point, or ends at an
+        integer one.
+        """
+        self.task.watch.progress.tell("the simplex method in fractions")
+        try:
+            ended = self._run_rational_simplex(self.program, answer)
+        except SearchEnded as late:
+            yield not_proved(late)
+            return
+        point, is_infeasible = ended.point, ended.status is LpStatus.INFEASIBLE
+        kind = MultiplierKind.FARKAS if is_infeasible else MultiplierKind.DUAL
+        leaf = from_fractions(self.program, ended.multipliers, kind)
+        if is_infeasible:
+            yield self.store.claim_of_leaf("infeasible", leaf)
+        elif point is not None and self.program.is_feasible(point):
+            if ended.status is LpStatus.UNBOUNDED:
+                yield self.store.claim_of_ray(point, ended.ray)
+            else:
+                self.store.add_point(point)
+                self.store.add_leaf(leaf)
+                yield from self.store.claim_of_optimum(point, leaf)
+
+    def certify_ray(self) -> Evidence:
+        """That the objective has no bound, where a point and a ray are found."""
+        if self.task.options.is_relaxation and not self.task.is_linear:
+            return not_proved("only the relaxation is unbounded")
+        ray = self.find_ray()
+        if ray is None:
+            return not_proved("no exact ray was found")
+        point = self._any_point()
+        if point is None:
+            return not_proved("no exact point was found")
+        return self.store.claim_of_ray(point, ray)
+
+    def ray_of_point(self, point: Optional[Point]) -> Iterator[Evidence]:
+        """By a known point and a ray, which is looked for wherever no bound is known."""
+        if point is None or self.store.bound is not None:
+            return
+        ray = self.find_ray()
+        if ray is not None:
+            yield self.store.claim_of_ray(point, ray)
+
+    def find_ray(self) -> Optional[Point]:
+        """A ray, whatever its gain is; of a small program by the simplex method in fractions."""
+        if has_no_ray(self.program):
+            return None
+        cone = self.program.recession_cone()
+        found = points.find_ray(cone)
+        if found is None and is_small(cone):
+            ray = self._run_rational_simplex(cone, AnswerByPlace()).point
+            if ray is not None and points.is_ray(cone, ray):
+                found = ray
+        self.has_sought_ray = True
+        return found
+
+    def may_be_unbounded(self) -> bool:
+        """Whether no bound is known, and no ray was looked for to the end."""
+        is_known = self.has_sought_ray or self.store.bound is not None
+        return not is_known and not has_no_ray(self.program)
+
+    def _refute_by_tree(self) -> Union[Evidence, ImprovedIncumbent]:
+        """By a tree whose leaves are all Farkas multipliers.
+
+        Raises:
+            SearchEnded: There is no tree.
+        """
+        portfolio = self.task.portfolio(self.program.without_costs(), None)
+        is_race = self.task.options.proves and not self.task.is_linear
+        improved = portfolio.race() if is_race else portfolio.run_plain()
+        if improved is not None:
+            return improved
+        if portfolio.best is None:
+            report = portfolio.strategies[0].report.partition(": ")[2]
+            raise SearchEnded(self.task.watch.why(report))
+        return self.store.claim_of_tree(portfolio.best)
+
+    def _run_rational_simplex(
+        self, program: IntegerProgram, answer: AnswerByPlace
+    ) -> SimplexResult:
+        tableau = RationalSimplex(program, lambda: self.task.watch.look(0, math.inf))
+        columns = answer.basis.columns if answer.basis is not None else []
+        tableau.install_basis(columns, answer.doubles() or [0.0] * program.n)
+        return tableau.run()
+
+    def _any_point(self) -> Optional[Point]:
+        """A feasible point, whatever its objective."""
+        program = self.program.without_costs()
+        if self.task.is_linear:
+            return self._any_linear_point(program)
+        watch = self.task.watch
+        try:
+            found = self.task.point_search(program).resume(watch.spent() + watch.left())
+        except SearchEnded:
+            return None
+        return found.point if isinstance(found, ImprovedIncumbent) else None
+
+    def _any_linear_point(self, program: IntegerProgram) -> Optional[Point]:
+        clp, found = relaxation(program), None
+        if clp.solve() is LpStatus.OPTIMAL:
+            found = next(points.nearby_points(program, clp.values()), None)
+            if found is None:
+                found = points.vertex(program, clp.basis(), clp.values())
+        if found is None and is_small(program):
+            return self._run_rational_simplex(program, AnswerByPlace()).point
+        return found
+
+
+def has_no_ray(program: IntegerProgram) -> bool:
+    """Whether each column with a cost is bounded on its better side: then there is no ray."""
+    bounds = zip(program.costs, program.lower, program.upper)
+    return all((lower if cost > 0 else upper) is not None for cost, lower, upper in bounds if cost)

@@ -1,0 +1,112 @@
+"""What all that is tried for one certificate has in common: the program, the limits, the answer."""
+
+from __future__ import annotations
+
+from dataclasses import dataclass, field
+from fractions import Fraction
+from typing import NamedTuple, Optional, Sequence
+
+from ..certify.watch import Watch
+from ..model.integer_form import IntegerProgram, Point
+from ..system.deadline import Deadline
+from . import points
+from .clp import Clp, LpStatus, library
+from .evidence import AnswerByPlace, EvidenceStore, Number
+from .parallel import ParallelSearch
+from .portfolio import Portfolio
+from .relaxation import relaxation
+from .worker_pools import SearchProblem, WorkerPool
+
+ONE_LEAF_SECONDS = 1.0  # of the relaxation, where one leaf is tried alone
+
+
+@dataclass(frozen=True)
+class SearchOptions:
+    """What is asked of a search for a certificate.
+
+    Attributes:
+        objective: Its number in the file, from 0.
+        proves: Searches may be long; else what takes one leaf is tried.
+        is_relaxation: The answer is one of the relaxation.
+        wants_bound: A bound of the relaxation is wanted, too.
+        shortens: After a tree, a shorter one is looked for.
+    """
+
+    objective: int = 0
+    proves: bool = True
+    is_relaxation: bool = False
+    wants_bound: bool = False
+    shortens: bool = False
+
+
+class SolvedRelaxation(NamedTuple):
+    """A relaxation that was solved; `clp` is None where CLP's library is not there."""
+
+    clp: Optional[Clp]
+    status: LpStatus
+
+    def optimal_clp(self) -> Optional[Clp]:
+        """None where it has no optimum."""
+        return self.clp if self.status is LpStatus.OPTIMAL else None
+
+
+@dataclass
+class CertificationTask:
+    """One program with the answer to it.
+
+    Attributes:
+        program: In whole numbers.
+        store: What is known of it.
+        watch: The time that there is.
+        options: What is asked.
+        answer: What a solver said.
+        pool: Other processes that search.
+        is_linear: The program has no integer columns.
+    """
+
+    program: IntegerProgram
+    store: EvidenceStore
+    watch: Watch
+    options: SearchOptions = SearchOptions()
+    answer: AnswerByPlace = AnswerByPlace()
+    pool: Optional[WorkerPool] = None
+    is_linear: bool = field(init=False)
+
+    def __post_init__(self) -> None:
+        self.is_linear = not any(self.program.is_integer)
+
+    def portfolio(self, program: IntegerProgram, value: Optional[Fraction]) -> Portfolio:
+        """Searches trees that no point of the program is better than the value."""
+        return Portfolio(
+            program,
+            value,
+            self.exact_point,
+            self.watch,
+            shortens=self.options.shortens,
+            pool=self.pool,
+        )
+
+    def point_search(self, program: IntegerProgram) -> ParallelSearch:
+        """Searches any point of a program."""
+        return ParallelSearch(SearchProblem(program), self.exact_point, self.watch, self.pool)
+
+    def exact_point(self, x: Sequence[Number]) -> Optional[Point]:
+        """An exact point that has the integer columns of x, which is near one."""
+        return points.point_with_integers(self.program, x, self.deadline())
+
+    def deadline(self) -> Deadline:
+        """For one piece of work: what is left for searches."""
+        return Deadline(self.watch.left(), of_processor=self.watch.of_processor)
+
+    def solve_relaxation(self, answer: AnswerByPlace = AnswerByPlace()) -> SolvedRelaxation:
+        """The relaxation, from the basis of an answer."""
+        if library() is None:
+            return SolvedRelaxation(None, LpStatus.OTHER)
+        self.watch.progress.tell("the relaxation by CLP")
+        clp = relaxation(self.program)
+        if answer.basis is not None and answer.values is not None:
+            clp.warm_start(answer.basis, answer.doubles())
+        clp.seconds = ONE_LEAF_SECONDS
+        if self.options.proves or self.is_linear:
+            clp.limit(self.deadline())
+        return SolvedRelaxation(clp, clp.solve_by_either())

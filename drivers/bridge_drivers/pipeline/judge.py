@@ -1,0 +1,54 @@
+"""The judge of certificates that the search is given: `bridge verify`, by files."""
+
+from __future__ import annotations
+
+from typing import Iterable, NamedTuple, Union
+
+from ..certify.watch import Watch
+from ..program.bridge import Bridge
+from ..program.refusal import Refusal
+from ..program.verdict import Verdict
+from ..system.errors import DeadlineExceeded, ProgramFailed
+from ..system.files import new_text
+
+
+class Unproved(NamedTuple):
+    """Why a certificate proves nothing, in words for a message."""
+
+    line: str
+    is_proved: bool = False
+
+
+class CertificateJudge:
+    """Judges certificates of one model.
+
+    Args:
+        model: Its path, as the proved program reads it.
+        path: Of the file that certificates are written to, one after the other.
+        watch: Says how long a verdict may take, and is told that one is waited for.
+    """
+
+    def __init__(self, bridge: Bridge, model: str, path: str, watch: Watch) -> None:
+        self.bridge = bridge
+        self.model = model
+        self.path = path
+        self.watch = watch
+        bridge.file_names[path] = "the certificate"
+
+    def __call__(self, lines: Iterable[str]) -> Union[Verdict, Unproved]:
+        """What the proved program says of a certificate by its lines."""
+        with new_text(self.path) as out:
+            out.writelines(line + "\n" for line in lines)
+        self.bridge.limit = self.watch.for_verdict()
+        try:
+            self.watch.progress.tell("bridge verify")
+            verdict = self.bridge.verify(self.model, self.path)
+        except DeadlineExceeded:
+            return Unproved("time: bridge verify was ended before its verdict")
+        except (Refusal, ProgramFailed) as fault:
+            return Unproved(fault.text)
+        finally:
+            self.bridge.limit = None
+        if verdict.is_proved:
+            return verdict
+        return Unproved(f"bridge verify says `{verdict.line}`")
