@@ -1,7 +1,7 @@
 """Runs a command as if something were not there: `without.py PART[,PART ..] COMMAND WORD ..`.
 
 A part is `clp`, the library of CLP; `fractions`, the simplex in fractions that small programs get
-beside it (without both there is no search); or `hurry`, the second that a certificate has where no
+beside it (without both there is no search); `rays`, time to look for rays; or `hurry`, the second that a certificate has where no
 `prove=1` is said: it has thirty. The command's function is the one that pyproject.toml names.
 """
 
@@ -11,11 +11,19 @@ import importlib
 import re
 import sys
 from pathlib import Path
+from typing import NoReturn
 
 DRIVERS = Path(__file__).resolve().parent.parent.parent
+
+
+def _out_of_time(*words: object) -> NoReturn:
+    raise importlib.import_module("bridge_drivers.certify.watch").Over("time")
+
+
 PARTS = {
     "clp": ("bridge_drivers.exact.clp", "LOADED", [None]),
     "fractions": ("bridge_drivers.certify.simplex", "MOST_ROWS", -1),
+    "rays": ("bridge_drivers.exact.points", "find_ray", _out_of_time),
     "hurry": ("bridge_drivers.pipeline.certification", "ONE_LEAF_SECONDS", 30.0),
 }
 
