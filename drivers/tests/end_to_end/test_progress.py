@@ -93,7 +93,8 @@ def test_the_verdict_has_what_was_told(in_folder: Workspace, name: str, size: in
 
 def _is_at_least(verdict: Fraction, told: Fraction, greater_is_better: bool) -> None:
     by = verdict - told if greater_is_better else told - verdict
-    assert by >= -DIGITS * max(1, abs(told)), f"{float(told)}, and the verdict has {verdict}"
+    size = max(Fraction(1), abs(told))
+    assert by >= -DIGITS * size, f"{float(told)}, and the verdict has {verdict}"
 
 
 @pytest.mark.needs("program", "clp_library")

@@ -22,7 +22,7 @@ def _out_of_time(*words: object) -> NoReturn:
 
 PARTS = {
     "clp": ("bridge_drivers.exact.clp", "LOADED", [None]),
-    "fractions": ("bridge_drivers.certify.simplex", "MOST_ROWS", -1),
+    "fractions": ("bridge_drivers.exact.rational_simplex", "MOST_ROWS", -1),
     "rays": ("bridge_drivers.exact.points", "find_ray", _out_of_time),
     "hurry": ("bridge_drivers.pipeline.certification", "ONE_LEAF_SECONDS", 30.0),
 }
