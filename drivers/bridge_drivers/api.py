@@ -13,7 +13,7 @@ import signal
 import threading
 from typing import Any, Callable, Iterator, Mapping, NamedTuple, Sequence, Union
 
-from .pages.explain import PagePaths, explain_certificate
+from .exact.certificate import read_certificate
 from .formats.source import Source, Workspace, read_source
 from .inputs import Subject, subject_of
 from .pipeline.memory import GivenModel, is_in_memory, read_given_model
@@ -28,9 +28,11 @@ from .pipeline.outputs import (
     write_outputs,
 )
 from .pipeline.report import ExactNumbers, Report, ReportedCall
+from .pages.explanation import ExplainedFile, Explanation, PagePaths
 from .pipeline.answered_run import Outcome
+from .pipeline.row_factors import whole_form
 from .pipeline.solve import SolveRun
-from .program.bridge import Bridge, find_program
+from .program.bridge import Bridge, find_program, sha256_of_file
 from .program.calls import files_of_call
 from .program.refusal import Refusal
 from .solvers import SOLVERS
@@ -41,11 +43,14 @@ from .system.errors import (
     DriverFault,
     FileAction,
     FileFault,
+    ProgramFailed,
     RunInterrupted,
     SolveInterrupted,
+    UnsupportedModel,
     WrongOption,
 )
 from .system.signals import SIGNALS, Interrupted
+from .system.text import one_line
 
 Path = Union[str, "os.PathLike[str]"]
 OnProgress = Callable[[ProgressEvent], None]
@@ -179,16 +184,42 @@ def explain(
             text = f"{subject.given.name}: is not refused"
             return call.report(text, [*subject.notes, text])
         source = opened.read_certificate(certificate)
+        explanation = _explanation(subject, source)
+        verdict = explanation.verdict
+        status = ExitStatus.DONE if verdict.is_proved else ExitStatus.FAILED
         paths = PagePaths(os.fspath(html), os.fspath(svg), overwrite)
-        found = explain_certificate(subject, source, paths)
-        verdict = found.verdict
+        reads = [subject.given.path, subject.given.name, source.name]
+        written = explanation.write(paths, reads)
         return call.report(
             verdict.line,
-            found.lines,
+            [*map(one_line, explanation.lines()), *subject.notes, *written.lines],
             verdict.statement,
-            status=found.status,
-            explained=found.details,
+            status=status if written.are_all_written else ExitStatus.UNWRITTEN,
+            explained=explanation.details(),
         )
+
+
+def _explanation(model: Subject, source: Source) -> Explanation:
+    """The verdict on a certificate, and what there is to say of it."""
+    verdict = model.bridge.verify(model.path, source.path)
+    with open(source.path, encoding="ascii") as lines:
+        certificate = read_certificate(lines)
+    program, note = None, ""
+    try:
+        objective = str(certificate.objective or 0)
+        program = whole_form(model.bridge, model.path, model.program(objective)).program
+    except (ProgramFailed, UnsupportedModel) as fault:
+        note = f"without bounds: {fault}"
+    return Explanation(
+        certificate=certificate,
+        verdict=verdict,
+        names=model.names(),
+        constraints=model.constraints(),
+        program=program,
+        note=note,
+        model_file=ExplainedFile(model.given.name, sha256_of_file(model.path)),
+        certificate_file=ExplainedFile(source.name, source.sha256()),
+    )
 
 
 def figures(model: GivenModel, *, objective: int = 0, bridge: str = "") -> Report:

@@ -8,9 +8,12 @@ from functools import cached_property
 from typing import Dict, List, Mapping, NamedTuple, Optional, Sequence, Tuple
 
 from ..exact.certificate import Certificate
+from ..formats.file_kinds import model_kind_of_start
 from ..formats.names import NameLists
 from ..model.integer_form import IntegerProgram
 from ..program.verdict import Verdict
+from ..system.errors import FileFault
+from ..system.files import OutputFiles
 from .failure import Failure, failure_of
 from .leaf_sums import LeafSums
 from .page import PageFacts, html_page
@@ -28,6 +31,32 @@ class ExplainedFile(NamedTuple):
 
     name: str
     sha256: Optional[str]
+
+
+class PagePaths(NamedTuple):
+    """Where pages are written; an empty path where one is not wanted.
+
+    Attributes:
+        html: Of the page.
+        svg: Of the picture of the tree.
+        overwrite: Whether an older page there is replaced.
+    """
+
+    html: str = ""
+    svg: str = ""
+    overwrite: bool = False
+
+
+class WrittenPages(NamedTuple):
+    """What became of the pages that were wanted.
+
+    Attributes:
+        lines: One on each of them.
+        are_all_written: Whether none is missing.
+    """
+
+    lines: List[str]
+    are_all_written: bool
 
 
 @dataclass
@@ -130,6 +159,26 @@ class Explanation:
             sums=self._sums_of_files(),
         )
         return html_page(facts, self.wording, self.picture if self.certificate.nodes else None)
+
+    def write(self, paths: PagePaths, reads: Sequence[str]) -> WrittenPages:
+        """Writes the pages that are wanted, each as a whole or not at all.
+
+        Args:
+            paths: Where they go.
+            reads: Files that are never replaced.
+        """
+        outputs = OutputFiles(reads, model_kind_of_start, overwrite=paths.overwrite)
+        lines, are_all_written = [], True
+        for path, text_of in ((paths.html, self.html_page), (paths.svg, self.svg_tree)):
+            if not path:
+                continue
+            try:
+                outputs.write(path, text_of().encode("utf-8", "backslashreplace"))
+                lines.append(f"{path} is written")
+            except FileFault as fault:
+                are_all_written = False
+                lines.append(f"{path} is not written: {fault.reason}")
+        return WrittenPages(lines, are_all_written)
 
     def _sums_of_files(self) -> Sequence[Tuple[str, str]]:
         return (

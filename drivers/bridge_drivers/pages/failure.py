@@ -100,7 +100,7 @@ def _term_of(sums: LeafSums, place: int, part: Part, number: int) -> SumTerm:
     for term in sums.terms(place, sums.context(place)):
         if (term.part, term.number) == (part, number):
             return term
-    return SumTerm(Fraction(0), part, number, False, None)
+    return SumTerm(Fraction(0), part, number, is_lower=False, bound=None)
 
 
 def _at_point(line: str, wording: Wording) -> str:
@@ -111,19 +111,26 @@ def _at_point(line: str, wording: Wording) -> str:
         what = wording.named_part(PARTS[kind], int(number)) if kind else "the objective"
         where = "along the ray" if ray else "at the point"
         return f"a sum of {what} {where}, or a side of it, {FEWER_DIGITS}"
-    found, sums = POINT_FAULT.fullmatch(line), wording.sums
-    if found is not None and sums is not None:
-        ray, kind, number, how = found.groups()
-        part = PARTS[kind]
-        if ray:
-            return _broken_along_ray(part, int(number), wording, sums)
-        if how == "not whole":
-            return _not_whole(int(number), wording)
-        return _broken_at_point(part, int(number), wording, sums)
-    if line == "ray does not improve" and sums is not None:
-        change = sums.objective_change(wording.certificate.ray or {})
+    if wording.sums is None:
+        return line
+    found = POINT_FAULT.fullmatch(line)
+    if found is not None:
+        return _broken(found, wording, wording.sums)
+    if line == "ray does not improve":
+        change = wording.sums.objective_change(wording.certificate.ray or {})
         return f"along the ray the objective changes by {change}, which is no better"
     return line
+
+
+def _broken(found: re.Match[str], wording: Wording, sums: LeafSums) -> str:
+    """What a row or a variable is, and what it is to be."""
+    ray, kind, number, how = found.groups()
+    part = PARTS[kind]
+    if ray:
+        return _broken_along_ray(part, int(number), wording, sums)
+    if how == "not whole":
+        return _not_whole(int(number), wording)
+    return _broken_at_point(part, int(number), wording, sums)
 
 
 def _not_whole(column: int, wording: Wording) -> str:

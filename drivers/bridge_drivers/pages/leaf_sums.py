@@ -147,7 +147,9 @@ class LeafSums:
             terms = [(column, Fraction(number)) for column, number in node.entries]
             at = Fraction(node.at)
             if node.kind is NodeKind.CUT and branch == 0:
-                target = LeafTarget(dict(terms), Fraction(0), True, at, node.line)
+                target = LeafTarget(
+                    dict(terms), Fraction(0), maximise=True, value=at, cut_line=node.line
+                )
                 continue
             is_lower = node.kind is NodeKind.DISJUNCTION and branch == 1
             sides = Interval(at + 1, None) if is_lower else Interval(None, at)

@@ -101,14 +101,18 @@ def find_program(named: str = "", locations: Sequence[str] = LOCATIONS) -> List[
     for path in locations:
         if os.access(path, os.X_OK) and not os.path.isdir(path):
             return [path]
-    others = []
-    for folder in filter(None, os.environ.get("PATH", "").split(os.pathsep)):
-        found = shutil.which("bridge", path=folder)
-        if found and is_proved_program(found):
-            return [found]
-        if found:
-            others.append(found)
-    raise NotFound("bridge", "give bridge=PATH or set BRIDGE", others[0] if others else "")
+    found = _programs_on_path("bridge")
+    for path in found:
+        if is_proved_program(path):
+            return [path]
+    raise NotFound("bridge", "give bridge=PATH or set BRIDGE", found[0] if found else "")
+
+
+def _programs_on_path(name: str) -> List[str]:
+    """All programs of a name, in the order of the folders."""
+    folders = os.environ.get("PATH", "").split(os.pathsep)
+    found = [shutil.which(name, path=folder) for folder in folders if folder]
+    return [path for path in found if path]
 
 
 def sha256_of_file(path: Optional[str]) -> Optional[str]:

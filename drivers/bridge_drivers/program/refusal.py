@@ -56,7 +56,7 @@ ENDED_WITH: Mapping[int, str] = {
 }
 
 
-class Refusal(BridgeError):
+class Refusal(ProgramFailed):
     """The proved program ended without what was asked for.
 
     Attributes:
@@ -208,19 +208,24 @@ class RefusalText:
 
     def _at_line(self, parsed: RefusalLine) -> str:
         """What is wrong at a line of a file, with what stands there."""
-        reason, is_first_file = parsed.reason, parsed.file == 1
-        is_mps = is_first_file and self.command in READERS_OF_MPS
-        other_kind = self._as_another_kind(parsed) if is_first_file else ""
-        if other_kind:
-            return f"{reason}: it {other_kind}"
-        if is_mps:
-            word = word_at_fault(self.files[0], parsed.number, reason)
-            return f"{reason} {word}" if word else reason + meaning_of(reason)
+        if parsed.file == 1:
+            return self._at_line_of_model(parsed)
+        reason = parsed.reason
         if reason == "bad first line" and parsed.file == 2 and self.command in FIRST_LINES:
             return f"{reason} (it does not begin with `{FIRST_LINES[self.command]}`)"
-        if not is_first_file or not self.is_about_nl or reason in END_REASONS:
-            return reason + meaning_of(reason)
-        return self._in_segment(parsed)
+        return reason + meaning_of(reason)
+
+    def _at_line_of_model(self, parsed: RefusalLine) -> str:
+        """The same of the first file of a call."""
+        reason, other_kind = parsed.reason, self._as_another_kind(parsed)
+        if other_kind:
+            return f"{reason}: it {other_kind}"
+        if self.command in READERS_OF_MPS:
+            word = word_at_fault(self.files[0], parsed.number, reason)
+            return f"{reason} {word}" if word else reason + meaning_of(reason)
+        if self.is_about_nl and reason not in END_REASONS:
+            return self._in_segment(parsed)
+        return reason + meaning_of(reason)
 
     def _as_another_kind(self, parsed: RefusalLine) -> str:
         """What the model's file is where its first line says that it is something else."""
@@ -384,28 +389,36 @@ PLACES: Mapping[str, str] = {
     "d": "guesses of duals",
     "x": "guesses of values",
     "F": "imported function",
-}  # what a segment is called by its letter, where it is not that of one row or column
+}  # what a segment is called by its letter, where its head has no number of a row or column
 
 
 def place_of(segment: Segment, line: int, names: NameLists) -> str:
     """What a line of an .nl file is about, such as `constraint 0 (Cap)`."""
     letter, inside = segment.head[:1].decode("latin-1"), line - segment.head_line - 1
-    found = re.match(rb"[A-Za-z](\d+)", segment.head)
-    number = int(found.group(1)) if found else 0
-    comment = comment_of(segment.head) if letter and letter in "COVL" else ""
     if letter == "b" and inside >= 0:
         return names.variable(inside)
     if letter == "r" and inside >= 0:
         return names.constraint(inside)
-    if letter in ("C", "J"):
+    if letter in PLACES:
+        return PLACES[letter]
+    found = re.match(rb"[A-Za-z](\d+)", segment.head)
+    number = int(found.group(1)) if found else 0
+    return _numbered_place(letter, number, comment_of(segment.head), names)
+
+
+def _numbered_place(letter: str, number: int, comment: str, names: NameLists) -> str:
+    """What a segment is about whose head has a number; the comment of an expression may name it."""
+    if letter == "C":
         return names.constraint(number, comment)
-    if letter in ("O", "G"):
+    if letter == "J":
+        return names.constraint(number)
+    if letter == "O":
         return names.objective(number, comment)
+    if letter == "G":
+        return names.objective(number)
     if letter == "V":
         return numbered_name(f"defined variable {number}", comment)
-    if letter == "L":
-        return f"logical constraint {number}"
-    return PLACES[letter]
+    return f"logical constraint {number}"
 
 
 def context_lines(path: str, line: int) -> List[str]:

@@ -200,7 +200,7 @@ class UnusableAnswer(SolverFailed):
 
 
 class ProgramFailed(BridgeError):
-    """The proved program ended without its answer, and not since it refuses the model."""
+    """The proved program ended without its answer; of one that refuses a text there is more to say."""
 
 
 class NotReturned(BridgeError):
