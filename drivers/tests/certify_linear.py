@@ -4,119 +4,31 @@ short points and duals. What needs SciPy, CLP's library or the program is skippe
 from __future__ import annotations
 
 import random
-import unittest
 from fractions import Fraction as F
-from unittest import TestCase, mock
+from unittest import mock
 
 from certify_search import Certified
 from support import NEEDS_CLP, NEEDS_PROGRAM
-from bridge_drivers.certify import short
+from bridge_drivers.exact.short_points import DecimalPoints
 from bridge_drivers.exact import basis
 from bridge_drivers.exact.evidence import AnswerByPlace
 from bridge_drivers.exact.clp import LpStatus
 from bridge_drivers.exact.relaxation import relaxation
-from bridge_drivers.model.integer_form import Box, IntegerProgram, over_common_denominator
-from bridge_drivers.exact.dual_bound import MultiplierKind, Multipliers, dual_bound
-from bridge_drivers.exact.linear_systems import scipy_or_none
+from bridge_drivers.model.integer_form import IntegerProgram
 from bridge_drivers.system.deadline import Deadline
 from builders.families import family_model as made, uneven
-from certify_parts import built
 from models import nl, real
 
-NEEDS_SCIPY = unittest.skipUnless(scipy_or_none(), "no SciPy")
 
-OPTIMUM = [F(17, 13), F(1, 26)]
-
-
-def two() -> IntegerProgram:
-    """min 2 x0 + 3 x1; both rows are tight at the optimum."""
-    return built(
-        [real(), real(0, 7)],
-        [(4, None, {0: 3, 1: 2}), (None, "1.25", {0: 1, 1: "-1.5"})],
-        "min",
-        (2, 3),
-    )
-
-
-def rounding(p: IntegerProgram) -> short.Rounding:
+def rounding(p: IntegerProgram) -> DecimalPoints:
     """From CLP's optimum."""
     clp = relaxation(p)
     assert clp.solve() is LpStatus.OPTIMAL
-    return short.Rounding(p, clp.saved_basis(), clp.values(), Deadline(1.0))
+    return DecimalPoints(p, clp.saved_basis(), clp.values(), Deadline(1.0))
 
 
 def without_scipy():
     return mock.patch.object(basis, "scipy_or_none", lambda: None)
-
-
-class Shorts(TestCase):
-    def test_alone(self) -> None:
-        """Columns that stand in one equation alone, with a coefficient of 1 first."""
-        p = built(
-            [real(), real(0, 7), real(), real()],
-            [(4, 4, {0: 3, 1: 2, 2: 1}), (None, "1.25", {0: 1, 3: 1})],
-            "min",
-            (2, 3),
-        )
-        self.assertEqual(short.alone(p), {0: (2, 1)})
-
-    def test_bounds(self) -> None:
-        p = two()
-        self.assertEqual(short.trivial(p), 0)
-        self.assertIsNone(
-            short.trivial(p.with_costs([F(1), F(-1)]).with_bounds([0, 0], [None, None]))
-        )
-        self.assertEqual(short.shortened(p, F(1, 10**12)), 0)
-        self.assertEqual(short.shortened(p, F(10, 3)), F("3.333333333"))
-        found = max(short.roundings(p, {0: 12 / 13, 1: -10 / 13}), key=lambda one: one.bound())
-        self.assertLess(0, F(71, 26) - found.bound())
-        self.assertLess(F(71, 26) - found.bound(), F(1, 10**9))
-
-    def test_met_exactly(self) -> None:
-        """Columns without an upper bound, of which rounding leaves a reduced cost below 0."""
-        p = two().with_bounds([0, 0], [None, None])
-        leaf = Multipliers({0: 93, 1: -76}, 100, MultiplierKind.DUAL)
-        judged = dual_bound(p, leaf, Box(p.lower, p.upper))
-        self.assertEqual(judged.unbounded_columns, [0])
-        found = short.met_exactly(p, leaf, judged)
-        self.assertEqual((found.judged.unbounded_columns, found.judged.reduced_costs[0]), ([], 0))
-        self.assertLess(abs(found.bound() - F(71, 26)), F(1, 10))
-        leaf = Multipliers({0: 10}, 10, MultiplierKind.DUAL)
-        fixed = p.with_bounds([0, 0], [None, None]).with_costs([F(2), F(1)])
-        judged = dual_bound(fixed, leaf, Box(p.lower, p.upper))
-        self.assertEqual(judged.unbounded_columns, [0, 1])
-        self.assertIsNone(short.met_exactly(fixed, leaf, judged))
-
-    @NEEDS_CLP
-    def test_points(self) -> None:
-        """Near the optimum, within rows and bounds."""
-        p = two()
-        found = next(rounding(p).points())
-        self.assertTrue(p.is_feasible(found.point))
-        self.assertLess(p.value(found.point) - p.value(OPTIMUM), F(1, 10**7))
-        self.assertLessEqual(over_common_denominator(found.point)[1], 10**9)
-
-    @NEEDS_CLP
-    def test_step_by_step(self) -> None:
-        """Rows without room between them are met exactly, others get room."""
-        p = built(
-            [real()] * 4,
-            [
-                (None, "2.9", {0: "1.3", 1: "0.7"}),
-                ("2.9", None, {0: "1.3", 1: "0.7"}),
-                (13, None, {0: "7.1", 1: "3.3", 2: 1}),
-                ("0.1", "0.1", {2: "1.9", 3: "-0.7"}),
-            ],
-            "min",
-            ("1.1", "2.3", "3.1", "0.3"),
-        )
-        made = rounding(p)
-        self.assertEqual((made.alone, made.equations), ({3: (3, -7)}, {}))
-        self.assertIsNone(made.solved(9))
-        found = next(made.points())
-        self.assertEqual(found.way, "rounding is taken up by a basis of 1 equation and 1 row")
-        self.assertTrue(p.is_feasible(found.point))
-        self.assertLess(abs(p.value(found.point) - F("2.617004048583")), F(1, 10**6))
 
 
 @NEEDS_PROGRAM
@@ -229,26 +141,6 @@ class Linear(Certified):
         self.assertEqual(verdict.claim, "within", verdict.line)
         bound, value = map(F, verdict.line.split()[1:])
         self.assertLess(abs(bound - value), value / 10**6)
-
-
-class Pairs(TestCase):
-    def test_pair(self) -> None:
-        """Decimals that make up a row's rest exactly, the second below 1 and to its side."""
-        rng = random.Random(5)
-        for _ in range(200):
-            a, b, rest = (
-                rng.randint(-99999, 99999) or 7,
-                rng.randint(1, 10**7),
-                F(rng.randint(-(10**9), 10**9), 10 ** rng.randint(0, 3)),
-            )
-            is_high = rng.random() < 0.5
-            found = short.pair([(0, a)], [(1, b)], rest, [False, is_high])
-            if found is None:
-                continue
-            self.assertEqual(a * found[0] + b * found.get(1, 0), rest)
-            self.assertTrue(all(10**20 % v.denominator == 0 for v in found.values()))
-            self.assertLess(abs(found.get(1, 0)), 1)
-            self.assertLessEqual(found.get(1, 0) * (1 if is_high else -1), 0)
 
 
 del Certified  # its tests are run where it stands

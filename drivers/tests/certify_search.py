@@ -19,7 +19,7 @@ from support import NEEDS_CLP, NEEDS_PROGRAM, PROGRAM, Case
 from bridge_drivers.program.bridge import Bridge
 from bridge_drivers.system.errors import DeadlineExceeded
 from bridge_drivers.exact.certificate import claim_lines
-from bridge_drivers.certify.short import trivial
+from bridge_drivers.exact.short_duals import box_bound
 from bridge_drivers.certify.watch import Over, Watch
 from bridge_drivers.exact.parallel import ParallelSearch
 from bridge_drivers.exact.portfolio import Portfolio, TreeText
@@ -357,7 +357,7 @@ class Spines(Certified):
                 BranchAndBound, "_bound_of_node", lambda search, branch: branch.bound
             ):
                 bound = self.bound(work, plans)
-            least = trivial(work.program)
+            least = box_bound(work.program)
             self.assertTrue(least is None or least <= bound)
         self.assertEqual((least, plans.rounded_bound(-0.001)), (0, 0))
 

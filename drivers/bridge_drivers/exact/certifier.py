@@ -9,7 +9,7 @@ from __future__ import annotations
 import itertools
 from typing import Callable, Dict, Iterator, Mapping, Optional
 
-from ..certify import short
+from .short_duals import box_bound, rounded_duals
 from ..certify.watch import KEPT, Over, Watch
 from ..model.integer_form import IntegerProgram, Point
 from ..system.deadline import Deadline
@@ -121,7 +121,7 @@ class Certifier:
         if first.is_proved or options.is_relaxation and not is_linear:
             return first
         tried = self._bounds()
-        has_box_bound = short.trivial(self.task.program) is not None
+        has_box_bound = box_bound(self.task.program) is not None
         if not is_linear and (options.proves or has_box_bound):
             tried = itertools.chain(self.refute(), tried)
         found = first_proved(tried)
@@ -173,7 +173,7 @@ class Certifier:
         try:
             with watch.alarmed(watch.to_end() - KEPT):
                 if self.task.is_linear and self.task.answer.duals is not None:
-                    duals = short.roundings(self.task.program, self._duals_in_doubles())
+                    duals = rounded_duals(self.task.program, self._duals_in_doubles())
                     self.linear.add_short_duals(duals)
                 elif not self.task.is_linear and self._has_point():
                     if options.proves or options.wants_bound:

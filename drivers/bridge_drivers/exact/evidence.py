@@ -24,7 +24,7 @@ from typing import (
     Union,
 )
 
-from ..certify.short import shortened
+from .short_duals import rounded_bound
 from ..certify.watch import Watch
 from ..model.integer_form import Box, IntegerProgram, Point
 from .certificate import RowNumbering, claim_lines, leaf_lines
@@ -206,7 +206,7 @@ class EvidenceStore:
         value = bound.value
         digits = max(len(str(value.numerator)), len(str(value.denominator)))
         if not fits_certificate(value) or digits > MOST_BOUND_DIGITS and not is_exact:
-            value = shortened(self.program, value)
+            value = rounded_bound(self.program, value)
         self.add_bound(self.bound_of_leaf(leaf, value))
 
     def bound_of_leaf(self, leaf: Multipliers, value: Fraction = Fraction(0)) -> BoundEvidence:

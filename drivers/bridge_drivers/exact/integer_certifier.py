@@ -6,7 +6,7 @@ import itertools
 from fractions import Fraction
 from typing import Iterator, List, Optional, Sequence
 
-from ..certify import short
+from .short_duals import NO_MULTIPLIERS, box_bound, short_duals
 from ..model.integer_form import Box, Point
 from ..system.errors import SearchEnded
 from . import points
@@ -68,8 +68,8 @@ class IntegerCertifier:
         program, store = self.program, self.store
         store.add_point(point)
         yield from self.refuter.ray_of_point(store.point or self.incumbent)
-        if short.trivial(program) == program.value(point):  # bounds of columns alone say it
-            yield store.claim_of_leaf("optimal", short.NOTHING, point)._replace(duals={})
+        if box_bound(program) == program.value(point):  # bounds of columns alone say it
+            yield store.claim_of_leaf("optimal", NO_MULTIPLIERS, point)._replace(duals={})
         portfolio = self._search_from(point)
         point = self.incumbent or point
         if portfolio.best is not None:
@@ -122,7 +122,7 @@ class IntegerCertifier:
         clp = self.task.solve_relaxation().optimal_clp()
         if clp is None or not any(program.costs):
             return
-        self.linear.add_short_duals(short.short_duals(program, clp, self.task.deadline()))
+        self.linear.add_short_duals(short_duals(program, clp, self.task.deadline()))
         duals = basis_duals(program, *clp.basis())
         box = Box(program.lower, program.upper)
         proof = LeafProver(program, None).prove_from_fractions(duals, MultiplierKind.DUAL, box)

@@ -7,7 +7,8 @@ from __future__ import annotations
 from fractions import Fraction
 from typing import Iterable, Iterator, List, NamedTuple, Optional
 
-from ..certify import short
+from .short_duals import GOOD_GAP, NO_MULTIPLIERS, ShortDuals, box_bound, short_duals
+from .short_points import DecimalPoints, ShortPoint
 from ..model.integer_form import Box, Point
 from ..system.errors import NotSolved, TooManyBits
 from . import points
@@ -89,16 +90,16 @@ class LinearCertifier:
         if self.program.matrix.count <= MOST_REFINED_ENTRIES:
             yield from IterativeRefinement(self.program, clp, self.task.deadline()).bases()
 
-    def add_short_duals(self, found: Iterable[short.ShortDuals]) -> None:
+    def add_short_duals(self, found: Iterable[ShortDuals]) -> None:
         """Their bounds to what is known."""
         for duals in found:
-            self.store.add_leaf(duals.leaf)
+            self.store.add_leaf(duals.multipliers)
 
     def add_box_bound(self) -> None:
         """The bound that bounds of columns have by themselves."""
-        value = short.trivial(self.program)
+        value = box_bound(self.program)
         if value is not None:
-            self.store.add_bound(self.store.bound_of_leaf(short.NOTHING, value))
+            self.store.add_bound(self.store.bound_of_leaf(NO_MULTIPLIERS, value))
 
     def _is_large(self) -> bool:
         """Whether a basis is tried before short numbers."""
@@ -110,7 +111,7 @@ class LinearCertifier:
         self.store.note = self.store.note or "no basis was found that is exactly optimal"
         if clp is not None:
             deadline = self.task.deadline()
-            self.add_short_duals(short.short_duals(self.program, clp, deadline))
+            self.add_short_duals(short_duals(self.program, clp, deadline))
             yield from self._by_short_points(clp)
         if self.store.point is None:
             yield Evidence(NO_POINT)
@@ -183,7 +184,7 @@ class LinearCertifier:
                 continue
             value = self.program.value(made.point)
             store.note = _both_notes(note, made.way)
-            if value - bound.value > short.NEAR * max(Fraction(1), abs(value)):
+            if value - bound.value > GOOD_GAP * max(Fraction(1), abs(value)):
                 far.append(FarPoint(value, made.point))
                 continue
             evidence = store.claim_of_bound("within", bound, made.point)
@@ -196,13 +197,15 @@ class LinearCertifier:
         if refused:
             store.note = _both_notes(note, f"points of few digits: {refused.partition(': ')[2]}")
 
-    def _short_points(self, clp: Clp) -> Iterator[short.ShortPoint]:
+    def _short_points(self, clp: Clp) -> Iterator[ShortPoint]:
         """Points in decimals; of a program that is not too large also with decimals by rows."""
         program = self.program
         is_refined = program.matrix.count <= MOST_REFINED_ENTRIES
         for by_rows in (False, True) if is_refined else (False,):
             basis, deadline = clp.saved_basis(), self.task.deadline()
-            yield from short.Rounding(program, basis, clp.values(), deadline, by_rows).points()
+            yield from DecimalPoints(
+                program, basis, clp.values(), deadline, scaled_by_rows=by_rows
+            ).points()
 
     def _at_far_points(
         self, far: List[FarPoint], bound: Optional[BoundEvidence]

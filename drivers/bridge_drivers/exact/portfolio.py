@@ -15,7 +15,7 @@ from fractions import Fraction
 from typing import Dict, FrozenSet, Iterator, List, Mapping, NamedTuple, Optional, Sequence
 
 from .lattice import thin_directions
-from ..certify.short import trivial
+from .short_duals import box_bound
 from ..certify.watch import Watch
 from ..model.integer_form import IntegerProgram, Row
 from ..system.errors import SearchEnded, SearchPaused
@@ -338,7 +338,7 @@ class Portfolio:
         assert value is not None
         if not bound < math.inf:
             return value
-        constant, least = self.program.constant_fraction, trivial(self.program)
+        constant, least = self.program.constant_fraction, box_bound(self.program)
         if lattice is not None:
             steps = (bound - float(constant)) / float(lattice.spacing)
             if least is not None:
