@@ -15,26 +15,10 @@ from unittest import mock
 
 from support import HERE, BIN, EXAMPLES, NEEDS_PROGRAM, Case, bridge as program
 from bridge_drivers import console, progress, solvers
-from bridge_drivers.pipeline.row_factors import factors_of
-from bridge_drivers.program.bridge import Bridge
-from bridge_drivers.program.calls import Reply
 from bridge_drivers.program.mps_forms import import_mps
 from bridge_drivers.formats.names import NameLists
 from bridge_drivers.model.linear_program import LinearProgram
 from models import rows_of
-
-
-class Factors(Case):
-    def test_factors(self) -> None:
-        """They are what `return` makes of duals of 1."""
-
-        class Returning(Bridge):
-            def call(self, *words: str) -> Reply:
-                assert Path(words[2]).read_text() == "answer 1\nobjno 0\nrow c0 1\nrow c2 1\n"
-                return Reply(0, b"\nOptions\n3\n1\n1\n0\n3\n3\n1\n0\n6\n0\n7\nobjno 0 0\n", "")
-
-        factors = factors_of(Returning([]), "m.nl", ["c0", "c2"])
-        self.assertEqual(factors, {"c0": "6", "c2": "7"})
 
 
 class Importing(Case):

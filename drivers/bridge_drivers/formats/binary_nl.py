@@ -103,7 +103,11 @@ class _BinaryReader:
         if letter in WITH_NAME:
             words.append(self._name())
         self.lines.append(letter + " ".join(words))
-        count = numbers[head.find("n")] if numbers else 0
+        self._body(letter, numbers)
+
+    def _body(self, letter: str, numbers: List[int]) -> None:
+        """What follows the head of a segment, which has these numbers."""
+        count = numbers[SEGMENT_HEADS[letter].find("n")] if numbers else 0
         if letter in WITH_PAIRS:
             self._pairs(count, is_whole=letter == "S" and not numbers[0] & REAL_SUFFIX)
         if letter in WITH_EXPRESSION:

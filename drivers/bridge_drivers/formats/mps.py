@@ -229,7 +229,8 @@ class _MpsReader:
         is_integer = False
         for block in section.blocks():
             words = block.replace(b"\n", b"").split(b" ")
-            names, rows, values = words[1::3], words[2::3], words[3::3]
+            names, rows = words[1::3], words[2::3]
+            values = words[3::3]
             start = 0
             for at in _markers(block, values):
                 self._add_entries(
@@ -258,19 +259,12 @@ class _MpsReader:
         self.entry_numbers.extend(array("i", list(map(self.place_of_number.__getitem__, values))))
 
     def _read_bounds(self, section: _Section) -> None:
-        """Lines `KIND SET COLUMN VALUE`. Those of a column stand together, columns in their order.
-
-        Where there is no value, a blank more stands behind the kind, so that each line has four
-        words: the set's name is then the third, and the column's name the fourth.
-        """
+        """Lines `KIND SET COLUMN VALUE`. Those of a column stand together, columns in their order."""
         columns = self.columns
         at, last = -1, b""
         place_of: Dict[bytes, int] = {}
         for block in section.blocks():
-            lines = b"\n" + block
-            for kind in NO_VALUE:
-                lines = lines.replace(b"\n %s " % kind, b"\n %s  " % kind)
-            words = lines.replace(b"\n", b"").split(b" ")
+            words = _words_of_bounds(block)
             for kind, first, third, fourth in zip(
                 words[1::4], words[2::4], words[3::4], words[4::4]
             ):
@@ -281,14 +275,15 @@ class _MpsReader:
                     if columns[at] != name:  # they do not stand in their order
                         place_of = place_of or {name: j for j, name in enumerate(columns)}
                         at = place_of[name]
-                if kind == b"LO":
-                    self.lower[at] = fourth
-                elif kind == b"UP":
-                    self.upper[at] = fourth
-                else:
-                    self._set_bound(at, kind, fourth)
+                self._set_bound(at, kind, fourth)
 
     def _set_bound(self, column: int, kind: bytes, value: bytes) -> None:
+        if kind == b"LO":  # most bounds are of these two kinds
+            self.lower[column] = value
+            return
+        if kind == b"UP":
+            self.upper[column] = value
+            return
         if kind in LOWER_BOUNDS:
             fixed = LOWER_BOUNDS[kind]
             self.lower[column] = value if fixed is None else fixed
@@ -297,6 +292,18 @@ class _MpsReader:
             self.upper[column] = value if fixed is None else fixed
         if kind in INTEGER_BOUNDS:
             self.is_integer[column] = True
+
+
+def _words_of_bounds(block: bytes) -> List[bytes]:
+    """The words of lines of bounds, behind an empty one: four of each line.
+
+    Where there is no value, an empty word stands behind the kind: the set's name is then the third
+    word of the line, and the column's name the fourth.
+    """
+    lines = b"\n" + block
+    for kind in NO_VALUE:
+        lines = lines.replace(b"\n %s " % kind, b"\n %s  " % kind)
+    return lines.replace(b"\n", b"").split(b" ")
 
 
 def _markers(block: bytes, values: Sequence[bytes]) -> List[int]:

@@ -138,19 +138,23 @@ def _node_of(line: bytes, names: NameLists) -> Optional[_Node]:
     """None where the line is no node."""
     text = _content(line)
     kind, rest = text[:1], text[1:]
-    words = rest.split()
     if kind in ("n", "s", "l"):
         return _Node(rest) if rest else None
     if kind == "h":
         return _Node(f"'{rest.partition(':')[2]}'")
     if kind == "v" and _is_number(rest):
         return _Node(names.operand(int(rest), comment_of(line)))
+    return _operator_node(line, kind, rest.split()) if kind in ("f", "o") else None
+
+
+def _operator_node(line: bytes, kind: str, words: List[str]) -> Optional[_Node]:
+    """A function `f` or an operator `o`, whose number is the first word."""
     if not words or not _is_number(words[0]):
         return None
-    if kind == "f":
-        name = comment_of(line) or f"function {words[0]}"
-        return _Node(name, _number_in(words[1:]), has_arguments=True)
-    return _operation(int(words[0])) if kind == "o" else None
+    if kind == "o":
+        return _operation(int(words[0]))
+    name = comment_of(line) or f"function {words[0]}"
+    return _Node(name, _number_in(words[1:]), has_arguments=True)
 
 
 def _operation(opcode: int) -> _Node:

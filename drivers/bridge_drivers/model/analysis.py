@@ -12,7 +12,7 @@ import numpy as np
 
 from ..formats.mps import OBJECTIVE
 from ..formats.numbers import nearest_double, read_fraction
-from .linear_program import EPIGRAPH_COLUMN, EPIGRAPH_ROW, LinearProgram
+from .linear_program import EPIGRAPH_ROW, LinearProgram
 
 Exact = Union[int, Fraction]
 Range = List[Optional[float]]
@@ -201,23 +201,25 @@ class Statistics:
         is_cost = written.entry_rows == OBJECTIVE
         if EPIGRAPH_ROW in names.rows:
             is_cost = is_cost | (written.entry_rows == names.rows.index(EPIGRAPH_ROW))
-        z = names.columns.index(EPIGRAPH_COLUMN) if names.has_epigraph_column else -1
-        cost_entries = zip(
-            written.entry_columns[is_cost].tolist(), written.entry_numbers[is_cost].tolist()
-        )
-        for column, k in cost_entries:
-            value = _size(numbers[k].value)
-            if column == z:
-                self.epigraph_factor = value
-            elif value:
-                self.costs += 1
-                self.cost_sizes.append(value)
+        columns = written.entry_columns[is_cost].tolist()
+        sizes = [_size(numbers[k].value) for k in written.entry_numbers[is_cost].tolist()]
+        self._count_costs(columns, sizes)
         counts = np.bincount(written.entry_numbers[~is_cost], minlength=len(numbers)).tolist()
         for number, count in zip(numbers, counts):
             if count and number.value:
                 self.entries += count
                 self.sizes.append(_size(number.value))
         self._find_lost([number.is_held for number in numbers])
+
+    def _count_costs(self, columns: Sequence[int], sizes: Sequence[Exact]) -> None:
+        """Those of the columns, by entry; the last column may be z."""
+        z = self.program.n - 1 if self.program.names.has_epigraph_column else -1
+        for column, size in zip(columns, sizes):
+            if column == z:
+                self.epigraph_factor = size
+            elif size:
+                self.costs += 1
+                self.cost_sizes.append(size)
 
     def _find_lost(self, is_held: Sequence[bool]) -> None:
         """Entries whose numbers doubles do not hold."""
@@ -299,14 +301,11 @@ def _columns_by_kind(program: LinearProgram) -> Dict[str, int]:
     lower, upper = (texts[:count] for texts in program.written.bounds())
     pairs = Counter(zip(program.is_integer, lower, upper))
     columns = dict.fromkeys((*COLUMN_KINDS, "free", "fixed"), 0)
-    for (is_integer, low, high), times in pairs.items():
-        low_value = parsed(low).value if low else None
-        high_value = parsed(high).value if high else None
-        is_binary = is_integer and (low_value, high_value) == (0, 1)
+    for (is_integer, *texts), times in pairs.items():
+        low, high = (parsed(text).value if text else None for text in texts)
+        is_binary = is_integer and (low, high) == (0, 1)
         kind = "integer" if is_integer else "continuous"
         columns["binary" if is_binary else kind] += times
-        if low_value is None and high_value is None:
-            columns["free"] += times
-        if low_value is not None and low_value == high_value:
-            columns["fixed"] += times
+        if low == high:
+            columns["free" if low is None else "fixed"] += times
     return columns

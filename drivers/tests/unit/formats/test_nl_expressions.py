@@ -86,7 +86,7 @@ def test_any_lines_are_read(lines: list) -> None:
 @pytest.mark.parametrize("piece", [b"o16\n", b"o54\n2\nv0\n", b"n1\n", b"o0\nv0\n"])
 def test_many_lines_take_linear_time(piece: bytes) -> None:
     def read(text: bytes) -> str:
-        return expression_in_words(text.splitlines(True), NO_NAMES)
+        return expression_in_words(text.splitlines(keepends=True), NO_NAMES)
 
     assert_linear(lambda n: piece * n, read, 3_000)
 
