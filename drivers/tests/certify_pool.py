@@ -25,7 +25,7 @@ from unittest import mock
 from certify_search import SECONDS, Certified, Work
 from support import HERE
 from bridge_drivers.exact.certificate import claim_lines
-from bridge_drivers.certify.watch import Watch
+from bridge_drivers.exact.search_deadline import SearchDeadline
 from bridge_drivers.exact import parallel, worker_pools
 from bridge_drivers.exact.evidence import Evidence
 from bridge_drivers.exact.task import SearchOptions
@@ -56,12 +56,12 @@ class Here(WorkerPool):
         return future
 
 
-class Counting(Watch):
+class Counting(SearchDeadline):
     """Pauses a portion at its fifth look."""
 
     looks = 0
 
-    def look(self, nodes: int, until: float) -> None:
+    def check_search(self, nodes: int, until: float) -> None:
         self.looks += 1
         if self.looks > 5:
             raise SearchPaused("looks")
@@ -86,7 +86,9 @@ def random_model(rng: random.Random, mixed: bool) -> bytes:
 class Pooled(Certified):
     @contextlib.contextmanager
     def few(self, nodes: int = 3) -> Iterator[None]:
-        with self.at_home(nodes), mock.patch("bridge_drivers.exact.worker_pools.Watch", Counting):
+        with self.at_home(nodes), mock.patch(
+            "bridge_drivers.exact.worker_pools.SearchDeadline", Counting
+        ):
             yield
 
     def at_home(self, nodes: int = 3):
@@ -349,7 +351,7 @@ def long(path: str, folder: str) -> None:
     SIGNALS.install()
     parallel.NODES_BEFORE_PARALLEL = 3
     pool = ProcessPool(2)
-    work = Work(path, folder, Watch(600.0), SearchOptions(), pool)
+    work = Work(path, folder, SearchDeadline(600.0), SearchOptions(), pool)
     try:
         print(work.certified("infeasible").line)
     except Interrupted as fault:

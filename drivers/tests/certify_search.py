@@ -8,10 +8,8 @@ import math
 import os
 import random
 import signal
-import sys
 import time
 from fractions import Fraction as F
-from types import FrameType
 from typing import Sequence
 from unittest import mock
 
@@ -20,14 +18,17 @@ from bridge_drivers.program.bridge import Bridge
 from bridge_drivers.system.errors import DeadlineExceeded
 from bridge_drivers.exact.certificate import claim_lines
 from bridge_drivers.exact.short_duals import box_bound
-from bridge_drivers.certify.watch import Over, Watch
+from bridge_drivers.exact import work_limit
+from bridge_drivers.exact.search_deadline import SearchDeadline, SearchProgress
+from bridge_drivers.exact.work_limit import check_work
+from bridge_drivers.system.errors import TimeOver
+from bridge_drivers.system.signals import interrupts_to
 from bridge_drivers.exact.parallel import ParallelSearch
 from bridge_drivers.exact.portfolio import Portfolio, TreeText
 from bridge_drivers.exact.cuts import CutKind
 from bridge_drivers.exact.certifier import Certifier
 from bridge_drivers.exact.evidence import AnswerByPlace, AnswerClaim, Evidence, EvidenceStore
 from bridge_drivers.exact.task import CertificationTask, SearchOptions
-from bridge_drivers.exact.worker_pools import WorkerPool
 from bridge_drivers.pipeline.judge import CertificateJudge
 from bridge_drivers.pipeline.row_factors import whole_form
 from bridge_drivers.exact.search import BranchAndBound
@@ -42,34 +43,39 @@ KNAP = [F(1), F(1), F(0)]  # the point of `knap`
 class Work:
     """One program with all that its certificate is searched by."""
 
-    def __init__(self, path: str, folder: str, watch: Watch, options: SearchOptions, pool) -> None:
+    def __init__(
+        self,
+        path: str,
+        folder: str,
+        deadline: SearchDeadline,
+        options: SearchOptions,
+        pool,
+        told=(),
+    ) -> None:
         self.bridge = Bridge(PROGRAM)
         self.program, _ = whole_form(self.bridge, path, LinearProgram.of(self.bridge.export(path)))
-        self.watch = watch
-        self.judge = CertificateJudge(self.bridge, path, os.path.join(folder, "certificate"), watch)
-        self.store = EvidenceStore(self.program, self.judge, options.objective, watch)
-        self.task = CertificationTask(self.program, self.store, watch, options, pool=pool)
+        self.deadline = deadline
+        if isinstance(told, list):
+            deadline.on_progress = told.append
+        target = os.path.join(folder, "certificate")
+        self.judge = CertificateJudge(self.bridge, path, target, deadline)
+        self.store = EvidenceStore(self.program, self.judge, options.objective, deadline)
+        self.task = CertificationTask(self.program, self.store, deadline, options, pool=pool)
         self.certifier = Certifier(self.task)
 
     def certified(self, claim: str, answer: AnswerByPlace = AnswerByPlace()) -> Evidence:
         self.task.answer = answer
-        return self.certifier.certify(AnswerClaim(claim))
+        with interrupts_to(self.deadline.interrupt):
+            return self.certifier.certify(AnswerClaim(claim))
 
 
 @NEEDS_PROGRAM
 @NEEDS_CLP
 class Certified(Case):
-    def work(
-        self,
-        text: bytes,
-        proves: bool = True,
-        pool: WorkerPool | None = None,
-        seconds=SECONDS,
-        **asked,
-    ):
+    def work(self, text: bytes, proves=True, pool=None, seconds=SECONDS, told=(), **asked) -> Work:
         self.put(text)
         options = SearchOptions(proves=proves, **asked)
-        return Work(self.stub + ".nl", self.folder, Watch(seconds), options, pool)
+        return Work(self.stub + ".nl", self.folder, SearchDeadline(seconds), options, pool, told)
 
     def found(self, text: bytes) -> Evidence:
         """Whatever is true: the search for a contradiction finds a point where there is one."""
@@ -105,32 +111,22 @@ class Certified(Case):
 
 
 class Torn(Certified):
-    def over_from(self, line: int, name: str) -> tuple[int, bool]:
-        """How many lines a plain search has gone, with Over from this one on; whether what is left has a bound."""
+    def over_from(self, check: int, name: str) -> tuple[int, bool]:
+        """How often a plain search has looked at the time, which is over from this time on; whether what is left has a
+        bound."""
         work, plans = self.plans(CLAIMED[name].text, CLAIMED[name].value)
-        plan, gone, work.watch.is_armed = plans.begin("plain"), 0, True
-
-        def traced(frame: FrameType, event: str, _: object) -> object:
-            nonlocal gone
-            gone += event == "line"
-            if gone > line:
-                work.watch.over(0, None)
-            path = frame.f_code.co_filename
-            return traced if "certify" in path or "exact" in path else None
-
-        self.addCleanup(sys.settrace, None)
-        sys.settrace(traced)
-        with contextlib.suppress(Over):
-            plans.resume(plan, SECONDS)
-            self.assertIsNotNone(plan.tree)
-        sys.settrace(None)
-        return gone, gone > line and self.bound(work, plans) is not None
+        strategy, looks = plans.begin("plain"), itertools.count()
+        over = mock.Mock(is_over=lambda: next(looks) >= check)
+        with mock.patch.object(work_limit, "_deadline", over), contextlib.suppress(TimeOver):
+            plans.resume(strategy, SECONDS)
+            self.assertIsNotNone(strategy.tree)
+        return next(looks) - 1, strategy.tree is None and self.bound(work, plans) is not None
 
     def test_over(self) -> None:
         """Wherever it comes, what is left has a bound that holds."""
         for name in ("knap", "tied", "lots", "eqknap"):
-            for line in random.Random(name).sample(range(self.over_from(10**9, name)[0]), 25):
-                self.assertTrue(self.over_from(line, name)[1], f"{name} {line}")
+            for check in random.Random(name).sample(range(self.over_from(10**9, name)[0]), 5):
+                self.assertTrue(self.over_from(check, name)[1], f"{name} {check}")
 
 
 class Models(Certified):
@@ -382,7 +378,7 @@ class Limits(Certified):
 
         def looking(search: BranchAndBound) -> None:
             if search.nodes > 3 and search.cutoff.value is not None:
-                work.watch.is_stopped = True
+                work.deadline.is_interrupted = True
             look(search)
 
         for point, line in (
@@ -398,6 +394,7 @@ class Limits(Certified):
 
         def endless(*words: object) -> None:
             while True:
+                check_work()
                 time.sleep(0.01)
 
         for part, claim, given, lines in (
@@ -411,17 +408,17 @@ class Limits(Certified):
                 verdict = work.certified(claim, AnswerByPlace(given))
             self.assertLess(time.monotonic() - start, 30)
             self.assertRegex(verdict.line, f"^{lines}$", part)
-            self.assertEqual(signal.getitimer(signal.ITIMER_REAL), (0.0, 0.0))
 
     def test_seconds_of_a_verdict(self) -> None:
         """Never past the end, which loading does not put off."""
         for seconds in (1.0, 60.0):
-            watch = Watch(seconds)
+            with mock.patch("time.monotonic", lambda: 100.0):
+                deadline = SearchDeadline(seconds)
             for after in (0.0, seconds, seconds + 2, seconds * 2 + 9):
-                with mock.patch("time.monotonic", lambda: watch.started + after):
+                with mock.patch.object(deadline._all, "_clock", lambda: 100.0 + after):
                     left = max(seconds * 1.1 + 5 - after, 0.1)
-                    self.assertAlmostEqual(watch.for_verdict(), left)
-                    self.assertLessEqual(watch.until_over(), seconds * 1.1 + 5 - after)
+                    self.assertAlmostEqual(deadline.left_to_judge(), left)
+                    self.assertLessEqual(deadline.left_to_find(), seconds * 1.1 + 5 - after)
 
     def test_a_tree_that_is_too_deep(self) -> None:
         """The point stays, with the bound of the relaxation."""
@@ -451,11 +448,10 @@ class Limits(Certified):
 
     def test_interrupt_and_progress(self) -> None:
         """An interrupt ends the search and no more; lines of progress where it takes long."""
-        lines, look = list[str](), BranchAndBound.check_limits
+        told, look = list[SearchProgress](), BranchAndBound.check_limits
 
         def looking(search: BranchAndBound) -> None:
-            search.watch.told -= 6
-            lines.append(search.watch.progress.line())
+            search.deadline._told_at -= 6
             if search.nodes >= 5:
                 os.kill(os.getpid(), signal.SIGINT)
             look(search)
@@ -463,11 +459,9 @@ class Limits(Certified):
         old = signal.signal(signal.SIGINT, signal.default_int_handler)
         try:
             with mock.patch.object(BranchAndBound, "check_limits", looking):
-                verdict = self.claimed("eqknap", "infeasible")
+                verdict = self.work(CLAIMED["eqknap"].text, told=told).certified("infeasible")
             self.assertEqual(signal.getsignal(signal.SIGINT), signal.default_int_handler)
         finally:
             signal.signal(signal.SIGINT, old)
         self.assertRegex(verdict.line, "^(not proved: interrupted|feasible|within)")
-        self.assertRegex(
-            lines[-1], r"^bridge-certify: certificate, \d+ of 20 s, \d+ nodes, \d+ open$"
-        )
+        self.assertIn({"nodes", "open"}, [set(progress.numbers) for progress in told])

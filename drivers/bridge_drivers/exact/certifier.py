@@ -6,14 +6,15 @@ judge alone decides what is proved: whatever goes wrong here costs a certificate
 
 from __future__ import annotations
 
+import contextlib
 import itertools
+import math
 from typing import Callable, Dict, Iterator, Mapping, Optional
 
 from .short_duals import box_bound, rounded_duals
-from ..certify.watch import KEPT, Over, Watch
 from ..model.integer_form import IntegerProgram, Point
 from ..system.deadline import Deadline
-from ..system.errors import SearchEnded
+from ..system.errors import DeadlineExceeded, SearchEnded, TimeOver
 from .clp import Clp, ClpNotInstalled
 from .dual_bound import DOUBLES_NOTE, is_optimal_in_doubles
 from .evidence import (
@@ -28,7 +29,9 @@ from .evidence import (
 from .integer_certifier import IntegerCertifier
 from .linear_certifier import LinearCertifier
 from .refutations import Refuter
+from .search_deadline import KEPT_SECONDS, SearchDeadline, SearchProgress
 from .task import CertificationTask, SearchOptions
+from .work_limit import limit_work
 from .worker_pools import WorkerPool
 
 
@@ -37,8 +40,9 @@ def certify(
     judge: Judge,
     *,
     claim: AnswerClaim,
-    watch: Watch,
     answer: AnswerByPlace = AnswerByPlace(),
+    deadline: Optional[SearchDeadline] = None,
+    on_progress: Optional[Callable[[SearchProgress], None]] = None,
     options: SearchOptions = SearchOptions(),
     pool: Optional[WorkerPool] = None,
 ) -> Evidence:
@@ -47,16 +51,26 @@ def certify(
     Args:
         judge: Is given certificates, and says what each of them proves.
         claim: What the solver said.
-        watch: The time that there is.
         answer: The solver's numbers.
+        deadline: The time that there is. An interrupt of it ends the search, and what is known then
+            is claimed. None: as long as it takes.
+        on_progress: Is told what goes on.
         pool: Other processes that search.
 
     Returns:
         The first evidence that is proved, else why nothing is.
     """
-    store = EvidenceStore(program, judge, options.objective, watch)
-    task = CertificationTask(program, store, watch, options, answer, pool)
+    deadline = deadline or SearchDeadline()
+    deadline.on_progress = on_progress
+    store = EvidenceStore(program, judge, options.objective, deadline)
+    task = CertificationTask(program, store, deadline, options, answer, pool)
     return Certifier(task).certify(claim)
+
+
+def limit_all_work(seconds: float) -> None:
+    """Exact work, and solves of CLP, end within these seconds."""
+    limit_work(Deadline(seconds))
+    Clp.restrict(Deadline(seconds))
 
 
 class Certifier:
@@ -71,22 +85,16 @@ class Certifier:
 
     def certify(self, claim: AnswerClaim) -> Evidence:
         """Tries what fits the claim; where the time is over, what is known by then."""
-        watch = self.task.watch
-        Clp.restrict(Deadline(watch.until_over()))
         try:
-            with watch.interruptible():
-                try:
-                    with watch.alarmed(watch.until_over()):
-                        return self._tried(claim)
-                except Over:
-                    watch.disarm()
-                    Clp.restrict(Deadline(watch.to_end() - KEPT))
-                    found = self._with_bound_in_doubles(first_proved(self._known()))
-                    return found._replace(may_be_unbounded=self.refuter.may_be_unbounded())
-        except (ClpNotInstalled, SearchEnded, Over) as ended:
+            limit_all_work(self.task.deadline.left_to_find())
+            return self._tried(claim)
+        except (TimeOver, DeadlineExceeded):
+            found = self._with_bound_in_doubles(first_proved(self._known()))
+            return found._replace(may_be_unbounded=self.refuter.may_be_unbounded())
+        except (ClpNotInstalled, SearchEnded) as ended:
             return not_proved(ended)
         finally:
-            Clp.restrict(Deadline())
+            limit_all_work(math.inf)
 
     def certify_point(self) -> Evidence:
         """That a point is optimal, else that it is feasible, with a bound where there is one."""
@@ -168,22 +176,26 @@ class Certifier:
 
     def _known(self) -> Iterator[Evidence]:
         """What there is where the time is over: a tree, the best point, the closest bound."""
+        limit_all_work(math.inf)
         yield from self.integer.claim_known_tree()
-        watch, options = self.task.watch, self.task.options
-        try:
-            with watch.alarmed(watch.to_end() - KEPT):
-                if self.task.is_linear and self.task.answer.duals is not None:
-                    duals = rounded_duals(self.task.program, self._duals_in_doubles())
-                    self.linear.add_short_duals(duals)
-                elif not self.task.is_linear and self._has_point():
-                    if options.proves or options.wants_bound:
-                        self.integer.add_root_bound()
-        except Over:
-            watch.disarm()
+        limit_all_work(self.task.deadline.left_of_all() - KEPT_SECONDS)
+        with contextlib.suppress(TimeOver, SearchEnded):
+            self._add_bound_at_last()
+        limit_all_work(math.inf)
         yield from self.store.claims()
-        reason = watch.why("time")
+        reason = self.task.deadline.why("time")
         is_contradicted = self.integer.is_answer_contradicted
         yield not_proved(reason)._replace(contradicts_answer=is_contradicted)
+
+    def _add_bound_at_last(self) -> None:
+        """The bound that the answer's duals, or searches that are stopped, can have in short time."""
+        task, options = self.task, self.task.options
+        if task.is_linear and task.answer.duals is not None:
+            duals = rounded_duals(task.program, self._duals_in_doubles())
+            self.linear.add_short_duals(duals)
+        elif not task.is_linear and self._has_point():
+            if options.proves or options.wants_bound:
+                self.integer.add_root_bound()
 
     def _has_point(self) -> bool:
         return self.store.point is not None or self.integer.incumbent is not None

@@ -11,6 +11,7 @@ from fractions import Fraction
 from typing import Dict, Iterator, List, Mapping, NamedTuple, Optional, Sequence, Set
 
 from ..model.integer_form import IntegerProgram
+from .work_limit import check_work
 
 MOST_ROW_ENTRIES = 100  # of a row whose conflicts are looked for
 MOST_CLIQUES = 200
@@ -80,6 +81,7 @@ def conflict_graph(program: IntegerProgram) -> Dict[Literal, Set[Literal]]:
     """By literal, those that one row excludes beside it: both weights exceed the capacity."""
     found: Dict[Literal, Set[Literal]] = {}
     for items, capacity in knapsack_rows(program):
+        check_work()
         for k, item in enumerate(items):
             for other in items[:k]:
                 if item.weight + other.weight > capacity:

@@ -14,7 +14,7 @@ import math
 from fractions import Fraction
 from typing import Dict, FrozenSet, Iterator, List, Mapping, NamedTuple, Optional, Sequence, Union
 
-from ..certify.watch import Watch
+from .search_deadline import SearchDeadline
 from ..model.integer_form import IntegerProgram, ObjectiveLattice, Row
 from ..system.errors import SearchEnded
 from . import certificate
@@ -119,17 +119,19 @@ class Relaxed(NamedTuple):
 
 
 class RootCutLoop:
-    """Makes cuts for a cutoff, as long as the watch says.
+    """Makes cuts for a cutoff, as long as the deadline says.
 
     Attributes:
         dual_bound: Of the last relaxation, minimised.
         cutoff: In doubles; infinite where there is to be no point.
     """
 
-    def __init__(self, program: IntegerProgram, objective: ObjectiveCutoff, watch: Watch) -> None:
+    def __init__(
+        self, program: IntegerProgram, objective: ObjectiveCutoff, deadline: SearchDeadline
+    ) -> None:
         self.program = program
         self.objective = objective
-        self.watch = watch
+        self.deadline = deadline
         value = objective.cutoff.value
         self.cutoff = math.inf if value is None else float(value)
         self.dual_bound = -math.inf
@@ -144,13 +146,13 @@ class RootCutLoop:
         if clp.solve() is not LpStatus.OPTIMAL:
             return None
         self.dual_bound = clp.objective() + float(self.program.constant_fraction)
-        if self.watch.is_due() and any(self.program.costs):
-            self.watch.tell(cuts=len(cuts), bound=self.program.sign * self.dual_bound)
+        if self.deadline.is_progress_due() and any(self.program.costs):
+            self.deadline.tell_numbers(cuts=len(cuts), bound=self.program.sign * self.dual_bound)
         return Relaxed(program, clp)
 
     def is_over(self, until: float) -> bool:
-        """Whether that second of the watch has passed, or an interrupt came."""
-        return self.watch.spent() > until or self.watch.is_stopped
+        """Whether that second of the deadline has passed, or an interrupt came."""
+        return self.deadline.spent() > until or self.deadline.is_interrupted
 
     def closed_share(self, root_bound: float) -> float:
         """The share of the gap between a bound without cuts and the cutoff that is closed now."""
@@ -163,7 +165,7 @@ class RootCutLoop:
 
         Args:
             before: Cuts that are there already.
-            until: A second of the watch.
+            until: A second of the deadline.
 
         Returns:
             Those of before, and new ones below them.
@@ -266,10 +268,10 @@ class RootCutLoop:
         search = BranchAndBound(
             self.program.with_rows(rows),
             Cutoff(None),
-            self.watch,
+            self.deadline,
             strong_candidates=REFUTING_CANDIDATES,
         )
-        search.until = self.watch.spent() + REFUTING_SECONDS
+        search.until = self.deadline.spent() + REFUTING_SECONDS
         search.most_nodes = REFUTING_NODES
         try:
             found = search.run()

@@ -25,12 +25,13 @@ from typing import (
 )
 
 from .short_duals import rounded_bound
-from ..certify.watch import Watch
+from .search_deadline import SearchDeadline
 from ..model.integer_form import Box, IntegerProgram, Point
 from .certificate import RowNumbering, claim_lines, leaf_lines
 from .clp import Basis
 from .dual_bound import Multipliers, bit_width, dual_bound, fits_certificate
 from .portfolio import TreeText
+from .work_limit import check_work
 
 NOT_PROVED = "not proved: "
 NO_POINT = NOT_PROVED + "no exact point was found near the answer"
@@ -127,12 +128,17 @@ def not_proved(reason: object, point: Optional[Point] = None) -> Evidence:
 
 
 def first_proved(tried: Iterable[Evidence]) -> Evidence:
-    """The first that is proved, else the first; what comes behind it is not tried."""
+    """The first that is proved, else the first; what comes behind it is not tried.
+
+    Raises:
+        TimeOver: Before the next is tried.
+    """
     first: Optional[Evidence] = None
     for evidence in tried:
         if evidence.is_proved:
             return evidence
         first = first or evidence
+        check_work()
     return first or not_proved("no certificate was found")
 
 
@@ -165,7 +171,9 @@ class EvidenceStore:
         note: Why points and bound are apart.
     """
 
-    def __init__(self, program: IntegerProgram, judge: Judge, objective: int, watch: Watch) -> None:
+    def __init__(
+        self, program: IntegerProgram, judge: Judge, objective: int, deadline: SearchDeadline
+    ) -> None:
         """
         Args:
             objective: Its number in the file, from 0.
@@ -173,7 +181,7 @@ class EvidenceStore:
         self.program = program
         self.judge = judge
         self.objective = objective
-        self.watch = watch
+        self.deadline = deadline
         self.points: List[Point] = []
         self.bound: Optional[BoundEvidence] = None
         self.note = ""
@@ -300,7 +308,7 @@ class EvidenceStore:
                 text.extend(b"\n")
                 yield line
 
-        with self.watch.held(), self.watch.judging(TREE_SHARE if is_tree else 1.0):
+        with self.deadline.judging(TREE_SHARE if is_tree else 1.0):
             judgement = self.judge(recorded())
         if not judgement.is_proved:
             return not_proved(judgement.line, point)

@@ -15,6 +15,7 @@ from math import floor, gcd
 from typing import Dict, Iterator, List, Mapping, NamedTuple, Optional, Sequence, Tuple
 
 from ..model.integer_form import IntegerProgram
+from .work_limit import check_work
 
 MOST_EQUATIONS = 120
 LARGEST_NUMBER = 10**60  # of a matrix that is brought to its Hermite form
@@ -208,6 +209,7 @@ def fractional_unknown(columns: Columns, sides: List[Fraction]) -> Optional[Dict
     rows: List[int] = []  # of the diagonal
     values: List[Fraction] = []  # of its unknowns
     for i, side in enumerate(sides):
+        check_work()
         start = len(rows)
         if not eliminate_entry(columns, i, start):
             return None
@@ -232,6 +234,7 @@ def eliminate_entry(columns: Columns, row: int, start: int) -> bool:
         False where numbers become too long.
     """
     while True:
+        check_work()
         left = [j for j in range(start, len(columns)) if columns[j][row]]
         least = min(left, key=lambda j: abs(columns[j][row]), default=start)
         if len(left) < 2:

@@ -53,7 +53,7 @@ class IntegerCertifier:
         point, violation = self.task.exact_point(x), Fraction(0)
         if point is None:
             violation = points.integer_residual(self.program, x)
-            deadline = self.task.deadline()
+            deadline = self.task.deadline
             self.is_answer_contradicted = violation > ROUNDING or points.integers_are_infeasible(
                 self.program, x, deadline
             )
@@ -79,7 +79,7 @@ class IntegerCertifier:
             self.add_root_bound()
         yield from self.refuter.by_relaxation_at_last()
         yield from store.claims()
-        yield not_proved(self.task.watch.why(reports[-1]), point)
+        yield not_proved(self.task.deadline.why(reports[-1]), point)
 
     def repaired_point(self, x: Sequence[Number]) -> Optional[Point]:
         """A point beside an answer that breaks rows.
@@ -89,9 +89,9 @@ class IntegerCertifier:
         """
         for frees_equations in (False, True):
             near = points.restricted_to(self.program, x, frees_equations=frees_equations)
-            watch = self.task.watch
+            deadline = self.task.deadline
             try:
-                until = watch.spent() + watch.left() * REPAIR_SHARE
+                until = deadline.spent() + deadline.left() * REPAIR_SHARE
                 found = self.task.point_search(near).resume(until, REPAIR_NODES)
             except (ClpNotInstalled, SearchEnded):
                 continue
@@ -122,7 +122,7 @@ class IntegerCertifier:
         clp = self.task.solve_relaxation().optimal_clp()
         if clp is None or not any(program.costs):
             return
-        self.linear.add_short_duals(short_duals(program, clp, self.task.deadline()))
+        self.linear.add_short_duals(short_duals(program, clp, self.task.deadline))
         duals = basis_duals(program, *clp.basis())
         box = Box(program.lower, program.upper)
         proof = LeafProver(program, None).prove_from_fractions(duals, MultiplierKind.DUAL, box)
@@ -139,7 +139,7 @@ class IntegerCertifier:
             best = self.store.point
             if best is not None:
                 value = self.program.sign * self.program.value(best)
-                self.task.watch.incumbent = float(value)
+                self.task.deadline.incumbent = float(value)
             try:
                 is_race = self.task.options.proves
                 improved = portfolio.race() if is_race else portfolio.run_plain()

@@ -18,6 +18,7 @@ from math import gcd
 from typing import Dict, Iterator, List, Mapping, NamedTuple, Optional, Sequence
 
 from ..model.integer_form import Bound, IntegerProgram
+from .work_limit import check_work
 
 MOST_COLUMNS = 45
 MOST_FORMS = 10
@@ -78,6 +79,7 @@ class LLLReduction:
             return False
         k = 1
         for _ in range(MOST_STEPS):
+            check_work()
             if k >= len(self.basis):
                 return True
             self._reduce_size(k, k - 1)
@@ -212,6 +214,7 @@ def reduced_modulo(form: Form, equations: Sequence[Form]) -> Form:
     shorter.
     """
     for _ in range(MOST_ROUNDS):
+        check_work()
         before = dict(form)
         for terms in equations:
             product = sum(a * form.get(j, 0) for j, a in terms.items())

@@ -23,6 +23,7 @@ from .dual_bound import (
     needed_row_bound,
     reduced_cost_term,
 )
+from .work_limit import check_work
 
 ZERO_MULTIPLIER = 1e-11  # multipliers in doubles up to this size count as 0
 DECIMAL_DIGITS = (0, 1, 2, 3, 4, 5, 6, 7, 8, 9, 10, 12, 14)  # beyond the first of the greatest one
@@ -98,6 +99,7 @@ class LeafProver:
             if key in tried or candidate.denominator > LARGEST_DENOMINATOR:
                 continue
             tried.add(key)
+            check_work()
             proof = self.prove(candidate, box)
             if proof is not None:
                 return proof

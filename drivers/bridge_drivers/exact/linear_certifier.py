@@ -88,7 +88,7 @@ class LinearCertifier:
         """CLP's, then such that come nearer to the exact optimum (iterative refinement)."""
         yield NearBasis(clp.basis(), clp.values())
         if self.program.matrix.count <= MOST_REFINED_ENTRIES:
-            yield from IterativeRefinement(self.program, clp, self.task.deadline()).bases()
+            yield from IterativeRefinement(self.program, clp, self.task.deadline).bases()
 
     def add_short_duals(self, found: Iterable[ShortDuals]) -> None:
         """Their bounds to what is known."""
@@ -110,7 +110,7 @@ class LinearCertifier:
         """A point and a bound in short numbers, and what is known at last."""
         self.store.note = self.store.note or "no basis was found that is exactly optimal"
         if clp is not None:
-            deadline = self.task.deadline()
+            deadline = self.task.deadline
             self.add_short_duals(short_duals(self.program, clp, deadline))
             yield from self._by_short_points(clp)
         if self.store.point is None:
@@ -144,7 +144,7 @@ class LinearCertifier:
             if answer.basis is not None and not is_near:
                 yield points.vertex(program, answer.basis, answer.doubles())
         if clp is not None:
-            self.task.watch.progress.tell("the exact vertex")
+            self.task.deadline.tell_step("the exact vertex")
             yield points.vertex(program, clp.basis(), clp.values())
             yield from points.nearby_points(program, clp.values())
 
@@ -156,7 +156,7 @@ class LinearCertifier:
         prover, box = LeafProver(program, value), Box(program.lower, program.upper)
         if not any(program.costs):
             return prover.prove_from_doubles({}, dual, box)
-        self.task.watch.progress.tell("exact duals")
+        self.task.deadline.tell_step("exact duals")
         if clp is not None:
             proof = prover.prove_from_doubles(dict(enumerate(clp.duals())), dual, box)
             if proof is None:
@@ -202,7 +202,7 @@ class LinearCertifier:
         program = self.program
         is_refined = program.matrix.count <= MOST_REFINED_ENTRIES
         for by_rows in (False, True) if is_refined else (False,):
-            basis, deadline = clp.saved_basis(), self.task.deadline()
+            basis, deadline = clp.saved_basis(), self.task.deadline
             yield from DecimalPoints(
                 program, basis, clp.values(), deadline, scaled_by_rows=by_rows
             ).points()

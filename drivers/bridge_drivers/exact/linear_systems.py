@@ -35,6 +35,7 @@ import numpy.typing as npt
 
 from ..system.errors import NotSolved, TooManyBits
 from ..system.signals import SIGNALS
+from .work_limit import check_work
 
 # Elimination
 RHS = -1  # the unknown of a row whose value is -1: its coefficient is the right-hand side
@@ -102,6 +103,7 @@ class IntegerRows:
         Returns:
             The row, which determines the unknown by the others that it has.
         """
+        check_work()
         pivot_row = self._remove(name)
         for other_unknown in pivot_row:
             self.names_with[other_unknown].discard(name)
@@ -366,6 +368,7 @@ class _Lifting:
             NotSolved: Not even a step of the fewest digits brings the residual down.
         """
         while self.step_bits >= LEAST_STEP_BITS:
+            check_work()
             digits = self._next_digits()
             if digits is not None:
                 shifted = (v << self.step_bits for v in self.numerators)

@@ -18,7 +18,7 @@ from dataclasses import dataclass
 from functools import cached_property
 from typing import Callable, Dict, List, Optional, Union
 
-from ..certify.watch import Watch
+from .search_deadline import SearchDeadline
 from ..system.errors import SearchEnded, SearchPaused
 from .fathoming import Cutoff
 from .node import Branch, OpenNode, ProvedSubtree, join, least_open_bound
@@ -71,20 +71,20 @@ class ParallelSearch:
         proved: By place, subtrees that are proved; all of the tree is at "".
         waiting: Subtrees that nobody works; the last is worked next.
         running: Those that the pool works.
-        reports_progress: Whether the watch is told of it.
+        reports_progress: Whether the deadline is told of it.
     """
 
     def __init__(
         self,
         problem: SearchProblem,
         exact_point: ExactPoint,
-        watch: Watch,
+        deadline: SearchDeadline,
         pool: Optional[WorkerPool] = None,
     ) -> None:
         self.problem = problem
-        self.watch = watch
+        self.deadline = deadline
         self.pool = pool or WorkerPool(0)
-        self.search = problem.search(watch, exact_point)
+        self.search = problem.search(deadline, exact_point)
         this: ParallelSearch = weakref.proxy(self)  # so that CLP's memory is free with the last use
         self.search.on_node = lambda: this.report_progress()
         self.reports_progress = True
@@ -106,7 +106,7 @@ class ParallelSearch:
     def resume(
         self, until: float = math.inf, most_nodes: int = MOST_NODES
     ) -> Union[Tree, ImprovedIncumbent]:
-        """Goes on, until a second of the watch or a count of nodes.
+        """Goes on, until a second of the deadline or a count of nodes.
 
         Returns:
             The whole tree, or a point that is better than the cutoff.
@@ -122,7 +122,7 @@ class ParallelSearch:
             try:
                 return self._run_here(search.run)
             except SearchPaused:
-                is_over = most_nodes <= NODES_BEFORE_PARALLEL or self.watch.spent() >= until
+                is_over = most_nodes <= NODES_BEFORE_PARALLEL or self.deadline.spent() >= until
                 if is_alone or is_over:
                     raise
         search.most_nodes = most_nodes
@@ -171,14 +171,14 @@ class ParallelSearch:
         )
 
     def report_progress(self) -> None:
-        """Tells the watch of nodes, open nodes and the bound."""
+        """Tells the deadline of nodes, open nodes and the bound."""
         if not self.reports_progress:
             return
         open_nodes = sum(1 + len(subtree.open_nodes) for subtree in self.subtrees())
         known = {"nodes": float(self.search.nodes), "open": float(open_nodes)}
         if self.search.cutoff.value is not None:
             known["bound"] = self.search.program.sign * self.dual_bound
-        self.watch.tell(**known)
+        self.deadline.tell_numbers(**known)
 
     def _run_here(self, run: Callable[[], Found]) -> Union[Tree, ImprovedIncumbent]:
         """By this process, one subtree after the other."""
@@ -189,9 +189,8 @@ class ParallelSearch:
             found = run()
             if isinstance(found, ImprovedIncumbent):
                 return found
-            with self.watch.held():
-                self.waiting.pop()
-                self._close(subtree.place, found)
+            self.waiting.pop()
+            self._close(subtree.place, found)
         return self.proved[""].tree
 
     def _run_in_pool(self, until: float) -> Union[Tree, ImprovedIncumbent]:
@@ -203,7 +202,9 @@ class ParallelSearch:
                 self._submit_units(until)
                 improved = self._collect(POLL_SECONDS)
         except SearchPaused:
-            while self.running and improved is None and self.watch.spent() < until + GRACE_SECONDS:
+            while (
+                self.running and improved is None and self.deadline.spent() < until + GRACE_SECONDS
+            ):
                 improved = self._collect(POLL_SECONDS)
             if "" not in self.proved and improved is None:
                 raise
@@ -279,7 +280,7 @@ class ParallelSearch:
     def _unit(self, subtree: Subtree, until: float) -> WorkUnit:
         seconds = max(UNIT_SHARE * (time.monotonic() - self.began), LEAST_UNIT_SECONDS)
         seconds = max(min(seconds, MOST_UNIT_SECONDS), subtree.seconds)
-        seconds = min(seconds, max(until - self.watch.spent(), 0.0))
+        seconds = min(seconds, max(until - self.deadline.spent(), 0.0))
         open_nodes = [
             node if node.sibling is None else OpenNode(node.branch, _remote(key, node.sibling))
             for key, node in enumerate(subtree.open_nodes)
@@ -291,15 +292,14 @@ class ParallelSearch:
     def _collect(self, seconds: float) -> Optional[ImprovedIncumbent]:
         """Takes what ends within these seconds; a better point where one was found."""
         ended = wait(self.running, seconds, FIRST_COMPLETED).done
-        with self.watch.held():
-            for future in ended:
-                subtree = self.running.pop(future)
-                if future.cancelled() or subtree.is_dropped:
-                    continue
-                self.waiting.append(subtree)  # until it is known to be proved
-                improved = self._take(subtree, future)
-                if improved is not None:
-                    return improved
+        for future in ended:
+            subtree = self.running.pop(future)
+            if future.cancelled() or subtree.is_dropped:
+                continue
+            self.waiting.append(subtree)  # until it is known to be proved
+            improved = self._take(subtree, future)
+            if improved is not None:
+                return improved
         return None
 
     def _take(self, subtree: Subtree, future: Future[UnitResult]) -> Optional[ImprovedIncumbent]:
@@ -343,10 +343,9 @@ class ParallelSearch:
         """Ends what is still worked; its subtrees wait again."""
         if self.running:
             self.pool.stop()
-        with self.watch.held():
-            self.waiting += [s for s in self.running.values() if not s.is_dropped]
-            while self.running:
-                self.running.popitem()[0].cancel()
+        self.waiting += [s for s in self.running.values() if not s.is_dropped]
+        while self.running:
+            self.running.popitem()[0].cancel()
 
 
 def _remote(key: int, proved: ProvedSubtree) -> ProvedSubtree:

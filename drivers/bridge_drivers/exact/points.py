@@ -19,6 +19,7 @@ from .clp import Basis, LpStatus, library
 from .dual_bound import fits_certificate
 from .linear_systems import solve_exactly
 from .relaxation import relaxation
+from .work_limit import check_work
 
 INTEGER_TOLERANCE = 1e-3  # how far from whole numbers the integer columns of a point may be
 NEAR_BOUND = Fraction(1, 10**9)  # of a bound's size, or of 1: a value is meant to be the bound
@@ -128,6 +129,7 @@ def nearby_points(program: IntegerProgram, x: Sequence[Number]) -> Iterator[Poin
         return
     seen: List[Point] = []
     for tolerance, largest in itertools.product((NEAR_BOUND, ZERO), DENOMINATORS):
+        check_work()
         point = [
             _short_value(program, j, value, largest, tolerance) for j, value in enumerate(given)
         ]

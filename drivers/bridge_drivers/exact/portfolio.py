@@ -16,7 +16,7 @@ from typing import Dict, FrozenSet, Iterator, List, Mapping, NamedTuple, Optiona
 
 from .lattice import thin_directions
 from .short_duals import box_bound
-from ..certify.watch import Watch
+from .search_deadline import SearchDeadline
 from ..model.integer_form import IntegerProgram, Row
 from ..system.errors import SearchEnded, SearchPaused
 from .cuts import CertificateWithCuts, CutKind, ObjectiveCutoff, ProvedCut, RootCutLoop
@@ -24,6 +24,7 @@ from .parallel import ParallelSearch
 from .search import MOST_NODES, ExactPoint, ImprovedIncumbent
 from .tree import Tree
 from .worker_pools import SearchProblem, WorkerPool
+from .work_limit import check_work
 
 PLAIN, MIR, CLIQUE, THIN = "plain", "lemma", "clique", "thin"  # names of strategies, as told
 KINDS_OF_CUTS: Mapping[str, FrozenSet[CutKind]] = {
@@ -103,6 +104,7 @@ class Strategy:
         report: How its last turn ended.
         has_ended: Whether it cannot go on: it has its tree, or it failed.
         tree: Where it has one.
+        proved_value: For which it has proved leaves, where that is not as good as the portfolio's.
     """
 
     name: str
@@ -114,6 +116,7 @@ class Strategy:
     report: str = ""
     has_ended: bool = False
     tree: Optional[TreeText] = None
+    proved_value: Optional[Fraction] = None
 
     def estimated_seconds(self) -> float:
         """That are left, by the share of the tree that is proved."""
@@ -167,7 +170,7 @@ class Portfolio:
         program: IntegerProgram,
         value: Optional[Fraction],
         exact_point: ExactPoint,
-        watch: Watch,
+        deadline: SearchDeadline,
         *,
         shortens: bool = False,
         pool: Optional[WorkerPool] = None,
@@ -180,15 +183,15 @@ class Portfolio:
         """
         self.program = program
         self.exact_point = exact_point
-        self.watch = watch
+        self.deadline = deadline
         self.shortens = shortens
         self.pool = pool
         self.lattice = program.objective_lattice()
         self.objective = ObjectiveCutoff(program, value, self.lattice)
-        self.cut_loop = RootCutLoop(program, self.objective, watch)
+        self.cut_loop = RootCutLoop(program, self.objective, deadline)
         self.best: Optional[TreeText] = None
         self.strategies: List[Strategy] = []
-        self.started = watch.spent()
+        self.started = deadline.spent()
         self.end = math.inf  # seconds after `started`
         self.has_no_value = value is None
         self.preparation = Preparation([THIN, CLIQUE] if self.has_no_value else [MIR, CLIQUE, THIN])
@@ -207,7 +210,7 @@ class Portfolio:
         """A further strategy, which has searched nothing yet."""
         above: List[Row] = [*self.objective.open_rows(), *(cut.row() for cut in cuts)]
         problem = SearchProblem(self.program, above, forms, self.objective.cutoff)
-        search = ParallelSearch(problem, self.exact_point, self.watch, self.pool)
+        search = ParallelSearch(problem, self.exact_point, self.deadline, self.pool)
         self.strategies.append(Strategy(name, cuts, search))
         return self.strategies[-1]
 
@@ -217,7 +220,7 @@ class Portfolio:
         """Goes on with a strategy, for so many seconds or nodes; a better point where it has one."""
         if strategy.has_ended:
             return None
-        began = self.watch.spent()
+        began = self.deadline.spent()
         try:
             found = strategy.search.resume(self.until(seconds), most_nodes)
         except SearchEnded as ended:
@@ -225,7 +228,7 @@ class Portfolio:
             strategy.has_ended = not isinstance(ended, SearchPaused)
             return None
         finally:
-            strategy.spent += self.watch.spent() - began
+            strategy.spent += self.deadline.spent() - began
         if isinstance(found, ImprovedIncumbent):
             return found
         self._end_with_tree(strategy, found)
@@ -237,7 +240,7 @@ class Portfolio:
         Returns:
             A point that is better than the value, where one was found.
         """
-        self.started = self.watch.spent()
+        self.started = self.deadline.spent()
         improved = self.resume(self.begin(PLAIN), self.seconds_left(), FIRST_NODES)
         while improved is None and self._goes_on():
             live = [strategy for strategy in self.strategies if not strategy.has_ended]
@@ -263,7 +266,7 @@ class Portfolio:
         while (
             improved is None
             and self.seconds_left() > 0
-            and self.watch.until_over() > PLAIN_RESERVE_SECONDS
+            and self.deadline.left_to_find() > PLAIN_RESERVE_SECONDS
             and not strategy.has_ended
         ):
             improved = self.resume(strategy, PLAIN_TURN_SECONDS)
@@ -271,14 +274,16 @@ class Portfolio:
 
     def seconds_left(self) -> float:
         """For strategies: a share of all seconds is for a bound."""
-        return self.watch.left() - RESERVE * self.watch.seconds
+        if self.deadline.seconds == math.inf:
+            return math.inf
+        return self.deadline.left() - RESERVE * self.deadline.seconds
 
     def until(self, seconds: float) -> float:
-        """The second of the watch after these, as far as there is time."""
-        return self.watch.spent() + max(0.0, min(seconds, self.seconds_left()))
+        """The second of the deadline after these, as far as there is time."""
+        return self.deadline.spent() + max(0.0, min(seconds, self.seconds_left()))
 
     def seconds_so_far(self) -> float:
-        return self.watch.spent() - self.started
+        return self.deadline.spent() - self.started
 
     def time_for_others(self, first: Optional[Strategy]) -> float:
         """Seconds for what is not the first strategy.
@@ -320,7 +325,11 @@ class Portfolio:
         for strategy in sorted(self.strategies, key=lambda s: -s.search.dual_bound):
             bound = strategy.search.close_and_bound()
             for lowering in LOWERINGS if bound > -math.inf else ():
+                check_work()
                 value = self.rounded_bound(bound - lowering * max(1.0, abs(bound)))
+                if strategy.proved_value is not None:
+                    value = min(value, strategy.proved_value)
+                strategy.proved_value = value
                 objective = ObjectiveCutoff(self.program, value, self.lattice)
                 tree = strategy.search.finish_at_cutoff(objective.cutoff)
                 if tree is not None:
@@ -373,7 +382,7 @@ class Portfolio:
                 return False
             self.end = min(self.end, (1 + SHORTER_TIMES) * self.seconds_so_far() + SHORTER_SECONDS)
         seconds = min(self.seconds_left(), self.end - self.seconds_so_far())
-        return seconds > 0 and not self.watch.is_stopped
+        return seconds > 0 and not self.deadline.is_interrupted
 
     def _likely_first(self, live: Sequence[Strategy]) -> Optional[Strategy]:
         """The strategy that seems to end first; after a tree only one that seems to end in time."""

@@ -86,7 +86,7 @@ class Refuter:
         Of an integer program that is something where its relaxation has no point, or ends at an
         integer one.
         """
-        self.task.watch.progress.tell("the simplex method in fractions")
+        self.task.deadline.tell_step("the simplex method in fractions")
         try:
             ended = self._run_rational_simplex(self.program, answer)
         except SearchEnded as late:
@@ -156,13 +156,13 @@ class Refuter:
             return improved
         if portfolio.best is None:
             report = portfolio.strategies[0].report.partition(": ")[2]
-            raise SearchEnded(self.task.watch.why(report))
+            raise SearchEnded(self.task.deadline.why(report))
         return self.store.claim_of_tree(portfolio.best)
 
     def _run_rational_simplex(
         self, program: IntegerProgram, answer: AnswerByPlace
     ) -> SimplexResult:
-        tableau = RationalSimplex(program, lambda: self.task.watch.look(0, math.inf))
+        tableau = RationalSimplex(program, lambda: self.task.deadline.check_search(0, math.inf))
         columns = answer.basis.columns if answer.basis is not None else []
         tableau.install_basis(columns, answer.doubles() or [0.0] * program.n)
         return tableau.run()
@@ -172,9 +172,9 @@ class Refuter:
         program = self.program.without_costs()
         if self.task.is_linear:
             return self._any_linear_point(program)
-        watch = self.task.watch
+        deadline = self.task.deadline
         try:
-            found = self.task.point_search(program).resume(watch.spent() + watch.left())
+            found = self.task.point_search(program).resume(deadline.spent() + deadline.left())
         except SearchEnded:
             return None
         return found.point if isinstance(found, ImprovedIncumbent) else None

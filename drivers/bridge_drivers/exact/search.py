@@ -12,13 +12,14 @@ from typing import Callable, Dict, List, NamedTuple, Optional, Sequence, Union
 
 from ..model.integer_form import IntegerProgram, Point
 from .points import vertex
-from ..certify.watch import Watch
+from .search_deadline import SearchDeadline
 from ..system.errors import NodeLimit, SearchEnded
 from .branching import LEAST_GAP, STRONG_CANDIDATES, PseudocostBranching, Relaxed
 from .clp import LpStatus
 from .fathoming import SMALLEST_INFEASIBILITY, Cutoff, Fathomer
 from .node import DOWN, Branch, Node, OpenNode, ProvedSubtree, join, least_open_bound
 from .tree import node_count
+from .work_limit import check_work
 
 INTEGRALITY_TOLERANCE = 1e-6  # how far from an integer a value counts as one
 ROUNDING_TOLERANCE = Fraction(1, 10**9)  # below an integer a value branches as if it were that
@@ -53,7 +54,7 @@ class BranchAndBound:
 
     Attributes:
         nodes: Of the tree so far.
-        until: The second of the watch at which it pauses.
+        until: The second of the deadline at which it pauses.
         most_nodes: At which it pauses; at MOST_NODES it fails.
         on_node: Called at nodes that are due to be told of.
     """
@@ -62,7 +63,7 @@ class BranchAndBound:
         self,
         program: IntegerProgram,
         cutoff: Cutoff,
-        watch: Watch,
+        deadline: SearchDeadline,
         exact_point: ExactPoint = no_point,
         forms: int = 0,
         strong_candidates: int = STRONG_CANDIDATES,
@@ -73,7 +74,7 @@ class BranchAndBound:
             forms: How many of the program's last rows are integer forms to branch on.
         """
         self.program = program
-        self.watch = watch
+        self.deadline = deadline
         self.exact_point = exact_point
         self.node = Node(program, cutoff.value is not None, forms)
         self.fathomer = Fathomer(self.node, cutoff)
@@ -165,7 +166,7 @@ class BranchAndBound:
         column = self.node.column_without_integers(changed)
         if column is not None:
             return self.fathomer.empty_domain(column)
-        self.node.clp.seconds = max(self.until - self.watch.spent(), LEAST_RELAXATION_SECONDS)
+        self.node.clp.seconds = max(self.until - self.deadline.spent(), LEAST_RELAXATION_SECONDS)
         state = LpStatus.OTHER
         for by_primal in (False, True):
             state = self.node.clp.solve(by_primal=by_primal)
@@ -177,7 +178,7 @@ class BranchAndBound:
         if state is LpStatus.INFEASIBLE:  # which cannot be proved: CLP's tolerances may be all
             x = [self.node.nearest_to_zero(j) for j in range(self.program.n)]
             return self._branch_or_fathom(x, self.cutoff_value, state)
-        self.watch.look(self.nodes, self.until)  # CLP stops where the time is over
+        self.deadline.check_search(self.nodes, self.until)  # CLP stops where the time is over
         raise SearchEnded(f"a relaxation is {state.name.lower()}")
 
     def _after_optimum(
@@ -197,14 +198,14 @@ class BranchAndBound:
 
     def check_limits(self) -> None:
         """Raises SearchEnded where the search may not go on."""
-        self.watch.look(self.nodes, self.until)
+        self.deadline.check_search(self.nodes, self.until)
         if self.nodes >= self.most_nodes:
             if self.most_nodes < MOST_NODES:
                 raise NodeLimit(self.most_nodes)
             raise SearchEnded(f"more than {self.most_nodes} nodes")
         if self.node.depth > self.most_depth:
             raise SearchEnded("the tree is too deep")
-        if self.on_node is not None and self.watch.is_due():
+        if self.on_node is not None and self.deadline.is_progress_due():
             self.on_node()
 
     def close_and_bound(self) -> float:
@@ -216,6 +217,7 @@ class BranchAndBound:
         node = self.node
         least = self._bound_of_node(node.last_branch())
         while node.open_nodes:
+            check_work()
             branch, sibling = node.open_nodes.pop()
             node.undo()
             if sibling is None:
@@ -243,7 +245,7 @@ class BranchAndBound:
             SearchEnded: Where few nodes are not enough.
         """
         self.fathomer.set_cutoff(cutoff)
-        self.watch, self.until, self.on_node = Watch(0.0), math.inf, None
+        self.deadline, self.until, self.on_node = SearchDeadline(), math.inf, None
         self.most_depth = math.inf
         self.most_nodes = self.nodes + 2 * len(self.node.open_nodes) + NODES_TO_FINISH
         return self.run()

@@ -6,9 +6,8 @@ from dataclasses import dataclass, field
 from fractions import Fraction
 from typing import NamedTuple, Optional, Sequence
 
-from ..certify.watch import Watch
+from .search_deadline import SearchDeadline
 from ..model.integer_form import IntegerProgram, Point
-from ..system.deadline import Deadline
 from . import points
 from .clp import Clp, LpStatus, library
 from .evidence import AnswerByPlace, EvidenceStore, Number
@@ -57,7 +56,7 @@ class CertificationTask:
     Attributes:
         program: In whole numbers.
         store: What is known of it.
-        watch: The time that there is.
+        deadline: The time that there is.
         options: What is asked.
         answer: What a solver said.
         pool: Other processes that search.
@@ -66,7 +65,7 @@ class CertificationTask:
 
     program: IntegerProgram
     store: EvidenceStore
-    watch: Watch
+    deadline: SearchDeadline
     options: SearchOptions = SearchOptions()
     answer: AnswerByPlace = AnswerByPlace()
     pool: Optional[WorkerPool] = None
@@ -81,32 +80,28 @@ class CertificationTask:
             program,
             value,
             self.exact_point,
-            self.watch,
+            self.deadline,
             shortens=self.options.shortens,
             pool=self.pool,
         )
 
     def point_search(self, program: IntegerProgram) -> ParallelSearch:
         """Searches any point of a program."""
-        return ParallelSearch(SearchProblem(program), self.exact_point, self.watch, self.pool)
+        return ParallelSearch(SearchProblem(program), self.exact_point, self.deadline, self.pool)
 
     def exact_point(self, x: Sequence[Number]) -> Optional[Point]:
         """An exact point that has the integer columns of x, which is near one."""
-        return points.point_with_integers(self.program, x, self.deadline())
-
-    def deadline(self) -> Deadline:
-        """For one piece of work: what is left for searches."""
-        return Deadline(self.watch.left(), of_processor=self.watch.of_processor)
+        return points.point_with_integers(self.program, x, self.deadline)
 
     def solve_relaxation(self, answer: AnswerByPlace = AnswerByPlace()) -> SolvedRelaxation:
         """The relaxation, from the basis of an answer."""
         if library() is None:
             return SolvedRelaxation(None, LpStatus.OTHER)
-        self.watch.progress.tell("the relaxation by CLP")
+        self.deadline.tell_step("the relaxation by CLP")
         clp = relaxation(self.program)
         if answer.basis is not None and answer.values is not None:
             clp.warm_start(answer.basis, answer.doubles())
         clp.seconds = ONE_LEAF_SECONDS
         if self.options.proves or self.is_linear:
-            clp.limit(self.deadline())
+            clp.limit(self.deadline)
         return SolvedRelaxation(clp, clp.solve_by_either())

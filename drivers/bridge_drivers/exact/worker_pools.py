@@ -20,7 +20,7 @@ from multiprocessing import connection
 from typing import Any, Dict, Iterable, Iterator, List, NamedTuple, Optional, Sequence
 
 from . import points
-from ..certify.watch import Watch
+from .search_deadline import SearchDeadline
 from ..model.integer_form import IntegerProgram, Point, Row
 from ..system.deadline import Deadline
 from ..system.version import VERSION
@@ -31,6 +31,7 @@ from .clp import library
 from .fathoming import Cutoff
 from .node import Branch, OpenNode, ProvedSubtree
 from .search import BranchAndBound, ExactPoint, ImprovedIncumbent
+from .work_limit import limit_work
 
 # how processes start: `fork` takes 3 ms for each, `spawn` 100 to 300
 START_METHOD = "fork" if sys.platform == "linux" else None
@@ -55,14 +56,16 @@ class SearchProblem(NamedTuple):
     forms: Sequence[Dict[int, int]] = ()
     cutoff: Cutoff = Cutoff(None)
 
-    def search(self, watch: Watch, exact_point: Optional[ExactPoint] = None) -> BranchAndBound:
+    def search(
+        self, deadline: SearchDeadline, exact_point: Optional[ExactPoint] = None
+    ) -> BranchAndBound:
         """A search of all of it, at its root."""
         searched = self.program.with_rows([*self.cuts, *map(Row, self.forms)])
 
         def near(x: Sequence[float]) -> Optional[Point]:
             return points.point_with_integers(self.program, x, Deadline(EXACT_POINT_SECONDS))
 
-        return BranchAndBound(searched, self.cutoff, watch, exact_point or near, len(self.forms))
+        return BranchAndBound(searched, self.cutoff, deadline, exact_point or near, len(self.forms))
 
 
 class WorkUnit(NamedTuple):
@@ -114,8 +117,8 @@ def work(unit: WorkUnit) -> UnitResult:
     """
     search = _search_cache.pop(unit.problem, None)
     if search is None:
-        search = pickle.loads(unit.problem).search(Watch(0.0))
-    search.watch, search.until, search.nodes = Watch(0.0), unit.seconds, 0
+        search = pickle.loads(unit.problem).search(SearchDeadline())
+    search.deadline, search.until, search.nodes = SearchDeadline(), unit.seconds, 0
     strong_candidates = search.branching.strong_candidates
     search.branching = PseudocostBranching(strong_candidates, unit.pseudocosts)
     search.node.move_to(unit.path, unit.open_nodes)
@@ -306,6 +309,7 @@ def start_worker(end: connection.Connection) -> None:
         is_end = number == signal.SIGTERM
         signal.signal(number, signal.SIG_DFL if is_end else signal.SIG_IGN)
     set_signal_mask("SIG_UNBLOCK", HANDLED_SIGNALS)
+    limit_work(Deadline())  # that of the parent
     threading.Thread(target=_end_with_parent, args=(end,), daemon=True).start()
 
 
@@ -314,6 +318,6 @@ def _end_with_parent(end: connection.Connection) -> None:
     parent = multiprocessing.parent_process()
     assert parent is not None
     if connection.wait([end, parent.sentinel]) == [end]:
-        Watch.is_ending = True
+        SearchDeadline.process_is_ending = True
         threading.Event().wait(GRACE_SECONDS)
     os._exit(1)

@@ -12,13 +12,14 @@ from typing import Mapping, NamedTuple, Sequence
 from ..exact import clp
 from ..exact.worker_pools import WorkerPool, open_pool
 from ..exact.certificate import lines_of_answer
-from ..certify.watch import Watch
 from ..exact.certifier import certify
 from ..exact.evidence import NOT_PROVED, AnswerByPlace, AnswerClaim, Evidence, not_proved
+from ..exact.search_deadline import SearchDeadline, SearchProgress
 from ..exact.task import SearchOptions
 from ..model.analysis import TOLERANCE_OF_INTEGERS, worst_residual
 from ..model.linear_program import EPIGRAPH_COLUMN, EPIGRAPH_ROW
 from ..system.errors import ProgramFailed, UnsupportedModel
+from ..system.signals import interrupts_to
 from ..program.bridge import Bridge
 from ..program.refusal import Refusal
 from ..program.verdict import Claim, Statement, objective_lattice, sentence, statement_of
@@ -176,10 +177,10 @@ class AnswerCertifier:
         """
         settings = self.settings.certificate
         proves = settings.prove and not self.run.is_interrupted
-        watch = self._watch(is_search=proves)
-        judge = CertificateJudge(self.bridge, self.model, self.run.path("certificate"), watch)
+        deadline = self._deadline(is_search=proves)
+        judge = CertificateJudge(self.bridge, self.model, self.run.path("certificate"), deadline)
         pool = open_pool(settings.processes, settings.cluster) if proves else None
-        self.monitor.progress.begin("certificate", watch.seconds)
+        self.monitor.progress.begin("certificate", deadline.seconds)
         try:
             with self.monitor.timing("certify"):
                 evidence = self.searched(answer, judge, pool, proves=proves)
@@ -190,21 +191,21 @@ class AnswerCertifier:
                 self.pool_note = pool.note
                 if pool.fault:
                     self.pool_note = "the search went on in one process: " + pool.fault
-        self.is_interrupted = watch.is_stopped
+        self.is_interrupted = deadline.is_interrupted
         is_point = CLAIM_OF_STATUS[answer.found.status] is AnswerClaim.POINT
         is_open = is_point and not self.is_relaxed and not evidence.is_proved
         if is_open and len(self.program.text) > LARGE_PROGRAM:
             return self._by_answer_itself(judge, answer, evidence)
         return evidence
 
-    def _watch(self, *, is_search: bool) -> Watch:
+    def _deadline(self, *, is_search: bool) -> SearchDeadline:
         """The time of a search: the limit, and of a short one a second of it, or more by the program's size."""
         limit = self.settings.time_limit or CERTIFICATE_SECONDS
         if is_search:
-            return Watch(limit, self.monitor.progress)
+            return SearchDeadline(limit)
         by_size = len(self.program.text) / LARGE_PROGRAM
         limit = min(max(by_size, ONE_LEAF_SECONDS), limit)
-        return Watch(limit, self.monitor.progress, of_processor=True)
+        return SearchDeadline(limit, of_processor=True)
 
     def _by_answer_itself(
         self, judge: CertificateJudge, answer: Answer, evidence: Evidence
@@ -238,22 +239,31 @@ class AnswerCertifier:
         except UnsupportedModel as fault:
             return not_proved(fault)
         if not proves:
-            judge.watch.restart()
+            judge.deadline.restart()
         given = self.answer_by_place(answer)
         if given.duals is not None:
             duals = {row: factors.get(row, 1) * dual for row, dual in given.duals.items()}
             given = given._replace(duals=duals)
-        evidence = certify(
-            program,
-            judge,
-            claim=CLAIM_OF_STATUS[answer.found.status],
-            watch=judge.watch,
-            answer=given,
-            options=options,
-            pool=pool,
-        )
+        with interrupts_to(judge.deadline.interrupt):
+            evidence = certify(
+                program,
+                judge,
+                claim=CLAIM_OF_STATUS[answer.found.status],
+                answer=given,
+                deadline=judge.deadline,
+                on_progress=self._tell,
+                options=options,
+                pool=pool,
+            )
         exported = {row: dual / factors.get(row, 1) for row, dual in evidence.duals.items()}
         return evidence._replace(duals=exported)
+
+    def _tell(self, progress: SearchProgress) -> None:
+        """What goes on in the search, for the line of progress."""
+        if progress.numbers:
+            self.monitor.progress.tell_numbers(progress.numbers)
+        else:
+            self.monitor.progress.tell(progress.step)
 
     def from_answer_itself(self, judge: CertificateJudge, answer: Answer) -> Evidence:
         """The .sol's values and duals are the certificate, or the same numbers in fewer digits."""

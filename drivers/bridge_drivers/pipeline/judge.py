@@ -4,7 +4,7 @@ from __future__ import annotations
 
 from typing import Iterable, NamedTuple, Union
 
-from ..certify.watch import Watch
+from ..exact.search_deadline import SearchDeadline
 from ..program.bridge import Bridge
 from ..program.refusal import Refusal
 from ..program.verdict import Verdict
@@ -25,23 +25,23 @@ class CertificateJudge:
     Args:
         model: Its path, as the proved program reads it.
         path: Of the file that certificates are written to, one after the other.
-        watch: Says how long a verdict may take, and is told that one is waited for.
+        deadline: Says how long a verdict may take, and is told that one is waited for.
     """
 
-    def __init__(self, bridge: Bridge, model: str, path: str, watch: Watch) -> None:
+    def __init__(self, bridge: Bridge, model: str, path: str, deadline: SearchDeadline) -> None:
         self.bridge = bridge
         self.model = model
         self.path = path
-        self.watch = watch
+        self.deadline = deadline
         bridge.file_names[path] = "the certificate"
 
     def __call__(self, lines: Iterable[str]) -> Union[Verdict, Unproved]:
         """What the proved program says of a certificate by its lines."""
         with new_text(self.path) as out:
             out.writelines(line + "\n" for line in lines)
-        self.bridge.limit = self.watch.for_verdict()
+        self.bridge.limit = self.deadline.left_to_judge()
         try:
-            self.watch.progress.tell("bridge verify")
+            self.deadline.tell_step("bridge verify")
             verdict = self.bridge.verify(self.model, self.path)
         except DeadlineExceeded:
             return Unproved("time: bridge verify was ended before its verdict")

@@ -246,6 +246,13 @@ class DeadlineExceeded(SearchPaused):
     """The time of a search or of a call is over."""
 
 
+class TimeOver(BridgeError):
+    """The time of a certificate is over: what is known by then is told."""
+
+    def __init__(self) -> None:
+        super().__init__("time")
+
+
 class NodeLimit(SearchPaused):
     """A search has visited as many nodes as it may."""
 

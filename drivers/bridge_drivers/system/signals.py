@@ -4,6 +4,7 @@ from __future__ import annotations
 
 import contextlib
 import signal
+import threading
 from typing import Callable, Iterator, Sequence
 
 # what ends a run in order; a system may lack some
@@ -99,3 +100,21 @@ class SignalGate:
 
 
 SIGNALS = SignalGate()  # of this process
+
+
+@contextlib.contextmanager
+def interrupts_to(receiver: Callable[[], None]) -> Iterator[None]:
+    """A block whose interrupts are the receiver's, and end nothing.
+
+    Interrupts that are ignored stay so. In another thread than the main one, which gets no
+    signals, nothing changes.
+    """
+    is_main = threading.current_thread() is threading.main_thread()
+    if not is_main or signal.getsignal(signal.SIGINT) is signal.SIG_IGN:
+        yield
+        return
+    before = signal.signal(signal.SIGINT, lambda number, frame: receiver())
+    try:
+        yield
+    finally:
+        signal.signal(signal.SIGINT, before)

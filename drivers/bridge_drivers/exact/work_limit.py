@@ -1,0 +1,29 @@
+"""The moment at which all exact work of this process ends.
+
+Loops of exact arithmetic that can take long call `check_work` at each step, so that no signal has
+to break them off in the middle of a line. What is known by then is told (`certifier`).
+"""
+
+from __future__ import annotations
+
+from ..system.deadline import Deadline
+from ..system.errors import TimeOver
+
+_deadline = Deadline()
+
+
+def limit_work(deadline: Deadline) -> None:
+    """From now on all exact work ends with it."""
+    global _deadline
+    _deadline = deadline
+
+
+def shorten_work(seconds: float) -> None:
+    """All exact work ends within these seconds, or earlier where it has less."""
+    limit_work(_deadline.within(seconds))
+
+
+def check_work() -> None:
+    """Raises TimeOver where the time of exact work is over."""
+    if _deadline.is_over():
+        raise TimeOver()
