@@ -80,7 +80,7 @@ class DualBound(NamedTuple):
     Attributes:
         numerator: Of the bound, over `denominator`. It means nothing unless `is_finite`.
         denominator: Above 0.
-        reduced_costs: By column, over `denominator` of the bound and under the program's unit.
+        reduced_costs: By column; times `bound_scale` of the program they are over `denominator`.
         unbounded_columns: Columns without the bound that the sign of their reduced cost needs.
     """
 
@@ -110,7 +110,7 @@ def bit_width(values: Iterable[Fraction]) -> int:
 
 
 def needed_row_bound(program: IntegerProgram, row: int, multiplier: float | Fraction) -> Bound:
-    """The bound of a row that a multiplier of this sign rests on, over the program's unit."""
+    """The bound of a row that a multiplier of this sign rests on, over `bound_scale`."""
     return program.row_lower[row] if multiplier > 0 else program.row_upper[row]
 
 
@@ -120,7 +120,7 @@ def has_needed_bound(program: IntegerProgram, row: int, multiplier: float | Frac
 
 
 def needed_column_bound(box: Box, column: int, reduced_cost: float) -> Bound:
-    """The bound of a column that a reduced cost of this sign rests on, over the program's unit."""
+    """The bound of a column that a reduced cost of this sign rests on, over `bound_scale`."""
     return box.lower[column] if reduced_cost > 0 else box.upper[column]
 
 
@@ -138,14 +138,16 @@ def dual_bound(program: IntegerProgram, multipliers: Multipliers, box: Box) -> D
     Args:
         program: Its row bounds must be there where multipliers rest on them.
         multipliers: Of its rows.
-        box: Bounds of the columns, over the program's unit, in place of the program's own.
+        box: Bounds of the columns, over `bound_scale`, in place of the program's own.
 
     Returns:
-        The bound, over cost_scale * scale * unit of the program times the multipliers' denominator.
+        The bound; its denominator is that of the multipliers times the program's three scales.
     """
     common = multipliers.denominator * program.row_scale
-    if multipliers.is_farkas:
-        cost_scale, bound, costs = 1, 0, [0] * program.n
+    if multipliers.is_farkas:  # the objective counts as 0
+        cost_scale = 1
+        bound = 0
+        costs = [0] * program.n
     else:
         cost_scale = program.cost_scale
         bound = program.constant * common * program.bound_scale

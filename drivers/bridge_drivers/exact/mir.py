@@ -40,10 +40,10 @@ Number = TypeVar("Number", int, float)
 
 
 class Substitution(NamedTuple):
-    """How a column or a row's activity z counts: z = bound / unit + sign * t, with t at least 0.
+    """How a column or a row's activity z counts: z = bound / bound_scale + sign * t, t >= 0.
 
     Attributes:
-        bound: Over the program's unit.
+        bound: Of the column, or of the row; over `bound_scale` of the program.
         sign: 1 from a lower bound, -1 from an upper one.
         value: Of t at the relaxation's optimum.
         is_integer: Whether t is integer at all integer points.
@@ -74,40 +74,47 @@ class Substitutions(Dict[int, Optional[Substitution]]):
         return self[place]
 
     def _from_nearest_bound(self, place: int) -> Optional[Substitution]:
-        unit, value = self.program.bound_scale, self.x[place]
-        lower, upper, is_integer = self._bounds(place)
-        if upper is not None and (lower is None or value - lower / unit > upper / unit - value):
-            distance = max(upper / unit - value, 0.0)
+        scale, value = self.program.bound_scale, self.x[place]
+        row = place - self.program.n
+        lower, upper, is_integer = self._column(place) if row < 0 else self._row(row)
+        if upper is not None and (lower is None or value - lower / scale > upper / scale - value):
+            distance = max(upper / scale - value, 0.0)
             return Substitution(upper, -1, distance, is_integer, lower == upper)
         if lower is None:
             return None
-        distance = max(value - lower / unit, 0.0)
+        distance = max(value - lower / scale, 0.0)
         return Substitution(lower, 1, distance, is_integer, lower == upper)
 
-    def _bounds(self, place: int) -> Tuple[Bound, Bound, bool]:
-        """Bounds, over the unit, and whether all is integer between them."""
-        program, row = self.program, place - self.program.n
-        if row < 0:
-            lower, upper = program.lower[place], program.upper[place]
-            if program.is_integer[place]:
-                lower, upper = _integral(lower, program.bound_scale), _integral(
-                    upper, program.bound_scale
-                )
-            return lower, upper, program.is_integer[place]
+    def _column(self, column: int) -> _Interval:
+        program = self.program
+        lower, upper = program.lower[column], program.upper[column]
+        if program.is_integer[column]:
+            lower = _integral(lower, program.bound_scale)
+            upper = _integral(upper, program.bound_scale)
+        return _Interval(lower, upper, program.is_integer[column])
+
+    def _row(self, row: int) -> _Interval:
+        program = self.program
         lower, upper = program.row_lower[row], program.row_upper[row]
-        is_integer = (
-            lower == _integral(lower, program.bound_scale)
-            and upper == _integral(upper, program.bound_scale)
-            and all(
-                program.is_integer[j] and a % program.row_scale == 0 for j, a in program.rows[row]
-            )
+        are_integral = lower == _integral(lower, program.bound_scale)
+        are_integral = are_integral and upper == _integral(upper, program.bound_scale)
+        is_integer = are_integral and all(
+            program.is_integer[j] and a % program.row_scale == 0 for j, a in program.rows[row]
         )
-        return lower, upper, is_integer
+        return _Interval(lower, upper, is_integer)
 
 
-def _integral(bound: Bound, unit: int) -> Bound:
+class _Interval(NamedTuple):
+    """Bounds over `bound_scale`, and whether all that counts from them is integer."""
+
+    lower: Bound
+    upper: Bound
+    is_integer: bool
+
+
+def _integral(bound: Bound, scale: int) -> Bound:
     """A bound that is a whole number; None of another one."""
-    return None if bound is None or bound % unit else bound
+    return None if bound is None or bound % scale else bound
 
 
 class Divisor(NamedTuple):
@@ -169,7 +176,7 @@ def aggregated(
     """A combination of rows as a sum that is 0 at each point: of columns, and of rows behind them.
 
     Returns:
-        Coefficients by place, times the program's scale and `factor`.
+        Coefficients by place, times `row_scale` of the program and `factor`.
     """
     total: Dict[int, Number] = {}
     for row, multiplier in combination.items():
@@ -243,20 +250,20 @@ def _exact_cut(program: IntegerProgram, terms: Terms, d: int, whole: int, rest: 
     `c % d` is above `rest`. In its lower part the form has the multiplier `-room`, in the upper one
     `rest`; what rows have there makes up the difference to the cut.
     """
-    unit, room = program.bound_scale, d - rest
+    bound_scale, room = program.bound_scale, d - rest
     coefficients, form = [0] * program.n, [0] * program.n
-    rhs, form_rhs = whole * room * program.row_scale * unit, whole
+    rhs, form_rhs = whole * room * program.row_scale * bound_scale, whole
     low: Dict[int, int] = {program.m: -room}
     high: Dict[int, int] = {program.m: rest}
     for place, (substitution, v) in terms.items():
         sign = substitution.sign
-        c = v * sign * unit
+        c = v * sign * bound_scale
         lifted, in_form = _rounded_coefficient(substitution, c, d, rest)
         rhs += sign * lifted * substitution.bound * program.row_scale
-        form_rhs += sign * in_form * substitution.bound // unit
+        form_rhs += sign * in_form * substitution.bound // bound_scale
         row = place - program.n
         for j, a in program.rows[row] if row >= 0 else ((place, program.row_scale),):
-            coefficients[j] += sign * lifted * a * unit
+            coefficients[j] += sign * lifted * a * bound_scale
             form[j] += sign * in_form * a // program.row_scale
         if row >= 0:
             low[row] = sign * (in_form * room - lifted)

@@ -73,7 +73,7 @@ class BoundChange(NamedTuple):
 
     Attributes:
         is_upper: 1 for the upper bound, 0 for the lower one: the place in a `Box`.
-        bound: Before, over the program's unit.
+        bound: Before, over `bound_scale`.
         depth: None where the bound was the program's own.
     """
 
@@ -112,7 +112,7 @@ class Node:
         program: Its last rows are the forms.
         clp: The relaxation.
         forms: The numbers of the forms, behind the columns.
-        box: Bounds of columns, then of rows, over the program's unit.
+        box: Bounds of columns, then of rows, over `bound_scale`.
         bound_depths: As `box`: the depth of the branch that gave each bound, None for its own.
         path: Branches above the subtree that is searched.
         open_nodes: Below these, from the subtree's root on.

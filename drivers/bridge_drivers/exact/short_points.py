@@ -348,7 +348,7 @@ class _Grid:
 
 
 def moves_of_pair(
-    firsts: Entries, seconds: Entries, rest: Fraction, is_high: Sequence[bool]
+    firsts: Entries, partners: Entries, rest: Fraction, is_high: Sequence[bool]
 ) -> Optional[Moves]:
     """Decimals x and y with a x + b y = rest, of two columns of a row, or of one alone.
 
@@ -357,7 +357,7 @@ def moves_of_pair(
 
     Args:
         firsts: Columns that may move far, with their coefficients a.
-        seconds: Columns that move by less than 1, with their coefficients b.
+        partners: Columns that move by less than 1, with their coefficients b.
         is_high: By column: whether it can move downwards alone.
 
     Returns:
@@ -367,7 +367,7 @@ def moves_of_pair(
     pairs = sorted(
         _Pair(abs(a) // math.gcd(a, b), j, a, k, b)
         for j, a in firsts
-        for k, b in ((j, 0), *seconds)
+        for k, b in ((j, 0), *partners)
         if k != j or not b
     )
     for pair in pairs:
