@@ -112,6 +112,9 @@ class Monitor(RunObserver):
             self._known.update(found)
             self.progress.tell_numbers(self._known)
 
+    def process_ended(self, spent: float) -> None:
+        self.add_time("solver", spent)
+
     def summary(self) -> str:
         """The seconds of each part, and of all, in a line."""
         parts = "".join(f"{part} {seconds:.2f}, " for part, seconds in self.seconds.items())

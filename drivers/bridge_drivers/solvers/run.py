@@ -45,6 +45,9 @@ class RunObserver:
     def log_line(self, line: str) -> None:
         """A line of the log, with its end."""
 
+    def process_ended(self, spent: float) -> None:
+        """A process has ended, after so many seconds."""
+
 
 class SolverRun:
     """What a solver works with.
@@ -60,7 +63,6 @@ class SolverRun:
         is_interrupted: It was told to end before it had ended by itself.
         log: Of the last process.
         exit_status: Of the last process.
-        seconds: That all processes took.
     """
 
     def __init__(
@@ -81,7 +83,6 @@ class SolverRun:
         self.is_interrupted = False
         self.log = ""
         self.exit_status = 0
-        self.seconds = 0.0
 
     def is_continuous(self) -> bool:
         """Whether no column has to be a whole number."""
@@ -109,7 +110,7 @@ class SolverRun:
         self.observer.command_starts(argv, self.folder)
         began = time.monotonic()
         finished = self.run_process(argv)
-        self.seconds += time.monotonic() - began
+        self.observer.process_ended(time.monotonic() - began)
         self.log = finished.log
         self.exit_status = finished.status
         return finished
