@@ -47,6 +47,7 @@ def facts(project: Project) -> list[File]:
         f"Maintainer-email: {project.maintainer()}",
         f"Requires-Python: {project.table['requires-python']}",
     ]
+    metadata += [f"Requires-Dist: {need}" for need in project.table["dependencies"]]
     for extra, needs in project.table["optional-dependencies"].items():
         metadata.append(f"Provides-Extra: {extra}")
         metadata += [f"Requires-Dist: {need}; extra == '{extra}'" for need in needs]

@@ -106,8 +106,9 @@ class SparseRows:
             return list(map(len, self.rows))
         return list(np.bincount(self._entries.rows, minlength=self.m).tolist())
 
-    @property
+    @cached_property
     def is_large(self) -> bool:
+        """Whether arrays are quicker than lists."""
         return self.count > LARGE
 
     def column(self, j: int) -> List[Tuple[int, int]]:

@@ -115,4 +115,4 @@ def test_the_model_is_not_overwritten(tmp_path: Path) -> None:
 
 @pytest.mark.parametrize("piece", [b"1", b"1.", b"n1", b"1.1 ", b"0", b"1e", b"\n", b"-"])
 def test_decimals_take_linear_time(piece: bytes) -> None:
-    assert_linear(lambda n: b"n1." + piece * n, with_shortest_decimals, 100_000)
+    assert_linear(lambda n: b"n1." + piece * n, with_shortest_decimals, 20_000)

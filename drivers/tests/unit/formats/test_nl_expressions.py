@@ -69,9 +69,9 @@ def test_long_sums_are_told_by_their_first_terms() -> None:
 
 
 def test_deep_expressions_stay_short() -> None:
-    deep = "o16 " * 100_000 + "o2 v0 v1"
+    deep = "o16 " * 20_000 + "o2 v0 v1"
     assert len(in_words(deep)) < 100
-    marked = in_words(deep, mark=100_000)
+    marked = in_words(deep, mark=20_000)
     assert ">>(x0 * x1)<<" in marked
     assert len(marked) < 200
 

@@ -109,7 +109,7 @@ def test_an_exact_decimal_is_one_that_the_proved_program_holds(integer: int, pow
         assert Fraction(found.integer) * Fraction(10) ** found.exponent == Fraction(text)
 
 
-@given(st.lists(st.one_of(WHOLE, DOUBLES, FRACTIONS)))
+@given(st.lists(st.one_of(WHOLE, DOUBLES, FRACTIONS), max_size=6))
 def test_many_are_written_as_each(values: List[Value]) -> None:
     texts, rounded = decimals(values)
     each = [decimal(value) for value in values]
@@ -124,7 +124,7 @@ def test_doubles_are_written_shortest(values: List[float]) -> None:
     assert rounded == 0
 
 
-@given(st.lists(st.one_of(WHOLE, DOUBLES)))
+@given(st.lists(st.one_of(WHOLE, DOUBLES), max_size=6))
 def test_decimals_over_a_common_denominator(values: List[Value]) -> None:
     texts = [decimal(value)[0].encode() for value in values]
     numerators, denominator = decimals_over_common_denominator(texts)

@@ -7,7 +7,7 @@ from unittest import mock
 
 import numpy as np
 import pytest
-from hypothesis import given
+from hypothesis import given, settings
 from hypothesis import strategies as st
 
 from bridge_drivers.model import sparse_rows
@@ -29,7 +29,7 @@ def kept_as(request: pytest.FixtureRequest) -> Iterator[None]:
 @st.composite
 def matrices(draw: st.DrawFn, numbers: st.SearchStrategy = WHOLE) -> Tuple[SparseRows, List[List]]:
     """A matrix, and the same as full rows."""
-    m, n = draw(st.integers(0, 5)), draw(st.integers(1, 5))
+    m, n = draw(st.integers(0, 3)), draw(st.integers(1, 4))
     full = [[draw(st.one_of(st.just(0), numbers)) for _ in range(n)] for _ in range(m)]
     entries = [(i, j, full[i][j]) for j in range(n) for i in range(m) if full[i][j]]
     table = sorted({a for _, _, a in entries})
@@ -51,6 +51,7 @@ def of_row(full: List[List], j: int) -> List[Tuple[int, int]]:
     return [(i, row[j]) for i, row in enumerate(full) if row[j]]
 
 
+@settings(max_examples=50)
 @given(matrices())
 def test_rows_and_columns(case: Tuple[SparseRows, List[List]]) -> None:
     matrix, full = case
@@ -61,6 +62,7 @@ def test_rows_and_columns(case: Tuple[SparseRows, List[List]]) -> None:
     assert matrix.count == sum(matrix.lengths)
 
 
+@settings(max_examples=50)
 @given(matrices(), st.data())
 def test_activities_are_exact(case: Tuple[SparseRows, List[List]], data: st.DataObject) -> None:
     matrix, full = case
@@ -68,6 +70,7 @@ def test_activities_are_exact(case: Tuple[SparseRows, List[List]], data: st.Data
     assert matrix.activities(x) == [sum(a * v for a, v in zip(row, x)) for row in full]
 
 
+@settings(max_examples=50)
 @given(matrices(), st.data())
 def test_minus_combination(case: Tuple[SparseRows, List[List]], data: st.DataObject) -> None:
     matrix, full = case
@@ -82,6 +85,7 @@ def test_minus_combination(case: Tuple[SparseRows, List[List]], data: st.DataObj
     assert matrix.minus_combination(values[:], multipliers, factor) == expected
 
 
+@settings(max_examples=50)
 @given(matrices(), st.data())
 def test_weighted_norms(case: Tuple[SparseRows, List[List]], data: st.DataObject) -> None:
     matrix, full = case
@@ -90,6 +94,7 @@ def test_weighted_norms(case: Tuple[SparseRows, List[List]], data: st.DataObject
     assert matrix.weighted_norms(weights) == expected
 
 
+@settings(max_examples=50)
 @given(matrices(DOUBLES), st.data())
 def test_doubles(case: Tuple[SparseRows, List[List]], data: st.DataObject) -> None:
     """Sums are made in the order of columns, to the last digit."""
@@ -107,6 +112,7 @@ def test_doubles(case: Tuple[SparseRows, List[List]], data: st.DataObject) -> No
     assert matrix.largest_terms(sizes) == greatest
 
 
+@settings(max_examples=50)
 @given(matrices(), st.data())
 def test_submatrix(case: Tuple[SparseRows, List[List]], data: st.DataObject) -> None:
     matrix, full = case
