@@ -434,10 +434,10 @@ class Limits(Certified):
         work = self.work(CLAIMED["knap"].text)
         call = work.bridge.call
 
-        def late(*words: str):
+        def late(*words: str, deadline=None):
             if words[0] != "verify":
                 return call(*words)
-            self.assertIsNotNone(work.bridge.limit)
+            self.assertLess(deadline.left(), math.inf)
             raise DeadlineExceeded("verify")
 
         with mock.patch.object(work.bridge, "call", late):

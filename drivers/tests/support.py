@@ -234,13 +234,13 @@ class Injected(Bridge):
 
     says: dict[str, Callable[[str], "Reply | None"]] = {}
 
-    def call(self, *words: str) -> Reply:
+    def call(self, *words: str, **others: Any) -> Reply:
         if words[0] in self.says:
             with open(words[-1]) as f:
                 reply = self.says[words[0]](f.read())
             if reply is not None:
                 return reply
-        return super().call(*words)
+        return super().call(*words, **others)
 
 
 class Replay(SolverRun):

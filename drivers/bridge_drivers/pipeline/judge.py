@@ -6,8 +6,8 @@ from typing import Iterable, NamedTuple, Union
 
 from ..exact.search_deadline import SearchDeadline
 from ..program.bridge import Bridge
-from ..program.refusal import Refusal
 from ..program.verdict import Verdict
+from ..system.deadline import Deadline
 from ..system.errors import DeadlineExceeded, ProgramFailed
 from ..system.files import new_text
 
@@ -39,16 +39,14 @@ class CertificateJudge:
         """What the proved program says of a certificate by its lines."""
         with new_text(self.path) as out:
             out.writelines(line + "\n" for line in lines)
-        self.bridge.limit = self.deadline.left_to_judge()
+        self.deadline.tell_step("bridge verify")
         try:
-            self.deadline.tell_step("bridge verify")
-            verdict = self.bridge.verify(self.model, self.path)
+            deadline = Deadline.of_limit(self.deadline.left_to_judge() or 0.0)
+            verdict = self.bridge.verify(self.model, self.path, deadline)
         except DeadlineExceeded:
             return Unproved("time: bridge verify was ended before its verdict")
-        except (Refusal, ProgramFailed) as fault:
+        except ProgramFailed as fault:
             return Unproved(fault.text)
-        finally:
-            self.bridge.limit = None
         if verdict.is_proved:
             return verdict
         return Unproved(f"bridge verify says `{verdict.line}`")

@@ -7,8 +7,8 @@ from typing import NamedTuple
 
 from ..formats.file_kinds import model_kind_of_start
 from ..program.bridge import Bridge
-from ..program.refusal import Refusal
 from ..program.verdict import statement_of
+from ..system.deadline import Deadline
 from ..system.errors import DeadlineExceeded, FileFault, FileStays, ProgramFailed
 from ..system.files import OutputFiles
 
@@ -68,13 +68,10 @@ class CertificateStore:
 
     def still_proves(self, target: str, line: str) -> str:
         """What an older certificate proves of the model as it is now, where that is no less than the line."""
-        self.bridge.limit = OLDER_SECONDS
         try:
-            older = self.bridge.verify(self.model, target)
-        except (DeadlineExceeded, Refusal, ProgramFailed):
+            older = self.bridge.verify(self.model, target, Deadline(OLDER_SECONDS))
+        except (DeadlineExceeded, ProgramFailed):
             return ""
-        finally:
-            self.bridge.limit = None
         proved, wanted = older.statement, statement_of(line)
         if proved is None or wanted is None or not proved.implies(wanted, maximise=self.maximise):
             return ""

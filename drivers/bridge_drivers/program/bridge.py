@@ -5,7 +5,6 @@ from __future__ import annotations
 import enum
 import hashlib
 import json
-import math
 import os
 import shlex
 import shutil
@@ -158,7 +157,6 @@ class Bridge:
     Attributes:
         argv: The words that start it.
         note: Is told the words of each call before it is made.
-        limit: Seconds that a call may take; None for no limit.
         file_names: What the user calls a file, by the path that the program is given.
         forms: What text the model at a path is, where that is no .nl file.
     """
@@ -168,23 +166,25 @@ class Bridge:
     ) -> None:
         self.argv = list(argv)
         self.note = note
-        self.limit: Optional[float] = None
         self.file_names: Dict[str, str] = {}
         self.forms: Dict[str, ModelForm] = {}
         self._links: Optional[tempfile.TemporaryDirectory[str]] = None
 
-    def call(self, *words: str) -> Reply:
+    def call(self, *words: str, deadline: Optional[Deadline] = None) -> Reply:
         """One call, however it ends.
+
+        Args:
+            words: The command and its files.
+            deadline: When the program is ended; None for never.
 
         Raises:
             NotStarted: The program cannot be run.
-            DeadlineExceeded: It was ended after `limit` seconds.
+            DeadlineExceeded: It was ended at the deadline.
         """
         argv = self.argv + [self._reachable(word) for word in words]
         self.note(argv)
-        deadline = Deadline(math.inf if self.limit is None else self.limit)
         try:
-            ended = run(argv, deadline, OUTPUT_LIMITS)
+            ended = run(argv, deadline or Deadline(), OUTPUT_LIMITS)
         except OSError as fault:
             raise NotStarted(argv[0], str(fault.strerror)) from None
         if ended.is_late:
@@ -228,20 +228,21 @@ class Bridge:
         """The .sol text of a solver's answer, which stands in a file, to what `export` wrote."""
         return self.text(Command.RETURN, model, answer)
 
-    def verify(self, model: str, certificate: str) -> Verdict:
+    def verify(self, model: str, certificate: str, deadline: Optional[Deadline] = None) -> Verdict:
         """The verdict on a certificate, over the model's own text.
 
         Args:
             model: The path of an .nl file, or of an MPS file whose form is in `forms`.
             certificate: The path of a file.
+            deadline: When the program is ended; None for never.
 
         Raises:
             Refusal: The program refuses the model or the certificate.
             NoVerdict: What it answers is no verdict.
-            DeadlineExceeded: It was ended after `limit` seconds.
+            DeadlineExceeded: It was ended at the deadline.
         """
         command = self.forms.get(model, ModelForm.NL).judge
-        return Verdict(self._judged(command, model, certificate))
+        return Verdict(self._judged(command, model, certificate, deadline))
 
     def check(self, model: str, sol: str) -> str:
         """The line on the point and the duals of a .sol file over an .nl file.
@@ -250,11 +251,13 @@ class Bridge:
             Refusal: The program refuses one of the files.
             NoVerdict: What it answers is no verdict.
         """
-        return read_check(self._judged(Command.CHECK, model, sol))
+        return read_check(self._judged(Command.CHECK, model, sol, None))
 
-    def _judged(self, command: Command, model: str, other: str) -> Reply:
+    def _judged(
+        self, command: Command, model: str, other: str, deadline: Optional[Deadline]
+    ) -> Reply:
         """A reply with one of the two statuses that go with a verdict."""
-        reply = self.call(command.value, model, other)
+        reply = self.call(command.value, model, other, deadline=deadline)
         if reply.status not in (ExitStatus.DONE, ExitStatus.FAILED):
             raise self.refusal((command.value, model, other), reply)
         return reply

@@ -21,6 +21,7 @@ from bridge_drivers.program.bridge import (
 from bridge_drivers.program.calls import Command, Reply, files_of_call, is_utf8
 from bridge_drivers.program.refusal import Refusal
 from bridge_drivers.program.verdict import NoVerdict
+from bridge_drivers.system.deadline import Deadline
 from bridge_drivers.system.errors import DeadlineExceeded, NotFound, NotInstalled, NotStarted
 
 Script = Callable[[str, str], str]
@@ -192,9 +193,8 @@ def test_a_program_that_is_ended(script: Script) -> None:
 
 def test_a_limit(script: Script) -> None:
     bridge = Bridge([script("one", "exec sleep 600")])
-    bridge.limit = 0.05
     with pytest.raises(DeadlineExceeded):
-        bridge.verify("m.nl", "c")
+        bridge.verify("m.nl", "c", Deadline(0.05))
 
 
 def test_a_program_that_cannot_be_run() -> None:

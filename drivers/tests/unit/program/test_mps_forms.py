@@ -3,7 +3,7 @@
 from __future__ import annotations
 
 from pathlib import Path
-from typing import Dict, List, Sequence
+from typing import Dict, List, Optional, Sequence
 
 import pytest
 
@@ -20,6 +20,7 @@ from bridge_drivers.program.mps_forms import (
     read_mps_text,
 )
 from bridge_drivers.program.refusal import Refusal
+from bridge_drivers.system.deadline import Deadline
 from bridge_drivers.system.errors import FileFault
 
 MODEL = (
@@ -48,7 +49,7 @@ class Answering(Bridge):
         self.replies = replies
         self.calls: List[Sequence[str]] = []
 
-    def call(self, *words: str) -> Reply:
+    def call(self, *words: str, deadline: Optional[Deadline] = None) -> Reply:
         self.calls.append(words)
         return self.replies[words[0]]
 
