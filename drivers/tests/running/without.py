@@ -17,7 +17,7 @@ DRIVERS = Path(__file__).resolve().parent.parent.parent
 
 
 def _out_of_time(*words: object) -> NoReturn:
-    raise importlib.import_module("bridge_drivers.certify.watch").Over("time")
+    raise importlib.import_module("bridge_drivers.system.errors").DeadlineExceeded("time")
 
 
 PARTS = {
