@@ -21,6 +21,7 @@ from .clp import Basis, Clp, LpStatus
 from .dual_bound import MultiplierKind, Multipliers, needed_row_bound
 from .linear_systems import LiftedSystem, RationalVector, scipy_or_none, solve_exactly
 from .points import BasicSystem, basic_system
+from .work_limit import check_work
 
 # Systems
 MOST_ELIMINATED = 300  # unknowns of a system that is eliminated where it is not lifted
@@ -213,6 +214,7 @@ class IterativeRefinement:
     def bases(self) -> Iterator[NearBasis]:
         """One a round, as long as CLP finds an optimum."""
         for _ in range(ROUNDS):
+            check_work()
             residuals = self._residuals()
             self.primal_shift = _next_shift(self.primal_shift, residuals.primal)
             self.dual_shift = _next_shift(self.dual_shift, residuals.dual)

@@ -122,6 +122,7 @@ class LeafProver:
         reduced_costs = proof.reduced_costs[:]
         surplus = proof.surplus
         for row in sorted(numerators, key=lambda row: self._size(row, numerators[row])):
+            check_work()
             left = self._surplus_without(row, proof.multipliers, reduced_costs, surplus, box)
             if left is not None and left >= 0:
                 surplus = left
@@ -264,6 +265,7 @@ def repaired_bound(
         if bound.is_finite:
             break
         for column in bound.unbounded_columns:
+            check_work()
             multipliers = _with_column_repaired(program, multipliers, box, column)
         bound = dual_bound(program, multipliers, box)
     return multipliers, bound

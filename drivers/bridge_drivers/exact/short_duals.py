@@ -18,6 +18,7 @@ from .dual_bound import DualBound, MultiplierKind, Multipliers, dual_bound, has_
 from .leaf_proofs import repaired_bound, rounded
 from .linear_systems import solve_exactly
 from .short_points import solve_again
+from .work_limit import check_work
 
 COST_MARGINS = (0.0, 1e-9, 1e-7, 1e-5)  # as shares of the largest cost
 GOOD_GAP = 1e-6  # of the objective, or of 1: a bound that is good enough
@@ -92,6 +93,7 @@ def rounded_duals(program: IntegerProgram, duals: Mapping[int, float]) -> List[S
     largest = max((abs(v) for v in nonzero.values()), default=1.0)
     first_digit = -math.floor(math.log10(largest))
     for places in DECIMAL_DIGITS:
+        check_work()
         given = rounded(program, nonzero, first_digit + places, MultiplierKind.DUAL)
         repaired, bound = repaired_bound(program, given, box)
         short: Optional[ShortDuals] = ShortDuals(repaired, bound)
@@ -120,6 +122,7 @@ def with_zero_reduced_costs(
     box = Box(program.lower, program.upper)
     movable = _movable_rows(program, given)
     for _ in range(MOST_ROUNDS):
+        check_work()
         system = [
             (
                 {i: a * program.cost_scale for i, a in program.matrix.column(j) if movable[i]},

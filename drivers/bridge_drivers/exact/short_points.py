@@ -20,6 +20,7 @@ from ..system.text import counted
 from .clp import Clp, LpStatus
 from .dual_bound import fits_certificate
 from .linear_systems import solve_exactly
+from .work_limit import check_work
 
 PLACES = (9, 8, 7, 6, 5)  # decimals of points that are tried
 MOST_DIGITS = 14  # of a point's largest value, before and behind the point
@@ -191,6 +192,7 @@ class DecimalPoints:
 
     def _solve_with_margins(self, plan: _RowPlan, places: int) -> Optional[List[float]]:
         """The optimum under margins for so many decimals, from the last such basis."""
+        check_work()
         unit = 10.0**-places
         tightened = self._tightened(plan, unit)
         clp = solve_again(tightened, self.basis, self.deadline, unit / TOLERANCE_DIVISOR)
@@ -302,6 +304,7 @@ class _Grid:
         free = self._free_columns()
         is_high = self._stand_high()
         for i in (*self.plan.exact, *self.plan.singletons):
+            check_work()
             fresh = [entry for entry in self.program.rows[i] if self._is_fresh(entry[0], seen)]
             single = self.plan.singletons.get(i, Entry(-1, 0)).column
             firsts = [(j, a) for j, a in fresh if free[j] or j == single]

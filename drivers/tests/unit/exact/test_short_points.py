@@ -91,13 +91,16 @@ def decimal_programs(draw: st.DrawFn) -> IntegerProgram:
 
 @NEEDS_CLP
 @given(decimal_programs(), st.booleans())
-def test_all_points_are_feasible_and_near_the_optimum(p: IntegerProgram, by_rows: bool) -> None:
+def test_all_points_are_feasible_and_in_decimals(p: IntegerProgram, by_rows: bool) -> None:
+    """But for what a basis of equations takes up, they have as many decimals as are tried."""
     points = decimal_points(p, scaled_by_rows=by_rows)
     clp = relaxation(p)
     clp.solve_by_either()
     for found in points.points():
         assert p.is_feasible(found.point)
-        assert float(p.value(found.point)) == pytest.approx(clp.objective(), rel=1e-3, abs=1e-3)
+        assert float(p.value(found.point)) >= clp.objective() - 1e-6
+        if not found.way:
+            assert all(10**30 % v.denominator == 0 for v in found.point)
 
 
 @given(
