@@ -18,7 +18,7 @@ from texts import Case, Program
 from shared import asked
 
 sys.path.append(str(Path(__file__).resolve().parents[1] / "drivers" / "tests"))
-from plain import Ends, Plain  # noqa: E402
+from builders.plain_mps import Ends, Plain  # noqa: E402
 
 Column = tuple[
     bool, Ends, dict[int, Fraction]
