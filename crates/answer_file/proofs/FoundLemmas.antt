@@ -5,10 +5,10 @@ use Rattle.std.specs.Str.{bytes_eq}
 use Rattle.std.proofs.lemmas.List.{length-map}
 use Rattle.linear_program.specs.Intervals.{is_sided}
 use Rattle.nl_model.specs.File.{File}
-use Rattle.name_lists.specs.Names.{AreNames, is_reserved}
-use Rattle.name_lists.specs.Names.{index_named}
-use Rattle.texts.proofs.NamePlaces.{bytes_other, bytes_self}
-use Rattle.name_lists.proofs.NumeralLemmas.{place_first}
+use Rattle.mps_model.specs.Names.{AreNames, is_reserved}
+use Rattle.mps_model.specs.Names.{index_named}
+use Rattle.text_base.proofs.NamePlaces.{bytes_other, bytes_self}
+use Rattle.mps_model.proofs.NumeralLemmas.{place_first}
 use Rattle.answer_file.specs.declared.target.Target.TheVariants.{Tied, Place}
 use Rattle.answer_file.specs.Names.{named_setting, if_exported, column_target, row_target}
 

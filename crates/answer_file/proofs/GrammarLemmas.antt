@@ -1,9 +1,9 @@
 -- A line of a text, and its end.
 use Rattle.std.proofs.Common.{◌≡◌, ◌∙◌, ℕ, ◌+◌, List, [], ◌∷◌, ◌++◌, length, Result, Ok, Err, sym, ap}
 use Rattle.std.specs.Prelude.{OnOk}
-use Rattle.texts.specs.Judged.{Takes}
-use Rattle.texts.specs.declared.stop.Stop.{Stop}
-use Rattle.texts.specs.declared.stop.Stop.TheVariants.{Fault, Memory}
+use Rattle.text_base.specs.Judged.{Takes}
+use Rattle.text_base.specs.declared.stop.Stop.{Stop}
+use Rattle.text_base.specs.declared.stop.Stop.TheVariants.{Fault, Memory}
 use Rattle.answer_file.specs.declared.fault.AnswerReason.{AnswerReason}
 use Rattle.answer_file.specs.Names.{Setting}
 use Rattle.answer_file.specs.Grammar.{Standing, standing, line_tests}

@@ -1,14 +1,14 @@
 -- What taking a line of each kind does to the whole.
 use Rattle.std.proofs.Common.{◌≡◌, ◌∙◌, ℕ, Bool, true, false, cond, eqb, List, length, Option, Some, None, Result, Ok, Err, refl, sym, ap, subst, arith}
-use Rattle.texts.specs.Judged.{Takes, first_reason}
-use Rattle.texts.specs.Names.{is_name}
-use Rattle.texts.specs.Words.{row_of, word_at}
-use Rattle.texts.specs.declared.stop.Stop.{Stop}
-use Rattle.texts.specs.declared.stop.Stop.TheVariants.{Fault, Memory}
+use Rattle.text_base.specs.Judged.{Takes, first_reason}
+use Rattle.text_base.specs.Names.{is_name}
+use Rattle.text_base.specs.Words.{row_of, word_at}
+use Rattle.text_base.specs.declared.stop.Stop.{Stop}
+use Rattle.text_base.specs.declared.stop.Stop.TheVariants.{Fault, Memory}
 use Rattle.exact_numbers.specs.declared.dec.Dec.{Dec}
 use Rattle.exact_numbers.specs.Numbers.{dec_of}
 use Rattle.nl_model.specs.declared.suffix.Suffix.{Suffix}
-use Rattle.shared_parts.specs.SuffixKinds.{objects_of}
+use Rattle.nl_model.specs.SuffixKinds.{objects_of}
 use Rattle.std.proofs.lemmas.Bool.{eq-eqb}
 use Rattle.answer_file.specs.declared.fault.AnswerReason.{AnswerReason}
 use Rattle.answer_file.specs.declared.keyword.Keyword.{Keyword}

@@ -4,26 +4,26 @@ use Rattle.std.specs.Prelude.{All, IfSome, option_map}
 use Rattle.std.specs.List.{sum_by}
 use Rattle.std.proofs.lemmas.Bool.{ltb-false}
 use Rattle.std.proofs.lemmas.List.Sums.{sum_by-append, sum_by-cons, sum_by_push}
-use Rattle.fractions.proofs.Tests.{option_or-none}
+use Rattle.exact_numbers.proofs.Tests.{option_or-none}
 use Rattle.exact_numbers.specs.declared.dec.Dec.{Dec}
 use Rattle.exact_numbers.specs.Values.{FitsDec, dec_value}
 use Rattle.exact_numbers.proofs.Fitting.{dec_fits}
 use Rattle.linear_program.specs.declared.interval.Interval.{Interval as Sides}
 use Rattle.linear_program.specs.Intervals.{interval_of, no_sides}
-use Rattle.program_meaning.specs.Elements.{elements_from}
-use Rattle.program_meaning.specs.Linear.{Interval, Variable, no_row, no_variable, row_count, variable_count}
-use Rattle.program_meaning.specs.Lines.{Line, form_of_line}
-use Rattle.program_meaning.specs.Names.{row_name, variable_name}
-use Rattle.program_meaning.proofs.Elements.{all_elements, elements_at, elements_length}
+use Rattle.linear_program.specs.Elements.{elements_from}
+use Rattle.linear_program.specs.Linear.{Interval, Variable, no_row, no_variable, row_count, variable_count}
+use Rattle.linear_program.specs.Lines.{Line, form_of_line}
+use Rattle.linear_program.specs.Names.{row_name, variable_name}
+use Rattle.linear_program.proofs.Elements.{all_elements, elements_at, elements_length}
 use Rattle.nl_model.specs.File.{File}
 use Rattle.nl_model.specs.Rules.{IsFile}
 use Rattle.nl_model.proofs.Headers.{counts_of_header}
-use Rattle.file_meaning.specs.Expressions.{definitions_of, body_of, objective_of}
-use Rattle.file_meaning.specs.FoldFaults.{FoldFault, Owned, coefficient_count, fold_fault, has_objective, head_fault, most_coefficients, owned_by, owned_definition, owned_line, owners_fault}
-use Rattle.file_meaning.specs.LinearFile.{linear_of, linear_row, linear_variable, objective_form}
-use Rattle.file_meaning.proofs.Files.{linear_lem}
-use Rattle.file_meaning.proofs.Formed.{file_formed}
-use Rattle.export_round_trip.specs.Exportable.{HasDecimalBounds, IsExportable, IsNamedByNumber, coefficient_total, form_count}
+use Rattle.nl_model.specs.Expressions.{definitions_of, body_of, objective_of}
+use Rattle.nl_model.specs.FoldFaults.{FoldFault, Owned, coefficient_count, fold_fault, has_objective, head_fault, most_coefficients, owned_by, owned_definition, owned_line, owners_fault}
+use Rattle.nl_model.specs.LinearFile.{linear_of, linear_row, linear_variable, objective_form}
+use Rattle.nl_model.proofs.Files.{linear_lem}
+use Rattle.nl_model.proofs.Formed.{file_formed}
+use Rattle.round_trips.specs.Exportable.{HasDecimalBounds, IsExportable, IsNamedByNumber, coefficient_total, form_count}
 use Rattle.nl_model.specs.declared.at.Owner.{Owner}
 use Rattle.nl_model.specs.declared.at.Owner.TheVariants.{Con, Obj}
 

@@ -1,7 +1,7 @@
 -- Words come to exactly one outcome; what the top call says of any command, and the headline.
 use Rattle.std.proofs.Common.{◌≡◌, ◌∙◌, ℕ, List, Option, Some, None, true, false, Bool, refl, sym, inl, inr, ◌⊎◌, ◌<◌, ◌≤◌, IfSome, subst, arith, ◌≢◌}
 use Rattle.std.specs.Prelude.{codes}
-use Rattle.desk.specs.Desk.{Texts, Meaning, Rose, OnlyMessages}
+use Rattle.text_base.specs.Desk.{Texts, Meaning, Rose, OnlyMessages}
 use Rattle.bridge_tool.specs.Check.{IsCertified, IsNotCertified}
 use Rattle.bridge_tool.specs.Command.{Command, Check, Export, Rewrite, command_of, Prove, Verify, Make, Return, NamedExport, NamedReturn}
 use Rattle.bridge_tool.specs.Commands.{promise_of, promise_by, ComesTo}

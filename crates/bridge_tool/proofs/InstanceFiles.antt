@@ -4,17 +4,17 @@ use Rattle.std.specs.Prelude.{IfSome, if◌then◌else◌}
 use Rattle.std.specs.List.{range_with_len}
 use Rattle.std.proofs.lemmas.List.Elements.{All-nil, All-cons}
 use Rattle.std.proofs.lemmas.List.FromFn.{length-map-range_with_len, map-range_with_len_more}
-use Rattle.nl_meaning.specs.Trees.{number, defined}
+use Rattle.nl_model.specs.Trees.{number, defined}
 use Rattle.nl_model.specs.declared.objective.Objective.{Objective}
 use Rattle.nl_model.specs.Nodes.{IsTreeFormed}
 use Rattle.nl_model.specs.Rules.{AreBodies, AreDefinitions, AreGuesses, AreObjectives, AreTerms, AreTermsBelow, IsDefinition, IsFile, IsSuffix, IsTreeKnown, IsTreeWithin, most_terms, term_count}
 use Rattle.linear_program.specs.Intervals.{IsOrdered}
-use Rattle.instances.specs.Draws.{drawn_row}
-use Rattle.instances.specs.Instance.{each, whole_dec, counts_of, chained, definition_of, body_of, terms_of, side_of, bound_of, slope_of, goal_of, instance}
-use Rattle.instances.specs.InsideMaking.{drafted}
-use Rattle.instances.proofs.Drafting.{can_add}
-use Rattle.instances.proofs.NumberLemmas.{is_headed}
-use Rattle.instances.proofs.RowLemmas.{is_one, not_defined, terms_so_far}
+use Rattle.bridge_tool.specs.Draws.{drawn_row}
+use Rattle.bridge_tool.specs.Instance.{each, whole_dec, counts_of, chained, definition_of, body_of, terms_of, side_of, bound_of, slope_of, goal_of, instance}
+use Rattle.bridge_tool.specs.InsideMaking.{drafted}
+use Rattle.bridge_tool.proofs.Drafting.{can_add}
+use Rattle.bridge_tool.proofs.NumberLemmas.{is_headed}
+use Rattle.bridge_tool.proofs.RowLemmas.{is_one, not_defined, terms_so_far}
 use Rattle.bridge_tool.proofs.InstanceNumbers.{above_zero}
 
 -- what holds of each number below the limit holds of m of them from a on

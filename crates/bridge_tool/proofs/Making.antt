@@ -5,32 +5,32 @@ use Rattle.std.proofs.lemmas.List.Sums.{count_by-le-length, sum_by-cons, sum_by-
 use Rattle.exact_numbers.specs.declared.dec.Dec.{Dec}
 use Rattle.exact_numbers.specs.Values.{dec_value, value_text}
 use Rattle.scaled_program.specs.Program.{is_exported}
-use Rattle.exported_program.specs.Program.{mps_of}
+use Rattle.scaled_program.specs.ExportedProgram.{mps_of}
 use Rattle.linear_program.specs.declared.form.Form.{Form}
 use Rattle.linear_program.specs.Programs.{LinearValue, form_of, linear_value, rows_from}
-use Rattle.program_meaning.specs.Names.{row_name}
+use Rattle.linear_program.specs.Names.{row_name}
 use Rattle.linear_program.specs.Intervals.{interval_of, is_sided}
 use Rattle.mps_model.specs.Built.{entry_of}
 use Rattle.mps_model.specs.Mps.{Column, Mps, column_with, with_values}
 use Rattle.mps_model.specs.Valid.{entry_count}
 use Rattle.linear_program.specs.declared.interval.Interval.{Interval}
-use Rattle.fractions.specs.Rational.{ℚ}
+use Rattle.exact_numbers.specs.Rational.{ℚ}
 use Rattle.bridge_tool.specs.Make.{coefficient_count, exported_count, is_coefficient, of_column, IsInstanceSummedUp, IsMade, IsSummedUp, LeavesInput, MakesAs, made_text, make_promise, summary_line, summary_of}
 use Rattle.std.specs.Global.{Vec}
-use Rattle.file_meaning.specs.FoldFaults.{has_objective}
-use Rattle.file_meaning.specs.LinearFile.{linear_of}
-use Rattle.instances.specs.Instance.{instance}
+use Rattle.nl_model.specs.FoldFaults.{has_objective}
+use Rattle.nl_model.specs.LinearFile.{linear_of}
+use Rattle.bridge_tool.specs.Instance.{instance}
 use Rattle.bridge_tool.proofs.InstanceTexts.{said}
 use Rattle.linear_fold.specs.FoldedFaults.{step_bound}
 use Rattle.mps_model.specs.Text.{mps_text_by}
 use Rattle.nl_model.specs.File.{File}
 use Rattle.nl_segments.specs.Grammar.{NlValue}
 use Rattle.nl_segments.specs.Reader.{IsNl}
-use Rattle.scaling.specs.Exported.{scaled_as}
-use Rattle.scaling.specs.Scaled.{ScaledValue}
-use Rattle.desk.specs.Desk.{Meaning, OnlyMessages}
-use Rattle.texts.specs.declared.stop.Stop.{Stop}
-use Rattle.texts.specs.declared.stop.Stop.TheVariants.{Fault as IsFault, Memory as IsMemory}
+use Rattle.row_scaling.specs.Exported.{scaled_as}
+use Rattle.row_scaling.specs.Scaled.{ScaledValue}
+use Rattle.text_base.specs.Desk.{Meaning, OnlyMessages}
+use Rattle.text_base.specs.declared.stop.Stop.{Stop}
+use Rattle.text_base.specs.declared.stop.Stop.TheVariants.{Fault as IsFault, Memory as IsMemory}
 use Rattle.command_core.specs.InsideAnswer.{Ends, IsWorked, status_of}
 use Rattle.bridge_tool.specs.Command.{Command, Make}
 use Rattle.bridge_tool.specs.Commands.{Leaves}

@@ -1,16 +1,16 @@
 -- What a file with two lists of names comes to: one outcome, what its program means, and that its text is read back.
 use Rattle.std.proofs.Common.{[], ◌≡◌, ◌∙◌, inl, inr, ◌⊎◌, ◌↔◌, ℕ, ◌+◌, ◌≤◌, List, false, refl, sym, ap, arith, ◌^◌, ◌∷◌, ◌++◌, length, map, Some, subst, All}
-use Rattle.fractions.specs.Rational.{ℚ}
+use Rattle.exact_numbers.specs.Rational.{ℚ}
 use Rattle.exact_numbers.specs.Values.{value_text, dec_value}
-use Rattle.file_meaning.specs.LinearFile.{linear_of, linear_row, linear_variable}
+use Rattle.nl_model.specs.LinearFile.{linear_of, linear_row, linear_variable}
 use Rattle.linear_program.specs.Programs.{LinearValue, linear_value}
 use Rattle.mps_model.specs.Mps.{Mps, Column, column_with, with_values}
 use Rattle.mps_model.specs.Text.{mps_text_by}
 use Rattle.name_files.specs.Renamed.{named, HasExportedNames, HaveOneMeaning, IsExportedName, IsNamedLinear, IsNumbered, new_name}
 use Rattle.nl_segments.specs.Grammar.{NlValue}
-use Rattle.scaling.specs.Exported.{scaled_as}
-use Rattle.scaling.specs.Scaled.{ScaledValue}
-use Rattle.desk.specs.Desk.{Texts}
+use Rattle.row_scaling.specs.Exported.{scaled_as}
+use Rattle.row_scaling.specs.Scaled.{ScaledValue}
+use Rattle.text_base.specs.Desk.{Texts}
 use Rattle.bridge_tool.specs.Export.{IsExported, IsSameProgram, IsTiedProgram, MeansTheFile}
 use Rattle.command_parts.specs.NameLists.{AreListed, IsListRefused, column_counts, row_counts}
 use Rattle.bridge_tool.specs.NamedExport.{AreNamedMeant, IsNamedExport, Named, NamedComesTo, named_end}
@@ -21,21 +21,21 @@ use Rattle.command_parts.proofs.NameLists.{list_read, listed_count}
 use Rattle.command_core.proofs.SeveralFiles.{IsEither, IsLast, IsSound, either_last, one_of_both, sound_end}
 use Rattle.command_parts.proofs.ExportStages.{a_program, exports_so, one_program, staged_so, decimal_decided}
 use Rattle.bridge_tool.proofs.Exporting.{staged_either, file_program, text_file}
-use Rattle.program_meaning.specs.Linear.{Linear, Row, Variable}
-use Rattle.program_meaning.specs.Names.{row_name, variable_name}
-use Rattle.texts.specs.Reading.{last_of, lines_of}
+use Rattle.linear_program.specs.Linear.{Linear, Row, Variable}
+use Rattle.linear_program.specs.Names.{row_name, variable_name}
+use Rattle.text_base.specs.Reading.{last_of, lines_of}
 use Rattle.exact_numbers.specs.declared.dec.Dec.{Dec}
-use Rattle.export_round_trip.specs.ReadAs.{IsReadAs}
+use Rattle.round_trips.specs.ReadAs.{IsReadAs}
 use Rattle.scaled_program.specs.Fits.{IsDecimal, IsScaledProgramOf, factor_of_row, factor_of_objective}
 use Rattle.scaled_program.specs.Program.{ScaledProgram}
-use Rattle.exported_program.specs.Program.{mps_of}
-use Rattle.program_meaning.specs.Elements.{elements_from}
-use Rattle.program_meaning.proofs.Elements.{all_elements, elements_length}
+use Rattle.scaled_program.specs.ExportedProgram.{mps_of}
+use Rattle.linear_program.specs.Elements.{elements_from}
+use Rattle.linear_program.proofs.Elements.{all_elements, elements_length}
 use Rattle.mps_model.specs.Valid.{IsMps}
 use Rattle.mps_reader.specs.Reader.{IsMpsText}
 use Rattle.mps_reader.specs.Written.{mps_text}
 use Rattle.mps_reader.proofs.RoundTrip.{written_again}
-use Rattle.name_lists.specs.Names.{AreNames}
+use Rattle.mps_model.specs.Names.{AreNames}
 use Rattle.name_files.proofs.ExportedNames.{plain_names, tied_names}
 use Rattle.name_files.proofs.ListedNames.{listed_names}
 use Rattle.name_files.proofs.MeaningLemmas.{same_meaning, valued}
@@ -45,10 +45,10 @@ use Rattle.nl_model.specs.Rules.{IsFile}
 use Rattle.nl_model.proofs.Headers.{counts_of_header}
 use Rattle.nl_segments.specs.Reader.{IsNl}
 use Rattle.exact_numbers.proofs.Fitting.{picked}
-use Rattle.export_round_trip.proofs.Picked.{values_back, whole_picked}
-use Rattle.export_round_trip.proofs.ReadBack.{program_whole}
+use Rattle.round_trips.proofs.Picked.{values_back, whole_picked}
+use Rattle.round_trips.proofs.ReadBack.{program_whole}
 use Rattle.bridge_tool.proofs.FileLimits.{file_exportable, file_rows, file_variables}
-use Rattle.export_round_trip.proofs.Reading.{text_of_values}
+use Rattle.round_trips.proofs.Reading.{text_of_values}
 
 -- ---- what a file with names comes to
 

@@ -21,7 +21,7 @@ use Rattle.sol_files.specs.Sol.{Sol as SolValue}
 use Rattle.sol_files.specs.Written.{sol_text}
 use Rattle.sol_files.proofs.KeptTexts.{read_keeps}
 use Rattle.sol_files.proofs.RoundTrip.{is_read_back}
-use Rattle.nl_round_trip.specs.Writable.{IsText}
+use Rattle.round_trips.specs.Writable.{IsText}
 use Rattle.nl_segments.specs.Reader.{IsNl}
 use Rattle.nl_writer.specs.Written.{nl_text}
 use Rattle.command_parts.specs.Refusal.{HasTextRefusal, IsFixedRefused, IsMpsRefused, IsSolRefused}
@@ -30,11 +30,11 @@ use Rattle.std.specs.Global.{Vec}
 use Rattle.mps_import.proofs.LawLemmas.{feasible_lem, objective_lem, sense_lem}
 use Rattle.mps_program.specs.declared.mps_fault.MpsFault.{MpsFault}
 use Rattle.mps_import.specs.Faults.{import_fault}
-use Rattle.texts.specs.declared.stop.Stop.{Stop}
+use Rattle.text_base.specs.declared.stop.Stop.{Stop}
 use Rattle.bridge_tool.specs.Import.{MeansTheProgram, by_fault, import_outcome, CannotBeImported, IsImportedAs}
 use Rattle.command_core.specs.SeveralFiles.{ByVerdict, Comes, Reached, Meets, ReadsFile, after_file, by_reached, ends, has_said, no_text, refused_with, writes}
 use Rattle.command_core.specs.declared.refused.Refusal.{Refusal}
-use Rattle.desk.specs.Desk.{Meaning, Texts}
+use Rattle.text_base.specs.Desk.{Meaning, Texts}
 use Rattle.command_core.specs.InsideAnswer.{Ends, IsAtRest}
 use Rattle.command_core.specs.declared.answer.Answer.{Answer}
 use Rattle.bridge_tool.proofs.Programs.{text_read}

@@ -6,19 +6,19 @@ use Rattle.std.specs.Global.{Vec}
 use Rattle.std.proofs.lemmas.Bool.{lt-ltb}
 use Rattle.std.proofs.lemmas.Bool.Decides.{nat_tests}
 use Rattle.std.proofs.lemmas.Option.{same_Some}
-use Rattle.desk.specs.Desk.{Meaning, Texts}
-use Rattle.texts.specs.Reading.{lines_of}
-use Rattle.texts.specs.declared.stop.Stop.{Stop}
-use Rattle.texts.specs.declared.stop.Stop.TheVariants.{Fault, Memory}
-use Rattle.program_meaning.specs.Linear.{Linear, variable_count, row_count}
-use Rattle.duality.specs.Certificate.{ClaimOutcome, holds, fails}
-use Rattle.duality.specs.Means.{Means}
-use Rattle.duality.specs.Problem.{Problem}
-use Rattle.duality.specs.ProblemSays.{Denies}
-use Rattle.duality.specs.Told.{Told, IsToldTrue}
+use Rattle.text_base.specs.Desk.{Meaning, Texts}
+use Rattle.text_base.specs.Reading.{lines_of}
+use Rattle.text_base.specs.declared.stop.Stop.{Stop}
+use Rattle.text_base.specs.declared.stop.Stop.TheVariants.{Fault, Memory}
+use Rattle.linear_program.specs.Linear.{Linear, variable_count, row_count}
+use Rattle.certificates.specs.Certificate.{ClaimOutcome, holds, fails}
+use Rattle.certificates.specs.Means.{Means}
+use Rattle.certificates.specs.Problem.{Problem}
+use Rattle.certificates.specs.ProblemSays.{Denies}
+use Rattle.certificates.specs.DualityTold.{Told, IsToldTrue}
 use Rattle.exact_numbers.specs.declared.dec.Dec.{Dec}
-use Rattle.file_meaning.specs.FoldFaults.{FoldFault, fold_fault}
-use Rattle.file_meaning.specs.LinearFile.{linear_of}
+use Rattle.nl_model.specs.FoldFaults.{FoldFault, fold_fault}
+use Rattle.nl_model.specs.LinearFile.{linear_of}
 use Rattle.linear_fold.specs.FoldedFaults.{first_fold_fault, named_fault}
 use Rattle.linear_program.specs.Numbers.{spread}
 use Rattle.linear_program.specs.Programs.{LinearValue, linear_value}
@@ -28,7 +28,7 @@ use Rattle.mps_model.specs.Mps.{Mps}
 use Rattle.mps_program.specs.Faults.{mps_fault}
 use Rattle.mps_program.specs.Program.{values_of}
 use Rattle.mps_program.specs.declared.mps_fault.MpsFault.{MpsFault}
-use Rattle.tree_text.specs.Rows.{rows_in}
+use Rattle.certificate_text.specs.TreeRows.{rows_in}
 use Rattle.certificates.specs.Certificates.{CertificateValue, Given, IsAskedFor, IsCertificateOf, certificate_over, claim_outcome, claim_objective}
 use Rattle.certificates.specs.Reading.{given_in}
 use Rattle.certificates.specs.Setting.{IsSettingOf, Setting, program_setting}
@@ -41,14 +41,14 @@ use Rattle.certificates.proofs.Settings.{certificate_for}
 use Rattle.certificate_text.specs.Reader.{IsCertificateText}
 use Rattle.certificate_text.specs.Written.{AreRowsOf, written_pieces}
 use Rattle.certificate_text.proofs.Files.{text_is_certificate}
-use Rattle.file_certificates.specs.FileProblem.{problem_of}
-use Rattle.file_certificates.specs.Files.{IsCertificateIn}
-use Rattle.file_certificates.proofs.Files.{meant as file_meant}
-use Rattle.file_certificates.proofs.Given.{certificate_of}
-use Rattle.file_certificates.proofs.Settings.{file_setting}
-use Rattle.mps_certificates.specs.Setting.{mps_setting}
-use Rattle.mps_certificates.proofs.Meaning.{mps_means}
-use Rattle.mps_certificates.proofs.Settings.{program_setting as setting_so}
+use Rattle.problems.specs.FileProblem.{problem_of}
+use Rattle.problems.specs.Files.{IsCertificateIn}
+use Rattle.problems.proofs.Files.{meant as file_meant}
+use Rattle.problems.proofs.Given.{certificate_of}
+use Rattle.problems.proofs.NlSettings.{file_setting}
+use Rattle.problems.specs.MpsSetting.{mps_setting}
+use Rattle.problems.proofs.Meaning.{mps_means}
+use Rattle.problems.proofs.MpsSettings.{program_setting as setting_so}
 use Rattle.command_parts.specs.CertificateTold.{HasFittingBound, is_held, objective_text, outcome_line, told_text}
 use Rattle.command_parts.specs.ImportTold.{import_line}
 use Rattle.command_core.specs.InsideAnswer.{IsCounted}

@@ -1,15 +1,15 @@
 -- What an answer for a file comes to: one outcome, and what the duals mean.
 use Rattle.std.proofs.Common.{[], ◌≡◌, ◌∙◌, inl, inr, ◌⊎◌, ℕ, ℤ, ◌+◌, ◌≤◌, List, Bool, true, false, None, is_some, refl, sym, ap, subst}
 use Rattle.std.specs.List.{list_any}
-use Rattle.desk.specs.Desk.{Texts}
+use Rattle.text_base.specs.Desk.{Texts}
 use Rattle.exact_numbers.specs.declared.dec.Dec.{Dec}
-use Rattle.file_meaning.specs.FoldFaults.{fold_fault}
+use Rattle.nl_model.specs.FoldFaults.{fold_fault}
 use Rattle.linear_program.specs.Programs.{LinearValue, linear_value}
 use Rattle.nl_model.specs.declared.header_counts.Counts.{Counts}
 use Rattle.nl_model.specs.Rules.{IsFile}
 use Rattle.nl_segments.specs.Grammar.{NlValue}
-use Rattle.scaling.specs.Scaled.{ScaledValue}
-use Rattle.scaling.specs.Scaling.{IsScaledOf}
+use Rattle.row_scaling.specs.Scaled.{ScaledValue}
+use Rattle.row_scaling.specs.Scaling.{IsScaledOf}
 use Rattle.sol_files.specs.Sol.{Sol}
 use Rattle.sol_files.specs.Written.{sol_text}
 use Rattle.answer_file.specs.Grammar.{AnswerValue}

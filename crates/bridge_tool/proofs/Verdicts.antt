@@ -3,19 +3,19 @@ use Rattle.std.proofs.Common.{◌≡◌, ◌∙◌, inl, inr, ℕ, ◌+◌, ◌�
 use Rattle.std.specs.Prelude.{◌&&◌, nat_lt, option_map, IfOk}
 use Rattle.std.specs.Global.{Vec}
 use Rattle.std.proofs.lemmas.Bool.{eqb-true, ltb-false, and_parts}
-use Rattle.duality.specs.ProblemSays.{VerdictSays}
-use Rattle.duality.specs.Verdict.{Verdict, verdict, yes, gap, refused}
-use Rattle.program_meaning.specs.Linear.{row_count, variable_count, Linear}
-use Rattle.texts.specs.declared.stop.Stop.{Stop}
+use Rattle.certificates.specs.ProblemSays.{VerdictSays}
+use Rattle.certificates.specs.Verdict.{Verdict, verdict, yes, gap, refused}
+use Rattle.linear_program.specs.Linear.{row_count, variable_count, Linear}
+use Rattle.text_base.specs.declared.stop.Stop.{Stop}
 use Rattle.exact_checks.specs.Terms.{values_of}
-use Rattle.solution_fit.specs.declared.fitting.FitFault.{FitFault}
-use Rattle.solution_fit.specs.declared.fitting.FitFault.TheVariants.{OtherCounts, NoPrimal, NoDual}
-use Rattle.file_certificates.specs.FileProblem.{problem_of}
-use Rattle.file_certificates.proofs.Verdicts.{file_leaf, file_verdicts}
-use Rattle.file_meaning.specs.FoldFaults.{fold_fault, FoldFault as FileFault}
-use Rattle.file_meaning.specs.LinearFile.{linear_of, linear_row}
-use Rattle.program_meaning.proofs.Elements.{elements_length}
-use Rattle.file_meaning.proofs.Files.{count_lem}
+use Rattle.certificate_check.specs.declared.fitting.FitFault.{FitFault}
+use Rattle.certificate_check.specs.declared.fitting.FitFault.TheVariants.{OtherCounts, NoPrimal, NoDual}
+use Rattle.problems.specs.FileProblem.{problem_of}
+use Rattle.problems.proofs.Verdicts.{file_leaf, file_verdicts}
+use Rattle.nl_model.specs.FoldFaults.{fold_fault, FoldFault as FileFault}
+use Rattle.nl_model.specs.LinearFile.{linear_of, linear_row}
+use Rattle.linear_program.proofs.Elements.{elements_length}
+use Rattle.nl_model.proofs.Files.{count_lem}
 use Rattle.linear_fold.specs.FoldedFaults.{first_fold_fault, named_fault}
 use Rattle.linear_program.specs.Programs.{LinearValue, linear_value}
 use Rattle.linear_fold.specs.declared.fold_fault.FoldFault.{FoldFault}
@@ -34,18 +34,18 @@ use Rattle.command_parts.specs.VerdictTold.{is_yes, verdict_line}
 use Rattle.command_core.proofs.SeveralFiles.{IsPlain, IsLast, verdict_last}
 use Rattle.command_parts.proofs.TextsRead.{proof_read, sol_read}
 use Rattle.command_core.specs.declared.refused.Refusal.{Refusal}
-use Rattle.duality.specs.Branch.{LeafFault, proof_fault}
-use Rattle.branch_check.specs.declared.verdict.ProofVerdict.{ProofVerdict}
-use Rattle.branch_check.specs.declared.verdict.ProofVerdict.TheVariants.{Yes}
-use Rattle.file_certificates.specs.Files.{IsProofIn}
-use Rattle.branch_check.specs.Leaves.{IsProved, IsVerdictOn, fault_of}
+use Rattle.certificates.specs.Branch.{LeafFault, proof_fault}
+use Rattle.branch_proof.specs.declared.verdict.ProofVerdict.{ProofVerdict}
+use Rattle.branch_proof.specs.declared.verdict.ProofVerdict.TheVariants.{Yes}
+use Rattle.problems.specs.Files.{IsProofIn}
+use Rattle.branch_proof.specs.Leaves.{IsProved, IsVerdictOn, fault_of}
 use Rattle.certificates.specs.Proofs.{IsProofOf, ProofTree, ProofValue, claim_value, tree_over}
 use Rattle.certificates.specs.ProofReading.{tree_in}
 use Rattle.bridge_tool.proofs.ProofClaims.{claim_true as proof_true}
-use Rattle.file_certificates.proofs.ProofFiles.{proof_of}
+use Rattle.problems.proofs.ProofFiles.{proof_of}
 use Rattle.certificates.proofs.ProofReading.{tree_back}
-use Rattle.proof_text.specs.Reader.{IsProofText}
-use Rattle.file_certificates.specs.Setting.{setting_of as certificate_setting}
+use Rattle.branch_proof.specs.Reader.{IsProofText}
+use Rattle.problems.specs.NlSetting.{setting_of as certificate_setting}
 use Rattle.command_parts.specs.ProofTold.{leaf_line}
 use Rattle.bridge_tool.specs.Prove.{IsLeftOpen, IsProvedOf, by_fold as by_proof_fold, by_leaf, claimed_objective, open_leaf, prove_outcome}
 

@@ -12,7 +12,6 @@ ghost use Rattle.bridge_tool.specs.OneFile.{IsMpsMeant, row_of, row_promise};
 use crate::verify_mps::{Layout, open_text};
 use command_core::{Answer, Refusal, end};
 use command_parts::{import_refusal, open_mps, open_nl, open_sol};
-use desk::Desk;
 use mps_import::import;
 use mps_model::Mps;
 use mps_writer::write_mps;
@@ -20,7 +19,7 @@ use nl_segments::NlRead;
 use nl_writer::write_nl;
 use sol_files::{Sol, write_sol};
 use std::alloc::Global;
-use texts::Stop;
+use text_base::{Desk, Stop};
 
 /// A command of one file: what it reads, and what it writes of that.
 #[derive(Clone, Copy)]

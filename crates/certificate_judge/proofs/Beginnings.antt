@@ -7,15 +7,15 @@ use Rattle.std.proofs.Math.Path.{fun_ext}
 use Rattle.std.proofs.lemmas.Bool.{cases_lt}
 use Rattle.std.proofs.lemmas.List.{get_or_past}
 use Rattle.std.proofs.lemmas.Option.{slice_get_past}
-use Rattle.fractions.specs.Rational.{ℚ}
-use Rattle.program_meaning.specs.Linear.{Interval, Linear, Variable, no_variable, variable_count}
-use Rattle.duality.specs.Points.{bounds_of}
+use Rattle.exact_numbers.specs.Rational.{ℚ}
+use Rattle.linear_program.specs.Linear.{Interval, Linear, Variable, no_variable, variable_count}
+use Rattle.certificates.specs.Points.{bounds_of}
 use Rattle.exact_numbers.specs.declared.dec.Dec.{Dec}
 use Rattle.linear_program.specs.declared.interval.Interval.{Interval as Sides}
 use Rattle.linear_program.specs.Intervals.{interval_of}
 use Rattle.exact_checks.specs.Lists.{bounds_in, side_listed}
 use Rattle.exact_checks.specs.Terms.{side_value}
-use Rattle.duality.specs.Parts.{whole_part}
+use Rattle.certificates.specs.Parts.{whole_part}
 use Rattle.certificate_judge.specs.InsidePaths.{IsAt, IsPath, IsUnder, sides_of}
 use Rattle.certificate_judge.specs.declared.path.Path.{Path}
 

@@ -1,12 +1,12 @@
 -- The parts of a certificate, and its outcome.
 use Rattle.std.proofs.Common.{◌≡◌, ℕ, ◌∙◌, sym, ap, ap₂, List, ◌++◌, drop, take, Option, Some, None, refl}
 use Rattle.std.proofs.Math.Seq.{take-append_seam}
-use Rattle.fractions.specs.Rational.{zero_ℚ}
-use Rattle.program_meaning.specs.Linear.{Linear, row_count, value_at, variable_count}
-use Rattle.duality.specs.Branch.{proof_fault}
-use Rattle.duality.specs.Certificate.{ClaimOutcome as OutcomeWords, alone, judged, outcome, unless_leaf, with_leaves, with_ray, with_proof}
-use Rattle.duality.specs.Parts.{IsWholeVariable}
-use Rattle.duality.specs.Ray.{ray_fault}
+use Rattle.exact_numbers.specs.Rational.{zero_ℚ}
+use Rattle.linear_program.specs.Linear.{Linear, row_count, value_at, variable_count}
+use Rattle.certificates.specs.Branch.{proof_fault}
+use Rattle.certificates.specs.Certificate.{ClaimOutcome as OutcomeWords, alone, judged, outcome, unless_leaf, with_leaves, with_ray, with_proof}
+use Rattle.certificates.specs.Parts.{IsWholeVariable}
+use Rattle.certificates.specs.Ray.{ray_fault}
 use Rattle.linear_program.specs.declared.number.Number.{Number}
 use Rattle.certificates.specs.declared.certificate.Claim.TheVariants.{Optimal, Within, Bound, Feasible, Infeasible, Unbounded}
 use Rattle.certificates.specs.Certificates.{CertificateTree, CertificateValue, Given, HasTree, HasWeights, IsCertificateOf, certificate_over, pairs_in, nodes_in, tree_over}

@@ -3,15 +3,15 @@ use Rattle.std.proofs.Common.{◌≡◌, ℕ, zero, suc, ◌*◌, ◌<◌, ◌�
 use Rattle.std.specs.Prelude.{if◌then◌else◌, Option, Some, None, IsTrue, ◌↔◌, ◌||◌, ◌&&◌, not}
 use Rattle.std.proofs.lemmas.Int.{ints, unsigned_abs-mul}
 use Rattle.std.proofs.lemmas.Bool.{cases_lt, false_from_ne_true, or_right, or_left}
-use Rattle.fractions.specs.Fits.{fits, is_small}
-use Rattle.fractions.specs.Rational.{ℚ, IsWhole, decimal_value, whole, zero_ℚ, neg_ℚ, ◌<ℚ◌}
-use Rattle.fractions.proofs.Arithmetic.{decimal_value_lem, not_both, whole-neg, whole-≤ℚ, whole_of, ≤ℚ_of_<ℚ}
-use Rattle.fractions.proofs.Values.{HasValue, le_value, neg_value, scaled_value, whole_value}
-use Rattle.duality.specs.Certificate.{can_compare, is_large, large}
-use Rattle.duality.specs.Checked.{is_at_most}
-use Rattle.duality.specs.Verdict.{is_not_above, is_not_below}
-use Rattle.duality.proofs.Checks.{at_most_of, at_most_yes}
-use Rattle.duality.proofs.Large.{large_above, large_below}
+use Rattle.exact_numbers.specs.Fits.{fits, is_small}
+use Rattle.exact_numbers.specs.Rational.{ℚ, IsWhole, decimal_value, whole, zero_ℚ, neg_ℚ, ◌<ℚ◌}
+use Rattle.exact_numbers.proofs.FractionArithmetic.{decimal_value_lem, not_both, whole-neg, whole-≤ℚ, whole_of, ≤ℚ_of_<ℚ}
+use Rattle.exact_numbers.proofs.Values.{HasValue, le_value, neg_value, scaled_value, whole_value}
+use Rattle.certificates.specs.Certificate.{can_compare, is_large, large}
+use Rattle.certificates.specs.Checked.{is_at_most}
+use Rattle.certificates.specs.Verdict.{is_not_above, is_not_below}
+use Rattle.certificates.proofs.Checks.{at_most_of, at_most_yes}
+use Rattle.certificates.proofs.Large.{large_above, large_below}
 use Rattle.exact_numbers.specs.declared.dec.Dec.{Dec}
 use Rattle.exact_numbers.specs.Values.{dec_value}
 use Rattle.exact_numbers.proofs.Bridge.{decimal_is, small_of, whole_is}

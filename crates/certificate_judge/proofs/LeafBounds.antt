@@ -1,9 +1,9 @@
 -- The bound and the test of a leaf, where a path stands.
 use Rattle.std.proofs.Common.{◌≡◌, ◌∙◌, sym, ap, ap₂, subst, refl, List, length, Bool, true, Option, Some, None}
-use Rattle.fractions.specs.Rational.{ℚ, zero_ℚ}
-use Rattle.program_meaning.specs.Linear.{Form, Linear, row_count}
-use Rattle.duality.specs.Parts.{Part, maximising, whole_part}
-use Rattle.duality.specs.Verdict.{BoundVerdict, dual_bound}
+use Rattle.exact_numbers.specs.Rational.{ℚ, zero_ℚ}
+use Rattle.linear_program.specs.Linear.{Form, Linear, row_count}
+use Rattle.certificates.specs.Parts.{Part, maximising, whole_part}
+use Rattle.certificates.specs.Verdict.{BoundVerdict, dual_bound}
 use Rattle.exact_numbers.specs.declared.dec.Dec.{Dec}
 use Rattle.exact_numbers.specs.Values.{frac_value}
 use Rattle.linear_program.specs.Coefs.{Term, coef_in}

@@ -1,9 +1,9 @@
 -- What a path holds is the part at the end of its turns.
 use Rattle.std.proofs.Common.{◌≡◌, ℕ, ◌+◌, ◌<◌, ◌∙◌, sym, ap, subst, refl, List, [], ◌∷◌, ◌++◌, length, length-append, append-nil, append_assoc, get_or, reverse, Option, Some, None, pos, ◌+ℤ◌, true}
 use Rattle.std.specs.Prelude.{slice_get}
-use Rattle.program_meaning.specs.Linear.{Form, Interval, Linear, Row as LinearRow, no_row, row_at, variable_count}
-use Rattle.fractions.specs.Rational.{ℚ, whole, zero_ℚ}
-use Rattle.duality.specs.Parts.{NumberForm, Part, WholeForm, added_row, bound, plane, lemma, at_least, at_most, capped, form_of as plane_form, maximising, raised, sum_of, with_added_row, whole_part}
+use Rattle.linear_program.specs.Linear.{Form, Interval, Linear, Row as LinearRow, no_row, row_at, variable_count}
+use Rattle.exact_numbers.specs.Rational.{ℚ, whole, zero_ℚ}
+use Rattle.certificates.specs.Parts.{NumberForm, Part, WholeForm, added_row, bound, plane, lemma, at_least, at_most, capped, form_of as plane_form, maximising, raised, sum_of, with_added_row, whole_part}
 use Rattle.exact_numbers.specs.Values.{frac_value}
 use Rattle.linear_program.specs.Intervals.{interval_of}
 use Rattle.linear_program.specs.Coefs.{coef_in}

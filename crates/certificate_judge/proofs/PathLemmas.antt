@@ -3,8 +3,8 @@ use Rattle.std.proofs.Common.{◌≡◌, ℕ, zero, suc, ◌∙◌, sym, ap, ap�
 use Rattle.std.specs.Global.{Vec}
 use Rattle.std.specs.Vec.{with_items}
 use Rattle.std.proofs.lemmas.List.{reverse-append, with_items_is}
-use Rattle.fractions.specs.Rational.{ℚ, whole}
-use Rattle.duality.specs.Parts.{Part, Cut, NumberForm, WholeForm, bound, plane, lemma, at_most}
+use Rattle.exact_numbers.specs.Rational.{ℚ, whole}
+use Rattle.certificates.specs.Parts.{Part, Cut, NumberForm, WholeForm, bound, plane, lemma, at_most}
 use Rattle.exact_numbers.specs.declared.dec.Dec.{Dec}
 use Rattle.exact_checks.specs.Built.{AreWithin}
 use Rattle.exact_checks.specs.Lists.{form_of}

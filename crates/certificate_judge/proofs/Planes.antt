@@ -4,9 +4,9 @@ use Rattle.std.specs.Prelude.{if◌then◌else◌}
 use Rattle.std.proofs.Math.Path.{fun_ext}
 use Rattle.std.proofs.lemmas.Bool.{cases_eq, eq-eqb, ne_eqb}
 use Rattle.std.proofs.lemmas.List.{drop_all}
-use Rattle.fractions.specs.Rational.{ℚ, IsWhole, whole, zero_ℚ}
-use Rattle.fractions.proofs.Arithmetic.{whole_of}
-use Rattle.duality.specs.Parts.{factor_of, form_of as plane_form, number_factor as sum_at}
+use Rattle.exact_numbers.specs.Rational.{ℚ, IsWhole, whole, zero_ℚ}
+use Rattle.exact_numbers.proofs.FractionArithmetic.{whole_of}
+use Rattle.certificates.specs.Parts.{factor_of, form_of as plane_form, number_factor as sum_at}
 use Rattle.exact_numbers.specs.declared.frac.Frac.{Frac}
 use Rattle.exact_numbers.specs.Values.{frac_value}
 use Rattle.linear_program.specs.Coefs.{Term, AreAscending, AreBelow, coef_in, found, value_or_zero}

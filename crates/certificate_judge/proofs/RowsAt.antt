@@ -1,12 +1,12 @@
 -- The rows of a program, and loops over them and over its variables.
 use Rattle.std.proofs.Common.{◌≡◌, ℕ, ◌<◌, ◌∙◌, sym, ap, ap₂, subst, List, length, get_or, Bool, Option, Some, None}
 use Rattle.std.specs.Prelude.{if◌then◌else◌, slice_get, not, ◌&&◌}
-use Rattle.fractions.specs.Rational.{ℚ, zero_ℚ}
-use Rattle.program_meaning.specs.Linear.{Form, Interval, variable_at, variable_count}
-use Rattle.duality.specs.Certificate.{can_compare, fitting_bound_fault, is_whole_number, wholeness}
-use Rattle.duality.specs.Points.{bounds_of}
-use Rattle.duality.specs.Ray.{RayFault, ray_bound_broken, ray_bound_fault, ray_row_check, ray_row_fault, recession, run_change}
-use Rattle.duality.specs.Verdict.{Fault, at_bound, bound_broken, bound_fault, is_inside, row_check, row_fault, run_form, too_wide}
+use Rattle.exact_numbers.specs.Rational.{ℚ, zero_ℚ}
+use Rattle.linear_program.specs.Linear.{Form, Interval, variable_at, variable_count}
+use Rattle.certificates.specs.Certificate.{can_compare, fitting_bound_fault, is_whole_number, wholeness}
+use Rattle.certificates.specs.Points.{bounds_of}
+use Rattle.certificates.specs.Ray.{RayFault, ray_bound_broken, ray_bound_fault, ray_row_check, ray_row_fault, recession, run_change}
+use Rattle.certificates.specs.Verdict.{Fault, at_bound, bound_broken, bound_fault, is_inside, row_check, row_fault, run_form, too_wide}
 use Rattle.exact_numbers.specs.declared.frac.Frac.{Frac}
 use Rattle.exact_numbers.specs.Values.{frac_value}
 use Rattle.linear_program.specs.Intervals.{interval_of}

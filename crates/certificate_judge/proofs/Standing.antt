@@ -1,11 +1,11 @@
 -- Where the walk stands, and what a node leads to.
 use Rattle.std.proofs.Common.{◌≡◌, ℕ, ◌+◌, ◌<◌, ◌≤◌, ◌∙◌, sym, ap, subst, List, [], ◌∷◌, length, take, drop, get_or, Option, Some, None, ℤ, All, true}
 use Rattle.std.specs.Option.{option_map}
-use Rattle.fractions.specs.Fits.{fits}
-use Rattle.fractions.specs.Rational.{ℚ, IsWhole}
-use Rattle.program_meaning.specs.Linear.{Linear, row_count, variable_count}
-use Rattle.duality.specs.Branch.{LeafFault, proof_fault}
-use Rattle.duality.specs.Parts.{Part, bound, lemma, plane, whole_part}
+use Rattle.exact_numbers.specs.Fits.{fits}
+use Rattle.exact_numbers.specs.Rational.{ℚ, IsWhole}
+use Rattle.linear_program.specs.Linear.{Linear, row_count, variable_count}
+use Rattle.certificates.specs.Branch.{LeafFault, proof_fault}
+use Rattle.certificates.specs.Parts.{Part, bound, lemma, plane, whole_part}
 use Rattle.certificates.specs.declared.certificate.CertificateNode.{CertificateNode}
 use Rattle.certificates.specs.declared.certificate.CertificateNode.TheVariants.{Split, Plane, Lemma}
 use Rattle.linear_program.specs.declared.number.Number.{Number}

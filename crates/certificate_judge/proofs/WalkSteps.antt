@@ -2,10 +2,10 @@
 use Rattle.std.proofs.Common.{◌≡◌, ℕ, suc, ◌+◌, ◌<◌, ◌≤◌, ◌∙◌, sym, ap, ap₂, subst, refl, arith, List, [], ◌∷◌, ◌++◌, length, length-append, take, drop, get_or, drop-cons, add-one, Option, None, ℤ}
 use Rattle.std.specs.Option.{option_map}
 use Rattle.std.proofs.lemmas.List.{drop_all, take_at, drop_at}
-use Rattle.fractions.specs.Rational.{ℚ, IsWhole}
-use Rattle.program_meaning.specs.Linear.{Linear, row_count, variable_count}
-use Rattle.duality.specs.Branch.{LeafFault, proof_fault, branch_fault}
-use Rattle.duality.specs.Parts.{Part, whole_part}
+use Rattle.exact_numbers.specs.Rational.{ℚ, IsWhole}
+use Rattle.linear_program.specs.Linear.{Linear, row_count, variable_count}
+use Rattle.certificates.specs.Branch.{LeafFault, proof_fault, branch_fault}
+use Rattle.certificates.specs.Parts.{Part, whole_part}
 use Rattle.certificates.specs.declared.certificate.CertificateNode.{CertificateNode}
 use Rattle.certificates.specs.declared.certificate.CertificateNode.TheVariants.{Split, Plane, Lemma, Duals, Weights}
 use Rattle.linear_program.specs.declared.number.Number.{Number}

@@ -1,12 +1,12 @@
 -- A walk over the leaves of a written tree, with the subtrees that are still to come.
 use Rattle.std.proofs.Common.{◌≡◌, ℕ, suc, ◌+◌, ◌<◌, ◌∙◌, sym, ap, ap₂, subst, refl, List, [], ◌∷◌, ◌++◌, length, append-nil, append_assoc, Option, Some, None, ℤ, add_assoc, All, true}
 use Rattle.std.specs.Option.{option_or}
-use Rattle.fractions.specs.Fits.{fits}
-use Rattle.fractions.specs.Rational.{IsWhole}
-use Rattle.program_meaning.specs.Linear.{row_count}
-use Rattle.duality.specs.Branch.{LeafFault, BranchTree, leaves, split as split_tree, branch_fault}
-use Rattle.duality.specs.Parts.{Cut, Part, bound, form_of as plane_form, first_part, second_part, lemma as lemma_cut, plane as plane_cut, sum_of}
-use Rattle.duality.proofs.Parts.{rows_added}
+use Rattle.exact_numbers.specs.Fits.{fits}
+use Rattle.exact_numbers.specs.Rational.{IsWhole}
+use Rattle.linear_program.specs.Linear.{row_count}
+use Rattle.certificates.specs.Branch.{LeafFault, BranchTree, leaves, split as split_tree, branch_fault}
+use Rattle.certificates.specs.Parts.{Cut, Part, bound, form_of as plane_form, first_part, second_part, lemma as lemma_cut, plane as plane_cut, sum_of}
+use Rattle.certificates.proofs.Parts.{rows_added}
 use Rattle.certificates.specs.declared.certificate.CertificateNode.{CertificateNode}
 use Rattle.certificates.specs.declared.certificate.CertificateNode.TheVariants.{Split, Plane, Lemma}
 use Rattle.linear_program.specs.declared.number.Number.{Number}

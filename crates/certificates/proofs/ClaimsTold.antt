@@ -1,16 +1,16 @@
 -- What is told of a claim, or of a proof by branches, is true of each problem that the linear program means.
 use Rattle.std.proofs.Common.{◌≡◌, ℕ, sym, subst, refl, [], Option, Some, None}
 use Rattle.std.proofs.lemmas.Option.{same_Some}
-use Rattle.fractions.specs.Rational.{ℚ}
-use Rattle.program_meaning.specs.Linear.{Linear, variable_count, row_count}
-use Rattle.duality.specs.Branch.{AreSplitsWhole, proof_fault}
-use Rattle.duality.specs.Certificate.{Cause, ClaimOutcome, fails, holds}
-use Rattle.duality.specs.Means.{Means}
-use Rattle.duality.specs.Parts.{IsWholeVariable}
-use Rattle.duality.specs.Problem.{Problem}
-use Rattle.duality.specs.ProblemSays.{Denies, IsShown, OutcomeSays}
-use Rattle.duality.specs.Told.{IsToldTrue, IsTrueOf, bound as told_bound, infeasible as told_infeasible}
-use Rattle.duality.proofs.Problems.{bounds, none_relaxed, outcomes}
+use Rattle.exact_numbers.specs.Rational.{ℚ}
+use Rattle.linear_program.specs.Linear.{Linear, variable_count, row_count}
+use Rattle.certificates.specs.Branch.{AreSplitsWhole, proof_fault}
+use Rattle.certificates.specs.Certificate.{Cause, ClaimOutcome, fails, holds}
+use Rattle.certificates.specs.Means.{Means}
+use Rattle.certificates.specs.Parts.{IsWholeVariable}
+use Rattle.certificates.specs.Problem.{Problem}
+use Rattle.certificates.specs.ProblemSays.{Denies, IsShown, OutcomeSays}
+use Rattle.certificates.specs.DualityTold.{IsToldTrue, IsTrueOf, bound as told_bound, infeasible as told_infeasible}
+use Rattle.certificates.proofs.Problems.{bounds, none_relaxed, outcomes}
 use Rattle.exact_numbers.specs.Values.{dec_value}
 use Rattle.linear_program.specs.Numbers.{spread}
 use Rattle.certificates.specs.Certificates.{CertificateTree, CertificateValue, Given, HasTree, HasWeights, IsAskedFor, IsCertificateOf, IsGivenOver, certificate_over, claim_outcome}

@@ -1,10 +1,10 @@
 -- What each way to end a command says of its outcome and of the desk.
 use Rattle.std.proofs.Common.{◌≡◌, ◌≢◌, ◌∙◌, inl, inr, ◌⊎◌, ℕ, zero, suc, ◌<◌, ◌≤◌, List, Bool, true, false, drop, Option, Some, None, IfSome, refl, subst, arith}
 use Rattle.std.specs.Prelude.{IsTrue, Result, Ok, Err}
-use Rattle.texts.specs.declared.stop.Stop.{Stop}
-use Rattle.texts.specs.declared.stop.Stop.TheVariants.{Fault, Memory}
+use Rattle.text_base.specs.declared.stop.Stop.{Stop}
+use Rattle.text_base.specs.declared.stop.Stop.TheVariants.{Fault, Memory}
 use Rattle.std.specs.Io.KnownBytes.{Appends}
-use Rattle.desk.specs.Desk.{Meaning, Rose, OnlyInput}
+use Rattle.text_base.specs.Desk.{Meaning, Rose, OnlyInput}
 use Rattle.command_core.specs.declared.refused.Refusal.{Refusal}
 use Rattle.command_core.specs.InsideAnswer.{IsWorked, EndsBy, EndsWriting, status_of, told_by, HasWritten, HasStopped}
 use Rattle.command_core.specs.Outcome.{Outcome, BadWords, Untold, NoText, Refused, Done, Status, Written, IsQuiet, told_line, verdict_status}

@@ -7,7 +7,7 @@ use Rattle.std.specs.Global.{Vec}
 use Rattle.std.specs.List.{flat_map}
 use Rattle.std.specs.declared.option.Option.{Option}
 use Rattle.std.specs.declared.option.Option.TheVariants.{None, Some}
-use Rattle.desk.specs.Desk.{Texts, Starts, Meaning, OnlyInput, OnlyOutput, OnlyMessages}
+use Rattle.text_base.specs.Desk.{Texts, Starts, Meaning, OnlyInput, OnlyOutput, OnlyMessages}
 use Rattle.command_core.specs.Transfer.{AppendsPart, FeedsText, FeedsToLimit, ReadsFront, ReadsToLimit}
 use Rattle.std.specs.Io.KnownBytes.{Appends, Consumes, IsAtEnd}
 

@@ -1,18 +1,18 @@
 -- Commands of files: exactly one outcome, and what each way to end them says.
 use Rattle.std.proofs.Common.{◌≡◌, inl, inr, ◌⊎◌, List, ℕ, Bool, true, false, refl, ap, ◌∙◌, sym, ap₂, ◌≢◌, ◌≤◌, ◌+◌, take, drop, Option, Some, None, Result, Ok, Err, subst, arith}
 use Rattle.command_core.specs.Outcome.{Outcome, BadWords, DoneOrRefused, Untold, NoText, Refused as IsRefusal, Done as IsDone, Status}
-use Rattle.texts.specs.Judged.{Rules}
-use Rattle.texts.specs.Reading.{HasFault, IsRead, last_of, lines_of}
-use Rattle.texts.specs.declared.fault.TextFault.{TextFault}
-use Rattle.texts.proofs.JudgedLemmas.{one_outcome}
+use Rattle.text_base.specs.Judged.{Rules}
+use Rattle.text_base.specs.Reading.{HasFault, IsRead, last_of, lines_of}
+use Rattle.text_base.specs.declared.fault.TextFault.{TextFault}
+use Rattle.text_base.proofs.JudgedLemmas.{one_outcome}
 use Rattle.command_core.specs.Told.{TellsFault}
 use Rattle.std.proofs.lemmas.Option.{same_Some}
 use Rattle.std.specs.Prelude.{IfOk, IsSomeAnd, IsTrue, option_map}
 use Rattle.std.specs.Global.{Vec}
 use Rattle.std.specs.List.{flat_map}
-use Rattle.desk.specs.Desk.{IsUnknown, Meaning, OnlyInput, Rose, Texts}
-use Rattle.texts.specs.declared.stop.Stop.{Stop}
-use Rattle.texts.specs.declared.stop.Stop.TheVariants.{Fault, Memory}
+use Rattle.text_base.specs.Desk.{IsUnknown, Meaning, OnlyInput, Rose, Texts}
+use Rattle.text_base.specs.declared.stop.Stop.{Stop}
+use Rattle.text_base.specs.declared.stop.Stop.TheVariants.{Fault, Memory}
 use Rattle.command_core.specs.InsideAnswer.{IsAtRest, IsCounted, IsWorked, Ends, EndsBy, EndsInPieces, status_of}
 use Rattle.command_core.specs.Promise.{Promise}
 use Rattle.command_core.specs.SeveralFiles.{ByVerdict, Comes, ComesBy, ComesInPieces, HasEnded, HasSaid, IsTextOf, ReadsFile, Reached, Meets, after_file, by_reached, desk_promise, judges_last, has_said, no_text, of_met, refused_with, saying, stops}

@@ -4,27 +4,27 @@ use Rattle.std.specs.Prelude.{All, IsTrue, option_map}
 use Rattle.std.proofs.lemmas.Bool.{cases_lt, cases_order}
 use Rattle.std.proofs.lemmas.List.{get_or_past}
 use Rattle.std.proofs.lemmas.List.Elements.{All-nil, All-cons, All-head, All-tail}
-use Rattle.fractions.specs.Fits.{fits, sum_fits}
-use Rattle.fractions.specs.Rational.{ℚ, neg_ℚ, whole, ◌-ℚ◌, ◌*ℚ◌}
-use Rattle.program_meaning.specs.Linear.{Row, Linear, variable_count, no_row, row_at}
+use Rattle.exact_numbers.specs.Fits.{fits, sum_fits}
+use Rattle.exact_numbers.specs.Rational.{ℚ, neg_ℚ, whole, ◌-ℚ◌, ◌*ℚ◌}
+use Rattle.linear_program.specs.Linear.{Row, Linear, variable_count, no_row, row_at}
 use Rattle.exact_numbers.specs.Values.{FitsDec, fits_dec}
 use Rattle.exact_numbers.proofs.Spelling.{fits_dec_in, fits_dec_out}
 use Rattle.scaled_program.specs.Fits.{ScaledFits, SideFits, RangeFits, IfSide, IfBoth, RowFits, ExportFits, IsRowTooWide, IsDecimal, ObjectiveFits, factor_of_row, factor_of_objective, IsScaledProgramOf}
 use Rattle.scaled_program.specs.Factor.{coefficients_below, objective_numbers}
 use Rattle.scaled_program.specs.Program.{ScaledProgram, scaled_by, scaled_and_tied, nonzero, scaled_side, is_exported}
-use Rattle.scaling.specs.Scaling.{HasNoScaleFault, HasScaleFault}
-use Rattle.scaling.specs.declared.scale_fault.ScaleFault.{ScaleFault}
-use Rattle.scaling.specs.declared.scale_fault.ScaleFault.TheVariants.{RowTooWide, ObjectiveTooWide}
+use Rattle.row_scaling.specs.Scaling.{HasNoScaleFault, HasScaleFault}
+use Rattle.row_scaling.specs.declared.scale_fault.ScaleFault.{ScaleFault}
+use Rattle.row_scaling.specs.declared.scale_fault.ScaleFault.TheVariants.{RowTooWide, ObjectiveTooWide}
 use Rattle.std.proofs.lemmas.Option.{same_Some}
-use Rattle.file_meaning.specs.FoldFaults.{fold_fault, FoldFault as FileFault}
-use Rattle.file_meaning.specs.LinearFile.{linear_of}
+use Rattle.nl_model.specs.FoldFaults.{fold_fault, FoldFault as FileFault}
+use Rattle.nl_model.specs.LinearFile.{linear_of}
 use Rattle.linear_fold.specs.FoldedFaults.{first_fold_fault, named_fault}
 use Rattle.linear_program.specs.Programs.{LinearValue, linear_value}
 use Rattle.linear_fold.specs.declared.fold_fault.FoldFault.{FoldFault}
 use Rattle.nl_model.specs.File.{File}
 use Rattle.nl_segments.specs.Grammar.{NlValue}
-use Rattle.scaling.specs.Exported.{scaled_as}
-use Rattle.scaling.specs.Scaled.{ScaledValue}
+use Rattle.row_scaling.specs.Exported.{scaled_as}
+use Rattle.row_scaling.specs.Scaled.{ScaledValue}
 use Rattle.command_parts.specs.NlTold.{fold_line, scale_line}
 use Rattle.command_parts.specs.Stages.{HasFolded, HasScaled, CanBeExported, CannotBeExported}
 

@@ -2,9 +2,9 @@
 use Rattle.std.proofs.Common.{◌≡◌, ◌∙◌, inl, inr, ℕ, ◌+◌, ◌==◌, ◌≤◌, Bool, true, false, List, length, Option, Some, None, Result, Ok, Err, refl, sym, ap, arith, eqb-true, length-take-le}
 use Rattle.std.specs.Prelude.{IfOk, if◌then◌else◌}
 use Rattle.std.proofs.lemmas.Bool.{or_cases}
-use Rattle.desk.specs.Desk.{Meaning, Texts}
-use Rattle.texts.specs.Reading.{lines_of}
-use Rattle.texts.proofs.ReadingLemmas.{text_ends}
+use Rattle.text_base.specs.Desk.{Meaning, Texts}
+use Rattle.text_base.specs.Reading.{lines_of}
+use Rattle.text_base.proofs.ReadingLemmas.{text_ends}
 use Rattle.name_files.specs.Names.{Counts, SaysNames, end_reason, is_full, name_rules, names_of, used_names}
 use Rattle.name_files.specs.declared.fault.NameReason.{NameReason}
 use Rattle.name_files.specs.declared.fault.NameReason.TheVariants.{OtherCount}

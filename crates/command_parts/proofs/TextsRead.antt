@@ -3,9 +3,9 @@ use Rattle.std.proofs.Common.{◌≡◌, inl, inr, ◌⊎◌, ℕ, List, refl, s
 use Rattle.std.specs.Prelude.{map}
 use Rattle.nl_segments.specs.Grammar.{NlValue, nl_rules, standing, said, counts_of}
 use Rattle.command_parts.specs.NlTold.{nl_line}
-use Rattle.texts.specs.Judged.{HasOneOutcome, IsClean}
-use Rattle.texts.specs.Reading.{lines_of, last_of}
-use Rattle.texts.proofs.JudgedLemmas.{one_outcome}
+use Rattle.text_base.specs.Judged.{HasOneOutcome, IsClean}
+use Rattle.text_base.specs.Reading.{lines_of, last_of}
+use Rattle.text_base.proofs.JudgedLemmas.{one_outcome}
 use Rattle.nl_lines.specs.Saying.{place_lines}
 use Rattle.nl_model.specs.Draft.{file_of}
 use Rattle.nl_segments.specs.Reader.{IsNl, HasNlFault, fault_of}
@@ -26,10 +26,10 @@ use Rattle.answer_file.specs.Grammar.{SaysAnswer, answer_of, answer_rules, stand
 use Rattle.answer_file.specs.Names.{Setting}
 use Rattle.answer_file.specs.Reading.{IsAnswer}
 use Rattle.answer_file.specs.Reasons.{answer_reason_text}
-use Rattle.proof_text.specs.Reader.{HasProofFault, IsProofText}
+use Rattle.branch_proof.specs.Reader.{HasProofFault, IsProofText}
 use Rattle.certificates.specs.Setting.{Setting as CertificateSetting}
-use Rattle.proof_text.proofs.ReadingLemmas.{one_reading as one_proof}
-use Rattle.proof_text.specs.Reasons.{proof_reason_text}
+use Rattle.branch_proof.proofs.ReadingLemmas.{one_reading as one_proof}
+use Rattle.branch_proof.specs.Reasons.{proof_reason_text}
 use Rattle.certificate_text.specs.Reader.{HasCertificateFault, IsCertificateText}
 use Rattle.certificate_text.proofs.ReadingLemmas.{one_reading as one_certificate}
 use Rattle.certificate_text.specs.Reasons.{certificate_reason_text}

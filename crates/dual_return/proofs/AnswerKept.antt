@@ -4,9 +4,9 @@ use Rattle.std.proofs.Common.{◌≡◌, ◌∙◌, ℕ, suc, ◌<◌, ◌≤◌
 use Rattle.std.specs.Prelude.{option_map, codes, IfSome, unwrap_or, option_and_then}
 use Rattle.std.specs.List.{AllByRecursion}
 use Rattle.std.specs.Str.{bytes_eq}
-use Rattle.texts.specs.Judged.{first_reason}
-use Rattle.texts.specs.Reading.{lines_of, last_of}
-use Rattle.texts.specs.Words.{row_of, without_blanks, word_at, is_blank}
+use Rattle.text_base.specs.Judged.{first_reason}
+use Rattle.text_base.specs.Reading.{lines_of, last_of}
+use Rattle.text_base.specs.Words.{row_of, without_blanks, word_at, is_blank}
 use Rattle.exact_numbers.specs.declared.dec.Dec.{Dec}
 use Rattle.exact_numbers.specs.Numbers.{dec_of, are_digits, whole_of, is_whole}
 use Rattle.answer_file.specs.declared.fault.AnswerReason.TheVariants.{BadLine, TooLarge, BadNumber, UnknownName, Repeated}
@@ -21,27 +21,27 @@ use Rattle.answer_file.specs.Steps.{with_entry, with_said, after, new_suffix, wi
 use Rattle.answer_file.specs.Reading.{IsAnswer}
 use Rattle.answer_file.proofs.StandingLemmas.{standing_more, standing_none}
 use Rattle.sol_files.specs.Built.{IsMessageLine}
-use Rattle.texts.specs.Cut.{IsTextLine}
-use Rattle.texts.proofs.LineLemmas.{lines_of-lines, one_line-blanks, one_line-drop}
+use Rattle.text_base.specs.Cut.{IsTextLine}
+use Rattle.text_base.proofs.LineLemmas.{lines_of-lines, one_line-blanks, one_line-drop}
 use Rattle.std.specs.Option.{option_or}
 use Rattle.std.specs.Str.Parse.{digits_value}
 use Rattle.std.proofs.lemmas.Bool.{cond_both, ltb-true, eqb-true, leb-false, not-false, and_parts, or_parts, lt-ltb}
-use Rattle.texts.specs.Names.{is_name}
+use Rattle.text_base.specs.Names.{is_name}
 use Rattle.nl_model.specs.declared.suffix.Suffix.{Suffix as FileSuffix}
-use Rattle.shared_parts.specs.declared.suffix_kinds.Objects.{Objects}
-use Rattle.shared_parts.specs.declared.suffix_kinds.Objects.TheVariants.{Variables, Constraints, Objectives, Problem}
+use Rattle.nl_model.specs.declared.suffix_kinds.Objects.{Objects}
+use Rattle.nl_model.specs.declared.suffix_kinds.Objects.TheVariants.{Variables, Constraints, Objectives, Problem}
 use Rattle.nl_model.specs.Rules.{is_suffix_of}
-use Rattle.shared_parts.specs.SuffixKinds.{has_same_objects, object_limit, objects_of, wants_whole, count_among}
-use Rattle.name_lists.specs.Names.{index_named}
-use Rattle.name_lists.proofs.NumeralLemmas.{position-cons, named_so}
+use Rattle.nl_model.specs.SuffixKinds.{has_same_objects, object_limit, objects_of, wants_whole, count_among}
+use Rattle.mps_model.specs.Names.{index_named}
+use Rattle.mps_model.proofs.NumeralLemmas.{position-cons, named_so}
 use Rattle.answer_file.specs.Suffixes.{has_place, place_named, suffix_at, suffix_named, value_count}
-use Rattle.shared_parts.proofs.ObjectLemmas.{same_objects}
+use Rattle.nl_model.proofs.ObjectLemmas.{same_objects}
 use Rattle.answer_file.proofs.TableLemmas.{one_value_more}
 use Rattle.sol_files.specs.Written.{IsSaidLine, are_values}
 use Rattle.sol_files.proofs.KeptTail.{values_push}
-use Rattle.texts.proofs.AllLemmas.{all_here, all_push}
-use Rattle.texts.proofs.JudgedLemmas.{clean_keeps}
-use Rattle.texts.proofs.FirstReasons.{none_head}
+use Rattle.text_base.proofs.AllLemmas.{all_here, all_push}
+use Rattle.text_base.proofs.JudgedLemmas.{clean_keeps}
+use Rattle.text_base.proofs.FirstReasons.{none_head}
 
 -- ---- values of a suffix
 

@@ -3,19 +3,19 @@ use Rattle.std.proofs.Common.{◌≡◌, inl, inr, ◌∙◌, ℕ, zero, suc, be
 use Rattle.std.specs.Prelude.{slice_get}
 use Rattle.std.proofs.lemmas.Bool.{both_ways}
 use Rattle.std.proofs.lemmas.List.{length-append}
-use Rattle.fractions.specs.Rational.{whole, zero_ℚ, ◌*ℚ◌}
-use Rattle.fractions.proofs.Arithmetic.{whole-*ℚ}
+use Rattle.exact_numbers.specs.Rational.{whole, zero_ℚ, ◌*ℚ◌}
+use Rattle.exact_numbers.proofs.FractionArithmetic.{whole-*ℚ}
 use Rattle.exact_numbers.specs.declared.dec.Dec.{Dec}
 use Rattle.exact_numbers.specs.Values.{dec_value, IsInReach}
-use Rattle.program_meaning.specs.Linear.{Linear, row_at}
+use Rattle.linear_program.specs.Linear.{Linear, row_at}
 use Rattle.nl_model.specs.File.{File}
-use Rattle.file_meaning.specs.Expressions.{maximises}
-use Rattle.file_meaning.specs.LinearFile.{linear_of}
+use Rattle.nl_model.specs.Expressions.{maximises}
+use Rattle.nl_model.specs.LinearFile.{linear_of}
 use Rattle.scaled_program.specs.Fits.{factor_of_row}
 use Rattle.scaled_program.specs.Program.{is_exported}
-use Rattle.scaling.specs.Exported.{scaled_as}
-use Rattle.scaling.specs.Scaled.{ScaledValue}
-use Rattle.scaling.specs.Scaling.{IsScaledOf, factor_at}
+use Rattle.row_scaling.specs.Exported.{scaled_as}
+use Rattle.row_scaling.specs.Scaled.{ScaledValue}
+use Rattle.row_scaling.specs.Scaling.{IsScaledOf, factor_at}
 use Rattle.answer_file.specs.Grammar.{AnswerValue}
 use Rattle.dual_return.specs.Return.{sign_by, sign_of, multiplier_of, linear_for, IsDualAt, Reaches, IsTooWideAt, AreDuals, DualBy}
 

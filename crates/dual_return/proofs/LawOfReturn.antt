@@ -2,23 +2,23 @@
 use Rattle.std.proofs.Common.{◌≡◌, ◌∙◌, ℕ, ◌<◌, List, [], length, get_or, IsTrue, Some, None, sym, ap, subst, arith}
 use Rattle.std.specs.Prelude.{slice_get}
 use Rattle.std.proofs.lemmas.Option.{slice_get_within}
-use Rattle.fractions.specs.Rational.{ℚ, whole, ◌*ℚ◌, ◌-ℚ◌}
-use Rattle.program_meaning.specs.Linear.{Row, form_value, no_row, row_at, variable_count}
+use Rattle.exact_numbers.specs.Rational.{ℚ, whole, ◌*ℚ◌, ◌-ℚ◌}
+use Rattle.linear_program.specs.Linear.{Row, form_value, no_row, row_at, variable_count}
 use Rattle.exact_numbers.specs.declared.dec.Dec.{Dec}
 use Rattle.exact_numbers.specs.Values.{dec_value}
 use Rattle.scaled_program.specs.Fits.{factor_of_row, factor_of_objective}
 use Rattle.scaled_program.specs.Program.{is_exported}
 use Rattle.scaled_program.specs.Return.{dual_of}
-use Rattle.exported_program.proofs.Return.{law_of_return, law_of_return_tied}
+use Rattle.scaled_program.proofs.ExportedReturn.{law_of_return, law_of_return_tied}
 use Rattle.nl_model.specs.File.{File}
 use Rattle.nl_model.specs.Rules.{IsFile}
-use Rattle.file_meaning.specs.FoldFaults.{fold_fault}
-use Rattle.file_meaning.specs.LinearFile.{HasLines, body_form, linear_of, linear_row}
-use Rattle.file_meaning.specs.Meaning.{body_value}
-use Rattle.program_meaning.proofs.Elements.{elements_at, elements_length}
-use Rattle.file_meaning.proofs.Files.{count_lem, linear_lem}
-use Rattle.file_meaning.proofs.Folding.{clean_has_lines}
-use Rattle.file_meaning.proofs.Formed.{file_formed}
+use Rattle.nl_model.specs.FoldFaults.{fold_fault}
+use Rattle.nl_model.specs.LinearFile.{HasLines, body_form, linear_of, linear_row}
+use Rattle.nl_model.specs.Meaning.{body_value}
+use Rattle.linear_program.proofs.Elements.{elements_at, elements_length}
+use Rattle.nl_model.proofs.Files.{count_lem, linear_lem}
+use Rattle.nl_model.proofs.Folding.{clean_has_lines}
+use Rattle.nl_model.proofs.Formed.{file_formed}
 use Rattle.answer_file.specs.Grammar.{AnswerValue}
 use Rattle.dual_return.specs.Return.{AreDuals, IsDualTimes, MeanTheProgram, linear_for, sign_of}
 

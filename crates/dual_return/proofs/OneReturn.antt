@@ -5,8 +5,8 @@ use Rattle.std.specs.List.{list_any}
 use Rattle.std.proofs.lemmas.Bool.{both_ways, lt-ltb, ltb-true}
 use Rattle.std.proofs.lemmas.List.{length-append, ext_get_or}
 use Rattle.std.proofs.lemmas.Option.{slice_get-get_or}
-use Rattle.fractions.specs.Rational.{ℚ, whole, zero_ℚ, ◌*ℚ◌}
-use Rattle.fractions.proofs.Arithmetic.{whole-*ℚ}
+use Rattle.exact_numbers.specs.Rational.{ℚ, whole, zero_ℚ, ◌*ℚ◌}
+use Rattle.exact_numbers.proofs.FractionArithmetic.{whole-*ℚ}
 use Rattle.exact_numbers.specs.declared.dec.Dec.{Dec}
 use Rattle.exact_numbers.specs.Numbers.{dec_from}
 use Rattle.exact_numbers.specs.Values.{dec_value, fits_dec, IsInReach}
@@ -15,7 +15,7 @@ use Rattle.exact_numbers.proofs.NumberLemmas.{dec_from-some, dec_from-fits}
 use Rattle.exact_numbers.proofs.Spelling.{fits_dec_in, fits_dec_out}
 use Rattle.scaled_program.specs.Fits.{factor_of_row}
 use Rattle.scaled_program.specs.Program.{is_exported}
-use Rattle.program_meaning.specs.Linear.{row_at}
+use Rattle.linear_program.specs.Linear.{row_at}
 use Rattle.scaled_program.specs.Return.{dual_of}
 use Rattle.nl_model.specs.File.{File}
 use Rattle.answer_file.specs.Grammar.{AnswerValue}

@@ -6,26 +6,26 @@ use Rattle.std.proofs.lemmas.Bool.Decides.{nat_tests}
 use Rattle.std.proofs.lemmas.Bool.{cond_both, eq-eqb, leb-true, ltb-true, not-true, and_parts, lt-ltb}
 use Rattle.std.proofs.lemmas.List.{length-map}
 use Rattle.std.proofs.lemmas.List.Sums.{sum_by-cons}
-use Rattle.texts.specs.Names.{has_name_bytes}
-use Rattle.texts.specs.Reading.{lines_of}
+use Rattle.text_base.specs.Names.{has_name_bytes}
+use Rattle.text_base.specs.Reading.{lines_of}
 use Rattle.exact_numbers.specs.declared.dec.Dec.{Dec}
 use Rattle.exact_numbers.specs.Numbers.{has_31_bits, is_whole}
 use Rattle.nl_model.specs.File.{File}
 use Rattle.nl_model.specs.declared.suffix.Suffix.{Suffix as FileSuffix}
-use Rattle.shared_parts.specs.declared.suffix_kinds.Objects.{Objects}
-use Rattle.shared_parts.specs.declared.suffix_kinds.Objects.TheVariants.{Objectives}
+use Rattle.nl_model.specs.declared.suffix_kinds.Objects.{Objects}
+use Rattle.nl_model.specs.declared.suffix_kinds.Objects.TheVariants.{Objectives}
 use Rattle.nl_model.specs.HeaderRules.{are_counts, are_options, is_header}
-use Rattle.shared_parts.specs.Options.{has_second_three}
+use Rattle.nl_model.specs.Options.{has_second_three}
 use Rattle.nl_model.specs.Rules.{IsFile}
 use Rattle.nl_model.specs.declared.header_counts.Counts.{Counts}
 use Rattle.nl_model.proofs.Headers.{counts_of_header}
-use Rattle.shared_parts.specs.SuffixKinds.{is_for_objectives, object_limit, objects_of, wants_whole, count_among}
+use Rattle.nl_model.specs.SuffixKinds.{is_for_objectives, object_limit, objects_of, wants_whole, count_among}
 use Rattle.answer_file.specs.declared.naming.Naming.{Naming}
 use Rattle.answer_file.specs.Names.{Setting, setting_by}
 use Rattle.answer_file.specs.Grammar.{AnswerValue, answer_of, standing}
 use Rattle.answer_file.specs.Suffixes.{value_count, with_objective}
-use Rattle.shared_parts.proofs.ObjectLemmas.{for_objectives, for_others}
-use Rattle.file_meaning.specs.FoldFaults.{has_objective}
+use Rattle.nl_model.proofs.ObjectLemmas.{for_objectives, for_others}
+use Rattle.nl_model.specs.FoldFaults.{has_objective}
 use Rattle.sol_files.specs.Sol.{Sol}
 use Rattle.sol_files.specs.declared.suffix.SolSuffix.{SolSuffix}
 use Rattle.sol_files.specs.Tests.{has_index}

@@ -6,7 +6,7 @@ use Rattle.std.proofs.lemmas.List.{length-map}
 use Rattle.exact_numbers.specs.declared.dec.Dec.{Dec}
 use Rattle.exact_numbers.specs.declared.frac.Frac.{Frac}
 use Rattle.linear_program.specs.declared.kind.Kind.{Kind}
-use Rattle.program_meaning.specs.Elements.{elements_from}
+use Rattle.linear_program.specs.Elements.{elements_from}
 use Rattle.linear_program.specs.Coefs.{Term, AreAscending, AreBelow}
 use Rattle.linear_program.specs.Programs.{IsLinear, LinearValue, linear_value}
 use Rattle.exact_checks.specs.declared.form.Body.{Body}

@@ -1,13 +1,13 @@
 -- What a yes and a bound of the code say.
 use Rattle.std.proofs.Common.{◌≡◌, List, subst, sym}
-use Rattle.fractions.specs.Rational.{ℚ}
-use Rattle.program_meaning.specs.Linear.{Linear}
+use Rattle.exact_numbers.specs.Rational.{ℚ}
+use Rattle.linear_program.specs.Linear.{Linear}
 use Rattle.exact_numbers.specs.Values.{frac_value}
-use Rattle.duality.specs.Points.{Box}
-use Rattle.duality.specs.Verdict.{verdict, dual_bound}
-use Rattle.duality.proofs.Says.{says}
-use Rattle.duality.specs.Says.{VerdictSays}
-use Rattle.duality.proofs.Weak.{weak}
+use Rattle.certificates.specs.Points.{Box}
+use Rattle.certificates.specs.Verdict.{verdict, dual_bound}
+use Rattle.certificates.proofs.Says.{says}
+use Rattle.certificates.specs.Says.{VerdictSays}
+use Rattle.certificates.proofs.Weak.{weak}
 use Rattle.exact_checks.specs.declared.verdict.BoundVerdict.{BoundVerdict}
 use Rattle.exact_checks.specs.declared.verdict.BoundVerdict.TheVariants.{Bound}
 use Rattle.exact_checks.specs.declared.verdict.Verdict.{Verdict}

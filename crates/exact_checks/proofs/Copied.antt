@@ -5,14 +5,14 @@ use Rattle.std.specs.Option.{option_map_or}
 use Rattle.std.proofs.lemmas.Option.{get_or_from_slice_get, same_Some, slice_get-map}
 use Rattle.std.proofs.lemmas.List.{drop-drop, drop_all, get_or-drop}
 use Rattle.std.proofs.lemmas.List.Elements.{All-tail}
-use Rattle.program_meaning.specs.Linear.{Row as LinearRow, Variable, unbounded}
-use Rattle.program_meaning.specs.Linear.{zero_form}
+use Rattle.linear_program.specs.Linear.{Row as LinearRow, Variable, unbounded}
+use Rattle.linear_program.specs.Linear.{zero_form}
 use Rattle.exact_numbers.specs.declared.dec.Dec.{Dec}
 use Rattle.linear_program.specs.declared.interval.Interval.{Interval}
 use Rattle.linear_program.specs.declared.kind.Kind.{Kind}
 use Rattle.linear_program.specs.declared.kind.Kind.TheVariants.{Continuous}
-use Rattle.program_meaning.specs.Elements.{elements_from}
-use Rattle.program_meaning.specs.Names.{row_name, variable_name}
+use Rattle.linear_program.specs.Elements.{elements_from}
+use Rattle.linear_program.specs.Names.{row_name, variable_name}
 use Rattle.linear_program.specs.Intervals.{interval_of, is_whole_kind}
 use Rattle.linear_program.specs.declared.form.Form.{Form}
 use Rattle.linear_program.specs.Coefs.{Term, AreAscending, AreBelow, coef_in}

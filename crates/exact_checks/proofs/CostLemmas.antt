@@ -3,13 +3,13 @@ use Rattle.std.proofs.Common.{◌≡◌, ◌≢◌, ℕ, ◌∙◌, sym, ap, ap�
 use mathlib.Core.Bool.{beq}
 use Rattle.std.specs.Prelude.{if◌then◌else◌, option_and_then, is_some}
 use Rattle.std.specs.Option.{option_map}
-use Rattle.fractions.specs.Fits.{fits, sum_fits}
-use Rattle.fractions.specs.Functions.{is_zero}
-use Rattle.fractions.specs.Rational.{ℚ, whole, zero_ℚ, ◌+ℚ◌, ◌-ℚ◌, ◌*ℚ◌, neg_ℚ}
-use Rattle.fractions.proofs.Arithmetic.{+ℚ_zero, *ℚ_zero, -ℚ_lem, neg-neg, neg-*ℚ, top_zero, not-is_zero}
-use Rattle.program_meaning.specs.Linear.{Interval}
-use Rattle.duality.specs.Checked.{fitting, fitting_difference, fitting_sum, less_product, plus_product}
-use Rattle.duality.specs.Verdict.{bound_side_missing, cost_check, cost_part_of, needed_side}
+use Rattle.exact_numbers.specs.Fits.{fits, sum_fits}
+use Rattle.exact_numbers.specs.Functions.{is_zero}
+use Rattle.exact_numbers.specs.Rational.{ℚ, whole, zero_ℚ, ◌+ℚ◌, ◌-ℚ◌, ◌*ℚ◌, neg_ℚ}
+use Rattle.exact_numbers.proofs.FractionArithmetic.{+ℚ_zero, *ℚ_zero, -ℚ_lem, neg-neg, neg-*ℚ, top_zero, not-is_zero}
+use Rattle.linear_program.specs.Linear.{Interval}
+use Rattle.certificates.specs.Checked.{fitting, fitting_difference, fitting_sum, less_product, plus_product}
+use Rattle.certificates.specs.Verdict.{bound_side_missing, cost_check, cost_part_of, needed_side}
 use Rattle.exact_numbers.proofs.Bridge.{frac_fits_lem}
 use Rattle.exact_numbers.proofs.Zeros.{fits_zero, sum_fits_zero}
 use Rattle.exact_numbers.specs.declared.dec.Dec.{Dec}

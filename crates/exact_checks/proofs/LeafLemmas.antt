@@ -2,13 +2,13 @@
 use Rattle.std.proofs.Common.{◌≡◌, ℕ, ◌+◌, ◌∙◌, sym, ap, ap₂, subst, refl, List, [], length, Bool, true, false, Option, Some, None}
 use Rattle.std.specs.Prelude.{if◌then◌else◌}
 use Rattle.std.specs.Option.{option_or}
-use Rattle.fractions.specs.Fits.{fits}
-use Rattle.fractions.specs.Rational.{ℚ, zero_ℚ}
-use Rattle.program_meaning.specs.Linear.{Form, Interval, Linear, row_count, value_at, variable_count}
-use Rattle.duality.specs.Checked.{run}
-use Rattle.duality.specs.Parts.{maximising}
-use Rattle.duality.specs.Points.{Box, Numbers}
-use Rattle.duality.specs.Verdict.{Fault as Cause, BoundVerdict as Answer, at_cost, bound_side_missing, bound_or_fault, bound_total, no_bound, cost_check, cost_fault, dual_bound, dual_fault, first_fault, has_needed, IsDualFault, reduced_cost, row_part, side_fault, too_wide}
+use Rattle.exact_numbers.specs.Fits.{fits}
+use Rattle.exact_numbers.specs.Rational.{ℚ, zero_ℚ}
+use Rattle.linear_program.specs.Linear.{Form, Interval, Linear, row_count, value_at, variable_count}
+use Rattle.certificates.specs.Checked.{run}
+use Rattle.certificates.specs.Parts.{maximising}
+use Rattle.certificates.specs.Points.{Box, Numbers}
+use Rattle.certificates.specs.Verdict.{Fault as Cause, BoundVerdict as Answer, at_cost, bound_side_missing, bound_or_fault, bound_total, no_bound, cost_check, cost_fault, dual_bound, dual_fault, first_fault, has_needed, IsDualFault, reduced_cost, row_part, side_fault, too_wide}
 use Rattle.linear_program.specs.Coefs.{Term, coef_in}
 use Rattle.linear_program.specs.Numbers.{Pair, spread}
 use Rattle.linear_program.proofs.FracLemmas.{coef_fits}

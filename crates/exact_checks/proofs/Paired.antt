@@ -4,11 +4,11 @@ use Rattle.std.proofs.Common.{◌≡◌, ◌≢◌, ℕ, zero, suc, ◌+◌, ◌
 use Rattle.std.specs.Prelude.{if◌then◌else◌, option_and_then}
 use Rattle.std.specs.Option.{option_or}
 use Rattle.std.proofs.lemmas.Bool.{cases_lt, eq-eqb, ne_eqb}
-use Rattle.fractions.specs.Rational.{ℚ, zero_ℚ}
-use Rattle.program_meaning.specs.Linear.{value_at}
-use Rattle.duality.specs.Checked.{run}
-use Rattle.duality.specs.Verdict.{first_fault}
-use Rattle.program_meaning.proofs.Elements.{elements_at}
+use Rattle.exact_numbers.specs.Rational.{ℚ, zero_ℚ}
+use Rattle.linear_program.specs.Linear.{value_at}
+use Rattle.certificates.specs.Checked.{run}
+use Rattle.certificates.specs.Verdict.{first_fault}
+use Rattle.linear_program.proofs.Elements.{elements_at}
 use Rattle.linear_program.specs.Numbers.{Pair, number_of, spread, number_value}
 use Rattle.linear_program.proofs.ListLemmas.{rest_of}
 use Rattle.exact_checks.specs.Leaves.{AreIndices, run_pairs}

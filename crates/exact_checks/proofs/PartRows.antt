@@ -3,13 +3,13 @@ use Rattle.std.proofs.Common.{◌≡◌, ℕ, zero, suc, ◌+◌, ◌<◌, ◌�
 use Rattle.std.specs.Prelude.{if◌then◌else◌, option_and_then, slice_get}
 use Rattle.std.specs.Option.{option_or}
 use Rattle.std.proofs.lemmas.List.{drop_all}
-use Rattle.fractions.specs.Fits.{fits}
-use Rattle.fractions.specs.Functions.{is_zero}
-use Rattle.fractions.specs.Rational.{ℚ, whole, zero_ℚ}
-use Rattle.program_meaning.specs.Linear.{Form, Linear, row_at, row_count, value_at}
-use Rattle.duality.specs.Checked.{fitting, less_product, run}
-use Rattle.duality.specs.Points.{Numbers}
-use Rattle.duality.specs.Verdict.{Fault as Cause, first_fault, has_needed, reduced_cost, row_part, row_part_of, row_side_missing, side_fault}
+use Rattle.exact_numbers.specs.Fits.{fits}
+use Rattle.exact_numbers.specs.Functions.{is_zero}
+use Rattle.exact_numbers.specs.Rational.{ℚ, whole, zero_ℚ}
+use Rattle.linear_program.specs.Linear.{Form, Linear, row_at, row_count, value_at}
+use Rattle.certificates.specs.Checked.{fitting, less_product, run}
+use Rattle.certificates.specs.Points.{Numbers}
+use Rattle.certificates.specs.Verdict.{Fault as Cause, first_fault, has_needed, reduced_cost, row_part, row_part_of, row_side_missing, side_fault}
 use Rattle.exact_numbers.specs.Values.{frac_value}
 use Rattle.exact_numbers.proofs.Zeros.{fits_zero}
 use Rattle.linear_program.specs.Intervals.{interval_of}

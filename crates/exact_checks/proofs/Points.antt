@@ -3,12 +3,12 @@ use Rattle.std.proofs.Common.{◌≡◌, ℕ, ◌+◌, ◌<◌, ◌≤◌, ◌�
 use Rattle.std.specs.Prelude.{option_and_then}
 use Rattle.std.proofs.lemmas.List.{length-map}
 use Rattle.std.proofs.lemmas.Option.{slice_get-get_or, slice_get-map, get_or_from_slice_get}
-use Rattle.fractions.specs.Rational.{ℚ, zero_ℚ}
-use Rattle.program_meaning.specs.Linear.{value_at}
+use Rattle.exact_numbers.specs.Rational.{ℚ, zero_ℚ}
+use Rattle.linear_program.specs.Linear.{value_at}
 use Rattle.exact_numbers.specs.declared.dec.Dec.{Dec}
 use Rattle.exact_numbers.specs.Values.{dec_value, frac_value}
-use Rattle.duality.specs.Checked.{fitting, plus_product, less_product, run}
-use Rattle.duality.specs.Verdict.{run_form}
+use Rattle.certificates.specs.Checked.{fitting, plus_product, less_product, run}
+use Rattle.certificates.specs.Verdict.{run_form}
 use Rattle.linear_program.specs.Coefs.{Term, coef_in}
 use Rattle.exact_checks.specs.declared.form.Body.{Body}
 use Rattle.exact_checks.specs.Terms.{AreTerms, values_of}

@@ -6,19 +6,19 @@ use Rattle.std.specs.Option.{option_map_or}
 use Rattle.std.proofs.lemmas.Bool.{cases_lt}
 use Rattle.std.proofs.lemmas.List.{get_or_past}
 use Rattle.std.proofs.lemmas.Option.{slice_get-get_or, slice_get_past, slice_get_within}
-use Rattle.fractions.specs.Rational.{ℚ}
-use Rattle.program_meaning.specs.Linear.{Form, Interval, Row as LinearRow, Variable, Linear, unbounded, variable_at, variable_count, no_variable}
-use Rattle.duality.specs.Checked.{fitting, less_product, run}
-use Rattle.duality.specs.Points.{Numbers, Box, bounds_of}
-use Rattle.program_meaning.specs.Linear.{zero_form, no_row, row_count, row_at}
-use Rattle.duality.specs.Verdict.{has_needed, row_side_missing, side_fault, cost_step, reduced_cost, cost_check, cost_fault, row_part_of, row_part, cost_part_of, cost_part, Fault as Cause, bound_broken, row_check, row_fault, bound_fault, run_form, is_inside}
-use Rattle.fractions.specs.Functions.{is_zero}
+use Rattle.exact_numbers.specs.Rational.{ℚ}
+use Rattle.linear_program.specs.Linear.{Form, Interval, Row as LinearRow, Variable, Linear, unbounded, variable_at, variable_count, no_variable}
+use Rattle.certificates.specs.Checked.{fitting, less_product, run}
+use Rattle.certificates.specs.Points.{Numbers, Box, bounds_of}
+use Rattle.linear_program.specs.Linear.{zero_form, no_row, row_count, row_at}
+use Rattle.certificates.specs.Verdict.{has_needed, row_side_missing, side_fault, cost_step, reduced_cost, cost_check, cost_fault, row_part_of, row_part, cost_part_of, cost_part, Fault as Cause, bound_broken, row_check, row_fault, bound_fault, run_form, is_inside}
+use Rattle.exact_numbers.specs.Functions.{is_zero}
 use Rattle.exact_numbers.specs.declared.dec.Dec.{Dec}
 use Rattle.exact_numbers.specs.declared.frac.Frac.{Frac}
 use Rattle.exact_numbers.specs.Values.{dec_value, frac_value}
-use Rattle.program_meaning.specs.Elements.{elements_from}
+use Rattle.linear_program.specs.Elements.{elements_from}
 use Rattle.linear_program.specs.Intervals.{interval_of, is_whole_kind}
-use Rattle.program_meaning.proofs.Elements.{elements_at, elements_length}
+use Rattle.linear_program.proofs.Elements.{elements_at, elements_length}
 use Rattle.linear_program.specs.declared.kind.Kind.TheVariants.{Continuous}
 use Rattle.linear_program.specs.Coefs.{Term, coef_in}
 use Rattle.exact_checks.specs.declared.form.Row.{Row}

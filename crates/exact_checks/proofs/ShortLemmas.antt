@@ -8,13 +8,13 @@ use Rattle.std.proofs.Math.Nat.{mul-le-mul_right, one-le-pow, pow-le-pow_right}
 use Rattle.std.proofs.lemmas.Nat.{mul-lt}
 use Rattle.std.proofs.lemmas.Int.{ints, unsigned_abs-mul}
 use Rattle.std.proofs.lemmas.Bool.{and_from}
-use Rattle.fractions.specs.Fits.{fits, sum_fits}
-use Rattle.fractions.specs.LowestLemmas.{gcd_of, is_gcd, size-div}
-use Rattle.fractions.specs.Rational.{ℚ, decimal_value, over, whole, zero_ℚ, ◌-ℚ◌, ◌*ℚ◌, neg_ℚ}
-use Rattle.fractions.proofs.Arithmetic.{over_parts, -ℚ_lem, over_same, value_is, neg_size}
-use Rattle.fractions.proofs.Signed.{down_times}
-use Rattle.fractions.proofs.Values.{neg_value, over_value, scaled_value, sum_value}
-use Rattle.duality.specs.Checked.{fitting_difference, less_product}
+use Rattle.exact_numbers.specs.Fits.{fits, sum_fits}
+use Rattle.exact_numbers.specs.LowestLemmas.{gcd_of, is_gcd, size-div}
+use Rattle.exact_numbers.specs.Rational.{ℚ, decimal_value, over, whole, zero_ℚ, ◌-ℚ◌, ◌*ℚ◌, neg_ℚ}
+use Rattle.exact_numbers.proofs.FractionArithmetic.{over_parts, -ℚ_lem, over_same, value_is, neg_size}
+use Rattle.exact_numbers.proofs.FractionSigned.{down_times}
+use Rattle.exact_numbers.proofs.Values.{neg_value, over_value, scaled_value, sum_value}
+use Rattle.certificates.specs.Checked.{fitting_difference, less_product}
 use Rattle.exact_numbers.specs.declared.frac.Frac.{Frac}
 use Rattle.exact_numbers.specs.Values.{IsQuotientOf, quotient}
 use Rattle.exact_checks.specs.Terms.{value_found}

@@ -3,11 +3,11 @@ use Rattle.std.proofs.Common.{◌≡◌, ◌≢◌, ℕ, zero, suc, ◌+◌, ◌
 use Rattle.std.specs.Prelude.{if◌then◌else◌, option_and_then}
 use Rattle.std.proofs.lemmas.Bool.{ne_eqb}
 use Rattle.std.proofs.lemmas.List.{drop_all}
-use Rattle.fractions.specs.Rational.{ℚ, zero_ℚ}
-use Rattle.fractions.proofs.Arithmetic.{zero-is_zero, not-is_zero}
+use Rattle.exact_numbers.specs.Rational.{ℚ, zero_ℚ}
+use Rattle.exact_numbers.proofs.FractionArithmetic.{zero-is_zero, not-is_zero}
 use Rattle.exact_numbers.specs.Values.{frac_value}
-use Rattle.duality.specs.Checked.{run}
-use Rattle.fractions.specs.Functions.{is_zero}
+use Rattle.certificates.specs.Checked.{run}
+use Rattle.exact_numbers.specs.Functions.{is_zero}
 use Rattle.linear_program.specs.Coefs.{Term, found, value_or_zero, coef_in}
 use Rattle.linear_program.proofs.PlaceTerms.{coef_there}
 use Rattle.linear_program.proofs.ListLemmas.{rest_of}

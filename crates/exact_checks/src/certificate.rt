@@ -1,9 +1,9 @@
 // The verdict on a point, and the bound of duals alone.
 ghost use Rattle.std.specs.Prelude.{◌≡◌, Some, None, length};
-ghost use Rattle.program_meaning.specs.Linear.{value_at, variable_count};
-ghost use Rattle.duality.specs.Points.{bounds_of};
-ghost use Rattle.program_meaning.specs.Linear.{row_count};
-ghost use Rattle.duality.specs.Verdict.{refused, early_fault, verdict, last_of, no_bound, dual_fault, dual_bound, bound_total, run_form, IsDualFault};
+ghost use Rattle.linear_program.specs.Linear.{value_at, variable_count};
+ghost use Rattle.certificates.specs.Points.{bounds_of};
+ghost use Rattle.linear_program.specs.Linear.{row_count};
+ghost use Rattle.certificates.specs.Verdict.{refused, early_fault, verdict, last_of, no_bound, dual_fault, dual_bound, bound_total, run_form, IsDualFault};
 ghost use Rattle.exact_numbers.specs.Values.{frac_value};
 ghost use Rattle.exact_checks.specs.Answers.{answer_of, bound_answer_of, cause_found, cause_of, IsBounded, IsCertified};
 ghost use Rattle.exact_checks.specs.Programs.{asked, bounds_in, program_of};
@@ -29,7 +29,7 @@ fn refusal(fault: Fault) -> Verdict
 }
 
 // The first fault of the duals alone.
-#[tactic(auto, unfolding(duality::specs::Verdict::dual_fault))]
+#[tactic(auto, unfolding(certificates::specs::Verdict::dual_fault))]
 fn first_dual_fault(
     columns: &Columns,
     goal: Goal,
@@ -75,7 +75,7 @@ fn own_bound(columns: &Columns, y: &[Dec]) -> Option<Frac>
 }
 
 // The first fault of the first four phases.
-#[tactic(auto, unfolding(duality::specs::Verdict::early_fault))]
+#[tactic(auto, unfolding(certificates::specs::Verdict::early_fault))]
 fn first_early_fault(columns: &Columns, x: &[Dec], y: &[Dec]) -> Option<Fault>
     requires numbers { length x.now ≡ length columns.now.program.lower.items }
     requires duals { length y.now ≡ length columns.now.program.rows.items }
@@ -104,7 +104,7 @@ fn compared(value: Frac, bound: Frac) -> Verdict
 }
 
 // The first verdict of the six phases that applies.
-#[tactic(auto, unfolding(duality::specs::Verdict::verdict))]
+#[tactic(auto, unfolding(certificates::specs::Verdict::verdict))]
 fn verdict_on(columns: &Columns, x: &[Dec], y: &[Dec]) -> Verdict
     requires numbers { length x.now ≡ length columns.now.program.lower.items }
     requires duals { length y.now ≡ length columns.now.program.rows.items }
@@ -152,7 +152,7 @@ pub(crate) fn bound_refusal(fault: Fault) -> BoundVerdict
     }
 }
 
-#[tactic(auto, using(duality::proofs::DualFaults::dual_fault_kind), unfolding(duality::specs::Verdict::dual_bound))]
+#[tactic(auto, using(certificates::proofs::DualFaults::dual_fault_kind), unfolding(certificates::specs::Verdict::dual_bound))]
 fn bound_on(
     columns: &Columns,
     goal: Goal,

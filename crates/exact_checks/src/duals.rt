@@ -1,9 +1,9 @@
 // The duals against the sides, and the bound that they show.
 ghost use Rattle.std.specs.Prelude.{◌≡◌, ◌<◌, ℤ, pos, int_lt, length, option_and_then};
-ghost use Rattle.program_meaning.specs.Linear.{value_at, variable_count};
-ghost use Rattle.program_meaning.specs.Linear.{row_count};
-ghost use Rattle.duality.specs.Checked.{fitting, run};
-ghost use Rattle.duality.specs.Verdict.{needed_side, has_needed, side_fault, cost_check, cost_fault, row_part, cost_part_of, cost_part, bound_total, first_fault, reduced_cost};
+ghost use Rattle.linear_program.specs.Linear.{value_at, variable_count};
+ghost use Rattle.linear_program.specs.Linear.{row_count};
+ghost use Rattle.certificates.specs.Checked.{fitting, run};
+ghost use Rattle.certificates.specs.Verdict.{needed_side, has_needed, side_fault, cost_check, cost_fault, row_part, cost_part_of, cost_part, bound_total, first_fault, reduced_cost};
 ghost use Rattle.exact_numbers.specs.Values.{frac_value};
 ghost use Rattle.linear_program.specs.Intervals.{interval_of};
 ghost use Rattle.exact_checks.specs.Answers.{cause_found};
@@ -247,7 +247,7 @@ fn columns_total(
 }
 
 // The bound of the duals.
-#[tactic(auto, unfolding(duality::specs::Verdict::bound_total))]
+#[tactic(auto, unfolding(certificates::specs::Verdict::bound_total))]
 pub(crate) fn bound_total(
     columns: &Columns,
     goal: Goal,

@@ -1,7 +1,7 @@
 // Sums and products that fit, in exact values.
 ghost use Rattle.std.specs.Prelude.{◌≡◌, pos, int_lt, option_and_then};
-ghost use Rattle.duality.specs.Checked.{fitting, fitting_sum, fitting_difference, fitting_product, plus_product, less_product, is_at_most, is_same};
-ghost use Rattle.fractions.specs.Functions.{is_zero};
+ghost use Rattle.certificates.specs.Checked.{fitting, fitting_sum, fitting_difference, fitting_product, plus_product, less_product, is_at_most, is_same};
+ghost use Rattle.exact_numbers.specs.Functions.{is_zero};
 ghost use Rattle.exact_numbers.specs.Values.{dec_value, frac_value};
 ghost use Rattle.exact_checks.specs.Terms.{value_found};
 ghost use Rattle.linear_program.specs.Numbers.{number_value};
@@ -39,7 +39,7 @@ pub(crate) fn difference(a: Frac, b: Frac) -> Option<Frac>
 }
 
 // start + a * b; none where the product or the sum does not fit.
-#[tactic(auto, unfolding(duality::specs::Checked::plus_product))]
+#[tactic(auto, unfolding(certificates::specs::Checked::plus_product))]
 pub(crate) fn plus_product(start: Frac, a: Frac, b: Frac) -> Option<Frac>
     ensures { value_found result ≡ plus_product (frac_value start) (frac_value a) (frac_value b) }
 {
@@ -50,7 +50,7 @@ pub(crate) fn plus_product(start: Frac, a: Frac, b: Frac) -> Option<Frac>
 }
 
 // start - a * b
-#[tactic(auto, unfolding(duality::specs::Checked::less_product))]
+#[tactic(auto, unfolding(certificates::specs::Checked::less_product))]
 pub(crate) fn less_product(start: Frac, a: Frac, b: Frac) -> Option<Frac>
     ensures { value_found result ≡ less_product (frac_value start) (frac_value a) (frac_value b) }
 {
@@ -99,7 +99,7 @@ pub fn frac_is_at_most(a: Frac, b: Frac) -> bool
     a.order(b).is_le()
 }
 
-#[tactic(auto, unfolding(duality::specs::Checked::is_same))]
+#[tactic(auto, unfolding(certificates::specs::Checked::is_same))]
 pub(crate) fn is_same(a: Frac, b: Frac) -> bool
     ensures { result ≡ is_same (frac_value a) (frac_value b) }
 {

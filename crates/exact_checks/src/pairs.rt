@@ -2,9 +2,9 @@
 // costs and the part of the rows in the bound.
 ghost use Rattle.std.specs.Prelude.{◌≡◌, ◌+◌, ◌<◌, ◌++◌, ℕ, length, slice_get, option_and_then, Some, IfOk};
 ghost use Rattle.std.specs.Option.{option_map};
-ghost use Rattle.program_meaning.specs.Linear.{Linear, row_count, value_at};
-ghost use Rattle.duality.specs.Checked.{fitting, fitting_difference, plus_product, run};
-ghost use Rattle.duality.specs.Verdict.{first_fault, has_needed, row_part, row_part_of, row_side_missing, side_fault};
+ghost use Rattle.linear_program.specs.Linear.{Linear, row_count, value_at};
+ghost use Rattle.certificates.specs.Checked.{fitting, fitting_difference, plus_product, run};
+ghost use Rattle.certificates.specs.Verdict.{first_fault, has_needed, row_part, row_part_of, row_side_missing, side_fault};
 ghost use Rattle.exact_numbers.specs.Values.{frac_value};
 ghost use Rattle.linear_program.specs.Intervals.{interval_of};
 ghost use Rattle.linear_program.specs.Numbers.{spread, number_value};

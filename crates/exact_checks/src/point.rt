@@ -1,8 +1,8 @@
 // A point against the rows and the bounds.
 ghost use Rattle.std.specs.Prelude.{◌≡◌, Some, None, length, if◌then◌else◌};
-ghost use Rattle.program_meaning.specs.Linear.{value_at, variable_count};
-ghost use Rattle.program_meaning.specs.Linear.{row_count};
-ghost use Rattle.duality.specs.Verdict.{run_form, row_check, row_fault, bound_fault, first_fault, is_inside, sides_fit, fits_if_some, is_not_below, is_not_above};
+ghost use Rattle.linear_program.specs.Linear.{value_at, variable_count};
+ghost use Rattle.linear_program.specs.Linear.{row_count};
+ghost use Rattle.certificates.specs.Verdict.{run_form, row_check, row_fault, bound_fault, first_fault, is_inside, sides_fit, fits_if_some, is_not_below, is_not_above};
 ghost use Rattle.exact_numbers.specs.Values.{dec_value, frac_value};
 ghost use Rattle.linear_program.specs.Intervals.{interval_of};
 ghost use Rattle.exact_checks.specs.Answers.{cause_found};

@@ -1,11 +1,11 @@
 // Running sums: short fractions that are not reduced, as long as all parts have 64 bits.
 ghost use Rattle.std.specs.Prelude.{◌≡◌, ◌≢◌, ◌↔◌, ◌*◌, ◌<◌, ◌^◌, pos, int_lt, Bool, true, false, length, IfSome, IsTrue, Some, option_and_then};
 ghost use Rattle.std.specs.Option.{option_map};
-ghost use Rattle.duality.specs.Checked.{plus_product};
-ghost use Rattle.duality.specs.Verdict.{cost_check, cost_part_of};
-ghost use Rattle.fractions.specs.Fits.{fits};
-ghost use Rattle.fractions.specs.Rational.{ℚ, ◌*ℚ◌, ◌-ℚ◌, neg_ℚ, zero_ℚ};
-ghost use Rattle.program_meaning.specs.Linear.{Interval};
+ghost use Rattle.certificates.specs.Checked.{plus_product};
+ghost use Rattle.certificates.specs.Verdict.{cost_check, cost_part_of};
+ghost use Rattle.exact_numbers.specs.Fits.{fits};
+ghost use Rattle.exact_numbers.specs.Rational.{ℚ, ◌*ℚ◌, ◌-ℚ◌, neg_ℚ, zero_ℚ};
+ghost use Rattle.linear_program.specs.Linear.{Interval};
 ghost use Rattle.exact_numbers.specs.Values.{dec_value, frac_value};
 ghost use Rattle.linear_program.specs.Numbers.{number_value};
 ghost use Rattle.exact_checks.specs.Answers.{cause_found};

@@ -9,12 +9,12 @@ use mir.Val.{SFits}
 use Rattle.std.proofs.Math.Nat.{eq_of_mul-eq-mul_right}
 use Rattle.std.proofs.lemmas.Int.{ints}
 use Rattle.std.specs.Int.{IsGcd}
-use Rattle.fractions.specs.Divisors.{AreCoprime}
+use Rattle.exact_numbers.specs.Divisors.{AreCoprime}
 use Rattle.exact_numbers.proofs.Pairs.{Fraction, SameValue, HasFrac, pair, product_of, sum_of, SumFits}
 use Rattle.exact_numbers.specs.Fraction.{IsFrac, IsLcm}
 use Rattle.exact_numbers.specs.Values.{quotient}
-use Rattle.fractions.specs.Rational.{over}
-use Rattle.fractions.specs.LowestLemmas.{gcd_of, is_gcd}
+use Rattle.exact_numbers.specs.Rational.{over}
+use Rattle.exact_numbers.specs.LowestLemmas.{gcd_of, is_gcd}
 use Rattle.exact_numbers.specs.Decimal.{signed}
 use Rattle.exact_numbers.proofs.Coprime.{Reduced, same_reduced, Crosswise, crosswise, reduced_by, lcm_by, same_lcm, lcm_over, coprime-swap}
 use Rattle.exact_numbers.proofs.Signed.{sizes_of, SameValue-trans, SameValue-sym, sum_times, times_twice}

@@ -15,7 +15,7 @@ use Rattle.std.specs.Str.Parse.{AllDigits, digits_value, signed_digits_value, wi
 use Rattle.std.specs.Prelude.{FitsSigned}
 use mir.Syntax.{w32}
 use mir.Val.{to_z, of_z}
-use Rattle.fractions.specs.Rational.{ℚ}
+use Rattle.exact_numbers.specs.Rational.{ℚ}
 use Rattle.exact_numbers.specs.Decimal.{IsDec}
 use Rattle.exact_numbers.specs.Text.{after_sign, IsExponent, IsDecText, text_value, DecFault, IsWholeText, WholeFault}
 use Rattle.exact_numbers.specs.Values.{dec_value, decimal_of, fits_dec, FitsDec}

@@ -5,7 +5,7 @@ use Rattle.std.proofs.Math.Nat.{pow-le-pow_right, pow-zero, one-le-pow, div-add-
 use Rattle.std.proofs.lemmas.Bool.{cases_lt}
 use Rattle.std.proofs.lemmas.Nat.{mul-pow}
 use Rattle.std.proofs.lemmas.Nat.Gcd.{le_of_dvd, mod-eq-zero_of_dvd, dvd_of_mod-eq-zero, dvd_trans}
-use Rattle.fractions.specs.Divisors.{AreCoprime}
+use Rattle.exact_numbers.specs.Divisors.{AreCoprime}
 use Rattle.exact_numbers.proofs.Pairs.{SameValue, HasFrac, pair, scaled}
 use Rattle.exact_numbers.specs.Fraction.{IsFrac, IsCofactor}
 use Rattle.exact_numbers.specs.Decimal.{signed}

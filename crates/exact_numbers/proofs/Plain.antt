@@ -6,7 +6,7 @@ use Rattle.std.proofs.Math.Nat.{pow-le-pow_right}
 use Rattle.std.proofs.lemmas.Bool.Decides.{nat_tests}
 use Rattle.std.specs.Char.{digit_value}
 use Rattle.std.specs.Str.Parse.{AllDigits, digits_value, digits_value_after}
-use Rattle.fractions.specs.Rational.{decimal_value}
+use Rattle.exact_numbers.specs.Rational.{decimal_value}
 use Rattle.exact_numbers.specs.Decimal.{signed}
 use Rattle.exact_numbers.specs.Text.{begins_minus, after_sign, is_mark, IsDecText, text_value}
 use Rattle.exact_numbers.specs.InsideFront.{IsBare, IsPlain, IsPower, IsFrontDec}

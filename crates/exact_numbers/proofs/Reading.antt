@@ -9,7 +9,7 @@ use Rattle.std.specs.Char.{digit_value}
 use Rattle.std.specs.Fmt.{decimal}
 use Rattle.std.specs.List.{position_or_len, before_first, after_first}
 use Rattle.std.specs.Str.Parse.{AllDigits, digits_value, digits_value_after}
-use Rattle.fractions.specs.Rational.{decimal_value}
+use Rattle.exact_numbers.specs.Rational.{decimal_value}
 use Rattle.exact_numbers.specs.Decimal.{signed, IsDec}
 use Rattle.exact_numbers.specs.Text.{begins_minus, after_sign, is_mark, is_point, mantissa_part, exponent_part, whole_digits, fraction_digits, IsExponent, exponent_value, IsDecText, text_value}
 use Rattle.exact_numbers.specs.InsideFront.{IsBare}

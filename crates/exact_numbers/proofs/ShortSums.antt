@@ -8,14 +8,14 @@ use Rattle.std.proofs.Math.IntN.{*ℤ-one}
 use Rattle.std.proofs.lemmas.Nat.{mul-lt}
 use Rattle.std.proofs.lemmas.Int.{ints, unsigned_abs-mul}
 use Rattle.std.specs.Int.{IsGcd}
-use Rattle.fractions.specs.Divisors.{AreCoprime}
+use Rattle.exact_numbers.specs.Divisors.{AreCoprime}
 use Rattle.exact_numbers.specs.Fraction.{IsFrac}
 use Rattle.exact_numbers.specs.Decimal.{signed}
 use Rattle.exact_numbers.proofs.Pairs.{SameValue, SumFits, pair, scaled, sum_of, product_of}
 use Rattle.exact_numbers.proofs.Signed.{SameValue-trans}
 use Rattle.exact_numbers.specs.Values.{frac_value, fits, sum_fits}
 use Rattle.exact_numbers.specs.declared.frac.Frac.{Frac}
-use Rattle.fractions.specs.Rational.{◌+ℚ◌, ◌*ℚ◌}
+use Rattle.exact_numbers.specs.Rational.{◌+ℚ◌, ◌*ℚ◌}
 use Rattle.exact_numbers.proofs.Bridge.{sum_fits_in, sum_is, product_is, fitting}
 use Rattle.exact_numbers.proofs.Decimals.{abs_is}
 use Rattle.exact_numbers.proofs.Fractions.{added, multiplied, is_frac, reduced_same, signed_self}

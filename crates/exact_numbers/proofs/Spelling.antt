@@ -4,7 +4,7 @@ use Rattle.std.proofs.Math.Nat.{mul-mod_left, eq_of_mul-eq-mul_right, div-add-mo
 use Rattle.std.proofs.lemmas.Bool.{cases_eq, or_right, ne_eqb, eq-eqb, eqb-true, le-leb, and_from}
 use Rattle.std.proofs.lemmas.Int.{ints, by_lt_z, unsigned_abs-mul}
 use borrow.Author.Differences.{up, down, same_in}
-use Rattle.fractions.specs.Rational.{ℚ, decimal_value}
+use Rattle.exact_numbers.specs.Rational.{ℚ, decimal_value}
 use Rattle.exact_numbers.specs.Decimal.{IsDec}
 use Rattle.exact_numbers.specs.Values.{Decimal, is_multiple, mantissa_at, exponent_below, decimal_of, value_text, is_spelled, fits_dec, FitsDec}
 use Rattle.exact_numbers.specs.SpelledLemmas.{second_of_both, spelled_of}
@@ -15,8 +15,8 @@ use Rattle.exact_numbers.proofs.Signed.{sizes_of, times_twice}
 use Rattle.exact_numbers.proofs.Decimals.{abs_is}
 use Rattle.exact_numbers.proofs.Bridge.{Is, decimal_is, zero_decimal, small_of}
 use Rattle.exact_numbers.proofs.Fractions.{signed_times}
-use Rattle.fractions.proofs.Values.{own_value, same_value}
-use Rattle.fractions.proofs.Arithmetic.{zero_top, top_zero}
+use Rattle.exact_numbers.proofs.Values.{own_value, same_value}
+use Rattle.exact_numbers.proofs.FractionArithmetic.{zero_top, top_zero}
 use Rattle.exact_numbers.proofs.Signs.{dec_zero}
 
 whole_part : (n d : ℕ) → n % d ≡ 0 → n ≡ n / d * d

@@ -6,7 +6,7 @@ use Rattle.std.proofs.lemmas.Bool.Decides.{nat_tests}
 use Rattle.std.specs.Char.{digit_value, is_ascii_digit}
 use Rattle.std.specs.List.{position_or_len}
 use Rattle.exact_numbers.specs.Text.{after_sign, is_mark, is_point, mantissa_part, whole_digits, fraction_digits, exponent_part, IsDecText, IsExponent, exponent_value, begins_minus, text_value}
-use Rattle.fractions.specs.Rational.{decimal_value}
+use Rattle.exact_numbers.specs.Rational.{decimal_value}
 use Rattle.exact_numbers.specs.Decimal.{signed}
 use Rattle.std.proofs.lemmas.Int.Digits.{digits_value-lt}
 use Rattle.std.specs.Str.Parse.{AllDigits, digits_value, digits_value_after}

@@ -4,7 +4,7 @@ use Rattle.std.proofs.Math.IntN.{*ℤ-one}
 use Rattle.std.specs.Int.{IsGcd}
 use Rattle.std.proofs.lemmas.Nat.Gcd.{IsGcd-from_zero, IsGcd-from_mod}
 use mathlib.Core.Bool.{beq}
-use Rattle.fractions.specs.LowestLemmas.{one_coprime}
+use Rattle.exact_numbers.specs.LowestLemmas.{one_coprime}
 use Rattle.exact_numbers.specs.Fraction.{IsFrac}
 use Rattle.exact_numbers.proofs.Pairs.{SameValue, SumFits, pair, product_of, sum_of}
 use Rattle.exact_numbers.proofs.Coprime.{Crosswise}

@@ -1,9 +1,11 @@
-// Exact decimal numbers and fractions of 128 bits.
+// Exact numbers: fractions without bound as definitions and laws, decimals and fractions of 128
+// bits, and the words that are numbers.
 #![tactic(auto)]
 
 mod arithmetic;
 mod dec;
 mod frac;
+pub mod fraction_laws;
 mod front;
 mod gcd;
 pub mod laws;
@@ -12,6 +14,8 @@ mod num_text;
 mod numbers;
 mod of_dec;
 mod order;
+pub mod quotient_laws;
+mod quotient_words;
 mod read;
 mod short;
 mod words;
@@ -24,4 +28,5 @@ pub use front::{FrontDec, PlainIndex, front_dec, plain_index};
 pub use mantissa::MAXN;
 pub use num_text::NumText;
 pub use numbers::{are_digits, dec_of, signed_of, whole_of};
+pub use quotient_words::{frac_of, whole_number_of};
 pub use read::{NumFault, read_dec, read_whole};

@@ -9,18 +9,18 @@ use Rattle.std.proofs.lemmas.List.{length-map, length-take-le, map_push, take-ma
 use Rattle.std.proofs.lemmas.Option.{slice_get_read, slice_get_past}
 use Rattle.std.proofs.lemmas.List.Sums.{fold-append, sum_by-append, sum_by-set, sum_by-take-le, sum_by_more, sum_by-cons}
 use Rattle.std.proofs.lemmas.List.Folds.{list_any-append}
-use Rattle.texts.specs.declared.stop.Stop.{Stop}
-use Rattle.texts.specs.declared.stop.Stop.TheVariants.{Fault, Memory}
-use Rattle.program_meaning.specs.Lines.{line_value, Point, constant_line, form_of_line}
-use Rattle.nl_meaning.specs.Trees.{expression_given, tree_size, with_definition, known_values, Tree}
+use Rattle.text_base.specs.declared.stop.Stop.{Stop}
+use Rattle.text_base.specs.declared.stop.Stop.TheVariants.{Fault, Memory}
+use Rattle.linear_program.specs.Lines.{line_value, Point, constant_line, form_of_line}
+use Rattle.nl_model.specs.Trees.{expression_given, tree_size, with_definition, known_values, Tree}
 use Rattle.nl_model.specs.File.{File, Term}
 use Rattle.nl_model.specs.declared.definition.Def.{Def as Definition}
 use Rattle.nl_model.specs.HeaderRules.{defined_count, AreCounts}
 use Rattle.nl_model.specs.Rules.{IsDefinition, is_defined, IsFile}
 use Rattle.nl_model.specs.declared.at.Owner.TheVariants.{Def, Con, Obj}
-use Rattle.file_meaning.specs.Expressions.{definition_of, definitions_of, linear_terms, tree_or_zero, maximises, body_of, objective_of}
-use Rattle.file_meaning.specs.FoldFaults.{Owned, owned_by, no_definition, owners_fault, owned_definition, most_coefficients, owners_of, fold_fault, has_objective, no_such_objective, owned_line}
-use Rattle.program_meaning.specs.Elements.{elements_from}
+use Rattle.nl_model.specs.Expressions.{definition_of, definitions_of, linear_terms, tree_or_zero, maximises, body_of, objective_of}
+use Rattle.nl_model.specs.FoldFaults.{Owned, owned_by, no_definition, owners_fault, owned_definition, most_coefficients, owners_of, fold_fault, has_objective, no_such_objective, owned_line}
+use Rattle.linear_program.specs.Elements.{elements_from}
 use Rattle.linear_fold.specs.declared.fold_fault.FoldFault.{FoldFault}
 use Rattle.linear_program.specs.declared.form.Form.{Form}
 use Rattle.linear_fold.specs.FoldedFaults.{HasFaultPlace, named_fault, nodes_in_all, step_bound, term_total}
@@ -30,24 +30,24 @@ use Rattle.linear_program.specs.Forms.{IsWithin, form_line, form_terms}
 use Rattle.linear_fold.specs.InsideOwnerFolds.{AreSlotsOf, HasStopped, HasFolded, IsFormOf, definitions_size, form_count, known_by, AreBodiesOf, bodies_size, coefficients_of, expression_at, owned_at, owner_size, AreFormsOf}
 use Rattle.linear_fold.specs.declared.owners.Folder.{Folder}
 use Rattle.linear_fold.proofs.OwnerLemmas.{definition_at, found_here, linear_folded, owner_count, there, owner_line}
-use Rattle.texts.specs.Stopped.{IfFault}
+use Rattle.text_base.specs.Stopped.{IfFault}
 use Rattle.nl_model.specs.declared.objective.Objective.{Objective}
 use Rattle.linear_fold.specs.declared.entries.Entry.TheVariants.{Linear}
 use Rattle.linear_program.specs.Coefs.{AreAscending, AreBelow}
-use Rattle.fractions.specs.Rational.{zero_ℚ}
+use Rattle.exact_numbers.specs.Rational.{zero_ℚ}
 use Rattle.nl_model.specs.FilePlaces.{terms_at, tree_at}
 use Rattle.linear_fold.proofs.Expressions.{no_terms, zero_folded}
 use Rattle.linear_fold.proofs.Folding.{constant_within}
-use Rattle.program_meaning.specs.Linear.{Row}
+use Rattle.linear_program.specs.Linear.{Row}
 use Rattle.linear_program.specs.declared.interval.Interval.{Interval}
 use Rattle.linear_program.specs.declared.kind.Kind.{Kind}
 use Rattle.nl_model.specs.Kinds.{variable_kind}
 use Rattle.linear_program.specs.Intervals.{IsOrdered, no_sides}
-use Rattle.program_meaning.proofs.Elements.{elements_length}
-use Rattle.file_meaning.specs.LinearFile.{linear_of, linear_row, linear_variable}
+use Rattle.linear_program.proofs.Elements.{elements_length}
+use Rattle.nl_model.specs.LinearFile.{linear_of, linear_row, linear_variable}
 use Rattle.linear_program.specs.Programs.{IsFormOver, IsLinear, LinearValue, linear_value, rows_from, variables_from}
-use Rattle.file_meaning.proofs.Folding.{clean_has_lines}
-use Rattle.file_meaning.proofs.Formed.{file_formed}
+use Rattle.nl_model.proofs.Folding.{clean_has_lines}
+use Rattle.nl_model.proofs.Formed.{file_formed}
 
 -- ---- values of definitions
 pub known_push : (ds : List Definition) (d : Definition) (at : Point) → known_by (ds ++ d ∷ []) at ≡ (λ i. if i == d.index then expression_given (known_by ds at) (definition_of d).expression at else known_by ds at i)

@@ -8,20 +8,20 @@ use Rattle.std.proofs.lemmas.Int.{ints, unsigned_abs-mul}
 use Rattle.exact_numbers.specs.declared.frac.Frac.{Frac}
 use Rattle.exact_numbers.specs.Values.{frac_value, order_of}
 use Rattle.exact_numbers.proofs.Bridge.{whole_fits as whole_small}
-use Rattle.fractions.specs.Divisors.{AreCoprime}
-use Rattle.fractions.specs.LowestLemmas.{coprime-swap}
-use Rattle.fractions.specs.Fits.{fits}
-use Rattle.fractions.specs.Functions.{exponent_of, or_zero, power_of, is_smaller, lesser_of, greater_of, least_of, greatest_of, floor_of, ceiling_of, absolute_of}
+use Rattle.exact_numbers.specs.Divisors.{AreCoprime}
+use Rattle.exact_numbers.specs.LowestLemmas.{coprime-swap}
+use Rattle.exact_numbers.specs.Fits.{fits}
+use Rattle.exact_numbers.specs.Functions.{exponent_of, or_zero, power_of, is_smaller, lesser_of, greater_of, least_of, greatest_of, floor_of, ceiling_of, absolute_of}
 use lib.IntN.{*ℤ-one, zero-*ℤ}
-use Rattle.fractions.specs.Rational.{ℚ, whole, ◌<ℚ◌, over, zero_ℚ, one_ℚ, ◌*ℚ◌, neg_ℚ}
-use Rattle.fractions.proofs.Coprimes.{coprime-mul, coprime-pow}
-use Rattle.fractions.proofs.Extremes.{absolute_above, absolute_below, power_of-suc, power_of-zero}
-use Rattle.fractions.proofs.Arithmetic.{over_lowest, zero_value, over_whole}
-use Rattle.fractions.proofs.Values.{own_value, value_le, value_lt}
-use Rattle.program_meaning.specs.Lines.{constant_line, Line, is_constant, are_constant, constants_of}
-use Rattle.nl_meaning.specs.Faults.{constants_line, operator_fault, operator_line, power_fault, too_wide_unless}
-use Rattle.nl_meaning.specs.declared.Reason.TheVariants.{Nonlinear, RefusedPower, TooWide}
-use Rattle.nl_meaning.specs.Trees.{applied, rule_of}
+use Rattle.exact_numbers.specs.Rational.{ℚ, whole, ◌<ℚ◌, over, zero_ℚ, one_ℚ, ◌*ℚ◌, neg_ℚ}
+use Rattle.exact_numbers.proofs.Coprimes.{coprime-mul, coprime-pow}
+use Rattle.exact_numbers.proofs.Extremes.{absolute_above, absolute_below, power_of-suc, power_of-zero}
+use Rattle.exact_numbers.proofs.FractionArithmetic.{over_lowest, zero_value, over_whole}
+use Rattle.exact_numbers.proofs.Values.{own_value, value_le, value_lt}
+use Rattle.linear_program.specs.Lines.{constant_line, Line, is_constant, are_constant, constants_of}
+use Rattle.nl_model.specs.Faults.{constants_line, operator_fault, operator_line, power_fault, too_wide_unless}
+use Rattle.nl_model.specs.declared.Reason.TheVariants.{Nonlinear, RefusedPower, TooWide}
+use Rattle.nl_model.specs.Trees.{applied, rule_of}
 use Rattle.code_tables.specs.declared.class.OpClass.{OpClass}
 use Rattle.code_tables.specs.declared.class.OpClass.TheVariants.{Greatest, Least, Power}
 use Rattle.linear_fold.specs.declared.parts.PartialForm.{PartialForm}

@@ -2,11 +2,11 @@
 use Rattle.std.proofs.Common.{◌≡◌, ◌≢◌, ℕ, zero, suc, ◌+◌, ◌<◌, ◌∙◌, sym, ap, ap₂, refl, arith, ⊎_elim, if◌then◌else◌, List, [], ◌∷◌, length}
 use Rattle.std.proofs.lemmas.Bool.{cases_eq, false_from_ne_true}
 use Rattle.exact_numbers.specs.Values.{frac_value}
-use Rattle.fractions.specs.Rational.{ℚ, zero_ℚ}
-use Rattle.fractions.proofs.Arithmetic.{zero-is_zero}
-use Rattle.program_meaning.specs.Lines.{Line, is_zero}
-use Rattle.program_meaning.proofs.LineLemmas.{is_zero-true}
-use Rattle.file_meaning.specs.FoldFaults.{coefficient_count}
+use Rattle.exact_numbers.specs.Rational.{ℚ, zero_ℚ}
+use Rattle.exact_numbers.proofs.FractionArithmetic.{zero-is_zero}
+use Rattle.linear_program.specs.Lines.{Line, is_zero}
+use Rattle.linear_program.proofs.LineLemmas.{is_zero-true}
+use Rattle.nl_model.specs.FoldFaults.{coefficient_count}
 use Rattle.linear_program.specs.declared.form.Form.{Form}
 use Rattle.linear_program.specs.Coefs.{Term, AreAscending, AreBelow, coef_in, value_or_zero}
 use Rattle.linear_program.specs.Forms.{IsWithin, form_line, form_terms, kept_constant}

@@ -4,15 +4,15 @@ use Rattle.std.specs.Option.{option_or}
 use Rattle.std.proofs.lemmas.Bool.{and_from}
 use Rattle.exact_numbers.specs.declared.frac.Frac.{Frac}
 use Rattle.exact_numbers.specs.Values.{frac_value}
-use Rattle.fractions.specs.Fits.{fits, sum_fits}
-use Rattle.fractions.specs.Rational.{ℚ, zero_ℚ, ◌+ℚ◌, one_ℚ, ◌*ℚ◌}
-use Rattle.fractions.proofs.Arithmetic.{zero-+ℚ, *ℚ_zero, +ℚ_zero}
-use Rattle.nl_meaning.specs.declared.Fault.{Fault}
-use Rattle.nl_meaning.specs.Faults.{fault_at, too_wide_unless, line_with_terms, terms_fault, tree_fault}
-use Rattle.program_meaning.specs.Lines.{line_with, Line, line_value, constant_line, products_fit, Point}
-use Rattle.nl_meaning.specs.Trees.{LinearTerm, Known, Tree, Trees, AreTermsBelow, tree_size, trees_size, tree_given, number}
+use Rattle.exact_numbers.specs.Fits.{fits, sum_fits}
+use Rattle.exact_numbers.specs.Rational.{ℚ, zero_ℚ, ◌+ℚ◌, one_ℚ, ◌*ℚ◌}
+use Rattle.exact_numbers.proofs.FractionArithmetic.{zero-+ℚ, *ℚ_zero, +ℚ_zero}
+use Rattle.nl_model.specs.declared.Fault.{Fault}
+use Rattle.nl_model.specs.Faults.{fault_at, too_wide_unless, line_with_terms, terms_fault, tree_fault}
+use Rattle.linear_program.specs.Lines.{line_with, Line, line_value, constant_line, products_fit, Point}
+use Rattle.nl_model.specs.Trees.{LinearTerm, Known, Tree, Trees, AreTermsBelow, tree_size, trees_size, tree_given, number}
 use Rattle.nl_model.specs.File.{Term as FileTerm}
-use Rattle.file_meaning.specs.Expressions.{linear_terms}
+use Rattle.nl_model.specs.Expressions.{linear_terms}
 use Rattle.linear_program.specs.Coefs.{Term, found, value_or_zero, coef_in, AreAscending, AreBelow}
 use Rattle.linear_fold.specs.InsideLinearTerms.{AreStrictlyAscending, AreZeroTerms}
 use Rattle.linear_program.proofs.Closing.{found_last, found_other}
@@ -23,11 +23,11 @@ use Rattle.linear_program.specs.Decimals.{DecimalTerm, AreDecimals}
 use Rattle.linear_program.proofs.DecimalLemmas.{AllFit}
 use Rattle.std.proofs.lemmas.List.{drop_more}
 use Rattle.std.proofs.lemmas.List.Elements.{All-head, All-tail}
-use Rattle.texts.specs.declared.stop.Stop.{Stop}
-use Rattle.texts.specs.declared.stop.Stop.TheVariants.{Fault as Stopped}
+use Rattle.text_base.specs.declared.stop.Stop.{Stop}
+use Rattle.text_base.specs.declared.stop.Stop.TheVariants.{Fault as Stopped}
 use Rattle.exact_numbers.proofs.Bridge.{zero_decimal}
-use Rattle.nl_meaning.proofs.Linear.{terms_added}
-use Rattle.program_meaning.proofs.LineLemmas.{apart-eqb}
+use Rattle.nl_model.proofs.Linear.{terms_added}
+use Rattle.linear_program.proofs.LineLemmas.{apart-eqb}
 use Rattle.nl_model.specs.declared.node.Node.{Node}
 use Rattle.nl_model.specs.Nodes.{IsPrefix, a_number, a_variable, a_defined, an_operation, ArePrefixes, no_tree, one_more}
 use Rattle.nl_model.specs.Rules.{AreTermsBelow as AreFileTermsBelow}

@@ -7,15 +7,15 @@ use Rattle.code_tables.specs.declared.class.OpClass.{OpClass}
 use Rattle.code_tables.specs.declared.class.OpClass.TheVariants.{Sum, Difference, Product, Quotient, Negation, List as SumOfAll, Power, Least, Greatest, Floor, Ceiling, Absolute, Refused}
 use Rattle.exact_numbers.specs.declared.frac.Frac.{Frac}
 use Rattle.exact_numbers.specs.Values.{frac_value}
-use Rattle.fractions.specs.Rational.{ℚ, zero_ℚ, one_ℚ, ◌+ℚ◌, ◌*ℚ◌, neg_ℚ, inverse_of}
-use Rattle.fractions.proofs.Arithmetic.{*ℚ_zero, +ℚ_zero, neg_zero}
-use Rattle.nl_meaning.specs.declared.Fault.{Fault}
-use Rattle.nl_meaning.specs.declared.Reason.{Reason}
-use Rattle.program_meaning.specs.Lines.{Line, line_values, line_value, line_by, is_constant, line_with, line_sum, line_scaled, line_neg, running_line, constant_line, Point}
-use Rattle.nl_meaning.specs.Faults.{operator_fault, operator_line, fault_at, trees_lines, tree_fault, trees_fault}
-use Rattle.nl_meaning.specs.Trees.{Known, Tree, operator, Trees, none, more, applied, rule_of, tree_given, trees_given, Takes, tree_size, trees_size, first_trees}
-use Rattle.program_meaning.proofs.LineLemmas.{same_constant, same_coef, no_coef}
-use Rattle.nl_meaning.proofs.Linear.{both_there, constant_value, variable_value, operator_has_line}
+use Rattle.exact_numbers.specs.Rational.{ℚ, zero_ℚ, one_ℚ, ◌+ℚ◌, ◌*ℚ◌, neg_ℚ, inverse_of}
+use Rattle.exact_numbers.proofs.FractionArithmetic.{*ℚ_zero, +ℚ_zero, neg_zero}
+use Rattle.nl_model.specs.declared.Fault.{Fault}
+use Rattle.nl_model.specs.declared.Reason.{Reason}
+use Rattle.linear_program.specs.Lines.{Line, line_values, line_value, line_by, is_constant, line_with, line_sum, line_scaled, line_neg, running_line, constant_line, Point}
+use Rattle.nl_model.specs.Faults.{operator_fault, operator_line, fault_at, trees_lines, tree_fault, trees_fault}
+use Rattle.nl_model.specs.Trees.{Known, Tree, operator, Trees, none, more, applied, rule_of, tree_given, trees_given, Takes, tree_size, trees_size, first_trees}
+use Rattle.linear_program.proofs.LineLemmas.{same_constant, same_coef, no_coef}
+use Rattle.nl_model.proofs.Linear.{both_there, constant_value, variable_value, operator_has_line}
 use Rattle.linear_fold.specs.declared.entries.Entry.{Entry}
 use Rattle.linear_fold.specs.declared.entries.Entry.TheVariants.{Linear as Whole, Broken as Faulty}
 use Rattle.linear_program.specs.declared.form.Form.{Form}

@@ -5,7 +5,7 @@ use Rattle.nl_model.specs.File.{File}
 use Rattle.nl_model.specs.Rules.{IsFile}
 use Rattle.linear_program.specs.declared.form.Form.{Form}
 use Rattle.linear_program.specs.Forms.{form_terms}
-use Rattle.file_meaning.specs.FoldFaults.{most_coefficients}
+use Rattle.nl_model.specs.FoldFaults.{most_coefficients}
 use Rattle.linear_fold.specs.declared.bodies.Bodies.{Bodies}
 use Rattle.linear_fold.specs.InsideHeldBodies.{AreStillDecimals, HasBodies, IsBodyOf, IsStillDecimal, bodies_in, body_at, completed, completed_form}
 use Rattle.linear_fold.specs.InsideOwnerFolds.{AreBodiesOf, AreFormsOf, IsFormOf, coefficients_of}

@@ -4,12 +4,12 @@ use Rattle.std.proofs.lemmas.List.{drop_all, take_all, length-map}
 use Rattle.exact_numbers.specs.declared.dec.Dec.{Dec}
 use Rattle.exact_numbers.specs.declared.frac.Frac.{Frac}
 use Rattle.exact_numbers.specs.Values.{dec_value, frac_value}
-use Rattle.fractions.specs.Fits.{fits}
-use Rattle.fractions.specs.Rational.{zero_ℚ}
-use Rattle.program_meaning.specs.Lines.{constant_line}
-use Rattle.nl_meaning.specs.declared.Fault.{Fault}
-use Rattle.nl_meaning.specs.Faults.{fault_at, too_wide_unless}
-use Rattle.nl_meaning.specs.Trees.{Tree, number, tree_size}
+use Rattle.exact_numbers.specs.Fits.{fits}
+use Rattle.exact_numbers.specs.Rational.{zero_ℚ}
+use Rattle.linear_program.specs.Lines.{constant_line}
+use Rattle.nl_model.specs.declared.Fault.{Fault}
+use Rattle.nl_model.specs.Faults.{fault_at, too_wide_unless}
+use Rattle.nl_model.specs.Trees.{Tree, number, tree_size}
 use Rattle.nl_model.specs.declared.at.At.TheVariants.{Head}
 use Rattle.nl_model.specs.declared.at.Owner.TheVariants.{Con}
 use Rattle.nl_model.specs.declared.node.Node.{Node}
@@ -18,8 +18,8 @@ use Rattle.nl_model.specs.File.{File}
 use Rattle.nl_model.specs.FilePlaces.{terms_at, tree_at}
 use Rattle.nl_model.specs.Nodes.{AreNodesOf, first_of_trees, trees_of}
 use Rattle.nl_model.specs.Rules.{AreTermsBelow, IsFile}
-use Rattle.file_meaning.specs.Expressions.{linear_terms, tree_or_zero}
-use Rattle.file_meaning.specs.FoldFaults.{Owned, most_coefficients, owners_fault}
+use Rattle.nl_model.specs.Expressions.{linear_terms, tree_or_zero}
+use Rattle.nl_model.specs.FoldFaults.{Owned, most_coefficients, owners_fault}
 use Rattle.linear_program.specs.declared.form.Form.{Form}
 use Rattle.linear_program.specs.declared.form.Kept.TheVariants.{Closed}
 use Rattle.linear_program.specs.Coefs.{AreAscending}

@@ -10,15 +10,15 @@ use Rattle.exact_numbers.specs.declared.frac.Frac.{Frac}
 use Rattle.exact_numbers.specs.Values.{dec_value, frac_value}
 use Rattle.exact_numbers.proofs.Bridge.{frac_fits_lem}
 use Rattle.exact_numbers.proofs.Zeros.{fits_zero, sum_fits_zero, zero_sum_fits}
-use Rattle.fractions.specs.Fits.{fits, sum_fits}
-use Rattle.fractions.specs.Functions.{is_zero}
-use Rattle.fractions.specs.Rational.{ℚ, whole, zero_ℚ, one_ℚ, ◌+ℚ◌, ◌*ℚ◌, inverse_of}
-use Rattle.fractions.proofs.Arithmetic.{one-*ℚ, zero-+ℚ, +ℚ_zero, *ℚ_comm, *ℚ_one}
-use Rattle.fractions.proofs.Values.{own_value, same_value}
-use Rattle.program_meaning.specs.Lines.{Line, Point, constant_line, is_constant, line_scaled, line_sum, line_value, one_if, products_fit, running_line, running_sums_fit, sums_fit}
-use Rattle.nl_meaning.specs.Faults.{fault_at, operator_fault, operator_line, too_wide_unless, trees_fault, trees_lines, tree_line}
-use Rattle.nl_meaning.specs.Trees.{Known, Tree, Trees, number, variable, operator, none, more, first_trees, count_of, tree_size, tree_given, Takes, applied, rule_of}
-use Rattle.nl_meaning.proofs.Linear.{operator_has_line}
+use Rattle.exact_numbers.specs.Fits.{fits, sum_fits}
+use Rattle.exact_numbers.specs.Functions.{is_zero}
+use Rattle.exact_numbers.specs.Rational.{ℚ, whole, zero_ℚ, one_ℚ, ◌+ℚ◌, ◌*ℚ◌, inverse_of}
+use Rattle.exact_numbers.proofs.FractionArithmetic.{one-*ℚ, zero-+ℚ, +ℚ_zero, *ℚ_comm, *ℚ_one}
+use Rattle.exact_numbers.proofs.Values.{own_value, same_value}
+use Rattle.linear_program.specs.Lines.{Line, Point, constant_line, is_constant, line_scaled, line_sum, line_value, one_if, products_fit, running_line, running_sums_fit, sums_fit}
+use Rattle.nl_model.specs.Faults.{fault_at, operator_fault, operator_line, too_wide_unless, trees_fault, trees_lines, tree_line}
+use Rattle.nl_model.specs.Trees.{Known, Tree, Trees, number, variable, operator, none, more, first_trees, count_of, tree_size, tree_given, Takes, applied, rule_of}
+use Rattle.nl_model.proofs.Linear.{operator_has_line}
 use Rattle.nl_model.specs.declared.node.Node.{Node}
 use Rattle.nl_model.specs.declared.node.Node.TheVariants.{Num, Var, Defined, Op}
 use Rattle.nl_model.specs.Nodes.{IsTreeFormed, first_of_trees, trees_of, with_node}

@@ -4,16 +4,16 @@ use Rattle.std.proofs.Math.Bool.{and-false, and-true}
 use Rattle.std.proofs.lemmas.Bool.{cases_eq, eq-eqb, and_from, and_parts, false_from_ne_true, cases_lt}
 use Rattle.std.proofs.lemmas.List.{length-reverse, reverse-append, take_all, take_more, take-append-drop}
 use Rattle.std.proofs.Math.Seq.{take-append_seam, drop-append_seam}
-use Rattle.texts.specs.declared.stop.Stop.{Stop}
-use Rattle.texts.specs.declared.stop.Stop.TheVariants.{Fault as Stopped, Memory, Fault}
+use Rattle.text_base.specs.declared.stop.Stop.{Stop}
+use Rattle.text_base.specs.declared.stop.Stop.TheVariants.{Fault as Stopped, Memory, Fault}
 use Rattle.exact_numbers.specs.declared.frac.Frac.{Frac}
 use Rattle.exact_numbers.specs.Values.{frac_value}
 use Rattle.exact_numbers.proofs.Bridge.{frac_fits_lem}
-use Rattle.fractions.specs.Fits.{fits, sum_fits}
-use Rattle.fractions.specs.Rational.{ℚ, zero_ℚ, ◌+ℚ◌, ◌*ℚ◌, one_ℚ, neg_ℚ, inverse_of}
-use Rattle.fractions.proofs.Arithmetic.{*ℚ_one, *ℚ_zero, +ℚ_zero, zero-+ℚ, one-*ℚ, neg-*ℚ, zero-is_zero}
-use Rattle.program_meaning.specs.Lines.{constant_line, line_scaled, line_sum, products_fit, Line, is_zero, is_constant, one_if, line_neg, sums_fit, all_below}
-use Rattle.program_meaning.proofs.LineLemmas.{all_below-true, apart-eqb}
+use Rattle.exact_numbers.specs.Fits.{fits, sum_fits}
+use Rattle.exact_numbers.specs.Rational.{ℚ, zero_ℚ, ◌+ℚ◌, ◌*ℚ◌, one_ℚ, neg_ℚ, inverse_of}
+use Rattle.exact_numbers.proofs.FractionArithmetic.{*ℚ_one, *ℚ_zero, +ℚ_zero, zero-+ℚ, one-*ℚ, neg-*ℚ, zero-is_zero}
+use Rattle.linear_program.specs.Lines.{constant_line, line_scaled, line_sum, products_fit, Line, is_zero, is_constant, one_if, line_neg, sums_fit, all_below}
+use Rattle.linear_program.proofs.LineLemmas.{all_below-true, apart-eqb}
 use Rattle.linear_program.specs.declared.form.Form.{Form}
 use Rattle.linear_fold.specs.declared.parts.PartialForm.{PartialForm}
 use Rattle.linear_fold.specs.declared.parts.PartialForm.TheVariants.{Number, Variable, Linear, Opposite, Broken}
@@ -28,9 +28,9 @@ use Rattle.linear_program.proofs.Scaled.{all_below-false, all_below-intro, same_
 use Rattle.std.proofs.Math.Nat.{mul-le-mul_left}
 use Rattle.code_tables.specs.declared.class.OpClass.{OpClass}
 use Rattle.code_tables.specs.declared.class.OpClass.TheVariants.{Quotient}
-use Rattle.nl_meaning.specs.declared.Reason.{Reason}
-use Rattle.nl_meaning.specs.declared.Reason.TheVariants.{DivideByZero}
-use Rattle.nl_meaning.specs.Faults.{too_wide_unless, operator_fault}
+use Rattle.nl_model.specs.declared.Reason.{Reason}
+use Rattle.nl_model.specs.declared.Reason.TheVariants.{DivideByZero}
+use Rattle.nl_model.specs.Faults.{too_wide_unless, operator_fault}
 use Rattle.linear_fold.specs.declared.operate.Outcome.{Outcome}
 use Rattle.linear_fold.specs.declared.operate.Outcome.TheVariants.{Linear as Made, Refused}
 

@@ -10,16 +10,16 @@ use Rattle.std.proofs.lemmas.List.Sorted.{All-permutation, IsPermutation-keeps, 
 use Rattle.std.proofs.lemmas.List.Sums.{sum_by-cons}
 use Rattle.exact_numbers.specs.Values.{dec_value}
 use Rattle.exact_numbers.proofs.Zeros.{zero_frac_fits}
-use Rattle.fractions.specs.Fits.{fits, sum_fits}
-use Rattle.fractions.specs.Rational.{ℚ, zero_ℚ, ◌+ℚ◌, ◌*ℚ◌}
-use Rattle.fractions.specs.Sums.{sum_over}
-use Rattle.fractions.proofs.Adding.{sum_over_nil, sum_over_cons}
-use Rattle.fractions.proofs.Arithmetic.{+ℚ_assoc, +ℚ_cancel, +ℚ_zero, *ℚ_zero}
-use Rattle.fractions.proofs.Ring.{ring, v, ◌⊕◌}
-use Rattle.program_meaning.specs.Lines.{Line, line_with, one_if}
-use Rattle.program_meaning.proofs.LineLemmas.{apart-eqb}
-use Rattle.nl_meaning.specs.Faults.{fault_at, line_with_terms, terms_fault, too_wide_unless}
-use Rattle.file_meaning.specs.Expressions.{linear_terms}
+use Rattle.exact_numbers.specs.Fits.{fits, sum_fits}
+use Rattle.exact_numbers.specs.Rational.{ℚ, zero_ℚ, ◌+ℚ◌, ◌*ℚ◌}
+use Rattle.exact_numbers.specs.Sums.{sum_over}
+use Rattle.exact_numbers.proofs.Adding.{sum_over_nil, sum_over_cons}
+use Rattle.exact_numbers.proofs.FractionArithmetic.{+ℚ_assoc, +ℚ_cancel, +ℚ_zero, *ℚ_zero}
+use Rattle.exact_numbers.proofs.Ring.{ring, v, ◌⊕◌}
+use Rattle.linear_program.specs.Lines.{Line, line_with, one_if}
+use Rattle.linear_program.proofs.LineLemmas.{apart-eqb}
+use Rattle.nl_model.specs.Faults.{fault_at, line_with_terms, terms_fault, too_wide_unless}
+use Rattle.nl_model.specs.Expressions.{linear_terms}
 use Rattle.linear_program.specs.Decimals.{DecimalTerm, frac_of}
 use Rattle.linear_program.proofs.DecimalLemmas.{frac_of-value}
 use Rattle.linear_program.proofs.Scaled.{same_line}

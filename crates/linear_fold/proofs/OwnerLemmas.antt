@@ -4,17 +4,17 @@ use Rattle.std.specs.Option.{option_or, option_map_or}
 use Rattle.std.proofs.lemmas.Bool.{lt-ltb, le-ltb, ne_eqb}
 use Rattle.std.proofs.lemmas.Option.{get_or_from_slice_get, slice_get_within}
 use Rattle.std.proofs.lemmas.List.Sums.{get_or-le-sum_by}
-use Rattle.fractions.specs.Rational.{decimal_value}
-use Rattle.fractions.specs.Fits.{fits, sum_fits}
+use Rattle.exact_numbers.specs.Rational.{decimal_value}
+use Rattle.exact_numbers.specs.Fits.{fits, sum_fits}
 use Rattle.exact_numbers.proofs.Bridge.{zero_decimal}
-use Rattle.nl_meaning.specs.declared.Fault.{Fault}
-use Rattle.nl_meaning.specs.declared.Reason.{Reason}
-use Rattle.nl_meaning.specs.declared.Reason.TheVariants.{Nonlinear as IsNonlinear}
-use Rattle.program_meaning.specs.Lines.{Line, constant_line, line_with, Point}
-use Rattle.nl_meaning.specs.Faults.{fault_at, too_wide_unless, tree_fault, trees_fault, terms_fault, expression_fault, tree_line, trees_lines, operator_fault}
-use Rattle.nl_meaning.specs.Trees.{Known, Tree, number, variable, defined, operator, Trees, none, more, Expression, expression_given, tree_size, trees_size}
-use Rattle.nl_meaning.proofs.Linear.{terms_added}
-use Rattle.program_meaning.proofs.LineLemmas.{same_coef}
+use Rattle.nl_model.specs.declared.Fault.{Fault}
+use Rattle.nl_model.specs.declared.Reason.{Reason}
+use Rattle.nl_model.specs.declared.Reason.TheVariants.{Nonlinear as IsNonlinear}
+use Rattle.linear_program.specs.Lines.{Line, constant_line, line_with, Point}
+use Rattle.nl_model.specs.Faults.{fault_at, too_wide_unless, tree_fault, trees_fault, terms_fault, expression_fault, tree_line, trees_lines, operator_fault}
+use Rattle.nl_model.specs.Trees.{Known, Tree, number, variable, defined, operator, Trees, none, more, Expression, expression_given, tree_size, trees_size}
+use Rattle.nl_model.proofs.Linear.{terms_added}
+use Rattle.linear_program.proofs.LineLemmas.{same_coef}
 use Rattle.nl_model.specs.declared.at.At.{At}
 use Rattle.nl_model.specs.declared.at.At.TheVariants.{Node, Term as TermOf, Head}
 use Rattle.nl_model.specs.declared.at.Owner.{Owner}
@@ -24,8 +24,8 @@ use Rattle.nl_model.specs.declared.definition.Def.{Def as Definition}
 use Rattle.nl_model.specs.FilePlaces.{HasPlace, terms_at, tree_at}
 use Rattle.nl_model.specs.HeaderRules.{defined_count}
 use Rattle.nl_model.specs.Rules.{AreDefinitions, AreTermsBelow, AreTreesWithin, IsDefinition, IsFile, IsTreeKnown, IsTreeWithin, is_defined, most_terms}
-use Rattle.file_meaning.specs.Expressions.{linear_terms, tree_or_zero}
-use Rattle.file_meaning.specs.FoldFaults.{Owned, at_place, coefficient_count, fold_too_large, head_fault, most_coefficients, owned_line, owners_fault}
+use Rattle.nl_model.specs.Expressions.{linear_terms, tree_or_zero}
+use Rattle.nl_model.specs.FoldFaults.{Owned, at_place, coefficient_count, fold_too_large, head_fault, most_coefficients, owned_line, owners_fault}
 use Rattle.linear_fold.specs.declared.fold_fault.FoldFault.TheVariants.{FoldTooLarge}
 use Rattle.linear_program.specs.declared.form.Form.{Form}
 use Rattle.linear_fold.specs.FoldedFaults.{HasFaultPlace, fault_for, named_fault, place_at}

@@ -1,10 +1,10 @@
 -- Stacks of parts, of which some are closed or taken.
 use Rattle.std.proofs.Common.{◌≡◌, ℕ, zero, suc, ◌+◌, ◌-◌, ◌<◌, ◌≤◌, ◌∙◌, sym, ap, refl, subst, arith, Option, None, Some, Result, Ok, Err, OnOk, List, [], ◌∷◌, ◌++◌, length, reverse, take, drop, get_or, set, subst₂}
 use Rattle.std.proofs.lemmas.List.{length-reverse, length-take-le, reverse-append, take-take}
-use Rattle.nl_meaning.specs.declared.Fault.{Fault}
-use Rattle.nl_meaning.specs.Faults.{tree_fault}
-use Rattle.nl_meaning.specs.Trees.{Known, Tree, tree_size}
-use Rattle.program_meaning.specs.Lines.{Point}
+use Rattle.nl_model.specs.declared.Fault.{Fault}
+use Rattle.nl_model.specs.Faults.{tree_fault}
+use Rattle.nl_model.specs.Trees.{Known, Tree, tree_size}
+use Rattle.linear_program.specs.Lines.{Point}
 use Rattle.linear_fold.specs.declared.parts.PartialForm.{PartialForm}
 use Rattle.linear_fold.specs.declared.parts.PartialForm.TheVariants.{Linear, Opposite, Broken}
 use Rattle.linear_fold.specs.InsideFolds.{ArePartsFolded, ArePartsWithin, IsLined, IsPartFolded, IsPartWithin}

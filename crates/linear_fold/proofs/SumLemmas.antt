@@ -6,17 +6,17 @@ use Rattle.std.proofs.Math.Seq.{take-append_seam}
 use Rattle.std.proofs.Math.Nat.{mul-le-mul_left}
 use lib.IntN.{+ℤ_comm, neg_ℤ-+ℤ}
 use Rattle.std.proofs.lemmas.Bool.{and_from, cases_lt}
-use Rattle.texts.specs.declared.stop.Stop.{Stop}
-use Rattle.texts.specs.declared.stop.Stop.TheVariants.{Fault as Stopped, Memory}
+use Rattle.text_base.specs.declared.stop.Stop.{Stop}
+use Rattle.text_base.specs.declared.stop.Stop.TheVariants.{Fault as Stopped, Memory}
 use Rattle.exact_numbers.proofs.Coprime.{same_lcm}
 use Rattle.exact_numbers.proofs.Zeros.{fits_zero}
-use Rattle.fractions.specs.Fits.{fits, is_small, least_multiple, parts_fit, sum_fits, sum_over_multiple}
-use Rattle.fractions.specs.LowestLemmas.{lcm_is}
-use Rattle.fractions.specs.Rational.{ℚ, whole, neg_ℚ, one_ℚ, zero_ℚ, ◌+ℚ◌, ◌*ℚ◌}
-use Rattle.fractions.proofs.Arithmetic.{*ℚ-neg, +ℚ_comm, +ℚ_zero, neg-*ℚ, neg-+ℚ, neg-neg, neg_zero, zero-*ℚ, zero-+ℚ, neg_size, neg_parts}
-use Rattle.fractions.proofs.Signed.{neg-*ℤ}
-use Rattle.program_meaning.specs.Lines.{Line, constant_line, one_if, all_below, is_constant, is_zero, products_fit, line_neg, line_scaled, line_sum, running_line, running_sums_fit, sums_fit}
-use Rattle.nl_meaning.specs.Faults.{too_wide_unless}
+use Rattle.exact_numbers.specs.Fits.{fits, is_small, least_multiple, parts_fit, sum_fits, sum_over_multiple}
+use Rattle.exact_numbers.specs.LowestLemmas.{lcm_is}
+use Rattle.exact_numbers.specs.Rational.{ℚ, whole, neg_ℚ, one_ℚ, zero_ℚ, ◌+ℚ◌, ◌*ℚ◌}
+use Rattle.exact_numbers.proofs.FractionArithmetic.{*ℚ-neg, +ℚ_comm, +ℚ_zero, neg-*ℚ, neg-+ℚ, neg-neg, neg_zero, zero-*ℚ, zero-+ℚ, neg_size, neg_parts}
+use Rattle.exact_numbers.proofs.FractionSigned.{neg-*ℤ}
+use Rattle.linear_program.specs.Lines.{Line, constant_line, one_if, all_below, is_constant, is_zero, products_fit, line_neg, line_scaled, line_sum, running_line, running_sums_fit, sums_fit}
+use Rattle.nl_model.specs.Faults.{too_wide_unless}
 use Rattle.code_tables.specs.declared.class.OpClass.TheVariants.{Difference, Negation, Product, List as SumOfAll}
 use Rattle.linear_program.specs.declared.too_wide.Wide.{Wide}
 use Rattle.linear_program.specs.Coefs.{AddsAt}
@@ -28,7 +28,7 @@ use Rattle.linear_fold.specs.declared.parts.PartialForm.{PartialForm}
 use Rattle.linear_fold.specs.declared.parts.PartialForm.TheVariants.{Number}
 use Rattle.exact_numbers.specs.declared.frac.Frac.{Frac}
 use Rattle.exact_numbers.specs.Values.{frac_value}
-use Rattle.fractions.proofs.Values.{same_parts}
+use Rattle.exact_numbers.proofs.Values.{same_parts}
 use Rattle.linear_fold.specs.InsideOperates.{AreOperands, ComesTo, IsLeft, IsOperand, IsSameSum, IsSound, IsUnit, Operates, SumsTo, multiple_line, part_line}
 use Rattle.linear_fold.proofs.Operators.{FitsLine, adds_multiple, stops_multiple, added, fault_first, first_of_all, line_fits, neg_fits, number_constant, part_fits, scaled_by_minus, scaled_by_one}
 

@@ -1,13 +1,13 @@
 -- Two ascending lists, merged by variable.
 use Rattle.std.proofs.Common.{◌≡◌, ◌≢◌, Ok, Err, ℕ, suc, ◌+◌, ◌<◌, ◌≤◌, ⊎_elim, ◌∙◌, sym, ap, ap₂, refl, subst, arith, true, false, None, Some, List, [], ◌∷◌, ◌++◌, append_assoc, drop, drop-cons, get_or, length}
 use Rattle.std.proofs.lemmas.Bool.{cases_eq, cases_lt}
-use Rattle.fractions.specs.Rational.{ℚ, zero_ℚ, ◌+ℚ◌, ◌*ℚ◌}
-use Rattle.fractions.proofs.Arithmetic.{+ℚ_zero, zero-+ℚ}
-use Rattle.fractions.specs.Fits.{fits, sum_fits}
-use Rattle.program_meaning.specs.Lines.{Line}
-use Rattle.texts.specs.declared.stop.Stop.{Stop}
-use Rattle.texts.specs.declared.stop.Stop.TheVariants.{Fault, Memory}
-use Rattle.texts.specs.Stopped.{IfFault}
+use Rattle.exact_numbers.specs.Rational.{ℚ, zero_ℚ, ◌+ℚ◌, ◌*ℚ◌}
+use Rattle.exact_numbers.proofs.FractionArithmetic.{+ℚ_zero, zero-+ℚ}
+use Rattle.exact_numbers.specs.Fits.{fits, sum_fits}
+use Rattle.linear_program.specs.Lines.{Line}
+use Rattle.text_base.specs.declared.stop.Stop.{Stop}
+use Rattle.text_base.specs.declared.stop.Stop.TheVariants.{Fault, Memory}
+use Rattle.text_base.specs.Stopped.{IfFault}
 use Rattle.linear_program.specs.declared.too_wide.Wide.{Wide}
 use Rattle.linear_program.specs.Forms.{AreSummedUp, IsScaledSum, ScaledSumFits, adds_fit, parts_line}
 use Rattle.linear_program.proofs.FracLemmas.{coef_fits}

@@ -6,9 +6,9 @@ use Rattle.std.proofs.lemmas.List.{length-set}
 use Rattle.std.proofs.lemmas.List.Elements.{Contains-append_left, Contains-append_right, Contains-append_cases}
 use Rattle.exact_numbers.specs.declared.frac.Frac.{Frac}
 use Rattle.exact_numbers.specs.Values.{frac_value}
-use Rattle.fractions.specs.Rational.{ℚ, zero_ℚ, ◌+ℚ◌, ◌*ℚ◌}
-use Rattle.program_meaning.specs.Lines.{is_zero, one_if}
-use Rattle.program_meaning.proofs.LineLemmas.{is_zero-true, is_zero-false}
+use Rattle.exact_numbers.specs.Rational.{ℚ, zero_ℚ, ◌+ℚ◌, ◌*ℚ◌}
+use Rattle.linear_program.specs.Lines.{is_zero, one_if}
+use Rattle.linear_program.proofs.LineLemmas.{is_zero-true, is_zero-false}
 use Rattle.linear_program.specs.Places.{place_in, AreZeros, AreMarked}
 use Rattle.linear_program.proofs.CoefLemmas.{adds_at}
 

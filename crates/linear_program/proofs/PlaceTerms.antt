@@ -3,10 +3,10 @@ use Rattle.std.proofs.Common.{◌≡◌, ◌≢◌, ℕ, zero, suc, ◌+◌, ◌
 use Rattle.std.proofs.lemmas.Bool.{cases_lt}
 use Rattle.exact_numbers.specs.declared.frac.Frac.{Frac}
 use Rattle.exact_numbers.specs.Values.{frac_value}
-use Rattle.fractions.specs.Rational.{zero_ℚ}
-use Rattle.fractions.proofs.Arithmetic.{zero-is_zero}
-use Rattle.program_meaning.specs.Lines.{Line, is_zero}
-use Rattle.program_meaning.proofs.LineLemmas.{is_zero-true, is_zero-false}
+use Rattle.exact_numbers.specs.Rational.{zero_ℚ}
+use Rattle.exact_numbers.proofs.FractionArithmetic.{zero-is_zero}
+use Rattle.linear_program.specs.Lines.{Line, is_zero}
+use Rattle.linear_program.proofs.LineLemmas.{is_zero-true, is_zero-false}
 use Rattle.linear_program.specs.Coefs.{Term, value_or_zero, coef_in, AreAscending}
 use Rattle.linear_program.specs.Places.{place_in, terms_from}
 use Rattle.linear_program.specs.Forms.{parts_line, sum_line}

@@ -3,14 +3,14 @@ use Rattle.std.proofs.Common.{◌≡◌, ◌≢◌, ℕ, suc, ◌<◌, ◌≤◌
 use Rattle.std.proofs.lemmas.Bool.{and_from, and_parts, cases_eq, cases_lt, false_from_ne_true}
 use Rattle.exact_numbers.specs.declared.frac.Frac.{Frac}
 use Rattle.exact_numbers.specs.Values.{frac_value}
-use Rattle.fractions.specs.Fits.{fits}
-use Rattle.fractions.specs.Rational.{ℚ, zero_ℚ, ◌*ℚ◌}
-use Rattle.fractions.proofs.Arithmetic.{*ℚ_cancel, *ℚ_zero, zero-*ℚ}
-use Rattle.program_meaning.specs.Lines.{line_scaled, products_fit, Line}
+use Rattle.exact_numbers.specs.Fits.{fits}
+use Rattle.exact_numbers.specs.Rational.{ℚ, zero_ℚ, ◌*ℚ◌}
+use Rattle.exact_numbers.proofs.FractionArithmetic.{*ℚ_cancel, *ℚ_zero, zero-*ℚ}
+use Rattle.linear_program.specs.Lines.{line_scaled, products_fit, Line}
 use Rattle.linear_program.specs.Coefs.{Term, value_or_zero, coef_in, AreAscending, AreProducts, HasWideProduct}
-use Rattle.texts.specs.declared.stop.Stop.{Stop}
-use Rattle.texts.specs.declared.stop.Stop.TheVariants.{Fault, Memory}
-use Rattle.texts.specs.Stopped.{IfFault}
+use Rattle.text_base.specs.declared.stop.Stop.{Stop}
+use Rattle.text_base.specs.declared.stop.Stop.TheVariants.{Fault, Memory}
+use Rattle.text_base.specs.Stopped.{IfFault}
 use Rattle.linear_program.specs.declared.too_wide.Wide.{Wide}
 use Rattle.linear_program.specs.Forms.{IsZeroFrom, Multiplies}
 use Rattle.linear_program.proofs.CoefLemmas.{found_same, found_apart}

@@ -1,15 +1,15 @@
 -- The steps over the terms of a form come to the sum with its multiple.
 use Rattle.std.proofs.Common.{◌≡◌, ◌≢◌, ℕ, zero, suc, ◌+◌, ◌<◌, ◌≤◌, ◌∙◌, sym, ap, ap₂, refl, subst, arith, Bool, true, false, ◌&&◌, Some, None, Result, Ok, Err, List, [], ◌∷◌, length, ⊎_elim}
 use Rattle.std.proofs.lemmas.Bool.{cases_eq, cases_lt, and_from, and_parts, false_from_ne_true}
-use Rattle.texts.specs.declared.stop.Stop.{Stop}
-use Rattle.texts.specs.declared.stop.Stop.TheVariants.{Fault, Memory}
+use Rattle.text_base.specs.declared.stop.Stop.{Stop}
+use Rattle.text_base.specs.declared.stop.Stop.TheVariants.{Fault, Memory}
 use Rattle.exact_numbers.specs.declared.frac.Frac.{Frac}
 use Rattle.exact_numbers.specs.Values.{frac_value}
-use Rattle.fractions.specs.Fits.{fits, sum_fits}
-use Rattle.fractions.specs.Rational.{ℚ, whole, zero_ℚ, ◌+ℚ◌, ◌*ℚ◌}
-use Rattle.fractions.proofs.Arithmetic.{*ℚ_one, *ℚ_zero, +ℚ_zero}
-use Rattle.program_meaning.specs.Lines.{line_sum, line_scaled, line_with, Line, all_below, is_zero, is_constant}
-use Rattle.program_meaning.proofs.LineLemmas.{same-eqb, apart-eqb, all_below-true, is_zero-true}
+use Rattle.exact_numbers.specs.Fits.{fits, sum_fits}
+use Rattle.exact_numbers.specs.Rational.{ℚ, whole, zero_ℚ, ◌+ℚ◌, ◌*ℚ◌}
+use Rattle.exact_numbers.proofs.FractionArithmetic.{*ℚ_one, *ℚ_zero, +ℚ_zero}
+use Rattle.linear_program.specs.Lines.{line_sum, line_scaled, line_with, Line, all_below, is_zero, is_constant}
+use Rattle.linear_program.proofs.LineLemmas.{same-eqb, apart-eqb, all_below-true, is_zero-true}
 use Rattle.linear_program.specs.declared.too_wide.Wide.{Wide}
 use Rattle.linear_program.specs.Coefs.{Term, found, value_or_zero, coef_in, AreAscending, AreBelow}
 use Rattle.linear_program.specs.Forms.{IsZeroFrom, ScaledSumFits, stepped, step_fits, adds_fit, with_scaled, SumsUp, AddsScaled}

@@ -4,8 +4,8 @@ use Rattle.std.proofs.Math.ListN.{get_or-append}
 use Rattle.std.proofs.lemmas.List.Elements.{All-push, All-set}
 use Rattle.std.proofs.lemmas.List.Quantifiers.{all_pairs_push}
 use Rattle.std.proofs.lemmas.List.Sums.{sum_by-append, sum_by-cons, sum_by-set}
-use Rattle.fractions.specs.Rational.{zero_ℚ}
-use Rattle.texts.specs.Names.{IsName}
+use Rattle.exact_numbers.specs.Rational.{zero_ℚ}
+use Rattle.text_base.specs.Names.{IsName}
 use Rattle.exact_numbers.specs.declared.dec.Dec.{Dec}
 use Rattle.exact_numbers.specs.Values.{dec_value}
 use Rattle.mps_model.specs.declared.kinds.RowKind.{RowKind}

@@ -1,6 +1,6 @@
 -- The text of a program is that of the program of its values.
 use Rattle.std.proofs.Common.{◌≡◌, ℕ, zero, suc, ◌∙◌, ap, ap₂, refl, Bool, false, codes, List, [], ◌∷◌, ◌++◌, map, get_or}
-use Rattle.texts.specs.WordLines.{WordLine, indented, unless_empty, lines_text}
+use Rattle.text_base.specs.WordLines.{WordLine, indented, unless_empty, lines_text}
 use Rattle.mps_model.specs.Mps.{MpsRow, Entry, Column, Bound, Mps, entry_with, column_with, bound_with, with_values, no_column}
 use Rattle.mps_model.specs.Text.{section, bound_text, value_words, name_lines, sense_lines, row_line, entry_line, entry_lines, column_lines, change_lines, markers_after, bound_line, mps_lines, mps_text_by}
 

@@ -1,15 +1,15 @@
 -- The forms of rows, and the linear program that they are of.
 use Rattle.std.proofs.Common.{◌≡◌, ℕ, suc, ◌+◌, ◌<◌, ◌≤◌, ◌∙◌, sym, ap, ap₂, refl, subst, subst₂, arith, Bool, true, false, not, ◌&&◌, ◌||◌, Some, append-nil, List, [], ◌∷◌, ◌++◌, length, get_or, map, All}
 use Rattle.std.proofs.lemmas.List.{length-map, get_or_default}
-use Rattle.fractions.specs.Fits.{fits}
+use Rattle.exact_numbers.specs.Fits.{fits}
 use Rattle.std.proofs.lemmas.List.Elements.{All-nil, All-cons, All-head, All-tail}
 use Rattle.std.proofs.lemmas.List.Sums.{sum_by-cons}
 use Rattle.std.specs.List.{sum_by}
-use Rattle.fractions.specs.Rational.{ℚ, zero_ℚ, neg_ℚ}
+use Rattle.exact_numbers.specs.Rational.{ℚ, zero_ℚ, neg_ℚ}
 use Rattle.exact_numbers.specs.declared.dec.Dec.{Dec}
 use Rattle.exact_numbers.specs.Values.{dec_value}
-use Rattle.program_meaning.specs.Linear.{Row}
-use Rattle.program_meaning.specs.Lines.{Line, form_of_line}
+use Rattle.linear_program.specs.Linear.{Row}
+use Rattle.linear_program.specs.Lines.{Line, form_of_line}
 use Rattle.linear_program.specs.Coefs.{AreAscending, coef_in}
 use Rattle.linear_program.specs.Decimals.{DecimalTerm, fraction_term}
 use Rattle.linear_program.specs.Forms.{form_terms}
@@ -31,8 +31,8 @@ use Rattle.mps_program.specs.Decimals.{sides_from}
 use Rattle.mps_program.specs.InsideForms.{IsFormOf, AreBodiesOf, AreTermsFrom}
 use Rattle.mps_program.proofs.LawLemmas.{past_columns}
 use Rattle.mps_program.proofs.TermLemmas.{AreApart, row_decimals, row_coefs}
-use Rattle.term_batches.specs.Parts.{AreLater, ArePart}
-use Rattle.term_batches.proofs.BatchLemmas.{part_later}
+use Rattle.linear_program.specs.Parts.{AreLater, ArePart}
+use Rattle.linear_program.proofs.BatchLemmas.{part_later}
 
 -- ---- one form
 module _ (m : Mps Dec) (apart : AreApart (length m.rows) m.columns) (i : ℕ) (fit : has_wide_term (row_terms m i) ≡ false) (k : ℚ) (f : Form) (is : IsFormOf k (row_terms m i) f) where

@@ -3,13 +3,13 @@ use Rattle.std.proofs.Common.{◌≡◌, ℕ, suc, ◌<◌, ◌≤◌, ◌∙◌
 use Rattle.std.proofs.lemmas.Bool.{cases_Bool}
 use Rattle.std.proofs.lemmas.List.{get_or_past}
 use Rattle.std.proofs.lemmas.List.Elements.{All-nil, All-cons, All-head, All-tail}
-use Rattle.fractions.specs.Rational.{ℚ, zero_ℚ, one_ℚ, ◌+ℚ◌, ◌*ℚ◌, neg_ℚ}
-use Rattle.fractions.specs.Sums.{sum_over}
-use Rattle.fractions.proofs.Arithmetic.{zero-+ℚ, +ℚ_comm, -ℚ_lem, zero-*ℚ, *ℚ_one, +ℚ-*ℚ}
-use Rattle.fractions.proofs.Adding.{sum_below_same}
-use Rattle.program_meaning.specs.Elements.{elements_from}
-use Rattle.program_meaning.specs.Linear.{Row, Variable, IsInside, AreOrdered, value_at, linear_part, form_value, no_variable, variable_at, variable_count, RowHolds, IsFeasible, objective_value, IsLinear}
-use Rattle.program_meaning.proofs.Elements.{elements_length, elements_at}
+use Rattle.exact_numbers.specs.Rational.{ℚ, zero_ℚ, one_ℚ, ◌+ℚ◌, ◌*ℚ◌, neg_ℚ}
+use Rattle.exact_numbers.specs.Sums.{sum_over}
+use Rattle.exact_numbers.proofs.FractionArithmetic.{zero-+ℚ, +ℚ_comm, -ℚ_lem, zero-*ℚ, *ℚ_one, +ℚ-*ℚ}
+use Rattle.exact_numbers.proofs.Adding.{sum_below_same}
+use Rattle.linear_program.specs.Elements.{elements_from}
+use Rattle.linear_program.specs.Linear.{Row, Variable, IsInside, AreOrdered, value_at, linear_part, form_value, no_variable, variable_at, variable_count, RowHolds, IsFeasible, objective_value, IsLinear}
+use Rattle.linear_program.proofs.Elements.{elements_length, elements_at}
 use Rattle.mps_model.specs.declared.kinds.RowKind.{RowKind}
 use Rattle.mps_model.specs.declared.kinds.RowKind.TheVariants.{N}
 use Rattle.mps_model.specs.Mps.{Entry, Mps, no_mps_row, no_column, column_at, part_of_row, row_value, at_row, rhs_at, row_sides, row_interval, objective_row, mps_objective, IsMpsFeasible}

@@ -4,7 +4,7 @@ use Rattle.std.proofs.lemmas.Bool.Decides.{Decides-int_eq}
 use Rattle.std.proofs.lemmas.List.{length-map, get_or-map, map-append, get_or_default}
 use Rattle.std.proofs.Math.ListN.{get_or-map as get_or-map-any}
 use Rattle.std.specs.Option.{option_map}
-use Rattle.fractions.specs.Rational.{ℚ, zero_ℚ}
+use Rattle.exact_numbers.specs.Rational.{ℚ, zero_ℚ}
 use Rattle.exact_numbers.specs.declared.dec.Dec.{Dec}
 use Rattle.exact_numbers.specs.Values.{dec_value}
 use Rattle.exact_numbers.proofs.Signs.{dec_zero}

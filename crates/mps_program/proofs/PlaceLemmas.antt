@@ -2,10 +2,10 @@
 use Rattle.std.proofs.Common.{◌≡◌, ℕ, zero, suc, ◌+◌, ◌<◌, ◌∙◌, sym, ap, ap₂, refl, subst, arith, Bool, true, false, not, ◌&&◌, List, [], ◌∷◌, ◌++◌, length, All, None, if◌then◌else◌, ⊎_elim, add-one, ◌≤◌}
 use Rattle.std.proofs.lemmas.List.{length-append, get_or_append_left, get_or-append-add}
 use Rattle.std.proofs.lemmas.List.Elements.{All-append}
-use Rattle.fractions.specs.Rational.{ℚ, zero_ℚ, ◌+ℚ◌}
-use Rattle.fractions.specs.Sums.{sum_over, sum_below}
-use Rattle.fractions.proofs.Arithmetic.{+ℚ_zero, zero-+ℚ}
-use Rattle.fractions.proofs.Adding.{+ℚ_swap, sum_over-append}
+use Rattle.exact_numbers.specs.Rational.{ℚ, zero_ℚ, ◌+ℚ◌}
+use Rattle.exact_numbers.specs.Sums.{sum_over, sum_below}
+use Rattle.exact_numbers.proofs.FractionArithmetic.{+ℚ_zero, zero-+ℚ}
+use Rattle.exact_numbers.proofs.Adding.{+ℚ_swap, sum_over-append}
 use Rattle.mps_program.specs.Places.{places, first}
 use Rattle.std.proofs.lemmas.Bool.{cases_Bool, cases_lt}
 

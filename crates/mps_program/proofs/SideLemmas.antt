@@ -3,10 +3,10 @@ use Rattle.std.proofs.Common.{◌≡◌, ℕ, ◌∙◌, sym, ap, ap₂, refl, s
 use Rattle.std.proofs.lemmas.Bool.{cond_both, not-false, and_parts}
 use Rattle.std.specs.Option.{option_map}
 use Rattle.std.specs.Prelude.{option_and_then}
-use Rattle.fractions.specs.Rational.{ℚ, zero_ℚ, ◌+ℚ◌, decimal_value}
-use Rattle.fractions.specs.Fits.{fits, sum_fits}
-use Rattle.fractions.proofs.Arithmetic.{ -ℚ_lem}
-use Rattle.program_meaning.specs.Linear.{Interval}
+use Rattle.exact_numbers.specs.Rational.{ℚ, zero_ℚ, ◌+ℚ◌, decimal_value}
+use Rattle.exact_numbers.specs.Fits.{fits, sum_fits}
+use Rattle.exact_numbers.proofs.FractionArithmetic.{ -ℚ_lem}
+use Rattle.linear_program.specs.Linear.{Interval}
 use Rattle.exact_numbers.specs.Values.{dec_value, decimal_of, FitsDec, fits_dec}
 use Rattle.exact_numbers.specs.declared.dec.Dec.{Dec}
 use Rattle.exact_numbers.proofs.Fitting.{dec_fits, one_fits, zero_fits}

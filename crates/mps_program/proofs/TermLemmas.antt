@@ -6,10 +6,10 @@ use Rattle.std.proofs.lemmas.List.Elements.{All-head, All-tail}
 use Rattle.std.proofs.lemmas.List.Sums.{sum_by-cons}
 use Rattle.std.proofs.Math.ListN.{get_or-map as get_or-map-any}
 use Rattle.std.specs.List.{sum_by, filter_map, cons_option}
-use Rattle.fractions.specs.Rational.{ℚ, zero_ℚ, one_ℚ, ◌+ℚ◌, ◌*ℚ◌}
-use Rattle.fractions.specs.Fits.{fits}
-use Rattle.fractions.specs.Sums.{sum_over}
-use Rattle.fractions.proofs.Arithmetic.{*ℚ_one, +ℚ_zero, zero-+ℚ}
+use Rattle.exact_numbers.specs.Rational.{ℚ, zero_ℚ, one_ℚ, ◌+ℚ◌, ◌*ℚ◌}
+use Rattle.exact_numbers.specs.Fits.{fits}
+use Rattle.exact_numbers.specs.Sums.{sum_over}
+use Rattle.exact_numbers.proofs.FractionArithmetic.{*ℚ_one, +ℚ_zero, zero-+ℚ}
 use Rattle.exact_numbers.specs.declared.dec.Dec.{Dec}
 use Rattle.exact_numbers.specs.Values.{dec_value}
 use Rattle.linear_program.specs.Coefs.{coef_in, value_or_zero}

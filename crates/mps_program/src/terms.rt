@@ -9,9 +9,9 @@ ghost use Rattle.mps_program.specs.Places.{listed};
 ghost use Rattle.mps_program.specs.Terms.{has_wide_term, is_zero_dec, row_terms, term_of};
 
 use exact_numbers::Dec;
+use linear_program::Batches;
 use mps_model::Mps;
 use std::alloc::{AllocError, Global};
-use term_batches::Batches;
 
 /// Whether a number is 0.
 pub fn is_zero(value: Dec) -> bool

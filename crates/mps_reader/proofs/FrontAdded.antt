@@ -7,11 +7,11 @@ use Rattle.std.proofs.lemmas.Bool.Decides.{nat_tests}
 use Rattle.std.proofs.lemmas.List.{length-map, get_or-replicate}
 use Rattle.std.proofs.lemmas.List.Elements.{All-cons, All-head, All-tail}
 use Rattle.std.proofs.lemmas.List.Sums.{sum_by-append}
-use Rattle.texts.specs.Judged.{first_reason, Takes}
-use Rattle.texts.specs.Names.{IsName}
-use Rattle.texts.specs.declared.grammar.Front.{Front}
-use Rattle.texts.proofs.FrontLemmas.{front_few}
-use Rattle.texts.proofs.NamePlaces.{bytes_other, place_none}
+use Rattle.text_base.specs.Judged.{first_reason, Takes}
+use Rattle.text_base.specs.Names.{IsName}
+use Rattle.text_base.specs.declared.grammar.Front.{Front}
+use Rattle.text_base.proofs.FrontLemmas.{front_few}
+use Rattle.text_base.proofs.NamePlaces.{bytes_other, place_none}
 use Rattle.exact_numbers.specs.declared.dec.Dec.{Dec}
 use Rattle.mps_model.specs.declared.kinds.RowKind.{RowKind}
 use Rattle.mps_model.specs.Built.{CanAddColumn, CanAddEntries, CanAddRow, with_entry_last}

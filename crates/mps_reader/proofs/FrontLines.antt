@@ -7,19 +7,19 @@ use Rattle.std.proofs.lemmas.List.{append-nil, length-map}
 use Rattle.std.proofs.lemmas.List.Elements.{All-cons}
 use Rattle.std.proofs.lemmas.Bool.Decides.{eqb_tells, nat_tests}
 use Rattle.std.specs.Str.{bytes_eq}
-use Rattle.texts.specs.declared.grammar.Front.{Front}
-use Rattle.texts.specs.Cut.{IsTextLine}
-use Rattle.texts.specs.Fronts.{IsFront, TakesFront}
-use Rattle.texts.specs.Judged.{Open, IsClean, first_reason, Takes}
-use Rattle.texts.specs.Names.{IsName}
-use Rattle.texts.specs.Words.{row_of, word_at}
-use Rattle.texts.proofs.FirstReasons.{takes_after}
-use Rattle.texts.proofs.FrontLemmas.{front_joined}
-use Rattle.texts.proofs.JudgedLemmas.{clean_more}
-use Rattle.texts.proofs.NamePlaces.{bytes_self, place_some}
+use Rattle.text_base.specs.declared.grammar.Front.{Front}
+use Rattle.text_base.specs.Cut.{IsTextLine}
+use Rattle.text_base.specs.Fronts.{IsFront, TakesFront}
+use Rattle.text_base.specs.Judged.{Open, IsClean, first_reason, Takes}
+use Rattle.text_base.specs.Names.{IsName}
+use Rattle.text_base.specs.Words.{row_of, word_at}
+use Rattle.text_base.proofs.FirstReasons.{takes_after}
+use Rattle.text_base.proofs.FrontLemmas.{front_joined}
+use Rattle.text_base.proofs.JudgedLemmas.{clean_more}
+use Rattle.text_base.proofs.NamePlaces.{bytes_self, place_some}
 use Rattle.exact_numbers.specs.Numbers.{dec_of}
 use Rattle.exact_numbers.specs.declared.dec.Dec.{Dec}
-use Rattle.texts.specs.WordLines.{indented, spaced}
+use Rattle.text_base.specs.WordLines.{indented, spaced}
 use Rattle.written_texts.proofs.LineLemmas.{text-line}
 use Rattle.mps_model.specs.declared.kinds.BoundKind.{BoundKind}
 use Rattle.mps_model.specs.Built.{CanAddBound, last_entries}

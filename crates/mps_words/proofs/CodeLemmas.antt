@@ -14,13 +14,13 @@ use Rattle.std.proofs.lemmas.List.Sums.{fold_push, fails_before_first}
 use Rattle.std.proofs.lemmas.Option.{slice_get-map}
 use Rattle.std.proofs.lemmas.List.Folds.{list_any_none}
 use Rattle.std.proofs.Math.Seq.{get_or-append_seam}
-use Rattle.texts.specs.Names.{IsName, is_name}
+use Rattle.text_base.specs.Names.{IsName, is_name}
 use Rattle.mps_words.specs.InsideCodes.{with_byte, bytes_code, code_of, last_bytes, name_of, AreBytes, HaveCodes, NoneOrLong}
-use Rattle.texts.specs.Names.{place_of}
+use Rattle.text_base.specs.Names.{place_of}
 use Rattle.mps_words.specs.Names.{last_name}
 use Rattle.mps_words.proofs.LastLemmas.{last_name-slice}
-use Rattle.texts.proofs.NamePlaces.{past_all, place_at, place_none, place_some, bytes_differ, bytes_same}
-pub use Rattle.texts.proofs.NameTests.{tested_name as named}
+use Rattle.text_base.proofs.NamePlaces.{past_all, place_at, place_none, place_some, bytes_differ, bytes_same}
+pub use Rattle.text_base.proofs.NameTests.{tested_name as named}
 use Rattle.std.proofs.lemmas.List.Quantifiers.{all_pairs_push, position-Some}
 use Rattle.std.proofs.lemmas.Bool.{leb-true, lt-leb, le-leb, eq-eqb, ne_eqb, cases_Bool}
 

@@ -3,8 +3,8 @@ use Rattle.std.proofs.Common.{◌≡◌, ◌∙◌, ℕ, ◌+◌, ◌<◌, ◌�
 use Rattle.std.proofs.lemmas.List.{drop_more, drop-take}
 use Rattle.std.proofs.lemmas.List.Folds.{list_all-append}
 use Rattle.std.proofs.lemmas.Bool.{le-leb}
-use Rattle.texts.specs.Names.{has_name_bytes}
-use Rattle.texts.specs.Words.{IsUnmarked}
+use Rattle.text_base.specs.Names.{has_name_bytes}
+use Rattle.text_base.specs.Words.{IsUnmarked}
 use Rattle.exact_numbers.specs.Numbers.{dec_of}
 use Rattle.exact_numbers.specs.declared.dec.Dec.{Dec}
 use Rattle.mps_words.specs.InsideFronts.{IsNumberText}

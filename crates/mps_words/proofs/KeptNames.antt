@@ -4,10 +4,10 @@ use Rattle.std.specs.Prelude.{OnOk, OnErr, IfSome, slice_get}
 use Rattle.std.specs.Global.{Vec}
 use Rattle.std.proofs.lemmas.List.{length-map, map_push, get_or-map}
 use Rattle.std.proofs.lemmas.Option.{slice_get_within}
-use Rattle.texts.specs.Names.{IsName}
-use Rattle.texts.proofs.NamePlaces.{texts_of}
+use Rattle.text_base.specs.Names.{IsName}
+use Rattle.text_base.proofs.NamePlaces.{texts_of}
 use Rattle.mps_words.specs.InsideCodes.{code_of, name_of, AreBytes, HaveCodes, kept_names}
-use Rattle.texts.specs.Names.{place_of}
+use Rattle.text_base.specs.Names.{place_of}
 use Rattle.mps_words.specs.Names.{last_name}
 use Rattle.mps_words.proofs.CodeLemmas.{one_more_code, name_back, code_at, last_named, named}
 

@@ -4,7 +4,7 @@ use Rattle.std.specs.Prelude.{slice_get, option_map, unwrap_or}
 use Rattle.std.specs.Global.{Vec}
 use Rattle.std.specs.Str.{bytes_eq}
 use Rattle.std.proofs.lemmas.List.{length-map}
-use Rattle.texts.proofs.NamePlaces.{texts_of, slice_get-texts}
+use Rattle.text_base.proofs.NamePlaces.{texts_of, slice_get-texts}
 use Rattle.mps_words.specs.Names.{last_name}
 use Rattle.mps_words.proofs.LastLemmas.{last_name-slice}
 use Rattle.std.proofs.lemmas.Bool.{ne_eqb}

@@ -8,10 +8,10 @@ use Rattle.std.proofs.lemmas.Bool.{le-leb}
 use Rattle.std.proofs.Math.Seq.{take-add}
 use Rattle.std.proofs.lemmas.List.Elements.{All-head, All-tail, All-take, All-drop}
 use Rattle.std.proofs.lemmas.List.Sums.{fold-append, fold_more}
-use Rattle.texts.specs.Names.{is_name}
-use Rattle.texts.proofs.NamePlaces.{place_some}
+use Rattle.text_base.specs.Names.{is_name}
+use Rattle.text_base.proofs.NamePlaces.{place_some}
 use Rattle.mps_words.specs.InsideCodes.{AreBytes, HaveCodes, IsFound, IsShort, code_of, name_of, with_byte}
-use Rattle.texts.specs.Names.{place_of}
+use Rattle.text_base.specs.Names.{place_of}
 use Rattle.mps_words.proofs.CodeLemmas.{short_code, some_code, name_back, place_by_code, named}
 
 -- bytes as the digits of a number

@@ -11,8 +11,8 @@ use Rattle.exact_numbers.proofs.Spelling.{value_text-decimal}
 use Rattle.exact_numbers.specs.declared.dec.Dec.{Dec}
 use Rattle.mps_model.specs.Built.{bound_of, entry_of}
 use Rattle.mps_model.specs.Valid.{AreColumns}
-use Rattle.texts.specs.Names.{IsName}
-use Rattle.texts.specs.WordLines.{WordLine, indented, line_text, lines_text, unless_empty}
+use Rattle.text_base.specs.Names.{IsName}
+use Rattle.text_base.specs.WordLines.{WordLine, indented, line_text, lines_text, unless_empty}
 use Rattle.written_texts.proofs.Writing.{line_after, lines_after, rest_written}
 
 pub markers_more : (b m : Bool) (i : ℕ) → markers_after b m i ≤ i + 1

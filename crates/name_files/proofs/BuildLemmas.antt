@@ -6,8 +6,8 @@ use Rattle.std.proofs.Math.ListN.{get_or-append}
 use Rattle.std.proofs.Math.Seq.{get_or-append_seam}
 use Rattle.std.proofs.lemmas.List.Elements.{All-take}
 use Rattle.std.proofs.lemmas.List.Sums.{sum_by-take-le}
-use Rattle.fractions.specs.Rational.{zero_ℚ}
-use Rattle.texts.specs.Names.{IsName}
+use Rattle.exact_numbers.specs.Rational.{zero_ℚ}
+use Rattle.text_base.specs.Names.{IsName}
 use Rattle.exact_numbers.specs.declared.dec.Dec.{Dec}
 use Rattle.exact_numbers.specs.Values.{dec_value}
 use Rattle.mps_model.specs.declared.kinds.RowKind.{RowKind}

@@ -5,11 +5,11 @@ use Rattle.std.proofs.lemmas.Bool.{eqb-true}
 use Rattle.std.proofs.lemmas.Bool.Decides.{nat_tests}
 use Rattle.std.proofs.lemmas.List.{append-nil, length-map, take_all}
 use Rattle.std.proofs.lemmas.Grind.{flat_map-append}
-use Rattle.texts.specs.Judged.{first_reason, Takes}
-use Rattle.texts.specs.Stopped.{IfFault}
-use Rattle.texts.specs.Words.{words_of, row_of, texts, word_at}
-use Rattle.texts.specs.declared.stop.Stop.{Stop}
-use Rattle.texts.specs.declared.stop.Stop.TheVariants.{Fault, Memory}
+use Rattle.text_base.specs.Judged.{first_reason, Takes}
+use Rattle.text_base.specs.Stopped.{IfFault}
+use Rattle.text_base.specs.Words.{words_of, row_of, texts, word_at}
+use Rattle.text_base.specs.declared.stop.Stop.{Stop}
+use Rattle.text_base.specs.declared.stop.Stop.TheVariants.{Fault, Memory}
 use Rattle.name_files.specs.declared.fault.NameReason.{NameReason}
 use Rattle.name_files.specs.Names.{Counts, Standing, standing, names_of, name_tests, line_reason, with_name}
 

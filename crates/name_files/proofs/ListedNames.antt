@@ -4,18 +4,18 @@ use Rattle.std.specs.Prelude.{is_some, nat_le, nat_lt, if◌then◌else◌}
 use Rattle.std.proofs.lemmas.Bool.{ltb-true, not-false}
 use Rattle.std.proofs.lemmas.List.{take_all}
 use Rattle.std.proofs.lemmas.List.Elements.{All-nil}
-use Rattle.texts.specs.Judged.{IsClean, Last, first_reason}
-use Rattle.texts.specs.Names.{IsName, is_name, place_of}
-use Rattle.texts.specs.Words.{word_at, words_of}
-use Rattle.texts.proofs.FirstReasons.{none_head}
-use Rattle.texts.proofs.JudgedLemmas.{clean_keeps}
-use Rattle.texts.proofs.NameTests.{tested_name}
+use Rattle.text_base.specs.Judged.{IsClean, Last, first_reason}
+use Rattle.text_base.specs.Names.{IsName, is_name, place_of}
+use Rattle.text_base.specs.Words.{word_at, words_of}
+use Rattle.text_base.proofs.FirstReasons.{none_head}
+use Rattle.text_base.proofs.JudgedLemmas.{clean_keeps}
+use Rattle.text_base.proofs.NameTests.{tested_name}
 use Rattle.exact_numbers.specs.SpelledLemmas.{second_of_both}
-use Rattle.name_lists.specs.Names.{AreNames, is_reserved}
+use Rattle.mps_model.specs.Names.{AreNames, is_reserved}
 use Rattle.name_files.specs.Names.{Counts, Standing, Tests, is_sole_name, is_used, line_reason, name_rules, name_tests, names_of, standing, tests_if, used_names, used_tests, with_name}
 use Rattle.name_files.specs.declared.fault.NameReason.TheVariants.{BadName, OtherCount, Repeated, Reserved}
 use Rattle.name_files.proofs.GrammarLemmas.{standing-more, standing-same}
-use Rattle.name_lists.proofs.NameLemmas.{names_more}
+use Rattle.mps_model.proofs.NameLemmas.{names_more}
 
 none_there : (o : Option ℕ) → is_some o ≡ false → o ≡ None
 none_there None e = refl

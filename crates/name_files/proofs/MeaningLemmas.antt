@@ -2,10 +2,10 @@
 use Rattle.std.proofs.Common.{◌≡◌, ◌∙◌, ℕ, zero, suc, ◌<◌, Bool, ◌||◌, List, [], ◌∷◌, length, map, get_or, refl, sym, ap, subst}
 use Rattle.std.specs.Prelude.{IsTrue}
 use Rattle.std.proofs.lemmas.List.{length-map}
-use Rattle.fractions.specs.Rational.{ℚ, ◌-ℚ◌}
-use Rattle.fractions.specs.Sums.{sum_below}
-use Rattle.fractions.proofs.Adding.{sum_below_same}
-use Rattle.program_meaning.specs.Linear.{IsInside, Interval, value_at}
+use Rattle.exact_numbers.specs.Rational.{ℚ, ◌-ℚ◌}
+use Rattle.exact_numbers.specs.Sums.{sum_below}
+use Rattle.exact_numbers.proofs.Adding.{sum_below_same}
+use Rattle.linear_program.specs.Linear.{IsInside, Interval, value_at}
 use Rattle.exact_numbers.specs.declared.dec.Dec.{Dec}
 use Rattle.exact_numbers.specs.Values.{dec_value}
 use Rattle.mps_model.specs.declared.kinds.RowKind.{RowKind}

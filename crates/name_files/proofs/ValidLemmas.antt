@@ -6,17 +6,17 @@ use Rattle.std.proofs.lemmas.Fmt.{length-decimal-le}
 use Rattle.std.proofs.lemmas.List.{length-map, get_or-map}
 use Rattle.std.proofs.lemmas.List.Elements.{All-map}
 use Rattle.std.proofs.lemmas.List.Sums.{sum_by-cons}
-use Rattle.texts.specs.Names.{IsName}
-use Rattle.texts.proofs.AllLemmas.{pairs_mapped}
+use Rattle.text_base.specs.Names.{IsName}
+use Rattle.text_base.proofs.AllLemmas.{pairs_mapped}
 use Rattle.exact_numbers.specs.declared.dec.Dec.{Dec}
 use Rattle.exact_numbers.specs.Values.{dec_value}
-use Rattle.program_meaning.specs.Names.{row_name, variable_name}
+use Rattle.linear_program.specs.Names.{row_name, variable_name}
 use Rattle.mps_model.specs.Mps.{MpsRow, Column, Mps, no_mps_row}
 use Rattle.mps_model.specs.Valid.{AreRows, AreColumns, AreEntries, AreRanges, AreBounds, IsPartOfMps, IsComplete, IsMps, IsOtherRow, HasEntries, IsNameOrEmpty, marker_word, entry_count}
-use Rattle.name_lists.specs.Names.{AreNames, is_reserved}
-use Rattle.name_lists.specs.Names.{index_named}
+use Rattle.mps_model.specs.Names.{AreNames, is_reserved}
+use Rattle.mps_model.specs.Names.{index_named}
 use Rattle.name_files.specs.Renamed.{marked, named_at, new_name, named_row, named_column, named_rows, named_columns, named, with_names, IsExportedName, AreExportedNames, HasExportedNames}
-use Rattle.name_lists.proofs.NumeralLemmas.{named_so}
+use Rattle.mps_model.proofs.NumeralLemmas.{named_so}
 use Rattle.name_files.proofs.MeaningLemmas.{kept_at, same_objective_row}
 
 -- ---- lists that were mapped

@@ -6,8 +6,8 @@ use Rattle.std.proofs.lemmas.Bool.{eqb-true, ltb-true, ltb-false}
 use Rattle.std.specs.Prelude.{option_to_list, find, option_map, nat_lt}
 use Rattle.std.specs.List.{list_all, cons_option}
 use Rattle.std.specs.Option.{option_or}
-use Rattle.texts.specs.Words.{texts}
-use Rattle.texts.specs.Judged.{first_reason}
+use Rattle.text_base.specs.Words.{texts}
+use Rattle.text_base.specs.Judged.{first_reason}
 use Rattle.code_tables.specs.declared.field.Field.{Field}
 use Rattle.code_tables.specs.declared.field.FieldRow.{FieldRow}
 use Rattle.code_tables.specs.Header.{header_rows, field_at, field_in}

@@ -8,12 +8,12 @@ use Rattle.std.proofs.Math.Seq.{get_or-append_seam}
 use Rattle.std.proofs.Math.Bool.{and-false}
 use Rattle.std.proofs.lemmas.Option.{none-some}
 use Rattle.std.proofs.lemmas.Bool.{eqb-true, eqb-false, lt-ltb, ltb-true, ltb-false, le-ltb, leb-true, leb-false}
-use Rattle.texts.specs.Words.{texts, word_at, words_of, row_of}
-use Rattle.texts.specs.Judged.{first_reason}
+use Rattle.text_base.specs.Words.{texts, word_at, words_of, row_of}
+use Rattle.text_base.specs.Judged.{first_reason}
 use Rattle.code_tables.specs.declared.field.FieldRow.{FieldRow}
 use Rattle.code_tables.specs.Header.{header_rows}
 use Rattle.nl_model.specs.declared.header_counts.Counts.{Counts}
-use Rattle.shared_parts.specs.Options.{has_second_three}
+use Rattle.nl_model.specs.Options.{has_second_three}
 use Rattle.nl_header.specs.declared.fault.HeadFault.{HeadFault}
 use Rattle.nl_header.specs.declared.fault.HeadFault.TheVariants.{BadHeaderNumber, BinaryFile, BadFirstLine, Options}
 use Rattle.exact_numbers.specs.Numbers.{whole_of}

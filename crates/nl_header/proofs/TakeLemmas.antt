@@ -6,7 +6,7 @@ use Rattle.code_tables.specs.Header.{header_rows}
 use Rattle.nl_model.specs.declared.header_counts.Counts.{Counts}
 use Rattle.nl_model.specs.declared.header.Header.{Header}
 use Rattle.nl_model.specs.HeaderRules.{is_header, are_definitions_within}
-use Rattle.texts.specs.Judged.{first_reason}
+use Rattle.text_base.specs.Judged.{first_reason}
 use Rattle.nl_header.specs.declared.fault.HeadFault.{HeadFault}
 use Rattle.nl_header.specs.Head.{number_line_fault, header_line_fault, first_line_tests, options_in, options_of, counts_in}
 use Rattle.nl_header.specs.Reading.{Taken, IsReading, AreClean, numbers_in, put_in, counts_from, last_rule, Takes, Closes}

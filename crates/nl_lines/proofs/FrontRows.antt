@@ -3,17 +3,17 @@ use Rattle.std.proofs.Common.{◌≡◌, ◌∙◌, ℕ, suc, ◌+◌, ◌<◌, 
 use Rattle.std.proofs.Math.Seq.{drop-append_seam}
 use Rattle.std.proofs.lemmas.List.{drop_more}
 use Rattle.exact_numbers.specs.Numbers.{whole_of}
-use Rattle.texts.specs.Cut.{HasNoEnd}
-use Rattle.texts.specs.Words.{IsUnmarked, onto_word, row_of, up_to_comment, words_of, without_comment}
-use Rattle.texts.proofs.CommentLemmas.{no_mark}
-use Rattle.texts.proofs.LineLemmas.{EndsFree, last-free, trimmed-free}
-use Rattle.texts.proofs.PairLemmas.{one_line-pair, without_comment-unmarked, words_of-one, no_blank, no_cr}
-use Rattle.texts.proofs.WalkSteps.{no_end-append}
-use Rattle.texts.proofs.WordLemmas.{begins}
+use Rattle.text_base.specs.Cut.{HasNoEnd}
+use Rattle.text_base.specs.Words.{IsUnmarked, onto_word, row_of, up_to_comment, words_of, without_comment}
+use Rattle.text_base.proofs.CommentLemmas.{no_mark}
+use Rattle.text_base.proofs.LineLemmas.{EndsFree, last-free, trimmed-free}
+use Rattle.text_base.proofs.PairLemmas.{one_line-pair, without_comment-unmarked, words_of-one, no_blank, no_cr}
+use Rattle.text_base.proofs.WalkSteps.{no_end-append}
+use Rattle.text_base.proofs.WordLemmas.{begins}
 use Rattle.nl_lines.specs.FirstRows.{IsFirstRow}
 use Rattle.nl_lines.specs.InsideFrontLines.{IsFrontRow, IsLineOf, IsWordBefore}
 use Rattle.nl_lines.specs.WholeRows.{IsWholeRow}
-use Rattle.texts.proofs.FrontLemmas.{front_one}
+use Rattle.text_base.proofs.FrontLemmas.{front_one}
 
 -- ---- a word before a byte
 

@@ -9,9 +9,9 @@ use Rattle.std.proofs.lemmas.Bool.Decides.{nat_tests}
 use Rattle.exact_numbers.specs.declared.dec.Dec.{Dec}
 use Rattle.exact_numbers.specs.Numbers.{dec_of}
 use Rattle.linear_program.specs.declared.interval.Interval.{Interval}
-use Rattle.texts.specs.Judged.{first_reason}
-use Rattle.texts.specs.Words.{word_at}
-use Rattle.texts.proofs.NamePlaces.{bytes_same}
+use Rattle.text_base.specs.Judged.{first_reason}
+use Rattle.text_base.specs.Words.{word_at}
+use Rattle.text_base.proofs.NamePlaces.{bytes_same}
 use Rattle.nl_lines.specs.Heads.{is_head}
 use Rattle.nl_lines.specs.InsideFrontLines.{IsFrontRow, IsWordBefore}
 use Rattle.nl_lines.specs.IntervalRows.{IsIntervalRow}

@@ -7,7 +7,7 @@ use Rattle.exact_numbers.specs.Numbers.{dec_of}
 use Rattle.nl_model.specs.declared.header_counts.Counts.{Counts}
 use Rattle.nl_model.specs.declared.node.Node.TheVariants.{Num}
 use Rattle.nl_model.specs.Draft.{Draft}
-use Rattle.texts.specs.Judged.{Decides, first_reason}
+use Rattle.text_base.specs.Judged.{Decides, first_reason}
 use Rattle.nl_lines.specs.declared.fault.NlReason.{NlReason}
 use Rattle.nl_lines.specs.declared.leaf.Leaf.{Leaf}
 use Rattle.nl_lines.specs.declared.leaf.Leaf.TheVariants.{Number, Variable, Opcode}

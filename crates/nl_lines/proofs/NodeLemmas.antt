@@ -2,8 +2,8 @@
 use Rattle.std.proofs.Common.{◌≡◌, ◌∙◌, ℕ, ◌+◌, ◌<◌, ◌≤◌, ◌^◌, ◌==◌, Bool, true, false, not, ◌||◌, List, [], ◌∷◌, refl, sym, ap, subst, arith, nat_lt, nat_le, Option, Some, None}
 use Rattle.std.specs.Prelude.{if◌then◌else◌, option_map, option_and_then, unwrap_or, codes}
 use Rattle.std.proofs.lemmas.Bool.{eqb-true, le-leb, leb-true, ltb-true, ltb-false, not-false}
-use Rattle.texts.specs.Judged.{first_reason}
-use Rattle.texts.proofs.FirstReasons.{none_head}
+use Rattle.text_base.specs.Judged.{first_reason}
+use Rattle.text_base.proofs.FirstReasons.{none_head}
 use Rattle.code_tables.specs.Opcodes.{operands_of}
 use Rattle.code_tables.specs.declared.class.Operands.{Operands}
 use Rattle.code_tables.specs.declared.class.Operands.TheVariants.{One, Two, Counted as OnNextLine}

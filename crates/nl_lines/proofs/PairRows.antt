@@ -5,10 +5,10 @@ use Rattle.std.specs.Char.{digit_value}
 use Rattle.std.proofs.lemmas.List.{drop_more}
 use Rattle.std.proofs.lemmas.Bool.{ltb-true}
 use Rattle.std.proofs.lemmas.Bool.Decides.{nat_tests}
-use Rattle.texts.specs.Judged.{first_reason}
-use Rattle.texts.specs.Words.{IsUnmarked, words_of, without_comment, word_at}
-use Rattle.texts.proofs.FrontLemmas.{front_one}
-use Rattle.texts.proofs.PairLemmas.{one_line-pair, without_comment-pair, words_of-pair}
+use Rattle.text_base.specs.Judged.{first_reason}
+use Rattle.text_base.specs.Words.{IsUnmarked, words_of, without_comment, word_at}
+use Rattle.text_base.proofs.FrontLemmas.{front_one}
+use Rattle.text_base.proofs.PairLemmas.{one_line-pair, without_comment-pair, words_of-pair}
 use Rattle.exact_numbers.specs.declared.dec.Dec.{Dec}
 use Rattle.exact_numbers.specs.Numbers.{are_any_digits, are_digits, dec_of, whole_of}
 use Rattle.exact_numbers.specs.SpelledLemmas.{first_of_both, second_of_both}

@@ -5,7 +5,7 @@ use Rattle.std.proofs.lemmas.List.{append_assoc, append-nil, get_or_append_left,
 use Rattle.nl_model.specs.declared.header_counts.Counts.{Counts}
 use Rattle.nl_model.specs.InsideKinds.{kind_among, runs}
 use Rattle.nl_model.specs.declared.kinds.Run.{Run}
-use Rattle.program_meaning.specs.Elements.{elements_from}
+use Rattle.linear_program.specs.Elements.{elements_from}
 use Rattle.nl_model.specs.Kinds.{groups, variable_kind}
 use Rattle.linear_program.specs.declared.kind.Kind.{Kind}
 use Rattle.linear_program.specs.declared.kind.Kind.TheVariants.{Continuous}

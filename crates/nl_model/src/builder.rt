@@ -8,6 +8,7 @@ ghost use Rattle.linear_program.specs.Intervals.{IsOrdered};
 
 use crate::definition::Def;
 use crate::expr::Expr;
+use crate::has_same_objects;
 use crate::header::Header;
 use crate::header_rules::defined_count;
 use crate::objective::Objective;
@@ -15,7 +16,6 @@ use crate::places::{lists, marks, places};
 use crate::suffix::Suffix;
 use exact_numbers::Dec;
 use linear_program::{Interval, Terms};
-use shared_parts::has_same_objects;
 use std::alloc::{AllocError, Global};
 use std::marker::Model;
 

@@ -4,12 +4,12 @@ use Rattle.std.specs.Prelude.{IsSome, IsSomeAnd, Ok, ℤ, slice_get, option_map,
 use Rattle.std.proofs.lemmas.Bool.{not-false, eqb-true, cond_both}
 use Rattle.std.proofs.lemmas.List.{length-append}
 use Rattle.std.proofs.lemmas.List.Elements.{All-push, All-contains, Contains-append_left, Contains-push}
-use Rattle.texts.specs.Judged.{Last, IsClean}
-use Rattle.texts.specs.Reading.{last_of as last_line, lines_of, Reads}
-use Rattle.texts.specs.Words.{without_comment}
-use Rattle.texts.proofs.FirstReasons.{none_each}
-use Rattle.texts.proofs.JudgedLemmas.{clean_keeps}
-use Rattle.texts.proofs.ReadingLemmas.{text_ends}
+use Rattle.text_base.specs.Judged.{Last, IsClean}
+use Rattle.text_base.specs.Reading.{last_of as last_line, lines_of, Reads}
+use Rattle.text_base.specs.Words.{without_comment}
+use Rattle.text_base.proofs.FirstReasons.{none_each}
+use Rattle.text_base.proofs.JudgedLemmas.{clean_keeps}
+use Rattle.text_base.proofs.ReadingLemmas.{text_ends}
 use Rattle.nl_header.specs.Head.{options_in}
 use Rattle.nl_model.specs.declared.header_counts.Counts.{Counts}
 use Rattle.nl_model.specs.FilePlaces.{HasPlace, tree_at}
@@ -33,7 +33,7 @@ use Rattle.nl_segments.proofs.PairLines.{last_of, other_last}
 use Rattle.nl_lines.proofs.PieceLemmas.{split, extended-append, longer, draft-append}
 use Rattle.nl_segments.proofs.StandingLemmas.{standing-more}
 use Rattle.std.specs.List.{Contains}
-use Rattle.nl_meaning.specs.Trees.{Tree}
+use Rattle.nl_model.specs.Trees.{Tree}
 use Rattle.nl_model.specs.declared.at.Owner.{Owner}
 use Rattle.nl_model.specs.declared.at.Owner.TheVariants.{Con, Def, Obj}
 use Rattle.nl_model.specs.Draft.{Draft, file_of}

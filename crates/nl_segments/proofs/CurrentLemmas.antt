@@ -12,7 +12,7 @@ use Rattle.nl_model.specs.declared.node.Node.{Node}
 use Rattle.nl_model.specs.declared.node.Node.TheVariants.{Op}
 use Rattle.exact_numbers.specs.Numbers.{whole_of}
 use Rattle.nl_lines.specs.Rows.{NumberedRow, row_words}
-use Rattle.texts.specs.Words.{word_at}
+use Rattle.text_base.specs.Words.{word_at}
 use Rattle.nl_lines.specs.declared.pending.Pending.{Pending}
 use Rattle.nl_lines.specs.Nodes.{Placed, node_in, opcode_in, nodes_from, pending_from, only_nodes}
 use Rattle.nl_lines.specs.NodeRows.{IsRow}

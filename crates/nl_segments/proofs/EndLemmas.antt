@@ -6,7 +6,7 @@ use Rattle.std.proofs.lemmas.List.{get_or_past}
 use Rattle.std.proofs.lemmas.List.Sums.{sum_by-cons}
 use Rattle.std.specs.Prelude.{IsSome, is_some, drop, ◌||◌}
 use Rattle.std.specs.List.{list_all}
-use Rattle.texts.specs.Judged.{first_reason}
+use Rattle.text_base.specs.Judged.{first_reason}
 use Rattle.nl_model.specs.declared.header_counts.Counts.{Counts}
 use Rattle.nl_model.specs.Draft.{Draft, IsDraft, is_given, file_of}
 use Rattle.nl_model.specs.File.{Term, File}
@@ -25,7 +25,7 @@ use Rattle.nl_segments.specs.Held.{Body, IsHeld, IsLast, end_refusal_of}
 use Rattle.nl_segments.specs.InsideTaking.{body_awaits}
 use Rattle.nl_segments.specs.InsideEnding.{are_sums, body_end_tests, IsReady}
 use Rattle.nl_segments.proofs.CurrentLemmas.{awaits}
-use Rattle.texts.proofs.FirstReasons.{none_each}
+use Rattle.text_base.proofs.FirstReasons.{none_each}
 
 -- ---- the numbers of columns
 

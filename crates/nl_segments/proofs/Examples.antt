@@ -5,8 +5,8 @@ use Rattle.nl_header.specs.Head.{options_in, counts_in, counts_by}
 use Rattle.exact_numbers.specs.Numbers.{whole_of, signed_of, is_dec_text, dec_from, dec_of}
 use Rattle.code_tables.specs.Opcodes.{class_of, operands_of}
 use Rattle.nl_model.specs.Kinds.{variable_kind}
-use Rattle.fractions.specs.Rational.{whole, decimal_value, over}
-use Rattle.fractions.specs.LowestLemmas.{gcd_of, steps_of_euclid}
+use Rattle.exact_numbers.specs.Rational.{whole, decimal_value, over}
+use Rattle.exact_numbers.specs.LowestLemmas.{gcd_of, steps_of_euclid}
 use Rattle.exact_numbers.specs.Values.{exponent_below, decimal_of, fits_dec}
 use Rattle.nl_lines.specs.Nodes.{dec_of_signed, node_in, opcode_in, nodes_from, pending_from}
 use Rattle.nl_lines.specs.Rows.{rows_from}
@@ -17,7 +17,7 @@ use Rattle.nl_lines.specs.Tests.{head_form_tests, head_tests, pair_form_tests, p
 use Rattle.nl_lines.specs.declared.fault.NlReason.TheVariants.{TooLarge, UnknownSegment, RefusedSegment, RepeatedSegment, BadHead, IndexOut, BadLine, BadNumber, ShortSegment, ExtraLine, RefusedOpcode, RefusedLeaf, Complementarity, EmptyInterval, RepeatedIndex, SosSuffix, Missing, NonzeroCount, ColumnCount}
 use Rattle.nl_lines.specs.declared.fault.NlReason.{NlReason}
 use Rattle.nl_model.specs.File.{Term}
-use Rattle.nl_meaning.specs.Trees.{Tree, number, variable, operator, more, none}
+use Rattle.nl_model.specs.Trees.{Tree, number, variable, operator, more, none}
 use Rattle.code_tables.specs.declared.class.OpClass.TheVariants.{Sum}
 use Rattle.nl_segments.specs.Grammar.{Standing, counts_of, said, standing, line_refusal, end_refusal}
 

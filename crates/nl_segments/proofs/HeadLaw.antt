@@ -2,7 +2,7 @@
 use Rattle.std.proofs.Common.{◌≡◌, ◌∙◌, ℕ, zero, suc, ◌*◌, ◌≤◌, true, false, List, [], ◌∷◌, length, replicate, refl, sym, ap, subst, arith, Option, Some, None, nat_lt, ◌==◌, Bool, ◌&&◌, ◌||◌, ◌++◌, ap₂, ◌<◌, get_or}
 use Rattle.std.specs.Prelude.{ℤ, not, if◌then◌else◌, ◌+◌, nat_le, option_map, option_and_then, IfSome, All, is_some, Ok}
 use Rattle.std.proofs.lemmas.List.{length-replicate, get_or-replicate, length-append, length-set}
-use Rattle.texts.specs.Judged.{first_reason}
+use Rattle.text_base.specs.Judged.{first_reason}
 use Rattle.nl_model.specs.declared.header_counts.Counts.{Counts}
 use Rattle.nl_model.specs.Draft.{Draft, empty_draft}
 use Rattle.nl_header.specs.Head.{options_in, counts_in}
@@ -23,13 +23,13 @@ use Rattle.nl_segments.specs.InsideTaking.{body_awaits}
 use Rattle.nl_segments.proofs.EndLemmas.{last_awaits}
 use Rattle.std.specs.List.{list_any}
 use Rattle.std.proofs.lemmas.List.Folds.{list_any-append, list_any_at}
-use Rattle.texts.specs.Names.{IsName, is_name}
+use Rattle.text_base.specs.Names.{IsName, is_name}
 use Rattle.nl_lines.specs.declared.head.Head.TheVariants.{Body as BodyHead, Objective, Definition, DualGuesses, PrimalGuesses, Sides, Bounds, ColumnCounts, Terms, Slopes, Suffix}
-use Rattle.texts.specs.Words.{word_at}
+use Rattle.text_base.specs.Words.{word_at}
 use Rattle.nl_segments.proofs.HeadBegun.{new_piece, no_pairs, whole_at_once, draft_begun, terms_begun, nodes_begun, pairs_begun, count_begun, columns_begun, always}
 use Rattle.std.proofs.lemmas.Bool.{and_parts, not-false, leb-false, cond_both, false_from_ne_true, both_ways}
-use Rattle.texts.proofs.FirstReasons.{none_head, none_first, reason_before, reason_after, none_each, same_reasons}
-use Rattle.texts.proofs.NameTests.{tested_name}
+use Rattle.text_base.proofs.FirstReasons.{none_head, none_first, reason_before, reason_after, none_each, same_reasons}
+use Rattle.text_base.proofs.NameTests.{tested_name}
 use Rattle.nl_model.specs.declared.suffix.Suffix.{Suffix as SuffixValue}
 use Rattle.nl_lines.specs.declared.fault.NlReason.{NlReason}
 use Rattle.nl_segments.specs.InsideHeadSteps.{has_come, held_head_tests, formed_tests, new_head_tests, has_come_suffix, begun_current, begun_name, begun_count, begun_draft, with_begun_head}

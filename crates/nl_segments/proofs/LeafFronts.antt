@@ -1,6 +1,6 @@
 -- The lines of a product, and of the number 0, at the front of a text.
 use Rattle.std.proofs.Common.{◌≡◌, ◌∙◌, ◌≤◌, ℕ, List, [], ◌∷◌, get_or, length, refl, ap, ap₂, sym, subst, arith, pos, Some}
-use Rattle.fractions.specs.Rational.{zero_ℚ}
+use Rattle.exact_numbers.specs.Rational.{zero_ℚ}
 use Rattle.exact_numbers.specs.declared.dec.Dec.{Dec}
 use Rattle.exact_numbers.specs.Numbers.{dec_of, whole_of}
 use Rattle.exact_numbers.specs.Values.{dec_value}

@@ -5,7 +5,7 @@ use Rattle.std.specs.Option.{option_map_or, option_or}
 use Rattle.std.specs.List.{list_any, cons_option}
 use Rattle.std.proofs.lemmas.List.{length-map, length-replicate, append-nil}
 use Rattle.std.proofs.lemmas.Bool.{ltb-true, ltb-false, cond_both, both_ways, and_right}
-use Rattle.nl_meaning.specs.Trees.{Tree, tree_size}
+use Rattle.nl_model.specs.Trees.{Tree, tree_size}
 use Rattle.nl_model.specs.declared.header_counts.Counts.{Counts}
 use Rattle.nl_model.specs.Draft.{Draft, file_of, those_given}
 use Rattle.nl_model.specs.File.{Term}

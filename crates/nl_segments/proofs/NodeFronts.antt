@@ -1,8 +1,8 @@
 -- A row of an expression at the front of a piece.
 use Rattle.std.proofs.Common.{◌≡◌, ℕ, suc, ◌+◌, ◌<◌, ◌≤◌, ◌^◌, ◌&&◌, true, List, length, refl, arith, Option, Some, nat_le, nat_lt}
 use Rattle.std.specs.Prelude.{IfSome, IsSomeAnd, Ok}
-use Rattle.texts.specs.Judged.{Decides}
-use Rattle.texts.specs.Words.{row_of, without_comment}
+use Rattle.text_base.specs.Judged.{Decides}
+use Rattle.text_base.specs.Words.{row_of, without_comment}
 use Rattle.nl_model.specs.Draft.{Draft}
 use Rattle.nl_model.specs.declared.node.Node.TheVariants.{Op}
 use Rattle.nl_lines.specs.declared.awaited.Awaited.TheVariants.{Node as NodeLine, OperandCount}

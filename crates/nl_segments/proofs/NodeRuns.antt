@@ -2,9 +2,9 @@
 use Rattle.std.proofs.Common.{◌≡◌, ◌∙◌, ℕ, ◌+◌, ◌<◌, ◌^◌, ◌==◌, Bool, true, false, if◌then◌else◌, List, [], ◌∷◌, ◌++◌, drop, refl, sym, ap, subst, arith, append_assoc, append-nil, Option, Some, None}
 use Rattle.std.specs.Prelude.{All, IfSome, IsSomeAnd, Ok}
 use Rattle.std.specs.List.{range_with_len}
-use Rattle.texts.specs.Judged.{Decides}
-use Rattle.texts.specs.Words.{row_of, without_comment}
-use Rattle.texts.specs.declared.grammar.Front.{Front}
+use Rattle.text_base.specs.Judged.{Decides}
+use Rattle.text_base.specs.Words.{row_of, without_comment}
+use Rattle.text_base.specs.declared.grammar.Front.{Front}
 use Rattle.nl_model.specs.declared.node.Node.{Node}
 use Rattle.nl_model.specs.Draft.{Draft}
 use Rattle.nl_model.specs.Nodes.{awaited, tree_of}
@@ -28,7 +28,7 @@ use Rattle.nl_segments.specs.InsideTreeSteps.{CanSettle, CanTakeRow, IsNextRow, 
 use Rattle.nl_segments.proofs.NodeFronts.{IsReadNext, leaf_can, leaf_first}
 use Rattle.nl_segments.proofs.NodeSteps.{beyond, fresh_tree, in_tree, wanted_here}
 use Rattle.nl_segments.proofs.PairLines.{awaits_as, opened}
-use Rattle.line_places.proofs.RunLemmas.{range_parts}
+use Rattle.nl_lines.proofs.RunLemmas.{range_parts}
 use Rattle.nl_segments.proofs.StandingLemmas.{changed_same, changed_twice, goes_on, none_taken, still_some}
 
 -- ---- the lines of nodes

@@ -5,7 +5,7 @@ use Rattle.std.specs.Prelude.{ℤ, if◌then◌else◌, IfSome, IsTrue, Ok, IsSo
 use Rattle.std.proofs.lemmas.Bool.{ltb-false, eqb-false, ltb-true, leb-true, and_parts, cond_both}
 use Rattle.std.proofs.lemmas.List.{length-append, append-nil, length-map, map-append, take-append-le}
 use Rattle.nl_header.specs.Head.{options_in, counts_in}
-use Rattle.nl_meaning.specs.Trees.{Tree}
+use Rattle.nl_model.specs.Trees.{Tree}
 use Rattle.nl_model.specs.declared.header_counts.Counts.{Counts}
 use Rattle.nl_model.specs.Draft.{Draft, is_given}
 use Rattle.nl_model.specs.File.{Term}
@@ -41,12 +41,12 @@ use Rattle.nl_lines.specs.Heads.{is_in_range, is_head}
 use Rattle.nl_segments.specs.Grammar.{Standing, counts_of, said}
 use Rattle.nl_lines.proofs.FreshLaw.{none_before, gave_none}
 use Rattle.std.proofs.lemmas.List.Elements.{All-push}
-use Rattle.texts.specs.Judged.{first_reason}
-use Rattle.texts.proofs.FirstReasons.{none_first}
+use Rattle.text_base.specs.Judged.{first_reason}
+use Rattle.text_base.proofs.FirstReasons.{none_first}
 use Rattle.nl_model.specs.declared.node.Node.TheVariants.{Op}
 use Rattle.nl_lines.specs.declared.node_row.NodeRow.{NodeRow}
 use Rattle.nl_lines.specs.declared.node_row.NodeRow.TheVariants.{Whole, Counted}
-use Rattle.texts.specs.Words.{word_at}
+use Rattle.text_base.specs.Words.{word_at}
 use Rattle.exact_numbers.specs.Numbers.{whole_of}
 use Rattle.nl_segments.specs.InsidePlaceSteps.{with_node_line}
 use Rattle.nl_lines.specs.declared.fault.NlReason.TheVariants.{TooLarge}

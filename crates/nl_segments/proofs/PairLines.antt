@@ -21,7 +21,7 @@ use Rattle.std.proofs.Math.Seq.{get_or-append_seam}
 use Rattle.std.proofs.lemmas.List.Elements.{All-push, filter-append}
 use Rattle.std.proofs.lemmas.List.Folds.{list_any-append}
 use Rattle.std.proofs.lemmas.List.Quantifiers.{all_pairs_push}
-use Rattle.texts.specs.Judged.{first_reason}
+use Rattle.text_base.specs.Judged.{first_reason}
 use Rattle.nl_lines.specs.declared.awaited.Awaited.{Awaited}
 use Rattle.nl_segments.specs.Grammar.{Standing, counts_of, said}
 use Rattle.nl_segments.specs.Steps.{after_body_row}

@@ -40,7 +40,7 @@ use Rattle.nl_header.specs.Head.{options_in}
 use Rattle.nl_segments.specs.Grammar.{Standing, counts_of}
 use Rattle.nl_lines.proofs.HeadSuffixes.{suffixes_come}
 use Rattle.nl_segments.proofs.PairHeld.{early, held_longer, columns_kept, last_closed, left_closed, nodes_early}
-use Rattle.texts.specs.Judged.{first_reason}
+use Rattle.text_base.specs.Judged.{first_reason}
 use Rattle.nl_lines.specs.declared.fault.NlReason.{NlReason}
 use Rattle.nl_segments.specs.InsideLineSteps.{unless_complete}
 use Rattle.nl_lines.specs.NodeRows.{IsNodeKnown}

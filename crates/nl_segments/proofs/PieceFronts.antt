@@ -1,6 +1,6 @@
 -- A head, and the line behind it where that is all of its piece, that are taken at once.
 use Rattle.std.proofs.Common.{◌≡◌, ◌∙◌, ℕ, ◌+◌, ◌<◌, ◌^◌, true, List, [], ◌∷◌, get_or, slice_set, refl, sym, ap, arith, subst, Option, Some, None}
-use Rattle.nl_meaning.specs.Trees.{Tree}
+use Rattle.nl_model.specs.Trees.{Tree}
 use Rattle.nl_model.specs.Draft.{Draft}
 use Rattle.nl_lines.specs.declared.awaited.Awaited.TheVariants.{Node as NodeLine}
 use Rattle.nl_lines.specs.declared.head.Head.{Head}

@@ -3,16 +3,16 @@ use Rattle.std.proofs.Common.{◌≡◌, ◌∙◌, ℕ, ◌+◌, ◌<◌, ◌�
 use Rattle.std.proofs.lemmas.Bool.{ltb-true, ltb-false, lt-ltb, lt-leb}
 use Rattle.std.proofs.lemmas.List.{length-map, length-take-le, map-append, take-append-le, take_all, drop_all, drop-append-le}
 use Rattle.std.proofs.lemmas.List.Sums.{fold-append}
-use Rattle.texts.specs.Words.{words_of, without_comment, row_of, texts}
+use Rattle.text_base.specs.Words.{words_of, without_comment, row_of, texts}
 use Rattle.nl_header.specs.Head.{counts_in}
 use Rattle.nl_lines.specs.Rows.{NumberedRow, holds_words, rows_from, rows_of, header_words}
 use Rattle.nl_lines.specs.Pieces.{with_row, pieces_of, is_nothing, keeps_pairs, line_kind}
 use Rattle.nl_segments.specs.Grammar.{Standing, standing, is_in_header, line_refusal, end_refusal, reason_of, nl_rules, SaysFile}
 use Rattle.nl_segments.specs.Steps.{after, after_row}
 use Rattle.std.specs.Prelude.{Result, Ok, Err, IfErr, IfOk, IsSomeAnd}
-use Rattle.texts.specs.Stopped.{IfFault}
-use Rattle.texts.specs.declared.stop.Stop.{Stop}
-use Rattle.texts.specs.declared.stop.Stop.TheVariants.{Fault, Memory}
+use Rattle.text_base.specs.Stopped.{IfFault}
+use Rattle.text_base.specs.declared.stop.Stop.{Stop}
+use Rattle.text_base.specs.declared.stop.Stop.TheVariants.{Fault, Memory}
 use Rattle.nl_header.specs.declared.fault.HeadFault.{HeadFault}
 use Rattle.nl_header.specs.Reading.{Taken, IsReading, Takes as TakesRowOfHeader}
 use Rattle.nl_model.specs.declared.header.Header.{Header}
@@ -22,17 +22,17 @@ use Rattle.nl_segments.specs.declared.nl_read.NlRead.{NlRead}
 use Rattle.nl_segments.specs.Held.{Body, Progress, in_header, in_body, IsHeld, IsHeaderOf, only_header, HoldsStanding, TakesRow, Finishes, HoldsSome}
 use Rattle.nl_segments.specs.InsideTaking.{Takes, TakesBodyLine, TakesLine}
 use Rattle.nl_lines.proofs.PieceLemmas.{some_are}
-use Rattle.texts.specs.declared.fault.TextFault.{TextFault}
-use Rattle.texts.specs.Reading.{HasFaultSoFar, Reads}
+use Rattle.text_base.specs.declared.fault.TextFault.{TextFault}
+use Rattle.text_base.specs.Reading.{HasFaultSoFar, Reads}
 use Rattle.nl_lines.specs.declared.fault.NlFault.{NlFault}
 use Rattle.nl_segments.specs.Reader.{stop_of, ReadsNl, HasNlFaultSoFar, value_of}
 use Rattle.std.specs.List.{range_with_len}
-use Rattle.line_places.proofs.RunLemmas.{range_parts}
-use Rattle.texts.specs.Fronts.{IsFront, TakesFront}
-use Rattle.texts.specs.Judged.{Open, IsClean, first_reason}
-use Rattle.texts.specs.declared.grammar.Front.{Front}
-use Rattle.texts.proofs.FrontLemmas.{front_joined}
-use Rattle.texts.proofs.JudgedLemmas.{clean_more}
+use Rattle.nl_lines.proofs.RunLemmas.{range_parts}
+use Rattle.text_base.specs.Fronts.{IsFront, TakesFront}
+use Rattle.text_base.specs.Judged.{Open, IsClean, first_reason}
+use Rattle.text_base.specs.declared.grammar.Front.{Front}
+use Rattle.text_base.proofs.FrontLemmas.{front_joined}
+use Rattle.text_base.proofs.JudgedLemmas.{clean_more}
 use Rattle.nl_model.specs.declared.header_counts.Counts.{Counts}
 use Rattle.nl_model.specs.Draft.{Draft}
 use Rattle.nl_model.specs.File.{Term}

@@ -3,11 +3,11 @@ use Rattle.std.proofs.Common.{◌≡◌, ◌≢◌, ℕ, suc, ◌<◌, ◌∙◌
 use Rattle.std.specs.Prelude.{is_some, ◌||◌}
 use Rattle.std.proofs.lemmas.Int.{ints}
 use Rattle.std.proofs.lemmas.List.Elements.{All-nil, All-cons, All-head, All-tail}
-use Rattle.fractions.specs.Rational.{ℚ, zero_ℚ, whole, ◌+ℚ◌, ◌-ℚ◌, ◌*ℚ◌, neg_ℚ, ◌≤ℚ◌}
-use Rattle.fractions.proofs.Arithmetic.{+ℚ_comm, +ℚ_assoc, +ℚ_zero, +ℚ-neg, -ℚ_lem, +ℚ-≤ℚ, *ℚ_assoc, *ℚ_comm, *ℚ-≤ℚ, le_or_lt, ≤ℚ_antisymm, ≤ℚ_of_<ℚ, ≤ℚ_of_same, *ℚ_cancel, whole-≤ℚ, same_whole}
-use Rattle.fractions.proofs.Adding.{sum_below_same, sum_below-*ℚ}
-use Rattle.program_meaning.specs.Linear.{AreOrdered, Row, RowHolds, form_value, linear_part, value_at, has_side}
-use Rattle.program_meaning.proofs.Sides.{AtLeast, AtMost}
+use Rattle.exact_numbers.specs.Rational.{ℚ, zero_ℚ, whole, ◌+ℚ◌, ◌-ℚ◌, ◌*ℚ◌, neg_ℚ, ◌≤ℚ◌}
+use Rattle.exact_numbers.proofs.FractionArithmetic.{+ℚ_comm, +ℚ_assoc, +ℚ_zero, +ℚ-neg, -ℚ_lem, +ℚ-≤ℚ, *ℚ_assoc, *ℚ_comm, *ℚ-≤ℚ, le_or_lt, ≤ℚ_antisymm, ≤ℚ_of_<ℚ, ≤ℚ_of_same, *ℚ_cancel, whole-≤ℚ, same_whole}
+use Rattle.exact_numbers.proofs.Adding.{sum_below_same, sum_below-*ℚ}
+use Rattle.linear_program.specs.Linear.{AreOrdered, Row, RowHolds, form_value, linear_part, value_at, has_side}
+use Rattle.linear_program.proofs.Sides.{AtLeast, AtMost}
 use Rattle.scaled_program.specs.Program.{ScaledRow, scaled_side, scaled_row, exported_rows}
 use Rattle.scaled_program.specs.Meaning.{ScaledHolds}
 use Rattle.scaled_program.proofs.Sides.{there_and_back}

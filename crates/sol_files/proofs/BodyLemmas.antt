@@ -9,7 +9,7 @@ use Rattle.exact_numbers.specs.Numbers.{whole_of}
 use Rattle.sol_files.specs.declared.awaited.Awaited.{Awaited}
 use Rattle.sol_files.specs.declared.awaited.Awaited.TheVariants.{OptionCount, Options, Constraints, DualCount, Variables, PrimalCount, Duals, Primals, Tail}
 use Rattle.sol_files.specs.Rows.{Row, table_size, number_in, option_in, value_in, objno_in}
-use Rattle.texts.specs.Words.{begins}
+use Rattle.text_base.specs.Words.{begins}
 use Rattle.sol_files.specs.Parts.{Piece, Body, row_number, option_count, constraint_count, dual_count, variable_count, primal_count}
 use Rattle.sol_files.specs.Saying.{option_rows, dual_rows, primal_rows, rows_past, suffix_of, sol_of}
 use Rattle.sol_files.specs.Progress.{Progress}

@@ -3,17 +3,17 @@ use Rattle.std.proofs.Common.{◌≡◌, ◌∙◌, ℕ, ◌<◌, Bool, true, fa
 use Rattle.std.specs.Prelude.{IfErr, OnOk, unwrap_or, nat_le, ◌^◌, ◌==◌, ◌||◌, ◌&&◌, is_none, length}
 use Rattle.std.specs.Option.{option_map_or}
 use Rattle.std.proofs.lemmas.Bool.{ltb-true, not-false}
-use Rattle.texts.specs.Judged.{first_reason}
+use Rattle.text_base.specs.Judged.{first_reason}
 use Rattle.exact_numbers.specs.Numbers.{are_digits, dec_of, whole_of, is_whole}
 use Rattle.sol_files.specs.declared.fault.Refusal.{Refusal}
 use Rattle.sol_files.specs.declared.fault.Refusal.TheVariants.{Here}
 use Rattle.sol_files.specs.declared.fault.SolReason.{SolReason}
 use Rattle.sol_files.specs.declared.fault.SolReason.TheVariants.{BadLine, BadNumber, IndexOut, RepeatedIndex, TooLarge}
 use Rattle.sol_files.specs.Rows.{Row, number_in}
-use Rattle.texts.specs.Words.{word_at}
+use Rattle.text_base.specs.Words.{word_at}
 use Rattle.sol_files.specs.Standing.{Standing}
 use Rattle.sol_files.specs.Tests.{Tests, is_below, has_index, index_limit, last_kind, last_values, value_tests}
-use Rattle.shared_parts.specs.SuffixKinds.{wants_whole}
+use Rattle.nl_model.specs.SuffixKinds.{wants_whole}
 use Rattle.sol_files.specs.InsideJudging.{marked_value_tests}
 use Rattle.sol_files.specs.InsideHeld.{AreMarked}
 

@@ -6,10 +6,10 @@ use Rattle.std.proofs.lemmas.Bool.{ltb-true, ltb-false, eqb-true, not-false}
 use Rattle.std.proofs.lemmas.List.{length_push}
 use Rattle.exact_numbers.specs.Numbers.{are_digits, dec_of, has_31_bits, signed_of, whole_of}
 use Rattle.exact_numbers.proofs.NumberLemmas.{signed_of-fits}
-use Rattle.shared_parts.specs.Options.{has_second_three}
+use Rattle.nl_model.specs.Options.{has_second_three}
 use Rattle.sol_files.specs.declared.fault.Refusal.{Refusal}
 use Rattle.sol_files.specs.declared.awaited.Awaited.TheVariants.{OptionCount, Options, Constraints, DualCount, Variables, PrimalCount, Duals, Primals}
-use Rattle.texts.specs.Words.{word_at}
+use Rattle.text_base.specs.Words.{word_at}
 use Rattle.sol_files.specs.Rows.{Row, number_in}
 use Rattle.sol_files.specs.Progress.{Progress, kind_of, seen}
 use Rattle.sol_files.specs.declared.suffix.SolSuffix.{SolSuffix}
@@ -18,13 +18,13 @@ use Rattle.sol_files.specs.declared.fault.SolReason.TheVariants.{BadLine, BadNum
 use Rattle.sol_files.specs.Built.{IsEmptyOrFull, AreGiven, with_dual, with_primal}
 use Rattle.sol_files.specs.Written.{IsSignedPair}
 use Rattle.sol_files.specs.Tests.{row_tests, is_below, is_given_count, is_three}
-use Rattle.texts.specs.Judged.{first_reason}
+use Rattle.text_base.specs.Judged.{first_reason}
 use Rattle.sol_files.specs.Steps.{after_row, options_await, values_await}
 use Rattle.sol_files.specs.InsideHeld.{HasNoValues, IsReadyAt}
 use Rattle.sol_files.proofs.ReadyLemmas.{ready_counts, ready_dual, ready_primal}
 use Rattle.sol_files.proofs.Kept.{Speaks, HasOptions, HasNoSuffixes, HasSuffixes, NoneBegun, KeptAt, KeepsAt, Keeps}
 use Rattle.sol_files.proofs.JudgingLemmas.{is_number}
-use Rattle.texts.proofs.AllLemmas.{all_push}
+use Rattle.text_base.proofs.AllLemmas.{all_push}
 
 -- ---- tests without a reason
 

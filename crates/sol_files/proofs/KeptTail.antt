@@ -11,12 +11,12 @@ use Rattle.std.proofs.lemmas.List.Sums.{sum_by-cons, sum_by_push}
 use Rattle.exact_numbers.specs.declared.dec.Dec.{Dec}
 use Rattle.exact_numbers.specs.Numbers.{are_digits, dec_of, is_whole, signed_of, whole_of}
 use Rattle.exact_numbers.proofs.NumberLemmas.{signed_of-fits}
-use Rattle.shared_parts.specs.SuffixKinds.{object_limit, wants_whole}
-use Rattle.texts.specs.Cut.{IsTextLine}
-use Rattle.texts.specs.Judged.{first_reason}
-use Rattle.texts.proofs.FirstReasons.{none_each}
-use Rattle.texts.specs.Names.{is_name}
-use Rattle.texts.specs.Words.{word_at, begins}
+use Rattle.nl_model.specs.SuffixKinds.{object_limit, wants_whole}
+use Rattle.text_base.specs.Cut.{IsTextLine}
+use Rattle.text_base.specs.Judged.{first_reason}
+use Rattle.text_base.proofs.FirstReasons.{none_each}
+use Rattle.text_base.specs.Names.{is_name}
+use Rattle.text_base.specs.Words.{word_at, begins}
 use Rattle.sol_files.specs.declared.fault.Refusal.TheVariants.{Here, Late as IsLate}
 use Rattle.sol_files.specs.declared.fault.SolReason.TheVariants.{Extra, TooLarge}
 use Rattle.sol_files.specs.declared.awaited.Awaited.TheVariants.{Message, Tail, Name, Table, Values}
@@ -35,7 +35,7 @@ use Rattle.sol_files.proofs.Kept.{Speaks, HasOptions, Late, KeptAt, KeepsAt, Kee
 use Rattle.sol_files.proofs.KeptRows.{IsThere, fine_next, is_there}
 use Rattle.sol_files.proofs.JudgingLemmas.{is_number}
 use Rattle.sol_files.proofs.LastLemmas.{length_changed}
-use Rattle.texts.proofs.AllLemmas.{all_push}
+use Rattle.text_base.proofs.AllLemmas.{all_push}
 
 -- ---- the message
 

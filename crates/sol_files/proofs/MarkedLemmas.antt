@@ -11,7 +11,7 @@ use Rattle.sol_files.specs.Sol.{Sol}
 use Rattle.sol_files.specs.Parts.{change_last, last_of}
 use Rattle.sol_files.specs.Built.{AreGiven, with_suffix, with_table_line, with_value}
 use Rattle.sol_files.specs.Tests.{has_index, index_limit, last_kind, last_values}
-use Rattle.shared_parts.specs.SuffixKinds.{object_limit}
+use Rattle.nl_model.specs.SuffixKinds.{object_limit}
 use Rattle.sol_files.specs.InsideHeld.{AreMarked, AwaitsSuffix}
 use Rattle.sol_files.proofs.LastLemmas.{Ends, ends_with, change_last-end, last_of-end, length_changed}
 

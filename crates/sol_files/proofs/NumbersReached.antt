@@ -9,7 +9,7 @@ use Rattle.std.proofs.lemmas.List.{append-nil, append_assoc}
 use Rattle.exact_numbers.specs.declared.dec.Dec.{Dec}
 use Rattle.exact_numbers.specs.Numbers.{has_31_bits, are_digits, whole_of}
 use Rattle.exact_numbers.proofs.NumberLemmas.{signed_of-signed_decimal}
-use Rattle.shared_parts.specs.Options.{has_second_three}
+use Rattle.nl_model.specs.Options.{has_second_three}
 use Rattle.sol_files.specs.declared.awaited.Awaited.TheVariants.{OptionCount, Options, Constraints, DualCount, Variables, PrimalCount, Duals, Primals, Tail}
 use Rattle.sol_files.specs.Sol.{Sol}
 use Rattle.sol_files.specs.Built.{IsEmptyOrFull}
@@ -22,7 +22,7 @@ use Rattle.written_texts.proofs.NumbersRead.{whole_of-decimal, are_digits-decima
 use Rattle.sol_files.proofs.Reached.{IsReached, AreWords, also, at, reached_row}
 use Rattle.sol_files.proofs.StandingLemmas.{is_plain}
 use Rattle.sol_files.specs.Progress.{Progress, kind_of, seen}
-use Rattle.texts.specs.Judged.{first_reason}
+use Rattle.text_base.specs.Judged.{first_reason}
 
 pub one_word : (word : List ℕ) → IsShortWord word → AreWords (word ∷ [])
 one_word word w = record { some = omega arith; few = omega arith; each = (w, tt) }

@@ -3,10 +3,10 @@ use Rattle.std.proofs.Common.{◌≡◌, ◌∙◌, ℕ, ◌+◌, ◌<◌, ◌�
 use Rattle.std.specs.List.{AllByRecursion}
 use Rattle.std.proofs.lemmas.Bool.{ne_eqb, and_right}
 use Rattle.std.proofs.lemmas.List.{append-nil, append_assoc, length-append, length_push}
-use Rattle.texts.specs.Judged.{Open, End, IsClean, first_reason}
-use Rattle.texts.specs.Words.{row_of}
-use Rattle.texts.specs.Cut.{IsTextLine}
-use Rattle.texts.proofs.JudgedLemmas.{clean_none, clean_last, clean_more}
+use Rattle.text_base.specs.Judged.{Open, End, IsClean, first_reason}
+use Rattle.text_base.specs.Words.{row_of}
+use Rattle.text_base.specs.Cut.{IsTextLine}
+use Rattle.text_base.proofs.JudgedLemmas.{clean_none, clean_last, clean_more}
 use Rattle.sol_files.specs.declared.awaited.Awaited.{Awaited}
 use Rattle.sol_files.specs.declared.awaited.Awaited.TheVariants.{Message, OptionCount}
 use Rattle.std.specs.Prelude.{codes}
@@ -22,12 +22,12 @@ use Rattle.sol_files.specs.Saying.{sol_of}
 use Rattle.sol_files.specs.Built.{empty_sol}
 use Rattle.sol_files.specs.Written.{IsSaidLine}
 use Rattle.sol_files.specs.Steps.{after, after_at, after_row, after_row_line, held_lines, read}
-use Rattle.texts.specs.WordLines.{spaced}
+use Rattle.text_base.specs.WordLines.{spaced}
 use Rattle.sol_files.proofs.MessageLemmas.{held_back, without_blank_end-more}
 use Rattle.sol_files.proofs.StandingLemmas.{standing-read, read-more, read-none, is_plain, plain_after, spoken, spoken_more}
 use Rattle.sol_files.proofs.ShortWords.{IsShortWord, are_words, row-line}
 use Rattle.written_texts.proofs.WordLemmas.{row-spaced}
-use Rattle.texts.proofs.AllLemmas.{all_push}
+use Rattle.text_base.proofs.AllLemmas.{all_push}
 
 -- the lines have no fault, mean this, and each of them is a line of a text
 pub record IsReached (lines : List (List ℕ)) (s : Progress) : Type 0 where

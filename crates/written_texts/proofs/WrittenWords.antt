@@ -9,7 +9,7 @@ use Rattle.exact_numbers.proofs.Texts.{digit_byte}
 use Rattle.exact_numbers.specs.Numbers.{has_31_bits}
 use Rattle.exact_numbers.specs.Written.{zeros, with_point, padded, scaled_text}
 use Rattle.exact_numbers.specs.declared.dec.Dec.{Dec}
-use Rattle.texts.specs.Names.{has_name_bytes}
+use Rattle.text_base.specs.Names.{has_name_bytes}
 use Rattle.exact_numbers.specs.Values.{text_of}
 use Rattle.written_texts.specs.Words.{IsKeptWord, IsWritten}
 

@@ -1,7 +1,7 @@
 use Rattle.std.proofs.Common.{◌≡◌, ◌<◌, ◌++◌, ◌∷◌, [], ◌∙◌, ap, ap₂, false, length, List, map, subst, sym, All, codes}
 use Rattle.exact_numbers.specs.Values.{text_of}
-use Rattle.texts.specs.Names.{IsName}
-use Rattle.texts.specs.WordLines.{lines_text, unless_empty}
+use Rattle.text_base.specs.Names.{IsName}
+use Rattle.text_base.specs.WordLines.{lines_text, unless_empty}
 use Rattle.written_texts.proofs.Writing.{lines_after, line_after}
 use Rattle.mps_model.specs.Built.{entry_of, bound_of}
 use Rattle.mps_model.specs.Mps.{MpsRow}

@@ -1,7 +1,7 @@
 use Rattle.std.proofs.Common.{[], ◌∙◌, ◌++◌, ap}
 use Rattle.std.specs.Prelude.{codes}
 use Rattle.std.specs.List.{flat_map}
-use Rattle.texts.specs.WordLines.{lines_text}
+use Rattle.text_base.specs.WordLines.{lines_text}
 use Rattle.nl_writer.specs.Written.{header_lines, suffix_piece, definition_piece, by_number, body_piece, objective_piece, guess_piece, interval_piece, column_piece, term_piece, body_lines}
 use Rattle.written_texts.proofs.Writing.{lines_after}
 use Rattle.nl_writer.proofs.write_nl.Goals as goal

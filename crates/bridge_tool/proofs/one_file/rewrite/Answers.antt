@@ -3,7 +3,7 @@ use Rattle.command_core.specs.SeveralFiles.{itself}
 use Rattle.command_core.proofs.SeveralFiles.{meant_always, meant_anyway}
 use Rattle.bridge_tool.specs.declared.one_file.OneFile.TheVariants.{Import, Mps, Nl, Sol}
 use Rattle.bridge_tool.proofs.OneFile.{ended, meant_so, sol_meant, stopped}
-use Rattle.nl_round_trip.proofs.Rewriting.{written_again}
+use Rattle.round_trips.proofs.Rewriting.{written_again}
 use Rattle.bridge_tool.proofs.one_file.rewrite.Goals as goal
 
 pub returns-in-Err : goal.returns-in-Err

@@ -1,5 +1,5 @@
 use Rattle.std.proofs.Common.{◌≡◌, ◌∙◌, None, sym, ap, ap₂, subst}
-use Rattle.program_meaning.specs.Linear.{Linear}
+use Rattle.linear_program.specs.Linear.{Linear}
 use Rattle.linear_program.specs.Programs.{linear_value}
 use Rattle.certificates.specs.Certificates.{IsCertificateOf, claim_outcome}
 use Rattle.certificate_judge.specs.Outcomes.{outcome_of}

@@ -1,7 +1,7 @@
 use Rattle.std.proofs.Common.{◌≡◌, ◌∙◌, ap, sym, subst, Some, None}
-use Rattle.program_meaning.specs.Linear.{row_count, variable_count}
-use Rattle.duality.specs.Branch.{proof_fault}
-use Rattle.duality.specs.Certificate.{judged, outcome, unless_leaf, with_leaves}
+use Rattle.linear_program.specs.Linear.{row_count, variable_count}
+use Rattle.certificates.specs.Branch.{proof_fault}
+use Rattle.certificates.specs.Certificate.{judged, outcome, unless_leaf, with_leaves}
 use Rattle.certificates.specs.Certificates.{IsAskedFor, certificate_over, tree_over}
 use Rattle.linear_program.specs.Numbers.{spread}
 use Rattle.exact_checks.specs.Programs.{program_value}

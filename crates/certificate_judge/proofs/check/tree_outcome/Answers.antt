@@ -1,5 +1,5 @@
 use Rattle.std.proofs.Common.{◌≡◌, ◌∙◌, ap, ap₂, sym, subst, drop}
-use Rattle.duality.specs.Certificate.{unless_leaf}
+use Rattle.certificates.specs.Certificate.{unless_leaf}
 use Rattle.exact_checks.specs.Programs.{program_value}
 use Rattle.exact_checks.specs.Terms.{value_found}
 use Rattle.certificate_judge.specs.Outcomes.{fault_found}

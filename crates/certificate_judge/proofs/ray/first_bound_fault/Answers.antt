@@ -1,10 +1,10 @@
 use Rattle.std.proofs.Common.{◌<◌, subst, true, false}
-use Rattle.program_meaning.specs.Linear.{variable_count}
+use Rattle.linear_program.specs.Linear.{variable_count}
 use Rattle.linear_program.specs.Intervals.{interval_of}
 use Rattle.exact_checks.specs.Programs.{program_value}
 use Rattle.exact_checks.proofs.Firsts.{first_goes_on, first_stops}
 use Rattle.certificate_judge.specs.InsidePoints.{point_of}
-use Rattle.duality.specs.Ray.{ray_bound_broken, ray_bound_fault}
+use Rattle.certificates.specs.Ray.{ray_bound_broken, ray_bound_fault}
 use Rattle.certificate_judge.proofs.RowsAt.{ray_bound_fault_is}
 use Rattle.certificate_judge.proofs.ray.first_bound_fault.Goals as goal
 

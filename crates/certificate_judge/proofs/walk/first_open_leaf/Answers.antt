@@ -1,7 +1,7 @@
 use Rattle.std.proofs.Common.{◌≡◌, ◌<◌, ◌≤◌, ◌∙◌, ap, arith, sym, subst, drop, length, length-append, take, to_z-of_z}
 use mir.Syntax.{w128}
 use mir.Val.{to_z, of_z}
-use Rattle.program_meaning.specs.Linear.{variable_count}
+use Rattle.linear_program.specs.Linear.{variable_count}
 use Rattle.exact_numbers.specs.Values.{frac_value}
 use Rattle.certificates.specs.Certificates.{AreNumbers, IsCutNumber, number_form, whole_form}
 use Rattle.linear_program.specs.Numbers.{number_value}

@@ -1,6 +1,6 @@
 use Rattle.std.proofs.Common.{◌-◌, ◌≡◌, ◌≤◌}
-use Rattle.desk.specs.Desk.{OnlyInput}
-use Rattle.texts.specs.Readers.{HasTaken, grammar_of}
+use Rattle.text_base.specs.Desk.{OnlyInput}
+use Rattle.text_base.specs.Readers.{HasTaken, grammar_of}
 use Rattle.command_core.specs.declared.transfer.TheConstants.{LIMIT}
 use Rattle.command_core.proofs.Known.{IsFedSo}
 use Rattle.command_core.proofs.transfer.feed_rest.Given as goal

@@ -1,5 +1,5 @@
 use Rattle.std.proofs.Common.{◌∙◌, ap, ap₂}
-use Rattle.duality.specs.Verdict.{dual_fault}
+use Rattle.certificates.specs.Verdict.{dual_fault}
 use Rattle.exact_checks.specs.Programs.{asked, bounds_in, program_of}
 use Rattle.exact_checks.specs.declared.verdict.Goal.TheVariants.{Objective}
 use Rattle.exact_checks.proofs.Points.{point_of}

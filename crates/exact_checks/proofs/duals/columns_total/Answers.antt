@@ -1,4 +1,4 @@
-use Rattle.duality.specs.Verdict.{cost_part}
+use Rattle.certificates.specs.Verdict.{cost_part}
 use Rattle.exact_numbers.specs.Values.{frac_value}
 use Rattle.exact_checks.specs.Programs.{asked, program_of, bounds_in}
 use Rattle.exact_checks.proofs.Points.{point_of}

@@ -1,5 +1,5 @@
 use Rattle.std.proofs.Common.{◌≡◌, None}
-use Rattle.duality.specs.Verdict.{cost_fault, first_fault}
+use Rattle.certificates.specs.Verdict.{cost_fault, first_fault}
 use Rattle.exact_checks.proofs.Points.{point_of}
 use Rattle.exact_checks.specs.Programs.{asked, program_of, bounds_in}
 use Rattle.exact_checks.proofs.duals.first_cost_fault.Given as goal

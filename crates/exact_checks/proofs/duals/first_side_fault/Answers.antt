@@ -1,10 +1,10 @@
 use Rattle.std.proofs.Common.{◌<◌, length, arith}
-use Rattle.duality.specs.Verdict.{side_fault}
+use Rattle.certificates.specs.Verdict.{side_fault}
 use Rattle.exact_checks.proofs.Points.{point_of}
 use Rattle.exact_checks.specs.Programs.{asked, program_value}
 use Rattle.exact_checks.proofs.Firsts.{first_goes_on, first_stops}
 use Rattle.exact_checks.proofs.Rows.{item_at, side_fault_is, rows_counted}
-use Rattle.program_meaning.specs.Linear.{row_count}
+use Rattle.linear_program.specs.Linear.{row_count}
 use Rattle.exact_checks.proofs.duals.first_side_fault.Goals as goal
 
 pub returns-then-not-has_row_side : goal.returns-then-not-has_row_side

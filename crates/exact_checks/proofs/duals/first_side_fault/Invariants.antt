@@ -1,5 +1,5 @@
 use Rattle.std.proofs.Common.{◌≡◌, None}
-use Rattle.duality.specs.Verdict.{side_fault, first_fault}
+use Rattle.certificates.specs.Verdict.{side_fault, first_fault}
 use Rattle.exact_checks.proofs.Points.{point_of}
 use Rattle.exact_checks.specs.Programs.{asked, program_value}
 use Rattle.exact_checks.proofs.duals.first_side_fault.Given as goal

@@ -1,11 +1,11 @@
 use Rattle.std.proofs.Common.{◌<◌, length, arith}
-use Rattle.duality.specs.Verdict.{row_part}
+use Rattle.certificates.specs.Verdict.{row_part}
 use Rattle.exact_numbers.specs.Values.{frac_value}
 use Rattle.exact_checks.proofs.Points.{point_of}
 use Rattle.exact_checks.specs.Programs.{asked, program_value}
 use Rattle.exact_checks.proofs.Runs.{run_goes_on, run_stops}
 use Rattle.exact_checks.proofs.Rows.{item_at, row_part_is, rows_counted}
-use Rattle.program_meaning.specs.Linear.{row_count}
+use Rattle.linear_program.specs.Linear.{row_count}
 use Rattle.exact_checks.proofs.duals.rows_total.Goals as goal
 
 pub returns-in-None : goal.returns-in-None

@@ -1,6 +1,6 @@
 use Rattle.std.proofs.Common.{◌≡◌, Some}
-use Rattle.duality.specs.Checked.{run}
-use Rattle.duality.specs.Verdict.{row_part}
+use Rattle.certificates.specs.Checked.{run}
+use Rattle.certificates.specs.Verdict.{row_part}
 use Rattle.exact_numbers.specs.Values.{frac_value}
 use Rattle.exact_checks.proofs.Points.{point_of}
 use Rattle.exact_checks.specs.Programs.{asked, program_value}

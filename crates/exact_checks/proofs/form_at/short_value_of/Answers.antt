@@ -1,5 +1,5 @@
 use Rattle.std.proofs.Common.{◌≡◌, ◌∙◌, ◌<◌, ◌≤◌, Some, ap₂, get_or, length, refl, subst, sym}
-use Rattle.duality.specs.Checked.{plus_product}
+use Rattle.certificates.specs.Checked.{plus_product}
 use Rattle.exact_numbers.specs.Values.{frac_value}
 use Rattle.exact_checks.specs.Sums.{short_value}
 use Rattle.exact_checks.proofs.CostLemmas.{short_is_short}

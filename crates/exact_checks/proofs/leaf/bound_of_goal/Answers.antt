@@ -1,5 +1,5 @@
 use Rattle.std.proofs.Common.{◌∙◌, ap, length}
-use Rattle.program_meaning.specs.Linear.{Form, row_count, value_at}
+use Rattle.linear_program.specs.Linear.{Form, row_count, value_at}
 use Rattle.exact_numbers.specs.Values.{frac_value}
 use Rattle.linear_program.specs.Numbers.{spread}
 use Rattle.exact_checks.specs.Answers.{bound_answer_of}

@@ -1,6 +1,6 @@
 use Rattle.std.proofs.Common.{◌≡◌, false, subst, sym}
-use Rattle.program_meaning.specs.Linear.{row_count}
-use Rattle.duality.specs.Verdict.{dual_bound}
+use Rattle.linear_program.specs.Linear.{row_count}
+use Rattle.certificates.specs.Verdict.{dual_bound}
 use Rattle.exact_numbers.specs.Values.{frac_value}
 use Rattle.linear_program.specs.Numbers.{spread}
 use Rattle.exact_checks.specs.Answers.{bound_answer_of}

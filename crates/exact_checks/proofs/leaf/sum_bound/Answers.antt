@@ -1,5 +1,5 @@
-use Rattle.fractions.specs.Rational.{zero_ℚ}
-use Rattle.duality.specs.Parts.{maximising}
+use Rattle.exact_numbers.specs.Rational.{zero_ℚ}
+use Rattle.certificates.specs.Parts.{maximising}
 use Rattle.exact_numbers.specs.Values.{frac_value}
 use Rattle.linear_program.specs.Coefs.{coef_in}
 use Rattle.exact_checks.proofs.LeafLemmas.{rows_maximised, sum_goal}

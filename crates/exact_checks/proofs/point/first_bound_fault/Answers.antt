@@ -1,10 +1,10 @@
 use Rattle.std.proofs.Common.{◌<◌, arith, ap₂, ◌∙◌}
-use Rattle.duality.specs.Verdict.{bound_fault}
+use Rattle.certificates.specs.Verdict.{bound_fault}
 use Rattle.exact_checks.proofs.Points.{point_of}
 use Rattle.exact_checks.specs.Programs.{program_value, bounds_in}
 use Rattle.exact_checks.proofs.Firsts.{first_goes_on, first_stops}
 use Rattle.exact_checks.proofs.Rows.{bound_fault_is, variables_counted}
-use Rattle.program_meaning.specs.Linear.{variable_count}
+use Rattle.linear_program.specs.Linear.{variable_count}
 use Rattle.exact_checks.proofs.point.first_bound_fault.Goals as goal
 
 pub returns-then-not-is_within_bounds : goal.returns-then-not-is_within_bounds

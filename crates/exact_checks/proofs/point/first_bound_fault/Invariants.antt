@@ -1,5 +1,5 @@
 use Rattle.std.proofs.Common.{◌≡◌, None}
-use Rattle.duality.specs.Verdict.{bound_fault, first_fault}
+use Rattle.certificates.specs.Verdict.{bound_fault, first_fault}
 use Rattle.exact_checks.proofs.Points.{point_of}
 use Rattle.exact_checks.specs.Programs.{program_value}
 use Rattle.exact_checks.proofs.point.first_bound_fault.Given as goal

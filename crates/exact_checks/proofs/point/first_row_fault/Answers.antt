@@ -1,10 +1,10 @@
 use Rattle.std.proofs.Common.{◌<◌, arith}
-use Rattle.duality.specs.Verdict.{row_fault}
+use Rattle.certificates.specs.Verdict.{row_fault}
 use Rattle.exact_checks.proofs.Points.{point_of}
 use Rattle.exact_checks.specs.Programs.{program_value}
 use Rattle.exact_checks.proofs.Firsts.{first_stops}
 use Rattle.exact_checks.proofs.Rows.{item_at, row_fault_is, rows_counted}
-use Rattle.program_meaning.specs.Linear.{row_count}
+use Rattle.linear_program.specs.Linear.{row_count}
 use Rattle.exact_checks.proofs.point.first_row_fault.Goals as goal
 
 pub returns-in-Some : goal.returns-in-Some

@@ -1,5 +1,5 @@
 use Rattle.std.proofs.Common.{◌≡◌, None}
-use Rattle.duality.specs.Verdict.{row_fault, first_fault}
+use Rattle.certificates.specs.Verdict.{row_fault, first_fault}
 use Rattle.exact_checks.proofs.Points.{point_of}
 use Rattle.exact_checks.specs.Programs.{program_value}
 use Rattle.exact_checks.proofs.point.first_row_fault.Given as goal

@@ -1,5 +1,5 @@
 use Rattle.std.proofs.Common.{◌<◌, ◌≤◌, length, refl, subst}
-use Rattle.duality.specs.Verdict.{run_form}
+use Rattle.certificates.specs.Verdict.{run_form}
 use Rattle.exact_numbers.specs.Values.{frac_value}
 use Rattle.exact_checks.proofs.Points.{point_of}
 use Rattle.exact_checks.specs.Programs.{form_of}

@@ -8,7 +8,7 @@ use Rattle.std.proofs.lemmas.Int.{ints}
 use Rattle.exact_numbers.proofs.Decimals.{capped_some, capped_none}
 use Rattle.exact_numbers.proofs.Texts.{Parts, parts_of, dec_text_from, dec_value_is, digits_small}
 use Rattle.exact_numbers.specs.Values.{dec_value, FitsDec}
-use Rattle.fractions.specs.Rational.{ℚ, decimal_value}
+use Rattle.exact_numbers.specs.Rational.{ℚ, decimal_value}
 use Rattle.exact_numbers.specs.declared.dec.Dec.{Dec}
 use Rattle.exact_numbers.proofs.Bridge.{no_dec, not_dec, dec_same, same_dec_value, decimal_is}
 use Rattle.exact_numbers.proofs.read.read_any.Goals as goal

@@ -1,7 +1,7 @@
 use Rattle.std.proofs.Common.{◌≡◌, ◌∙◌, ◌+◌, ◌++◌, ◌∷◌, [], List, sym, subst, arith, drop, take, true}
 use Rattle.exact_numbers.specs.Values.{dec_value, frac_value}
-use Rattle.fractions.specs.Fits.{fits}
-use Rattle.file_meaning.specs.Expressions.{linear_terms}
+use Rattle.exact_numbers.specs.Fits.{fits}
+use Rattle.nl_model.specs.Expressions.{linear_terms}
 use Rattle.linear_program.specs.Coefs.{Term}
 use Rattle.linear_program.specs.Decimals.{frac_of, fraction_terms}
 use Rattle.linear_program.proofs.DecimalLemmas.{AllFit, fit_more, frac_of-value, one_fraction_more}

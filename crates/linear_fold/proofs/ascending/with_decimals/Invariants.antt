@@ -1,6 +1,6 @@
 use Rattle.std.proofs.Common.{◌≡◌, ◌+◌, [], drop, take}
 use Rattle.exact_numbers.specs.Values.{frac_value}
-use Rattle.file_meaning.specs.Expressions.{linear_terms}
+use Rattle.nl_model.specs.Expressions.{linear_terms}
 use Rattle.linear_program.specs.Decimals.{fraction_terms}
 use Rattle.linear_program.proofs.DecimalLemmas.{AllFit}
 use Rattle.linear_fold.proofs.Expressions.{IsListed, list_line}

@@ -1,6 +1,6 @@
 use Rattle.std.proofs.Common.{◌+◌, ◌<◌, ◌≤◌, ◌*◌, sym, subst, arith, length, take}
 use Rattle.std.proofs.lemmas.List.{take_all}
-use Rattle.nl_meaning.specs.Trees.{tree_size}
+use Rattle.nl_model.specs.Trees.{tree_size}
 use Rattle.nl_model.specs.declared.at.Owner.TheVariants.{Def as OfDefinition}
 use Rattle.linear_fold.specs.InsideOwnerFolds.{HasFolded, definitions_size, owned_at}
 use Rattle.linear_fold.proofs.BodyLemmas.{at_position, definition_size, definitions_size_le, left_end, left_more, left_stop, position_small, steps_more, steps_within}

@@ -1,7 +1,7 @@
 use Rattle.std.proofs.Common.{◌≤◌, ◌+◌, ◌*◌, length, sym, option_copied, subst}
 use Rattle.std.specs.Option.{option_map_or}
-use Rattle.nl_meaning.specs.Trees.{tree_size}
-use Rattle.file_meaning.specs.Expressions.{linear_terms, tree_or_zero}
+use Rattle.nl_model.specs.Trees.{tree_size}
+use Rattle.nl_model.specs.Expressions.{linear_terms, tree_or_zero}
 use Rattle.linear_fold.specs.InsideFolds.{IsExpressionFolded}
 use Rattle.linear_fold.proofs.Expressions.{both_steps}
 use Rattle.linear_fold.proofs.Operators.{if_ok}

@@ -1,5 +1,5 @@
 use Rattle.std.proofs.Common.{subst, arith, length}
-use Rattle.file_meaning.specs.Expressions.{linear_terms}
+use Rattle.nl_model.specs.Expressions.{linear_terms}
 use Rattle.linear_fold.specs.InsideFolds.{IsEntryWithin, IsFolded}
 use Rattle.linear_program.specs.Forms.{IsWithin, form_line}
 use Rattle.linear_fold.proofs.Expressions.{nothing_listed, some_term, entry_within, some_terms, sum_bound, terms_formed}

@@ -1,6 +1,6 @@
 use Rattle.std.proofs.Common.{IfSome, ap, length, option_copied, subst}
-use Rattle.fractions.specs.Rational.{zero_ℚ}
-use Rattle.nl_meaning.specs.Trees.{tree_size}
+use Rattle.exact_numbers.specs.Rational.{zero_ℚ}
+use Rattle.nl_model.specs.Trees.{tree_size}
 use Rattle.linear_fold.specs.InsideFolds.{IsTreeGiven}
 use Rattle.linear_fold.specs.InsideLeafSums.{IsFormOf}
 use Rattle.linear_fold.proofs.Expressions.{prefix_size, prefix_within, zero_folded}

@@ -1,6 +1,6 @@
 use Rattle.std.proofs.Common.{◌≡◌, ◌∙◌, IfSome, subst, sym}
 use Rattle.nl_model.specs.Rules.{AreTermsBelow}
-use Rattle.file_meaning.specs.Expressions.{linear_terms}
+use Rattle.nl_model.specs.Expressions.{linear_terms}
 use Rattle.linear_program.specs.Forms.{IsWithin, sum_line}
 use Rattle.linear_fold.specs.InsideFolds.{ComesToTerms}
 use Rattle.linear_fold.proofs.Operators.{if_ok}

@@ -1,5 +1,5 @@
 use Rattle.std.proofs.Common.{◌≡◌, ◌∙◌, ◌+◌, ◌-◌, sym, ap, refl, arith, Some}
-use Rattle.program_meaning.specs.Lines.{line_value}
+use Rattle.linear_program.specs.Lines.{line_value}
 use Rattle.linear_fold.proofs.Folding.{form_within, slot_at}
 use Rattle.linear_fold.proofs.fold.defined_part.Goals as goal
 

@@ -1,5 +1,5 @@
 use Rattle.std.proofs.Common.{◌≡◌, ◌∙◌, ◌+◌, ◌*◌, None, ap, arith, length, reverse, subst, sym, take}
-use Rattle.nl_meaning.specs.Trees.{Takes, rule_of}
+use Rattle.nl_model.specs.Trees.{Takes, rule_of}
 use Rattle.linear_fold.specs.declared.operate.Outcome.{Outcome}
 use Rattle.linear_fold.specs.InsideFolds.{first_broken}
 use Rattle.linear_fold.specs.InsideOperates.{AreOperands, Operates, lines_of_parts}

@@ -1,6 +1,6 @@
 use Rattle.std.proofs.Common.{◌≡◌, ◌≤◌, ◌∷◌, ◌∙◌, ◌+◌, ◌-◌, drop, length, refl, reverse, sym, ap, subst, take, arith, vec_len}
 use Rattle.std.proofs.lemmas.List.{length-reverse, length-take-le}
-use Rattle.nl_meaning.specs.Trees.{Takes, operator, rule_of}
+use Rattle.nl_model.specs.Trees.{Takes, operator, rule_of}
 use Rattle.nl_model.specs.Nodes.{with_node}
 use Rattle.linear_fold.specs.InsideFolds.{ArePartsFolded, ArePartsWithin, IsPartFolded, NodeFinds}
 use Rattle.linear_fold.proofs.Folding.{entry_steps, operator_size, operator_step, within_take, within_parts_drop}

@@ -1,6 +1,6 @@
 use Rattle.std.proofs.Common.{◌≤◌, ◌+◌, ◌-◌, drop, length}
-use Rattle.program_meaning.specs.Lines.{Line, Point}
-use Rattle.nl_meaning.specs.Trees.{Known, first_trees}
+use Rattle.linear_program.specs.Lines.{Line, Point}
+use Rattle.nl_model.specs.Trees.{Known, first_trees}
 use Rattle.nl_model.specs.Nodes.{trees_of}
 use Rattle.linear_fold.specs.InsideLeafSums.{AreLeaves, SumsUpTo, leaves_line, seen}
 use Rattle.linear_fold.specs.InsideOperates.{zero_line}

@@ -1,5 +1,5 @@
 use Rattle.std.proofs.Common.{◌≡◌, ◌+◌, ◌-◌, suc, arith, drop}
-use Rattle.fractions.specs.Rational.{zero_ℚ}
+use Rattle.exact_numbers.specs.Rational.{zero_ℚ}
 use Rattle.nl_model.specs.Nodes.{trees_of}
 use Rattle.linear_program.specs.Forms.{parts_line}
 use Rattle.linear_fold.specs.InsideLeafSums.{Appends}

@@ -1,7 +1,7 @@
 use Rattle.std.proofs.Common.{◌≤◌, ◌+◌, ◌-◌, drop, length}
-use Rattle.fractions.specs.Rational.{zero_ℚ}
-use Rattle.program_meaning.specs.Lines.{Line, Point}
-use Rattle.nl_meaning.specs.Trees.{Known, first_trees}
+use Rattle.exact_numbers.specs.Rational.{zero_ℚ}
+use Rattle.linear_program.specs.Lines.{Line, Point}
+use Rattle.nl_model.specs.Trees.{Known, first_trees}
 use Rattle.nl_model.specs.Nodes.{trees_of}
 use Rattle.linear_program.specs.Forms.{parts_line}
 use Rattle.linear_fold.specs.InsideLeafSums.{AreTerms, SumsUpTo}

@@ -1,6 +1,6 @@
 use Rattle.std.proofs.Common.{◌∙◌, ap₂, arith}
-use Rattle.fractions.specs.Rational.{zero_ℚ}
-use Rattle.program_meaning.specs.Lines.{Line}
+use Rattle.exact_numbers.specs.Rational.{zero_ℚ}
+use Rattle.linear_program.specs.Lines.{Line}
 use Rattle.linear_program.specs.Forms.{parts_line}
 use Rattle.linear_fold.proofs.LeafLemmas.{form_of_terms}
 use Rattle.linear_fold.proofs.leaf_sums.multiple_sum.Goals as goal

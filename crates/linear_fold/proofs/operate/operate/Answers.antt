@@ -1,5 +1,5 @@
 use Rattle.std.proofs.Common.{◌≡◌, ◌∙◌, ap, reverse, sym, subst, take}
-use Rattle.nl_meaning.specs.Trees.{Takes, rule_of}
+use Rattle.nl_model.specs.Trees.{Takes, rule_of}
 use Rattle.linear_fold.specs.InsideOperates.{AreOperands, AreUnbroken}
 use Rattle.linear_fold.proofs.Operators.{as_operands, first_within, one_within, second_within, unbroken_of}
 use Rattle.linear_fold.proofs.operate.operate.Goals as goal

@@ -1,7 +1,7 @@
 use Rattle.std.proofs.Common.{◌≡◌, ◌∙◌, ap, sym, subst, subst₂, arith, option_copied, length, Some}
-use Rattle.nl_meaning.specs.Trees.{tree_size}
+use Rattle.nl_model.specs.Trees.{tree_size}
 use Rattle.nl_model.specs.FilePlaces.{terms_at, tree_at}
-use Rattle.file_meaning.specs.Expressions.{tree_or_zero}
+use Rattle.nl_model.specs.Expressions.{tree_or_zero}
 use Rattle.linear_fold.specs.FoldedFaults.{HasFaultPlace, fault_for, place_after}
 use Rattle.linear_fold.specs.InsideFolds.{IsEntryWithin, IsExpressionFolded}
 use Rattle.linear_fold.specs.InsideOperates.{IsPad}

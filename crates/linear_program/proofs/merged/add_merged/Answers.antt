@@ -1,6 +1,6 @@
 use Rattle.std.proofs.Common.{◌∙◌, ◌++◌, ap, drop, subst, sym}
 use Rattle.exact_numbers.specs.Values.{frac_value}
-use Rattle.fractions.specs.Fits.{sum_fits}
+use Rattle.exact_numbers.specs.Fits.{sum_fits}
 use Rattle.linear_program.specs.Coefs.{AreAscending}
 use Rattle.linear_program.proofs.Merging.{first_ascends, old_value, still_ascends, term_merged}
 use Rattle.linear_program.proofs.merged.add_merged.Goals as goal

@@ -1,6 +1,6 @@
 use Rattle.std.proofs.Common.{◌≡◌, ◌+◌, ◌++◌, ◌≤◌, ℕ, drop, length}
 use Rattle.exact_numbers.specs.Values.{frac_value}
-use Rattle.fractions.specs.Rational.{ℚ}
+use Rattle.exact_numbers.specs.Rational.{ℚ}
 use Rattle.linear_program.specs.Coefs.{AreAscending, AreBelow}
 use Rattle.linear_program.specs.Forms.{adds_fit, parts_line, terms_left, with_scaled}
 use Rattle.linear_program.proofs.merged.merged.Given as goal

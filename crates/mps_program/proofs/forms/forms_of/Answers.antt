@@ -1,6 +1,6 @@
 use Rattle.std.proofs.Common.{◌≡◌, ◌+◌, ◌-◌, ◌<◌, ◌∙◌, [], sym, ap, arith, length, refl, rules, subst}
 use Rattle.mps_model.specs.Mps.{objective_row}
-use Rattle.term_batches.specs.Parts.{IsPart}
+use Rattle.linear_program.specs.Parts.{IsPart}
 use Rattle.mps_program.specs.Faults.{is_body_wide}
 use Rattle.mps_program.specs.InsideForms.{AreBodiesOf}
 use Rattle.mps_program.specs.Places.{places}

@@ -1,6 +1,6 @@
 use Rattle.std.proofs.Common.{◌≡◌, ◌∙◌, ℕ, List, refl, ap, subst, arith, drop, take, drop-drop, true}
 use Rattle.std.proofs.lemmas.Grind.{common_steps}
-use Rattle.texts.specs.Names.{has_name_bytes}
+use Rattle.text_base.specs.Names.{has_name_bytes}
 use Rattle.mps_words.proofs.FrontWords.{more_bytes}
 use Rattle.mps_words.proofs.front_words.groups_len.Goals as goal
 

@@ -1,6 +1,6 @@
 use Rattle.std.proofs.Common.{◌<◌, length, arith}
 use Rattle.std.proofs.lemmas.Bool.Decides.{nat_tests}
-use Rattle.texts.proofs.WordLemmas.{word_is}
+use Rattle.text_base.proofs.WordLemmas.{word_is}
 use Rattle.mps_words.proofs.words.first_word.Goals as goal
 
 pub returns : goal.returns

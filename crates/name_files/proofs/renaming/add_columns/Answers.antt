@@ -1,6 +1,6 @@
 use Rattle.std.proofs.Common.{◌∙◌, ap, sym, subst, arith, length, List, ℕ}
-use Rattle.program_meaning.specs.Names.{variable_name}
-use Rattle.texts.specs.Names.{IsName}
+use Rattle.linear_program.specs.Names.{variable_name}
+use Rattle.text_base.specs.Names.{IsName}
 use Rattle.mps_model.specs.Mps.{Mps, Column}
 use Rattle.exact_numbers.specs.declared.dec.Dec.{Dec}
 use Rattle.name_files.specs.Renamed.{new_name, named_column}

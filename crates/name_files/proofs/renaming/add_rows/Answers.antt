@@ -1,7 +1,7 @@
 use Rattle.std.proofs.Common.{◌∙◌, ap, sym, subst, arith, List, ℕ}
 use Rattle.std.proofs.lemmas.List.{take-map}
-use Rattle.program_meaning.specs.Names.{row_name}
-use Rattle.texts.specs.Names.{IsName}
+use Rattle.linear_program.specs.Names.{row_name}
+use Rattle.text_base.specs.Names.{IsName}
 use Rattle.mps_model.specs.Mps.{Mps, MpsRow}
 use Rattle.mps_model.specs.Built.{CanAddRow}
 use Rattle.exact_numbers.specs.declared.dec.Dec.{Dec}

@@ -2,7 +2,7 @@ use Rattle.std.proofs.Common.{◌+◌, ◌<◌, ◌^◌, arith, drop, subst, sym
 use Rattle.std.specs.Prelude.{All, Ok}
 use Rattle.nl_lines.specs.NodeRows.{IsNodeKnown}
 use Rattle.std.proofs.lemmas.List.{length-drop}
-use Rattle.texts.specs.Judged.{Decides}
+use Rattle.text_base.specs.Judged.{Decides}
 use Rattle.nl_lines.specs.FirstRows.{IsFirstRow}
 use Rattle.nl_lines.specs.Leaves.{IsLeafRow}
 use Rattle.nl_model.specs.Nodes.{awaited}

@@ -2,7 +2,7 @@ use Rattle.std.proofs.Common.{◌∙◌, ◌^◌, [], ◌∷◌, nat_le}
 use Rattle.nl_lines.specs.declared.fault.NlReason.TheVariants.{TooLarge}
 use Rattle.nl_lines.specs.Tests.{node_form_tests}
 use Rattle.nl_lines.proofs.NodeLemmas.{not_large}
-use Rattle.texts.proofs.FirstReasons.{reason_before, reason_after}
+use Rattle.text_base.proofs.FirstReasons.{reason_before, reason_after}
 use Rattle.nl_segments.proofs.body_leaves.read_next.Goals as goal
 
 pub returns-in-Err : goal.returns-in-Err

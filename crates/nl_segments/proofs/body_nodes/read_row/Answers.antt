@@ -1,8 +1,8 @@
 use Rattle.std.proofs.Common.{◌^◌, [], ◌∷◌, nat_le}
-use Rattle.texts.specs.Words.{texts}
+use Rattle.text_base.specs.Words.{texts}
 use Rattle.nl_lines.specs.declared.fault.NlReason.TheVariants.{TooLarge}
 use Rattle.nl_lines.specs.Tests.{node_form_tests}
-use Rattle.texts.proofs.FirstReasons.{reason_before}
+use Rattle.text_base.proofs.FirstReasons.{reason_before}
 use Rattle.nl_segments.proofs.body_nodes.read_row.Goals as goal
 
 pub returns-in-Err : goal.returns-in-Err

@@ -1,6 +1,6 @@
 use Rattle.std.proofs.Common.{◌∙◌, List, ℕ, Some, None, Err, sym, ap, subst, refl}
-use Rattle.texts.specs.Judged.{Takes}
-use Rattle.texts.specs.declared.stop.Stop.TheVariants.{Fault}
+use Rattle.text_base.specs.Judged.{Takes}
+use Rattle.text_base.specs.declared.stop.Stop.TheVariants.{Fault}
 use Rattle.answer_file.specs.declared.fault.AnswerReason.TheVariants.{BadLine}
 use Rattle.answer_file.specs.declared.keyword.Keyword.TheVariants.{Status, Message, Sign, Objno, Col, Row, Suffix}
 use Rattle.answer_file.specs.Entries.{MessageLine}

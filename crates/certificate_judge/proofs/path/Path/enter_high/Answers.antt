@@ -1,8 +1,8 @@
 use Rattle.std.proofs.Common.{◌∙◌, ap, ap₂, length, refl, slice_set}
 use Rattle.std.specs.Vec.{with_items}
-use Rattle.fractions.specs.Rational.{whole}
+use Rattle.exact_numbers.specs.Rational.{whole}
 use Rattle.certificate_judge.proofs.WholeDecimals.{next_is}
-use Rattle.duality.specs.Parts.{bound, raised}
+use Rattle.certificates.specs.Parts.{bound, raised}
 use Rattle.exact_checks.specs.Lists.{bounds_in}
 use Rattle.certificate_judge.specs.InsidePaths.{sides_of, to_second}
 use Rattle.certificate_judge.specs.declared.path.Step.TheVariants.{AtLeast}

@@ -2,8 +2,8 @@ use Rattle.std.proofs.Common.{◌≡◌, ◌∙◌, ◌++◌, ◌∷◌, [], ap,
 use mir.Syntax.{w128}
 use mir.Val.{to_z, of_z}
 use Rattle.std.specs.Vec.{with_items}
-use Rattle.fractions.specs.Rational.{whole}
-use Rattle.duality.specs.Parts.{bound, capped}
+use Rattle.exact_numbers.specs.Rational.{whole}
+use Rattle.certificates.specs.Parts.{bound, capped}
 use Rattle.exact_checks.specs.Lists.{bounds_in}
 use Rattle.certificate_judge.specs.InsidePaths.{sides_of, to_first}
 use Rattle.certificate_judge.specs.declared.path.Step.TheVariants.{AtMost}

@@ -1,7 +1,7 @@
 use Rattle.std.proofs.Common.{◌∙◌, ap, refl}
-use Rattle.fractions.specs.Rational.{whole}
+use Rattle.exact_numbers.specs.Rational.{whole}
 use Rattle.certificate_judge.proofs.WholeDecimals.{next_is}
-use Rattle.duality.specs.Parts.{at_least, plane}
+use Rattle.certificates.specs.Parts.{at_least, plane}
 use Rattle.certificate_judge.specs.InsidePaths.{sides_of, to_second}
 use Rattle.certificate_judge.specs.declared.path.Step.TheVariants.{Over}
 use Rattle.certificate_judge.proofs.PathLemmas.{one_row, path_row, stepped}

@@ -1,5 +1,5 @@
 use Rattle.std.proofs.Common.{refl}
-use Rattle.duality.specs.Parts.{lemma}
+use Rattle.certificates.specs.Parts.{lemma}
 use Rattle.certificate_judge.specs.InsidePaths.{sides_of, to_second}
 use Rattle.certificate_judge.specs.declared.path.Step.TheVariants.{Over}
 use Rattle.certificate_judge.proofs.PathLemmas.{one_row, path_row, stepped}

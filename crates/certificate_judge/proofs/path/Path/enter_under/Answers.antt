@@ -1,8 +1,8 @@
 use Rattle.std.proofs.Common.{◌≡◌, ◌∙◌, ◌++◌, ◌∷◌, [], ap, refl, to_z-of_z}
 use mir.Syntax.{w128}
 use mir.Val.{to_z, of_z}
-use Rattle.fractions.specs.Rational.{whole}
-use Rattle.duality.specs.Parts.{at_most, plane}
+use Rattle.exact_numbers.specs.Rational.{whole}
+use Rattle.certificates.specs.Parts.{at_most, plane}
 use Rattle.certificate_judge.specs.InsidePaths.{sides_of, to_first}
 use Rattle.certificate_judge.specs.declared.path.Step.TheVariants.{Under}
 use Rattle.certificate_judge.proofs.PathLemmas.{one_row, path_row, stepped}

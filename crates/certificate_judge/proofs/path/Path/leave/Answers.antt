@@ -2,7 +2,7 @@ use Rattle.std.proofs.Common.{◌≡◌, ◌∙◌, ◌++◌, ◌∷◌, [], ap,
 use mir.Syntax.{w128}
 use mir.Val.{to_z, of_z}
 use Rattle.std.specs.Vec.{with_item}
-use Rattle.duality.specs.Parts.{Part}
+use Rattle.certificates.specs.Parts.{Part}
 use Rattle.certificate_judge.specs.InsidePaths.{HasLeft, IsAt, Turn}
 use Rattle.certificates.specs.Certificates.{IsCutNumber}
 use Rattle.exact_checks.specs.Built.{AreWithin}

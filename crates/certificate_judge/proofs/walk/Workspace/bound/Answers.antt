@@ -1,5 +1,5 @@
 use Rattle.std.proofs.Common.{◌≡◌, length, refl, subst, sym}
-use Rattle.duality.specs.Parts.{whole_part}
+use Rattle.certificates.specs.Parts.{whole_part}
 use Rattle.exact_checks.specs.Answers.{bound_answer_of}
 use Rattle.exact_checks.specs.Programs.{program_value}
 use Rattle.exact_checks.proofs.SumLemmas.{if_put}

@@ -1,5 +1,5 @@
 use Rattle.std.proofs.Common.{arith, ◌≡◌, ◌*◌, ◌^◌, pos, ◌+ℤ◌, unsigned_abs, rules, to_z-of_z, ◌∙◌, ap, ap₂, int_lt}
-use Rattle.fractions.specs.Rational.{decimal_value}
+use Rattle.exact_numbers.specs.Rational.{decimal_value}
 use Rattle.exact_numbers.specs.Decimal.{signed}
 use mir.Syntax.{w128}
 use Rattle.std.proofs.lemmas.Int.{ints}

@@ -1,5 +1,5 @@
 use Rattle.std.proofs.Common.{◌≡◌, ◌∙◌, ap, ap₂, pos, int_lt, unsigned_abs, to_z-of_z}
-use Rattle.fractions.specs.Rational.{decimal_value}
+use Rattle.exact_numbers.specs.Rational.{decimal_value}
 use Rattle.exact_numbers.specs.Decimal.{signed}
 use Rattle.exact_numbers.proofs.Fractions.{signed_self}
 use Rattle.exact_numbers.proofs.Signs.{decimal_whole}

@@ -5,8 +5,8 @@ use Rattle.exact_numbers.specs.Decimal.{signed}
 use Rattle.exact_numbers.proofs.Fractions.{Added, added, frac_fits, in_range_fits, sized_fits, signed_self}
 use Rattle.exact_numbers.specs.Values.{frac_value}
 use Rattle.exact_numbers.proofs.Bridge.{not_sum, summed, sum_is, pair_is, in_range}
-use Rattle.fractions.specs.Rational.{over, ◌+ℚ◌}
-use Rattle.fractions.proofs.Values.{same_value}
+use Rattle.exact_numbers.specs.Rational.{over, ◌+ℚ◌}
+use Rattle.exact_numbers.proofs.Values.{same_value}
 use Rattle.exact_numbers.proofs.frac.Frac.add_parts.Goals as goal
 use Rattle.exact_numbers.proofs.frac.Frac.add_parts.Goals.{After-gcd-common}
 

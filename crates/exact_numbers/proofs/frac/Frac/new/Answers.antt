@@ -1,6 +1,6 @@
 use Rattle.std.proofs.Common.{◌≡◌, pos, ap₂, ◌∙◌, subst, rules, MatchOption, to_z-of_z, int_lt, not, true, false}
 use mathlib.Core.Bool.{beq}
-use Rattle.fractions.specs.Rational.{over}
+use Rattle.exact_numbers.specs.Rational.{over}
 use Rattle.exact_numbers.specs.Decimal.{signed}
 use Rattle.exact_numbers.specs.Values.{frac_value, fits, quotient}
 use Rattle.exact_numbers.proofs.Fractions.{quotient_is, match_with}

@@ -8,9 +8,9 @@ use Rattle.exact_numbers.proofs.Fractions.{frac_fits}
 use Rattle.exact_numbers.proofs.OfDec.{cofactor_of}
 use Rattle.exact_numbers.proofs.ToDec.{finite, places_of, no_dec_above, same_at}
 use Rattle.exact_numbers.specs.Values.{frac_value, IsDecOf}
-use Rattle.fractions.specs.Rational.{decimal_value}
+use Rattle.exact_numbers.specs.Rational.{decimal_value}
 use Rattle.exact_numbers.proofs.Signs.{frac_whole}
-use Rattle.fractions.proofs.Values.{own_value}
+use Rattle.exact_numbers.proofs.Values.{own_value}
 use Rattle.exact_numbers.proofs.Bridge.{not_dec, same_dec_value, match_dec}
 use Rattle.exact_numbers.proofs.frac.Frac.to_dec.Goals as goal
 

@@ -1,5 +1,5 @@
 use Rattle.std.proofs.Common.{◌∙◌, sym, subst}
-use Rattle.texts.specs.Cut.{IsTextLine}
+use Rattle.text_base.specs.Cut.{IsTextLine}
 use Rattle.fixed_mps.proofs.FreeLines.{text_line}
 use Rattle.fixed_mps.proofs.GrammarLemmas.{same_line, data_line, line_taken, line_fine, line_fault}
 use Rattle.fixed_mps.proofs.grammar.FixedGrammarGrammar.take.Goals as goal

@@ -1,9 +1,9 @@
 use Rattle.std.proofs.Common.{◌∙◌, ap, refl, subst, sym}
-use Rattle.texts.specs.Stopped.{IfFault}
+use Rattle.text_base.specs.Stopped.{IfFault}
 use Rattle.exact_numbers.specs.Values.{frac_value}
-use Rattle.fractions.specs.Fits.{fits}
-use Rattle.fractions.specs.Rational.{◌*ℚ◌}
-use Rattle.program_meaning.specs.Lines.{Line}
+use Rattle.exact_numbers.specs.Fits.{fits}
+use Rattle.exact_numbers.specs.Rational.{◌*ℚ◌}
+use Rattle.linear_program.specs.Lines.{Line}
 use Rattle.linear_program.specs.Coefs.{AreProducts, HasWideProduct, coef_in}
 use Rattle.linear_program.specs.Forms.{form_line, form_terms}
 use Rattle.linear_program.proofs.Products.{constant_wide, products_are, products_ascend, stop_multiplies}

@@ -1,6 +1,6 @@
 use Rattle.std.proofs.Common.{◌∙◌, ◌<◌, length, sym, ap, subst}
 use Rattle.exact_numbers.specs.Values.{frac_value}
-use Rattle.fractions.specs.Fits.{sum_fits}
+use Rattle.exact_numbers.specs.Fits.{sum_fits}
 use Rattle.linear_program.specs.Places.{AreMarked}
 use Rattle.linear_program.proofs.CoefLemmas.{not_zero}
 use Rattle.linear_program.proofs.PlaceLemmas.{kept_marks, new_mark, place_at, seen_place, seen_write}

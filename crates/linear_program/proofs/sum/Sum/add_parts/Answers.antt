@@ -1,7 +1,7 @@
 use Rattle.std.proofs.Common.{◌∙◌, sym, ap, subst, refl}
 use Rattle.exact_numbers.specs.Values.{frac_value}
-use Rattle.fractions.specs.Fits.{fits, sum_fits}
-use Rattle.fractions.specs.Rational.{◌+ℚ◌, ◌*ℚ◌}
+use Rattle.exact_numbers.specs.Fits.{fits, sum_fits}
+use Rattle.exact_numbers.specs.Rational.{◌+ℚ◌, ◌*ℚ◌}
 use Rattle.linear_program.specs.Coefs.{AreBelow}
 use Rattle.linear_program.specs.Forms.{SumsUp, form_line, form_terms, place_count, sum_line}
 use Rattle.linear_program.specs.Places.{place_in}

@@ -1,5 +1,5 @@
 use Rattle.std.proofs.Common.{◌≡◌, subst}
-use Rattle.texts.specs.Fronts.{TakesFront}
+use Rattle.text_base.specs.Fronts.{TakesFront}
 use Rattle.mps_reader.specs.Grammar.{mps_rules, standing}
 use Rattle.mps_reader.specs.Tests.{Standing}
 use Rattle.mps_reader.proofs.FrontLines.{front_taken}

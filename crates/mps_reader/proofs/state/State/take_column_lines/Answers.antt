@@ -1,5 +1,5 @@
 use Rattle.std.proofs.Common.{arith}
-use Rattle.texts.proofs.FrontLemmas.{front_few}
+use Rattle.text_base.proofs.FrontLemmas.{front_few}
 use Rattle.mps_reader.proofs.FrontLines.{goes_on}
 use Rattle.mps_reader.proofs.state.State.take_column_lines.Goals as goal
 

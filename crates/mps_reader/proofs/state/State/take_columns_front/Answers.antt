@@ -1,5 +1,5 @@
 use Rattle.std.proofs.Common.{◌∙◌, arith, refl, rules}
-use Rattle.texts.proofs.FrontLemmas.{front_few}
+use Rattle.text_base.proofs.FrontLemmas.{front_few}
 use Rattle.mps_reader.proofs.FrontLines.{goes_on, none_taken}
 use Rattle.mps_reader.proofs.state.State.take_columns_front.Goals as goal
 

@@ -1,6 +1,6 @@
 use Rattle.std.proofs.Common.{◌≡◌, List, None, ℕ, ap, map, option_map, sym, subst}
 use Rattle.mps_words.specs.InsideCodes.{name_of}
-use Rattle.texts.proofs.NamePlaces.{texts_of}
+use Rattle.text_base.proofs.NamePlaces.{texts_of}
 use Rattle.mps_words.proofs.CodeLemmas.{are_bytes, all_some, fresh_code}
 use Rattle.mps_words.proofs.KeptNames.{IsNew, as_seen, set_kept, set_seen, codes_seen, codes_kept, begun, set_more, codes_more, seen_more}
 use Rattle.mps_words.proofs.names.Names.add.Goals.{After-of-key, In-None}

@@ -3,7 +3,7 @@ use Rattle.std.specs.Prelude.{IfSome}
 use Rattle.std.proofs.lemmas.List.{length-map}
 use Rattle.mps_words.specs.InsideCodes.{name_of}
 use Rattle.mps_words.specs.Names.{last_name}
-use Rattle.texts.proofs.NamePlaces.{texts_of}
+use Rattle.text_base.proofs.NamePlaces.{texts_of}
 use Rattle.mps_words.proofs.CodeLemmas.{are_bytes, last_by_code}
 use Rattle.mps_words.proofs.KeptNames.{as_seen, codes_kept, codes_seen, set_seen, last_code, name_of_last, always}
 use Rattle.mps_words.proofs.ShortNames.{last_word}

@@ -1,7 +1,7 @@
 use Rattle.std.proofs.Common.{◌≡◌, ◌∙◌, List, ℕ, ap, sym, map, option_map}
 use Rattle.mps_words.specs.InsideCodes.{name_of}
-use Rattle.texts.specs.Names.{place_of}
-use Rattle.texts.proofs.NamePlaces.{texts_of, place_of-texts}
+use Rattle.text_base.specs.Names.{place_of}
+use Rattle.text_base.proofs.NamePlaces.{texts_of, place_of-texts}
 use Rattle.mps_words.proofs.CodeLemmas.{are_bytes, found_place, all_some}
 use Rattle.mps_words.proofs.KeptNames.{codes_kept, codes_seen, set_seen}
 use Rattle.mps_words.proofs.names.Names.look_up.Goals as goal

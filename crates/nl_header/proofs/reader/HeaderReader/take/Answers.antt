@@ -1,5 +1,5 @@
 use Rattle.std.proofs.Common.{ap, sym, ◌∙◌}
-use Rattle.texts.specs.Words.{words_of}
+use Rattle.text_base.specs.Words.{words_of}
 use Rattle.nl_header.proofs.ReaderLemmas.{first-ok, first-err}
 use Rattle.nl_header.proofs.TakeLemmas.{number-ok, number-err}
 use Rattle.nl_header.proofs.reader.HeaderReader.take.Goals as goal

@@ -1,6 +1,6 @@
 use Rattle.std.proofs.Common.{◌∙◌, sym, ap, subst, Some}
-use Rattle.texts.specs.Names.{IsName}
-use Rattle.texts.specs.Words.{texts}
+use Rattle.text_base.specs.Names.{IsName}
+use Rattle.text_base.specs.Words.{texts}
 use Rattle.nl_model.specs.Draft.{Draft}
 use Rattle.nl_lines.specs.Heads.{name_in}
 use Rattle.nl_segments.specs.InsideHeadSteps.{has_come_suffix, begun_current, begun_name, begun_draft}

@@ -1,6 +1,6 @@
 use Rattle.std.proofs.Common.{◌≡◌, ◌∙◌, ap, arith, sym, subst, None, [], ◌∷◌}
-use Rattle.texts.specs.Judged.{first_reason}
-use Rattle.texts.proofs.FrontLemmas.{front_few}
+use Rattle.text_base.specs.Judged.{first_reason}
+use Rattle.text_base.proofs.FrontLemmas.{front_few}
 use Rattle.nl_segments.specs.Held.{body_of}
 use Rattle.nl_segments.specs.InsideHeadSteps.{held_head_tests}
 use Rattle.nl_segments.specs.InsidePieces.{with_given_head}

@@ -1,5 +1,5 @@
 use Rattle.std.proofs.Common.{◌≡◌, ◌∙◌, not, sym, ap, refl, subst}
-use Rattle.texts.specs.Words.{row_of, texts, without_comment}
+use Rattle.text_base.specs.Words.{row_of, texts, without_comment}
 use Rattle.nl_segments.specs.Held.{TakesRow, body_of, IsHeld}
 use Rattle.nl_segments.proofs.StandingLemmas.{row_holds_words, no_row, some_row}
 use Rattle.nl_segments.proofs.body.BodyReader.take_line.Goals as goal

@@ -1,5 +1,5 @@
 use Rattle.std.proofs.Common.{arith}
-use Rattle.texts.proofs.FrontLemmas.{front_few}
+use Rattle.text_base.proofs.FrontLemmas.{front_few}
 use Rattle.nl_segments.specs.Held.{body_of}
 use Rattle.nl_segments.proofs.StandingLemmas.{goes_on, still_some}
 use Rattle.nl_segments.proofs.body.BodyReader.take_nodes.Goals as goal

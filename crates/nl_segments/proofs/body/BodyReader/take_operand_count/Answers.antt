@@ -1,5 +1,5 @@
 use Rattle.std.proofs.Common.{◌∙◌, sym, refl}
-use Rattle.texts.specs.Words.{texts}
+use Rattle.text_base.specs.Words.{texts}
 use Rattle.nl_model.specs.declared.node.Node.TheVariants.{Op}
 use Rattle.nl_lines.specs.declared.awaited.Awaited.TheVariants.{OperandCount}
 use Rattle.nl_lines.specs.declared.node_row.NodeRow.TheVariants.{Whole}

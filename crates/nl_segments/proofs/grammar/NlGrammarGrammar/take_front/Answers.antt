@@ -1,5 +1,5 @@
 use Rattle.std.proofs.Common.{◌∙◌, ap, subst, sym}
-use Rattle.texts.specs.Fronts.{TakesFront}
+use Rattle.text_base.specs.Fronts.{TakesFront}
 use Rattle.nl_segments.specs.Grammar.{nl_rules, standing}
 use Rattle.nl_segments.specs.Held.{HoldsStanding, body_of, in_body, progress_of}
 use Rattle.nl_segments.proofs.StandingLemmas.{front_taken, still_some}

@@ -1,5 +1,5 @@
 use Rattle.std.proofs.Common.{ap, arith}
-use Rattle.texts.specs.Words.{texts}
+use Rattle.text_base.specs.Words.{texts}
 use Rattle.sol_files.specs.Progress.{Progress, seen}
 use Rattle.sol_files.specs.Tests.{value_tests}
 use Rattle.sol_files.specs.InsideJudging.{marked_value_tests}
