@@ -5,7 +5,7 @@ use Rattle.text_base.specs.Judged.{Takes}
 use Rattle.text_base.specs.declared.stop.Stop.TheVariants.{Fault, Memory}
 use Rattle.text_base.specs.declared.stop.Stop.{Stop}
 use Rattle.branch_proof.specs.declared.fault.ProofReason.{ProofReason}
-use Rattle.certificate_text.specs.TreeRows.{rows_in}
+use Rattle.certificate_text.specs.TextRows.{rows_in}
 use Rattle.branch_proof.specs.Standing.{ProofStanding, proof_standing}
 use Rattle.branch_proof.specs.Steps.{ReadSoFar, moved, with_line}
 use Rattle.branch_proof.proofs.Steps.{line_push}

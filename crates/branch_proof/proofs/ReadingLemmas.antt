@@ -12,14 +12,14 @@ use Rattle.certificates.specs.declared.proof.ProofNode.{ProofNode}
 use Rattle.certificates.specs.Proofs.{Pair, ProofValue}
 use Rattle.branch_proof.specs.declared.fault.ProofReason.{ProofReason}
 use Rattle.certificates.specs.Setting.{IsProofFor, Setting}
-use Rattle.certificate_text.specs.TreeRows.{rows_in}
+use Rattle.certificate_text.specs.TextRows.{rows_in}
 use Rattle.branch_proof.specs.Standing.{IsSaid, ProofStanding, is_whole_proof, proof_standing}
 use Rattle.branch_proof.specs.Tests.{proof_end_tests}
 use Rattle.branch_proof.specs.Grammar.{SaysProof, proof_rules}
 use Rattle.branch_proof.specs.Reader.{IsFed, IsProofText, Reading, ReadsProof}
 use Rattle.branch_proof.proofs.TextTrees.{text_is_proof}
 use Rattle.certificate_text.specs.Readings.{HasOneReading}
-use Rattle.certificate_text.proofs.TreeReadingLemmas.{one_reading as one_reading_of}
+use Rattle.certificate_text.proofs.OneReadingLemmas.{one_reading as one_reading_of}
 use Rattle.text_base.proofs.ReadingLemmas.{text_ends}
 use Rattle.certificate_text.proofs.TestLemmas.{some_there}
 

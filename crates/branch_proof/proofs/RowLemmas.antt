@@ -17,7 +17,7 @@ use Rattle.certificates.specs.declared.proof.ProofNode.{ProofNode}
 use Rattle.certificates.specs.Proofs.{Pair}
 use Rattle.certificates.specs.Setting.{Setting}
 use Rattle.branch_proof.specs.Rows.{claim_in, is_alone, is_claim_row, is_node_row, pair_of, proof_node_in, proof_pair_in}
-use Rattle.certificate_text.specs.TreeRows.{TextRow, is_row, is_first_row}
+use Rattle.certificate_text.specs.TextRows.{TextRow, is_row, is_first_row}
 use Rattle.branch_proof.specs.Standing.{ProofStanding, pairs_left, subtrees_left}
 use Rattle.branch_proof.specs.Steps.{ReadSoFar, moved, with_claim, with_node, with_pair, with_row}
 use Rattle.branch_proof.specs.Tests.{claim_tests, first_tests, proof_node_tests, proof_pair_tests, proof_row_tests}

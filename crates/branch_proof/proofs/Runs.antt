@@ -22,7 +22,7 @@ use Rattle.branch_proof.specs.declared.fault.ProofReason.TheVariants.{Extra}
 use Rattle.certificates.specs.Proofs.{Pair, claim_value}
 use Rattle.certificates.specs.Setting.{IsWholeFor, Setting}
 use Rattle.branch_proof.specs.Rows.{claim_in, is_alone, is_node_row, leaf_in, proof_node_in, proof_pair_in, value_claim}
-use Rattle.certificate_text.specs.TreeRows.{TextRow, is_row, rows_in}
+use Rattle.certificate_text.specs.TextRows.{TextRow, is_row, rows_in}
 use Rattle.branch_proof.specs.Standing.{ProofStanding, is_whole_proof, pairs_left, proof_standing, subtrees_left}
 use Rattle.branch_proof.specs.Steps.{with_claim, with_line, with_node, with_pair, with_row}
 use Rattle.branch_proof.specs.Tests.{claim_tests, first_tests, is_pair_out, is_split_continuous, is_split_out, proof_end_tests, proof_line_tests, proof_node_tests, proof_pair_tests, proof_row_tests}

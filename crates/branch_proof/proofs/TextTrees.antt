@@ -14,7 +14,7 @@ use Rattle.certificates.specs.declared.proof.ProofNode.TheVariants.{Split, Duals
 use Rattle.certificates.specs.Proofs.{IsAlone, Pair, ProofTree, ProofValue, split, duals, weights, claim_value, nodes_of, pairs_of, announced_pairs}
 use Rattle.branch_proof.specs.Reader.{IsProofText}
 use Rattle.branch_proof.specs.Rows.{claim_in, proof_node_in, proof_pair_in}
-use Rattle.certificate_text.specs.TreeRows.{TextRow, rows_in}
+use Rattle.certificate_text.specs.TextRows.{TextRow, rows_in}
 use Rattle.certificates.specs.Setting.{IsProofFor, IsTreeFor, Setting}
 use Rattle.branch_proof.specs.Standing.{IsSaid, ProofStanding, is_leaf, is_split, pairs_left, proof_standing, subtrees_left}
 use Rattle.branch_proof.specs.InsideReader.{AreAwaited}

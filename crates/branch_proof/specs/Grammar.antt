@@ -8,7 +8,7 @@ use Rattle.certificates.specs.Proofs.{ProofValue}
 use Rattle.branch_proof.specs.declared.fault.ProofReason.{ProofReason}
 use Rattle.branch_proof.specs.declared.fault.ProofReason.TheVariants.{LineTooLong, InputTooLong}
 use Rattle.certificates.specs.Setting.{Setting}
-use Rattle.certificate_text.specs.TreeRows.{rows_in}
+use Rattle.certificate_text.specs.TextRows.{rows_in}
 use Rattle.branch_proof.specs.Standing.{IsSaid, proof_standing}
 use Rattle.branch_proof.specs.Tests.{proof_end_tests, proof_line_tests}
 

@@ -7,7 +7,7 @@ use Rattle.text_base.specs.Reading.{Stands, Reads, IsRead, HasFault}
 use Rattle.certificates.specs.Proofs.{ProofValue}
 use Rattle.branch_proof.specs.declared.fault.ProofReason.{ProofReason}
 use Rattle.certificates.specs.Setting.{Setting}
-use Rattle.certificate_text.specs.TreeRows.{rows_in}
+use Rattle.certificate_text.specs.TextRows.{rows_in}
 use Rattle.branch_proof.specs.Standing.{proof_standing}
 use Rattle.branch_proof.specs.Steps.{ReadSoFar}
 use Rattle.branch_proof.specs.Grammar.{SaysProof, proof_rules}

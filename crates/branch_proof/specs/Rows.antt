@@ -13,7 +13,7 @@ use Rattle.certificates.specs.declared.proof.Claim.TheVariants.{Value, Infeasibl
 use Rattle.certificates.specs.declared.proof.ProofNode.{ProofNode}
 use Rattle.certificates.specs.declared.proof.ProofNode.TheVariants.{Split, Duals, Weights}
 use Rattle.certificates.specs.Proofs.{Pair}
-use Rattle.certificate_text.specs.TreeRows.{TextRow, is_row}
+use Rattle.certificate_text.specs.TextRows.{TextRow, is_row}
 
 -- ---- the first word
 

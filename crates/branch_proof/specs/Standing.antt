@@ -6,7 +6,7 @@ use Rattle.certificates.specs.declared.proof.ProofNode.{ProofNode}
 use Rattle.certificates.specs.declared.proof.ProofNode.TheVariants.{Split, Duals, Weights}
 use Rattle.certificates.specs.Proofs.{Pair, ProofValue, announced_pairs}
 use Rattle.branch_proof.specs.Rows.{claim_in, proof_node_in, proof_pair_in}
-use Rattle.certificate_text.specs.TreeRows.{TextRow}
+use Rattle.certificate_text.specs.TextRows.{TextRow}
 
 -- whether a row has come; the claim, the nodes and the pairs
 pub record ProofStanding : Type 0 where

@@ -7,7 +7,7 @@ use Rattle.certificates.specs.declared.proof.Claim.{Claim}
 use Rattle.certificates.specs.declared.proof.ProofNode.{ProofNode}
 use Rattle.certificates.specs.Proofs.{Pair}
 use Rattle.branch_proof.specs.Rows.{claim_in, proof_node_in, proof_pair_in}
-use Rattle.certificate_text.specs.TreeRows.{TextRow}
+use Rattle.certificate_text.specs.TextRows.{TextRow}
 use Rattle.certificates.specs.Setting.{Setting}
 use Rattle.branch_proof.specs.Standing.{ProofStanding}
 

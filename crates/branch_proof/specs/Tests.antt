@@ -12,7 +12,7 @@ use Rattle.branch_proof.specs.declared.fault.ProofReason.{ProofReason}
 use Rattle.branch_proof.specs.declared.fault.ProofReason.TheVariants.{BadFirst, BadLine, BadNumber, IndexOut, NotWhole, RepeatedIndex, Short, Extra, TooLarge}
 use Rattle.certificates.specs.Setting.{Setting}
 use Rattle.branch_proof.specs.Rows.{claim_in, is_claim_row, is_node_row, proof_node_in, proof_pair_in}
-use Rattle.certificate_text.specs.TreeRows.{TextRow, is_first_row}
+use Rattle.certificate_text.specs.TextRows.{TextRow, is_first_row}
 use Rattle.branch_proof.specs.Standing.{ProofStanding, has_pair, is_whole_proof, last_pairs, pairs_left, subtrees_left}
 
 abbrev pub ProofTests : Type 0

@@ -4,7 +4,7 @@ ghost use Rattle.text_base.specs.Judged.{DecidesOrStops, Takes};
 ghost use Rattle.text_base.specs.Words.{texts};
 ghost use Rattle.branch_proof.specs.Grammar.{SaysProof, proof_rules};
 ghost use Rattle.branch_proof.specs.Rows.{claim_in, proof_node_in, proof_pair_in};
-ghost use Rattle.certificate_text.specs.TreeRows.{rows_in};
+ghost use Rattle.certificate_text.specs.TextRows.{rows_in};
 ghost use Rattle.certificates.specs.Setting.{Setting};
 ghost use Rattle.branch_proof.specs.Standing.{IsSaid, has_pair, is_leaf, is_split, is_whole_proof, last_pairs, pairs_left, proof_standing, subtrees_left};
 ghost use Rattle.certificates.specs.Proofs.{announced_pairs};
@@ -144,7 +144,7 @@ fn subtrees_after(subtrees: u64, node: ProofNode) -> u64
 
 impl ProofGrammar {
     /// No lines of a proof over so many rows and these variables.
-    #[tactic(auto, unfolding(certificate_text::specs::TreeRows::rows_in))]
+    #[tactic(auto, unfolding(certificate_text::specs::TextRows::rows_in))]
     pub fn new(alloc: Global, rows: u32, kinds: Vec<Kind>) -> Result<ProofGrammar, AllocError>
         ensures setting { IfOk result (λ g. g.setting
             ≡ record { rows = rows; kinds = kinds.items }) }

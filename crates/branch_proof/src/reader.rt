@@ -8,7 +8,7 @@ ghost use Rattle.branch_proof.specs.Grammar.{proof_rules};
 ghost use Rattle.certificates.specs.Setting.{IsProofFor, Setting};
 ghost use Rattle.branch_proof.specs.Setting.{setting_of};
 ghost use Rattle.branch_proof.specs.Reader.{IsFed, ReadsProof};
-ghost use Rattle.certificate_text.specs.TreeRows.{rows_in};
+ghost use Rattle.certificate_text.specs.TextRows.{rows_in};
 ghost use Rattle.branch_proof.specs.Standing.{proof_standing};
 
 use crate::fault::ProofFault;

@@ -2,7 +2,7 @@
 ghost use Rattle.std.specs.Prelude.{◌≡◌};
 ghost use Rattle.text_base.specs.Words.{texts};
 ghost use Rattle.branch_proof.specs.Rows.{claim_in, is_alone, is_claim_row, is_node_row, proof_node_in, proof_pair_in, split_node, value_claim};
-ghost use Rattle.certificate_text.specs.TreeRows.{is_row};
+ghost use Rattle.certificate_text.specs.TextRows.{is_row};
 
 use certificate_text::is_row;
 use certificates::proof::{Claim, ProofNode};

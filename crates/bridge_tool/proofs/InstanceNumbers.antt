@@ -3,7 +3,7 @@ use Rattle.std.proofs.Common.{◌≡◌, ℕ, pos, inl, inr, ◌⊎◌, sym, sub
 use Rattle.std.specs.Prelude.{MatchOption, true, false}
 use Rattle.std.proofs.lemmas.Int.{ints}
 use Rattle.exact_numbers.specs.Rational.{whole, ◌≤ℚ◌}
-use Rattle.exact_numbers.proofs.FractionArithmetic.{whole-≤ℚ}
+use Rattle.exact_numbers.proofs.RationalLaws.{whole-≤ℚ}
 use Rattle.exact_numbers.specs.declared.dec.Dec.{Dec}
 use Rattle.exact_numbers.specs.Numbers.{dec_from}
 use Rattle.exact_numbers.specs.Values.{dec_value, fits_dec}

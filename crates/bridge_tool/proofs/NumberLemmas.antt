@@ -3,7 +3,7 @@ use Rattle.std.proofs.Common.{◌≡◌, ◌∙◌, ℕ, ◌+◌, ◌≤◌, ◌
 use Rattle.std.proofs.lemmas.Int.{ints}
 use Rattle.std.proofs.lemmas.Bool.{lt-ltb, le-leb, and_from}
 use Rattle.exact_numbers.specs.Rational.{whole, zero_ℚ, ◌≤ℚ◌}
-use Rattle.exact_numbers.proofs.FractionArithmetic.{whole-≤ℚ}
+use Rattle.exact_numbers.proofs.RationalLaws.{whole-≤ℚ}
 use Rattle.exact_numbers.specs.declared.dec.Dec.{Dec}
 use Rattle.exact_numbers.specs.Values.{Decimal, dec_value, decimal_of}
 use Rattle.exact_numbers.proofs.NumberLemmas.{dec_from-value}

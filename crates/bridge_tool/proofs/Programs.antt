@@ -15,7 +15,7 @@ use Rattle.certificates.specs.Certificate.{ClaimOutcome, holds, fails}
 use Rattle.certificates.specs.Means.{Means}
 use Rattle.certificates.specs.Problem.{Problem}
 use Rattle.certificates.specs.ProblemSays.{Denies}
-use Rattle.certificates.specs.DualityTold.{Told, IsToldTrue}
+use Rattle.certificates.specs.ToldMeaning.{Told, IsToldTrue}
 use Rattle.exact_numbers.specs.declared.dec.Dec.{Dec}
 use Rattle.nl_model.specs.FoldFaults.{FoldFault, fold_fault}
 use Rattle.nl_model.specs.LinearFile.{linear_of}
@@ -28,7 +28,7 @@ use Rattle.mps_model.specs.Mps.{Mps}
 use Rattle.mps_program.specs.Faults.{mps_fault}
 use Rattle.mps_program.specs.Program.{values_of}
 use Rattle.mps_program.specs.declared.mps_fault.MpsFault.{MpsFault}
-use Rattle.certificate_text.specs.TreeRows.{rows_in}
+use Rattle.certificate_text.specs.TextRows.{rows_in}
 use Rattle.certificates.specs.Certificates.{CertificateValue, Given, IsAskedFor, IsCertificateOf, certificate_over, claim_outcome, claim_objective}
 use Rattle.certificates.specs.Reading.{given_in}
 use Rattle.certificates.specs.Setting.{IsSettingOf, Setting, program_setting}

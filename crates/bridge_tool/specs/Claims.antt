@@ -4,7 +4,7 @@ use Rattle.linear_program.specs.Linear.{Linear}
 use Rattle.certificates.specs.Certificate.{Cause, fails}
 use Rattle.certificates.specs.Problem.{Problem}
 use Rattle.certificates.specs.ProblemSays.{Denies}
-use Rattle.certificates.specs.DualityTold.{Told, IsTrueOf}
+use Rattle.certificates.specs.ToldMeaning.{Told, IsTrueOf}
 use Rattle.linear_program.specs.Numbers.{spread}
 use Rattle.certificates.specs.Certificates.{CertificateValue, Given, certificate_over}
 use Rattle.certificates.specs.Reading.{given_in}

@@ -27,7 +27,7 @@ use Rattle.certificates.specs.Setting.{Setting}
 use Rattle.certificates.specs.declared.certificate.Claim.{Claim}
 use Rattle.certificate_text.specs.Reader.{IsCertificateText}
 use Rattle.certificate_text.specs.Written.{AreRowsOf, written_pieces}
-use Rattle.certificate_text.specs.TreeRows.{rows_in}
+use Rattle.certificate_text.specs.TextRows.{rows_in}
 use Rattle.problems.specs.FileProblem.{problem_of}
 use Rattle.problems.specs.NlSetting.{setting_of}
 use Rattle.problems.specs.Problem.{mps_problem}

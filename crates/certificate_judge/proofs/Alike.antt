@@ -9,7 +9,7 @@ use Rattle.std.proofs.lemmas.List.{get_or_past}
 use Rattle.exact_numbers.specs.Fits.{fits, sum_fits}
 use Rattle.exact_numbers.specs.Functions.{is_zero}
 use Rattle.exact_numbers.specs.Rational.{ℚ, zero_ℚ, neg_ℚ, ◌+ℚ◌, ◌-ℚ◌}
-use Rattle.exact_numbers.proofs.FractionArithmetic.{+ℚ_zero, -ℚ_lem, neg-neg, neg_zero, zero-+ℚ}
+use Rattle.exact_numbers.proofs.RationalLaws.{+ℚ_zero, -ℚ_lem, neg-neg, neg_zero, zero-+ℚ}
 use Rattle.linear_program.specs.Linear.{Form, Interval, Linear, Row as LinearRow, no_row, row_at, row_count, value_at, variable_count}
 use Rattle.certificates.specs.Checked.{fitting, fitting_difference, less_product, plus_product, run}
 use Rattle.certificates.specs.Parts.{NumberForm, added_row, at_most, sum_of, with_added_row}

@@ -5,7 +5,7 @@ use Rattle.std.proofs.lemmas.Int.{ints, unsigned_abs-mul}
 use Rattle.std.proofs.lemmas.Bool.{cases_lt, false_from_ne_true, or_right, or_left}
 use Rattle.exact_numbers.specs.Fits.{fits, is_small}
 use Rattle.exact_numbers.specs.Rational.{ℚ, IsWhole, decimal_value, whole, zero_ℚ, neg_ℚ, ◌<ℚ◌}
-use Rattle.exact_numbers.proofs.FractionArithmetic.{decimal_value_lem, not_both, whole-neg, whole-≤ℚ, whole_of, ≤ℚ_of_<ℚ}
+use Rattle.exact_numbers.proofs.RationalLaws.{decimal_value_lem, not_both, whole-neg, whole-≤ℚ, whole_of, ≤ℚ_of_<ℚ}
 use Rattle.exact_numbers.proofs.Values.{HasValue, le_value, neg_value, scaled_value, whole_value}
 use Rattle.certificates.specs.Certificate.{can_compare, is_large, large}
 use Rattle.certificates.specs.Checked.{is_at_most}

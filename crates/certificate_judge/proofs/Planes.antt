@@ -5,7 +5,7 @@ use Rattle.std.proofs.Math.Path.{fun_ext}
 use Rattle.std.proofs.lemmas.Bool.{cases_eq, eq-eqb, ne_eqb}
 use Rattle.std.proofs.lemmas.List.{drop_all}
 use Rattle.exact_numbers.specs.Rational.{ℚ, IsWhole, whole, zero_ℚ}
-use Rattle.exact_numbers.proofs.FractionArithmetic.{whole_of}
+use Rattle.exact_numbers.proofs.RationalLaws.{whole_of}
 use Rattle.certificates.specs.Parts.{factor_of, form_of as plane_form, number_factor as sum_at}
 use Rattle.exact_numbers.specs.declared.frac.Frac.{Frac}
 use Rattle.exact_numbers.specs.Values.{frac_value}

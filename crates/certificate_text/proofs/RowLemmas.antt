@@ -5,7 +5,7 @@ use Rattle.std.specs.Str.{bytes_eq}
 use Rattle.text_base.specs.Words.{begins, word_at}
 use Rattle.text_base.proofs.NamePlaces.{bytes_same}
 use Rattle.exact_numbers.specs.Numbers.{whole_of}
-use Rattle.certificate_text.specs.TreeRows.{TextRow, is_first_row, is_row}
+use Rattle.certificate_text.specs.TextRows.{TextRow, is_first_row, is_row}
 
 pub word_is : (words : TextRow) (first : List ℕ) (count : ℕ) → is_row first count words ≡ true → word_at words 0 ≡ first
 word_is words first count e = bytes_same (word_at words 0) first (and_parts (begins words first) (length words == count) e).0

@@ -3,7 +3,7 @@ use Rattle.std.proofs.Common.{◌≡◌, ℕ, ◌+◌, ◌⊎◌, inl, inr, ◌�
 use Rattle.std.specs.Prelude.{if◌then◌else◌}
 use Rattle.std.specs.Option.{option_or}
 use Rattle.exact_numbers.specs.Rational.{ℚ, zero_ℚ, ◌≤ℚ◌, ◌<ℚ◌, ◌+ℚ◌}
-use Rattle.exact_numbers.proofs.FractionArithmetic.{+ℚ_zero, zero-*ℚ, not_both}
+use Rattle.exact_numbers.proofs.RationalLaws.{+ℚ_zero, zero-*ℚ, not_both}
 use Rattle.exact_numbers.proofs.Adding.{sum_below_all_zero}
 use Rattle.exact_numbers.proofs.Tests.{option_or-none}
 use Rattle.certificates.specs.Checked.{is_at_most}

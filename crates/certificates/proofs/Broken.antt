@@ -3,7 +3,7 @@ use Rattle.std.proofs.Common.{◌≡◌, ◌∙◌, inl, inr, ◌⊎◌, ℕ, ze
 use Rattle.std.proofs.lemmas.Bool.{cases_lt}
 use Rattle.std.proofs.lemmas.Option.{same_Some}
 use Rattle.exact_numbers.specs.Rational.{ℚ, ◌≤ℚ◌, ◌<ℚ◌}
-use Rattle.exact_numbers.proofs.FractionArithmetic.{le_or_lt, not_both}
+use Rattle.exact_numbers.proofs.RationalLaws.{le_or_lt, not_both}
 use Rattle.linear_program.specs.Linear.{Interval, Linear, IsInside, IsRelaxed as IsRelaxedProgram, RowHolds, row_at, row_count, value_at, variable_count}
 use Rattle.linear_program.proofs.Sides.{AtLeast, AtMost}
 use Rattle.certificates.specs.Certificate.{whole_fault}

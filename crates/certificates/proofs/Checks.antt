@@ -9,7 +9,7 @@ use Rattle.exact_numbers.specs.Rational.{ℚ, ◌+ℚ◌, ◌*ℚ◌, ◌-ℚ◌
 use Rattle.exact_numbers.specs.Fits.{fits, sum_fits}
 use Rattle.exact_numbers.specs.Sums.{sum_below}
 use Rattle.exact_numbers.proofs.Tests.{option_or-none}
-use Rattle.exact_numbers.proofs.FractionArithmetic.{+ℚ_zero, +ℚ_assoc, ≤ℚ_antisymm}
+use Rattle.exact_numbers.proofs.RationalLaws.{+ℚ_zero, +ℚ_assoc, ≤ℚ_antisymm}
 use Rattle.certificates.specs.Checked.{fitting, fitting_sum, fitting_difference, fitting_product, plus_product, less_product, run, is_at_most, is_same}
 use Rattle.certificates.specs.Verdict.{first_fault}
 

@@ -2,7 +2,7 @@
 use Rattle.std.proofs.Common.{◌↔◌, ◌∙◌, inl, inr, ℕ, sym, subst, Bool, true, false, List}
 use Rattle.std.proofs.lemmas.Option.{same_Some}
 use Rattle.exact_numbers.specs.Rational.{ℚ}
-use Rattle.exact_numbers.proofs.FractionArithmetic.{le_or_lt, not_both}
+use Rattle.exact_numbers.proofs.RationalLaws.{le_or_lt, not_both}
 use Rattle.linear_program.specs.Linear.{IsInside, Linear, objective_value}
 use Rattle.certificates.specs.Contrary.{IsBetterAt, IsConstraintUnmet, IsEachBeaten, IsNoneBetter, IsNoneFeasible, IsNoneRelaxed}
 use Rattle.certificates.specs.Means.{Means}

@@ -9,7 +9,7 @@ use Rattle.certificates.specs.Means.{Means}
 use Rattle.certificates.specs.Parts.{IsWholeVariable}
 use Rattle.certificates.specs.Problem.{Problem}
 use Rattle.certificates.specs.ProblemSays.{Denies, IsShown, OutcomeSays}
-use Rattle.certificates.specs.DualityTold.{IsToldTrue, IsTrueOf, bound as told_bound, infeasible as told_infeasible}
+use Rattle.certificates.specs.ToldMeaning.{IsToldTrue, IsTrueOf, bound as told_bound, infeasible as told_infeasible}
 use Rattle.certificates.proofs.Problems.{bounds, none_relaxed, outcomes}
 use Rattle.exact_numbers.specs.Values.{dec_value}
 use Rattle.linear_program.specs.Numbers.{spread}

@@ -3,11 +3,11 @@ use Rattle.std.proofs.Common.{◌≡◌, zero, suc, refl, arith, false, List, []
 use Rattle.exact_numbers.specs.LowestLemmas.{gcd_of, steps_of_euclid}
 use Rattle.exact_numbers.specs.Rational.{ℚ, zero_ℚ, over, whole, ◌+ℚ◌, ◌*ℚ◌, ◌-ℚ◌, neg_ℚ, ◌≤ℚ◌}
 use Rattle.exact_numbers.specs.Sums.{sum_below}
-use Rattle.exact_numbers.proofs.FractionArithmetic.{≤ℚ_refl}
+use Rattle.exact_numbers.proofs.RationalLaws.{≤ℚ_refl}
 use Rattle.linear_program.specs.Linear.{linear_part, value_at}
 use Rattle.certificates.specs.Branch.{weights, open_gap}
 use Rattle.certificates.specs.Checked.{is_at_most}
-use Rattle.certificates.specs.DualityExample.{example, number}
+use Rattle.certificates.specs.OneRowExamples.{example, number}
 use Rattle.certificates.specs.LeafSays.{IsInBox, IsLeafDenied, leaf_at, weighted_lack}
 use Rattle.certificates.specs.Means.{problem_in}
 use Rattle.certificates.specs.Points.{bounds_of}

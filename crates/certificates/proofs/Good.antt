@@ -2,7 +2,7 @@
 use Rattle.std.proofs.Common.{◌≡◌, ℕ, ◌∙◌, ap, subst, subst₂, refl, arith, Bool, true, false, Option, Some, None, ℤ, pos, negsuc}
 use Rattle.std.proofs.lemmas.Int.{ints}
 use Rattle.exact_numbers.specs.Rational.{ℚ, zero_ℚ, ◌+ℚ◌, ◌*ℚ◌, neg_ℚ, ◌≤ℚ◌}
-use Rattle.exact_numbers.proofs.FractionArithmetic.{*ℚ_comm, *ℚ-neg, neg-≤ℚ, neg-neg, neg_zero, ≤ℚ_refl, ≤ℚ_trans, +ℚ-≤ℚ, +ℚ-≤ℚ_both, *ℚ-≤ℚ, not_both, zero_value}
+use Rattle.exact_numbers.proofs.RationalLaws.{*ℚ_comm, *ℚ-neg, neg-≤ℚ, neg-neg, neg_zero, ≤ℚ_refl, ≤ℚ_trans, +ℚ-≤ℚ, +ℚ-≤ℚ_both, *ℚ-≤ℚ, not_both, zero_value}
 use Rattle.exact_numbers.proofs.Values.{value_le, own_value}
 use Rattle.linear_program.specs.Linear.{Interval, IsInside}
 use Rattle.linear_program.proofs.Sides.{AtLeast, AtMost}

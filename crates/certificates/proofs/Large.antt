@@ -4,7 +4,7 @@ use Rattle.std.proofs.lemmas.Int.{ints}
 use Rattle.std.proofs.lemmas.Bool.{and_parts, ltb-true}
 use Rattle.exact_numbers.specs.Fits.{fits, is_small}
 use Rattle.exact_numbers.specs.Rational.{ℚ, whole, neg_ℚ, ◌≤ℚ◌, ◌<ℚ◌}
-use Rattle.exact_numbers.proofs.FractionArithmetic.{≤ℚ-<ℚ_trans, not_both, ≤ℚ_trans, le_or_lt}
+use Rattle.exact_numbers.proofs.RationalLaws.{≤ℚ-<ℚ_trans, not_both, ≤ℚ_trans, le_or_lt}
 use Rattle.exact_numbers.proofs.Values.{HasValue, neg_value, own_value, scaled_value, value_lt, whole_value}
 use Rattle.certificates.specs.Certificate.{large}
 use Rattle.certificates.specs.Checked.{is_at_most}

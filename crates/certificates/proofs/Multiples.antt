@@ -4,7 +4,7 @@ use Rattle.std.proofs.Math.Nat.{mul-pos}
 use Rattle.std.proofs.lemmas.Bool.{cases_lt}
 use Rattle.std.proofs.lemmas.Int.{ints}
 use Rattle.exact_numbers.specs.Rational.{ℚ, whole, zero_ℚ, ◌*ℚ◌, neg_ℚ, ◌≤ℚ◌, ◌<ℚ◌, IsWhole}
-use Rattle.exact_numbers.proofs.FractionArithmetic.{IsWhole-whole, whole-*ℚ, *ℚ_assoc, le_or_lt, not_both, neg-≤ℚ, ≤ℚ-<ℚ_trans, zero_value}
+use Rattle.exact_numbers.proofs.RationalLaws.{IsWhole-whole, whole-*ℚ, *ℚ_assoc, le_or_lt, not_both, neg-≤ℚ, ≤ℚ-<ℚ_trans, zero_value}
 use Rattle.exact_numbers.proofs.Values.{HasValue, own_value, whole_value, product_value, scaled_value, same_value, value_le, value_lt, lt_value}
 
 -- a number times its denominator is its numerator

@@ -8,7 +8,7 @@ use Rattle.std.proofs.lemmas.List.{get_or_append_left}
 use Rattle.std.proofs.lemmas.List.Elements.{All-head, All-tail, All-push}
 use Rattle.exact_numbers.specs.Rational.{ℚ, whole, ◌≤ℚ◌, ◌+ℚ◌, ◌*ℚ◌, IsWhole}
 use Rattle.exact_numbers.specs.Sums.{sum_below}
-use Rattle.exact_numbers.proofs.FractionArithmetic.{whole_of, whole-≤ℚ, whole-+ℚ, whole-*ℚ, IsWhole-whole, zero-+ℚ, zero-*ℚ}
+use Rattle.exact_numbers.proofs.RationalLaws.{whole_of, whole-≤ℚ, whole-+ℚ, whole-*ℚ, IsWhole-whole, zero-+ℚ, zero-*ℚ}
 use Rattle.certificates.specs.Checked.{is_at_most}
 use Rattle.linear_program.specs.Linear.{Interval, Form, Linear, IsInside, IsFeasible, RowHolds, value_at, variable_at, variable_count, linear_part, form_value, no_row, row_at, row_count}
 use Rattle.linear_program.proofs.Sides.{AtLeast, AtMost}

@@ -13,7 +13,7 @@ use Rattle.certificates.specs.ProblemSays.{FaultSays, VerdictSays, IsMetBeforeBo
 use Rattle.certificates.specs.Ray.{RayFault, ray_fault}
 use Rattle.certificates.specs.Says.{IsMetBeforeBound as IsMetBeforeBoundProgram, IsMetBeforeRow, IsWithinGap as IsWithinGapProgram, FaultSays as FaultSaysProgram, VerdictSays as VerdictSaysProgram}
 use Rattle.certificates.specs.Solutions.{IsBound as IsBoundProgram, IsSolution as IsSolutionProgram}
-use Rattle.certificates.specs.DualityTold.{optimal as told_optimal, within as told_within, bound as told_bound, feasible as told_feasible, infeasible as told_infeasible, unbounded as told_unbounded}
+use Rattle.certificates.specs.ToldMeaning.{optimal as told_optimal, within as told_within, bound as told_bound, feasible as told_feasible, infeasible as told_infeasible, unbounded as told_unbounded}
 use Rattle.certificates.specs.Verdict.{at_row, at_bound, at_cost, at_objective, at_total, Fault, row_broken, bound_broken, row_side_missing, bound_side_missing, too_wide, Verdict, yes, gap, refused, verdict}
 use Rattle.certificates.proofs.Branches.{branches, infeasible as infeasible_leaf}
 use Rattle.certificates.proofs.Broken.{broken_of, inside_or_not}

@@ -8,7 +8,7 @@ use Rattle.std.proofs.lemmas.List.FromFn.{get_or-map-range_with_len}
 use Rattle.exact_numbers.specs.Rational.{ℚ, whole, zero_ℚ, ◌+ℚ◌, ◌*ℚ◌, neg_ℚ, ◌≤ℚ◌, ◌<ℚ◌, IsWhole}
 use Rattle.exact_numbers.specs.Sums.{sum_below}
 use Rattle.exact_numbers.proofs.Tests.{option_or-none}
-use Rattle.exact_numbers.proofs.FractionArithmetic.{+ℚ_assoc, +ℚ_zero, zero-+ℚ, zero-*ℚ, *ℚ_comm, +ℚ-≤ℚ, +ℚ-≤ℚ_both, *ℚ-≤ℚ, ≤ℚ_refl, ≤ℚ_trans, ≤ℚ_by, product_above, not_both, neg-neg, neg_zero, whole-≤ℚ}
+use Rattle.exact_numbers.proofs.RationalLaws.{+ℚ_assoc, +ℚ_zero, zero-+ℚ, zero-*ℚ, *ℚ_comm, +ℚ-≤ℚ, +ℚ-≤ℚ_both, *ℚ-≤ℚ, ≤ℚ_refl, ≤ℚ_trans, ≤ℚ_by, product_above, not_both, neg-neg, neg_zero, whole-≤ℚ}
 use Rattle.exact_numbers.proofs.Adding.{sum_below_same, sum_below-+ℚ, sum_below-*ℚ}
 use Rattle.exact_numbers.proofs.Ring.{ring, v, ◌⊕◌, ◌⊗◌, opp}
 use Rattle.linear_program.specs.Linear.{Interval, Form, Linear, Row, IsInside, IsFeasible, RowHolds, value_at, variable_count, linear_part, form_value, objective_value, no_row, row_at, row_count}

@@ -4,7 +4,7 @@ use Rattle.std.specs.Prelude.{if◌then◌else◌, option_and_then}
 use Rattle.std.specs.Option.{option_map_or}
 use Rattle.exact_numbers.specs.Rational.{ℚ, zero_ℚ, ◌+ℚ◌, ◌*ℚ◌, ◌-ℚ◌, neg_ℚ, ◌≤ℚ◌}
 use Rattle.exact_numbers.specs.Sums.{sum_below}
-use Rattle.exact_numbers.proofs.FractionArithmetic.{+ℚ_zero, +ℚ_assoc, *ℚ_comm, zero-*ℚ, -ℚ_lem}
+use Rattle.exact_numbers.proofs.RationalLaws.{+ℚ_zero, +ℚ_assoc, *ℚ_comm, zero-*ℚ, -ℚ_lem}
 use Rattle.exact_numbers.proofs.Adding.{sum_below_all_zero, sum_below_same, sum_below-+ℚ, sum_below-*ℚ, sum_below-neg, sum_below_swap_below}
 use Rattle.exact_numbers.proofs.Ring.{ring, v, num, ◌⊕◌, ◌⊖◌, ◌⊗◌, opp}
 use Rattle.certificates.specs.Checked.{fitting, fitting_difference, plus_product, less_product, run}

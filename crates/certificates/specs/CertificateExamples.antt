@@ -4,7 +4,7 @@ use Rattle.exact_numbers.specs.Rational.{ℚ, over, zero_ℚ}
 use Rattle.linear_program.specs.Linear.{Interval, Linear, Row, Variable, value_at, unbounded as free}
 use Rattle.certificates.specs.Branch.{BranchTree, split, duals, weights, row_side, bound_side, wide, open_gap}
 use Rattle.certificates.specs.Certificate.{Certificate, optimal, near, bounded, infeasible, unbounded, at_point, not_whole, objective_wide, at_ray, at_leaf, ClaimOutcome, holds, fails, outcome}
-use Rattle.certificates.specs.DualityExample.{number}
+use Rattle.certificates.specs.OneRowExamples.{number}
 use Rattle.certificates.specs.Parts.{bound, plane, lemma, at_least, at_most}
 
 -- the first numbers are coefficients, the others 0

@@ -6,7 +6,7 @@ use Rattle.certificates.specs.Branch.{LeafFault}
 use Rattle.certificates.specs.Certificate.{Certificate, optimal, near, bounded, feasible, infeasible, unbounded, Cause, at_point, not_whole, objective_wide, at_ray, at_leaf, ClaimOutcome, holds, fails}
 use Rattle.certificates.specs.LeafSays.{IsLeafDenied}
 use Rattle.certificates.specs.Problem.{Problem, IsBoundBroken, IsConstraintBroken, IsConstraintMet, IsFeasible, IsNotWhole, IsRelaxed, IsWithinGap}
-use Rattle.certificates.specs.DualityTold.{IsToldTrue, told_certificate}
+use Rattle.certificates.specs.ToldMeaning.{IsToldTrue, told_certificate}
 use Rattle.certificates.specs.Verdict.{Place, at_row, at_bound, at_cost, at_objective, at_total, Fault, row_broken, bound_broken, row_side_missing, bound_side_missing, too_wide, Verdict, yes, gap, refused}
 
 -- ---- up to where a point is met

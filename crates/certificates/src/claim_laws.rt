@@ -7,7 +7,7 @@ ghost use Rattle.certificates.specs.Certificate.{Cause, fails, holds};
 ghost use Rattle.certificates.specs.Means.{Means};
 ghost use Rattle.certificates.specs.Problem.{Problem};
 ghost use Rattle.certificates.specs.ProblemSays.{Denies};
-ghost use Rattle.certificates.specs.DualityTold.{IsToldTrue};
+ghost use Rattle.certificates.specs.ToldMeaning.{IsToldTrue};
 ghost use Rattle.linear_program.specs.Numbers.{spread};
 ghost use Rattle.certificates.specs.Certificates.{CertificateValue, IsCertificateOf, certificate_over, claim_outcome};
 ghost use Rattle.certificates.specs.Proofs.{IsProofOf, ProofValue, claim_value, tree_over};

@@ -13,7 +13,7 @@ ghost use Rattle.certificates.specs.Says.{IsBoundBroken, IsNotWhole, IsRowBroken
 ghost use Rattle.certificates.specs.Solutions.{IsInfeasible, IsUnbounded};
 ghost use Rattle.certificates.specs.Certificate.{Certificate, IsCertificate, OutcomeSays, at_leaf, at_point, at_ray, fails, holds, infeasible, large, not_whole, outcome};
 ghost use Rattle.certificates.specs.Verdict.{verdict, yes, refused, row_broken, bound_broken, row_side_missing, bound_side_missing, dual_bound, bound, without_objective};
-ghost use Rattle.certificates.specs.DualityExample.{example, whole_example, example_tree, number};
+ghost use Rattle.certificates.specs.OneRowExamples.{example, whole_example, example_tree, number};
 ghost use Rattle.certificates.specs.CertificateExamples.{along, at_most_seven, best_third, best_whole, charge_tree, gap_told, half, less_one, near_third, overcharge, overcharged, parity, parity_tree, third, value_told};
 
 /// Weak duality: the bound of the duals is as good as the objective at every relaxed point within

@@ -6,7 +6,7 @@ ghost use Rattle.linear_program.specs.Linear.{Linear};
 ghost use Rattle.certificates.specs.Branch.{LeafFault, BranchTree, duals, weights, open_gap, AreSplitsWhole, proof_fault, branch_fault};
 ghost use Rattle.certificates.specs.Certificate.{Certificate, IsCertificate, at_point, outcome};
 ghost use Rattle.certificates.specs.Contrary.{IsConstraintUnmet, IsEachBeaten, IsNoneBetter, IsNoneFeasible, IsNoneRelaxed};
-ghost use Rattle.certificates.specs.DualityExample.{example};
+ghost use Rattle.certificates.specs.OneRowExamples.{example};
 ghost use Rattle.certificates.specs.LeafSays.{IsLeafDenied, LeafDenies};
 ghost use Rattle.certificates.specs.Means.{Means, problem_in};
 ghost use Rattle.certificates.specs.Parts.{Part};

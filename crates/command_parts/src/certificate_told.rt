@@ -3,7 +3,7 @@ ghost use Rattle.std.specs.Prelude.{[], ◌≡◌, ◌++◌, codes, IfOk, OnOk, 
 ghost use Rattle.std.specs.Option.{option_map_or};
 ghost use Rattle.exact_numbers.specs.Fits.{fits};
 ghost use Rattle.certificates.specs.Certificate.{holds};
-ghost use Rattle.certificates.specs.DualityTold.{within};
+ghost use Rattle.certificates.specs.ToldMeaning.{within};
 ghost use Rattle.exact_numbers.specs.Values.{frac_value};
 ghost use Rattle.linear_program.specs.Numbers.{number_value};
 ghost use Rattle.exact_checks.specs.Terms.{value_found};

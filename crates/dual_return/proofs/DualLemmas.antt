@@ -4,7 +4,7 @@ use Rattle.std.specs.Prelude.{slice_get}
 use Rattle.std.proofs.lemmas.Bool.{both_ways}
 use Rattle.std.proofs.lemmas.List.{length-append}
 use Rattle.exact_numbers.specs.Rational.{whole, zero_ℚ, ◌*ℚ◌}
-use Rattle.exact_numbers.proofs.FractionArithmetic.{whole-*ℚ}
+use Rattle.exact_numbers.proofs.RationalLaws.{whole-*ℚ}
 use Rattle.exact_numbers.specs.declared.dec.Dec.{Dec}
 use Rattle.exact_numbers.specs.Values.{dec_value, IsInReach}
 use Rattle.linear_program.specs.Linear.{Linear, row_at}

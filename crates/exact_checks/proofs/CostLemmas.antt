@@ -6,7 +6,7 @@ use Rattle.std.specs.Option.{option_map}
 use Rattle.exact_numbers.specs.Fits.{fits, sum_fits}
 use Rattle.exact_numbers.specs.Functions.{is_zero}
 use Rattle.exact_numbers.specs.Rational.{ℚ, whole, zero_ℚ, ◌+ℚ◌, ◌-ℚ◌, ◌*ℚ◌, neg_ℚ}
-use Rattle.exact_numbers.proofs.FractionArithmetic.{+ℚ_zero, *ℚ_zero, -ℚ_lem, neg-neg, neg-*ℚ, top_zero, not-is_zero}
+use Rattle.exact_numbers.proofs.RationalLaws.{+ℚ_zero, *ℚ_zero, -ℚ_lem, neg-neg, neg-*ℚ, top_zero, not-is_zero}
 use Rattle.linear_program.specs.Linear.{Interval}
 use Rattle.certificates.specs.Checked.{fitting, fitting_difference, fitting_sum, less_product, plus_product}
 use Rattle.certificates.specs.Verdict.{bound_side_missing, cost_check, cost_part_of, needed_side}

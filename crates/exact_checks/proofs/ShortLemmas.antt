@@ -11,8 +11,8 @@ use Rattle.std.proofs.lemmas.Bool.{and_from}
 use Rattle.exact_numbers.specs.Fits.{fits, sum_fits}
 use Rattle.exact_numbers.specs.LowestLemmas.{gcd_of, is_gcd, size-div}
 use Rattle.exact_numbers.specs.Rational.{ℚ, decimal_value, over, whole, zero_ℚ, ◌-ℚ◌, ◌*ℚ◌, neg_ℚ}
-use Rattle.exact_numbers.proofs.FractionArithmetic.{over_parts, -ℚ_lem, over_same, value_is, neg_size}
-use Rattle.exact_numbers.proofs.FractionSigned.{down_times}
+use Rattle.exact_numbers.proofs.RationalLaws.{over_parts, -ℚ_lem, over_same, value_is, neg_size}
+use Rattle.exact_numbers.proofs.IntegerLaws.{down_times}
 use Rattle.exact_numbers.proofs.Values.{neg_value, over_value, scaled_value, sum_value}
 use Rattle.certificates.specs.Checked.{fitting_difference, less_product}
 use Rattle.exact_numbers.specs.declared.frac.Frac.{Frac}

@@ -4,7 +4,7 @@ use Rattle.std.specs.Prelude.{if◌then◌else◌, option_and_then}
 use Rattle.std.proofs.lemmas.Bool.{ne_eqb}
 use Rattle.std.proofs.lemmas.List.{drop_all}
 use Rattle.exact_numbers.specs.Rational.{ℚ, zero_ℚ}
-use Rattle.exact_numbers.proofs.FractionArithmetic.{zero-is_zero, not-is_zero}
+use Rattle.exact_numbers.proofs.RationalLaws.{zero-is_zero, not-is_zero}
 use Rattle.exact_numbers.specs.Values.{frac_value}
 use Rattle.certificates.specs.Checked.{run}
 use Rattle.exact_numbers.specs.Functions.{is_zero}

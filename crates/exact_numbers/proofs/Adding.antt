@@ -4,7 +4,7 @@ use Rattle.exact_numbers.specs.Rational.{ℚ, zero_ℚ, ◌+ℚ◌, ◌*ℚ◌, 
 use Rattle.std.proofs.lemmas.Bool.{cases_lt}
 use Rattle.std.proofs.lemmas.List.Elements.{All-head, All-tail}
 use Rattle.exact_numbers.specs.Sums.{sum_over, sum_below}
-use Rattle.exact_numbers.proofs.FractionArithmetic.{+ℚ_comm, +ℚ_assoc, +ℚ_zero, zero-+ℚ, *ℚ-+ℚ, *ℚ_zero, neg-+ℚ, neg_zero, ≤ℚ_refl, +ℚ-≤ℚ_both}
+use Rattle.exact_numbers.proofs.RationalLaws.{+ℚ_comm, +ℚ_assoc, +ℚ_zero, zero-+ℚ, *ℚ-+ℚ, *ℚ_zero, neg-+ℚ, neg_zero, ≤ℚ_refl, +ℚ-≤ℚ_both}
 
 -- two sums of two, added the other way
 pub +ℚ_swap : (a b c d : ℚ) → (a +ℚ b) +ℚ (c +ℚ d) ≡ (a +ℚ c) +ℚ (b +ℚ d)

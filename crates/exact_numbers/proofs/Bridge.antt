@@ -13,9 +13,9 @@ use borrow.Author.Differences.{up, down}
 use Rattle.exact_numbers.specs.Divisors.{AreCoprime}
 use Rattle.exact_numbers.specs.LowestLemmas.{lcm_is}
 use Rattle.exact_numbers.specs.Rational.{ℚ, over, whole, zero_ℚ, one_ℚ, ◌+ℚ◌, ◌*ℚ◌, ◌-ℚ◌, neg_ℚ, decimal_value, inverse_of, IsWhole}
-use Rattle.exact_numbers.proofs.FractionSigned.{neg-*ℤ, times_cancel, *ℤ_assoc}
+use Rattle.exact_numbers.proofs.IntegerLaws.{neg-*ℤ, times_cancel, *ℤ_assoc}
 use Rattle.exact_numbers.proofs.Values.{HasValue, own_value, over_value, whole_value, same_value, same_over, same_crosswise, equal_tops, scaled_value, product_value, neg_value, lt_value}
-use Rattle.exact_numbers.proofs.FractionArithmetic.{over_parts, decimal_value_lem, zero_top, top_zero, -ℚ_lem, IsWhole-dvd, with_sign_above, with_sign_below}
+use Rattle.exact_numbers.proofs.RationalLaws.{over_parts, decimal_value_lem, zero_top, top_zero, -ℚ_lem, IsWhole-dvd, with_sign_above, with_sign_below}
 use Rattle.exact_numbers.specs.Decimal.{signed}
 use Rattle.exact_numbers.specs.Fraction.{IsFrac}
 use Rattle.exact_numbers.specs.Values.{frac_value, dec_value, is_small, fits, least_multiple, sum_over_multiple, sum_fits, FitsDec, IsInReach, order_of}

@@ -5,7 +5,7 @@ use Rattle.std.proofs.lemmas.List.Elements.{All-nil, All-cons}
 use Rattle.exact_numbers.specs.Functions.{power_of, is_smaller, lesser_of, greater_of, least_of, greatest_of, floor_of, ceiling_of, absolute_of}
 use Rattle.exact_numbers.specs.Rational.{ℚ, zero_ℚ, one_ℚ, ◌+ℚ◌, ◌-ℚ◌, ◌*ℚ◌, neg_ℚ, ◌≤ℚ◌, ◌<ℚ◌, IsWhole}
 use Rattle.exact_numbers.specs.FloorLemmas.{a_floor}
-use Rattle.exact_numbers.proofs.FractionArithmetic.{≤ℚ_refl, ≤ℚ_of_<ℚ, ≤ℚ_trans, neg-≤ℚ, neg-neg, neg-+ℚ, neg_zero, -ℚ_lem, not_both, le_or_lt, whole_of, whole-+ℚ, whole-neg, IsWhole-whole}
+use Rattle.exact_numbers.proofs.RationalLaws.{≤ℚ_refl, ≤ℚ_of_<ℚ, ≤ℚ_trans, neg-≤ℚ, neg-neg, neg-+ℚ, neg_zero, -ℚ_lem, not_both, le_or_lt, whole_of, whole-+ℚ, whole-neg, IsWhole-whole}
 
 -- ---- powers
 pub power_of-zero : (x : ℚ) → power_of x 0 ≡ one_ℚ

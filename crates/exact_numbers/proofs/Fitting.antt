@@ -3,7 +3,7 @@ use Rattle.std.proofs.Common.{◌≡◌, ◌∙◌, ℕ, zero, suc, ◌*◌, ◌
 use Rattle.std.specs.Prelude.{MatchOption, unwrap_or}
 use Rattle.std.proofs.lemmas.Int.{ints}
 use Rattle.exact_numbers.specs.Rational.{ℚ, decimal_value, whole, zero_ℚ, one_ℚ, neg_ℚ}
-use Rattle.exact_numbers.proofs.FractionArithmetic.{neg_size}
+use Rattle.exact_numbers.proofs.RationalLaws.{neg_size}
 use Rattle.exact_numbers.specs.Decimal.{signed}
 use Rattle.exact_numbers.specs.Values.{FitsDec, dec_value, fits_dec}
 use Rattle.exact_numbers.specs.Numbers.{dec_from}

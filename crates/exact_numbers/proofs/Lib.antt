@@ -1,9 +1,9 @@
 pub mod Adding
-pub mod FractionArithmetic
+pub mod RationalLaws
 pub mod Coprimes
 pub mod Extremes
 pub mod Ring
-pub mod FractionSigned
+pub mod IntegerLaws
 pub mod Tests
 pub mod Values
 pub mod Tens

@@ -3,9 +3,9 @@ use Rattle.std.proofs.Common.{◌≡◌, ℕ, ◌^◌, ◌↔◌, ◌∙◌, sym
 use Rattle.std.proofs.Math.IntN.{zero-*ℤ, *ℤ-one}
 use borrow.Author.Differences.{up, down}
 use Rattle.exact_numbers.specs.Rational.{ℚ, whole, zero_ℚ, ◌<ℚ◌, decimal_value}
-use Rattle.exact_numbers.proofs.FractionSigned.{times_lt, times_lt_cancel, times_cancel}
+use Rattle.exact_numbers.proofs.IntegerLaws.{times_lt, times_lt_cancel, times_cancel}
 use Rattle.exact_numbers.proofs.Values.{HasValue, own_value, whole_value, same_value, equal_tops, lt_value, value_lt}
-use Rattle.exact_numbers.proofs.FractionArithmetic.{zero_value}
+use Rattle.exact_numbers.proofs.RationalLaws.{zero_value}
 use Rattle.exact_numbers.specs.Decimal.{signed}
 use Rattle.exact_numbers.specs.Values.{frac_value}
 use Rattle.exact_numbers.specs.declared.frac.Frac.{Frac}

@@ -16,7 +16,7 @@ use Rattle.exact_numbers.proofs.Decimals.{abs_is}
 use Rattle.exact_numbers.proofs.Bridge.{Is, decimal_is, zero_decimal, small_of}
 use Rattle.exact_numbers.proofs.Fractions.{signed_times}
 use Rattle.exact_numbers.proofs.Values.{own_value, same_value}
-use Rattle.exact_numbers.proofs.FractionArithmetic.{zero_top, top_zero}
+use Rattle.exact_numbers.proofs.RationalLaws.{zero_top, top_zero}
 use Rattle.exact_numbers.proofs.Signs.{dec_zero}
 
 whole_part : (n d : ℕ) → n % d ≡ 0 → n ≡ n / d * d

@@ -6,7 +6,7 @@ use native.Mathlib.Nat.{ℕ_set}
 use Rattle.exact_numbers.specs.Divisors.{AreCoprime}
 use Rattle.exact_numbers.specs.LowestLemmas.{same_reduced, lowest_terms}
 use Rattle.exact_numbers.specs.Rational.{ℚ, over, whole, ◌+ℚ◌, ◌*ℚ◌, neg_ℚ, ◌≤ℚ◌, ◌<ℚ◌}
-use Rattle.exact_numbers.proofs.FractionSigned.{*ℤ-+ℤ, neg-*ℤ, times_twice, times_swap, times_cancel, times_le, times_le_cancel, times_lt, times_lt_cancel, times_four}
+use Rattle.exact_numbers.proofs.IntegerLaws.{*ℤ-+ℤ, neg-*ℤ, times_twice, times_swap, times_cancel, times_le, times_le_cancel, times_lt, times_lt_cancel, times_four}
 
 -- x = p / q
 pub record HasValue (x : ℚ) (p : ℤ) (q : ℕ) : Type 0 where

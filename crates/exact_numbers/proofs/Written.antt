@@ -11,7 +11,7 @@ use Rattle.std.specs.List.{position, position_or_len}
 use Rattle.std.specs.Str.Parse.{AllDigits, IsNumeral, digits_value, signed_digits_value, starts_with_minus, without_leading_sign}
 use Rattle.exact_numbers.specs.Fits.{fits}
 use Rattle.exact_numbers.specs.Rational.{ℚ, decimal_value, over, whole}
-use Rattle.exact_numbers.proofs.FractionArithmetic.{over_parts}
+use Rattle.exact_numbers.proofs.RationalLaws.{over_parts}
 use Rattle.exact_numbers.specs.Decimal.{signed}
 use Rattle.exact_numbers.specs.Numbers.{are_digits, dec_from, dec_of}
 use Rattle.exact_numbers.specs.Text.{after_sign, begins_minus}

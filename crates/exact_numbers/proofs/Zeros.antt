@@ -12,7 +12,7 @@ use Rattle.exact_numbers.proofs.Bridge.{frac_fits_lem}
 use Rattle.exact_numbers.proofs.Coprime.{same_lcm}
 use Rattle.exact_numbers.specs.Fits.{fits, is_small, sum_fits, sum_over_multiple, parts_fit, least_multiple}
 use Rattle.exact_numbers.specs.Rational.{ℚ, whole, zero_ℚ, ◌+ℚ◌}
-use Rattle.exact_numbers.proofs.FractionArithmetic.{zero-+ℚ, +ℚ_zero}
+use Rattle.exact_numbers.proofs.RationalLaws.{zero-+ℚ, +ℚ_zero}
 
 pub fits_zero : fits zero_ℚ ≡ true
 unfolding whole

@@ -3,7 +3,7 @@ pub mod Fits
 pub mod FloorLemmas
 pub mod Functions
 pub mod LowestLemmas
-pub mod FractionNumbers
+pub mod LowestTerms
 pub mod Rational
 pub mod Sums
 pub mod Fraction

@@ -6,7 +6,7 @@ use Rattle.std.proofs.lemmas.Bool.{cases_lt}
 use Rattle.std.proofs.lemmas.Nat.Gcd.{IsGcd-from_zero, IsGcd-from_mod, dvd_antisymm, dvd-zero}
 use Rattle.std.specs.Int.{IsGcd}
 use Rattle.exact_numbers.specs.Divisors.{AreCoprime, IsLcm}
-use Rattle.exact_numbers.specs.FractionNumbers.{ℚ}
+use Rattle.exact_numbers.specs.LowestTerms.{ℚ}
 
 -- Euclid's algorithm: the two numbers become the second and the remainder of the first by it, until the second is 0; at most n times
 unfoldable pub steps_of_euclid : ℕ → ℕ → ℕ → ℕ

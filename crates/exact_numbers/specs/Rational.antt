@@ -1,7 +1,7 @@
 -- Rational numbers: sums, products and quotients, their order, and those that are whole.
 use Rattle.std.specs.Int.{int_signum}
 use Rattle.std.specs.Prelude.{◌≡◌, ℕ, zero, suc, ◌*◌, ◌^◌, ℤ, pos, ◌+ℤ◌, ◌*ℤ◌, ◌≤ℤ◌, ◌<ℤ◌, neg_ℤ, unsigned_abs, Bool, ◌==◌, if◌then◌else◌, Option, Some, None}
-pub use Rattle.exact_numbers.specs.FractionNumbers.{ℚ}
+pub use Rattle.exact_numbers.specs.LowestTerms.{ℚ}
 use Rattle.exact_numbers.specs.LowestLemmas.{lowest_terms, one_above, one_coprime}
 -- e, where it is above 0, and -e, where it is below 0; otherwise 0
 pub use borrow.Author.Differences.{up as above_zero, down as below_zero}

@@ -16,7 +16,7 @@ use lib.IntN.{*ℤ-one, zero-*ℤ}
 use Rattle.exact_numbers.specs.Rational.{ℚ, whole, ◌<ℚ◌, over, zero_ℚ, one_ℚ, ◌*ℚ◌, neg_ℚ}
 use Rattle.exact_numbers.proofs.Coprimes.{coprime-mul, coprime-pow}
 use Rattle.exact_numbers.proofs.Extremes.{absolute_above, absolute_below, power_of-suc, power_of-zero}
-use Rattle.exact_numbers.proofs.FractionArithmetic.{over_lowest, zero_value, over_whole}
+use Rattle.exact_numbers.proofs.RationalLaws.{over_lowest, zero_value, over_whole}
 use Rattle.exact_numbers.proofs.Values.{own_value, value_le, value_lt}
 use Rattle.linear_program.specs.Lines.{constant_line, Line, is_constant, are_constant, constants_of}
 use Rattle.nl_model.specs.Faults.{constants_line, operator_fault, operator_line, power_fault, too_wide_unless}

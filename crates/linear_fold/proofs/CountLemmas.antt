@@ -3,7 +3,7 @@ use Rattle.std.proofs.Common.{◌≡◌, ◌≢◌, ℕ, zero, suc, ◌+◌, ◌
 use Rattle.std.proofs.lemmas.Bool.{cases_eq, false_from_ne_true}
 use Rattle.exact_numbers.specs.Values.{frac_value}
 use Rattle.exact_numbers.specs.Rational.{ℚ, zero_ℚ}
-use Rattle.exact_numbers.proofs.FractionArithmetic.{zero-is_zero}
+use Rattle.exact_numbers.proofs.RationalLaws.{zero-is_zero}
 use Rattle.linear_program.specs.Lines.{Line, is_zero}
 use Rattle.linear_program.proofs.LineLemmas.{is_zero-true}
 use Rattle.nl_model.specs.FoldFaults.{coefficient_count}

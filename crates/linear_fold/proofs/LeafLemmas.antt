@@ -13,7 +13,7 @@ use Rattle.exact_numbers.proofs.Zeros.{fits_zero, sum_fits_zero, zero_sum_fits}
 use Rattle.exact_numbers.specs.Fits.{fits, sum_fits}
 use Rattle.exact_numbers.specs.Functions.{is_zero}
 use Rattle.exact_numbers.specs.Rational.{ℚ, whole, zero_ℚ, one_ℚ, ◌+ℚ◌, ◌*ℚ◌, inverse_of}
-use Rattle.exact_numbers.proofs.FractionArithmetic.{one-*ℚ, zero-+ℚ, +ℚ_zero, *ℚ_comm, *ℚ_one}
+use Rattle.exact_numbers.proofs.RationalLaws.{one-*ℚ, zero-+ℚ, +ℚ_zero, *ℚ_comm, *ℚ_one}
 use Rattle.exact_numbers.proofs.Values.{own_value, same_value}
 use Rattle.linear_program.specs.Lines.{Line, Point, constant_line, is_constant, line_scaled, line_sum, line_value, one_if, products_fit, running_line, running_sums_fit, sums_fit}
 use Rattle.nl_model.specs.Faults.{fault_at, operator_fault, operator_line, too_wide_unless, trees_fault, trees_lines, tree_line}

@@ -11,7 +11,7 @@ use Rattle.exact_numbers.specs.Values.{frac_value}
 use Rattle.exact_numbers.proofs.Bridge.{frac_fits_lem}
 use Rattle.exact_numbers.specs.Fits.{fits, sum_fits}
 use Rattle.exact_numbers.specs.Rational.{ℚ, zero_ℚ, ◌+ℚ◌, ◌*ℚ◌, one_ℚ, neg_ℚ, inverse_of}
-use Rattle.exact_numbers.proofs.FractionArithmetic.{*ℚ_one, *ℚ_zero, +ℚ_zero, zero-+ℚ, one-*ℚ, neg-*ℚ, zero-is_zero}
+use Rattle.exact_numbers.proofs.RationalLaws.{*ℚ_one, *ℚ_zero, +ℚ_zero, zero-+ℚ, one-*ℚ, neg-*ℚ, zero-is_zero}
 use Rattle.linear_program.specs.Lines.{constant_line, line_scaled, line_sum, products_fit, Line, is_zero, is_constant, one_if, line_neg, sums_fit, all_below}
 use Rattle.linear_program.proofs.LineLemmas.{all_below-true, apart-eqb}
 use Rattle.linear_program.specs.declared.form.Form.{Form}

@@ -14,7 +14,7 @@ use Rattle.exact_numbers.specs.Fits.{fits, sum_fits}
 use Rattle.exact_numbers.specs.Rational.{ℚ, zero_ℚ, ◌+ℚ◌, ◌*ℚ◌}
 use Rattle.exact_numbers.specs.Sums.{sum_over}
 use Rattle.exact_numbers.proofs.Adding.{sum_over_nil, sum_over_cons}
-use Rattle.exact_numbers.proofs.FractionArithmetic.{+ℚ_assoc, +ℚ_cancel, +ℚ_zero, *ℚ_zero}
+use Rattle.exact_numbers.proofs.RationalLaws.{+ℚ_assoc, +ℚ_cancel, +ℚ_zero, *ℚ_zero}
 use Rattle.exact_numbers.proofs.Ring.{ring, v, ◌⊕◌}
 use Rattle.linear_program.specs.Lines.{Line, line_with, one_if}
 use Rattle.linear_program.proofs.LineLemmas.{apart-eqb}

@@ -13,8 +13,8 @@ use Rattle.exact_numbers.proofs.Zeros.{fits_zero}
 use Rattle.exact_numbers.specs.Fits.{fits, is_small, least_multiple, parts_fit, sum_fits, sum_over_multiple}
 use Rattle.exact_numbers.specs.LowestLemmas.{lcm_is}
 use Rattle.exact_numbers.specs.Rational.{ℚ, whole, neg_ℚ, one_ℚ, zero_ℚ, ◌+ℚ◌, ◌*ℚ◌}
-use Rattle.exact_numbers.proofs.FractionArithmetic.{*ℚ-neg, +ℚ_comm, +ℚ_zero, neg-*ℚ, neg-+ℚ, neg-neg, neg_zero, zero-*ℚ, zero-+ℚ, neg_size, neg_parts}
-use Rattle.exact_numbers.proofs.FractionSigned.{neg-*ℤ}
+use Rattle.exact_numbers.proofs.RationalLaws.{*ℚ-neg, +ℚ_comm, +ℚ_zero, neg-*ℚ, neg-+ℚ, neg-neg, neg_zero, zero-*ℚ, zero-+ℚ, neg_size, neg_parts}
+use Rattle.exact_numbers.proofs.IntegerLaws.{neg-*ℤ}
 use Rattle.linear_program.specs.Lines.{Line, constant_line, one_if, all_below, is_constant, is_zero, products_fit, line_neg, line_scaled, line_sum, running_line, running_sums_fit, sums_fit}
 use Rattle.nl_model.specs.Faults.{too_wide_unless}
 use Rattle.code_tables.specs.declared.class.OpClass.TheVariants.{Difference, Negation, Product, List as SumOfAll}

@@ -4,7 +4,7 @@ use Rattle.std.proofs.lemmas.Bool.{cases_eq, eq-eqb, ne_eqb}
 use Rattle.exact_numbers.specs.declared.frac.Frac.{Frac}
 use Rattle.exact_numbers.specs.Values.{frac_value}
 use Rattle.exact_numbers.specs.Rational.{ℚ, zero_ℚ, ◌+ℚ◌, ◌*ℚ◌}
-use Rattle.exact_numbers.proofs.FractionArithmetic.{+ℚ_zero, *ℚ_zero, *ℚ_one}
+use Rattle.exact_numbers.proofs.RationalLaws.{+ℚ_zero, *ℚ_zero, *ℚ_one}
 use Rattle.linear_program.specs.Lines.{one_if}
 use Rattle.linear_program.proofs.LineLemmas.{same-eqb, apart-eqb}
 use Rattle.linear_program.specs.Coefs.{Term, found, AreAscending, AreBelow}

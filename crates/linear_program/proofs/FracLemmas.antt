@@ -7,7 +7,7 @@ use Rattle.exact_numbers.proofs.Zeros.{fits_zero}
 use Rattle.exact_numbers.specs.Divisors.{AreCoprime}
 use Rattle.exact_numbers.specs.Fits.{fits, is_small}
 use Rattle.exact_numbers.specs.Rational.{ℚ, neg_ℚ, zero_ℚ}
-use Rattle.exact_numbers.proofs.FractionArithmetic.{over_lowest, neg_size}
+use Rattle.exact_numbers.proofs.RationalLaws.{over_lowest, neg_size}
 use Rattle.linear_program.specs.Coefs.{Term, found, value_or_zero, coef_in}
 use Rattle.linear_program.specs.Places.{place_in}
 use Rattle.linear_program.proofs.LineLemmas.{is_zero-true}

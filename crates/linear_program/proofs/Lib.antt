@@ -13,7 +13,7 @@ pub mod PlaceTerms
 pub mod Products
 pub mod PutLemmas
 pub mod Scaled
-pub mod BatchLemmas
+pub mod BucketLemmas
 pub mod ChunkLemmas
 pub mod PartLemmas
 pub mod PickLemmas

@@ -4,7 +4,7 @@ use Rattle.exact_numbers.specs.Functions.{or_zero}
 use Rattle.exact_numbers.specs.Rational.{ℚ, zero_ℚ, one_ℚ, ◌+ℚ◌, ◌-ℚ◌, ◌*ℚ◌, neg_ℚ}
 use Rattle.std.proofs.lemmas.Bool.{cases_lt, eq-eqb, eqb-true, and_parts}
 use Rattle.exact_numbers.specs.Sums.{sum_below}
-use Rattle.exact_numbers.proofs.FractionArithmetic.{+ℚ_assoc, +ℚ_zero, *ℚ-+ℚ, +ℚ-*ℚ, *ℚ_assoc, *ℚ_zero, zero-*ℚ, *ℚ_one, neg-*ℚ, neg-+ℚ, -ℚ_lem, +ℚ-neg}
+use Rattle.exact_numbers.proofs.RationalLaws.{+ℚ_assoc, +ℚ_zero, *ℚ-+ℚ, +ℚ-*ℚ, *ℚ_assoc, *ℚ_zero, zero-*ℚ, *ℚ_one, neg-*ℚ, neg-+ℚ, -ℚ_lem, +ℚ-neg}
 use Rattle.exact_numbers.proofs.Adding.{+ℚ_swap, sum_below_same, sum_below-+ℚ, sum_below-*ℚ, sum_below-neg, sum_below_all_zero, sum_below_one}
 pub use Rattle.exact_numbers.proofs.Tests.{is_zero-true, is_zero-false}
 use Rattle.exact_numbers.proofs.Ring.{ring, v, ◌⊕◌, ◌⊖◌}

@@ -2,7 +2,7 @@
 use Rattle.std.proofs.Common.{◌≡◌, ◌≢◌, Ok, Err, ℕ, suc, ◌+◌, ◌<◌, ◌≤◌, ⊎_elim, ◌∙◌, sym, ap, ap₂, refl, subst, arith, true, false, None, Some, List, [], ◌∷◌, ◌++◌, append_assoc, drop, drop-cons, get_or, length}
 use Rattle.std.proofs.lemmas.Bool.{cases_eq, cases_lt}
 use Rattle.exact_numbers.specs.Rational.{ℚ, zero_ℚ, ◌+ℚ◌, ◌*ℚ◌}
-use Rattle.exact_numbers.proofs.FractionArithmetic.{+ℚ_zero, zero-+ℚ}
+use Rattle.exact_numbers.proofs.RationalLaws.{+ℚ_zero, zero-+ℚ}
 use Rattle.exact_numbers.specs.Fits.{fits, sum_fits}
 use Rattle.linear_program.specs.Lines.{Line}
 use Rattle.text_base.specs.declared.stop.Stop.{Stop}

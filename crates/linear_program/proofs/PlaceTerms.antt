@@ -4,7 +4,7 @@ use Rattle.std.proofs.lemmas.Bool.{cases_lt}
 use Rattle.exact_numbers.specs.declared.frac.Frac.{Frac}
 use Rattle.exact_numbers.specs.Values.{frac_value}
 use Rattle.exact_numbers.specs.Rational.{zero_ℚ}
-use Rattle.exact_numbers.proofs.FractionArithmetic.{zero-is_zero}
+use Rattle.exact_numbers.proofs.RationalLaws.{zero-is_zero}
 use Rattle.linear_program.specs.Lines.{Line, is_zero}
 use Rattle.linear_program.proofs.LineLemmas.{is_zero-true, is_zero-false}
 use Rattle.linear_program.specs.Coefs.{Term, value_or_zero, coef_in, AreAscending}

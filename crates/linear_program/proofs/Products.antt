@@ -5,7 +5,7 @@ use Rattle.exact_numbers.specs.declared.frac.Frac.{Frac}
 use Rattle.exact_numbers.specs.Values.{frac_value}
 use Rattle.exact_numbers.specs.Fits.{fits}
 use Rattle.exact_numbers.specs.Rational.{ℚ, zero_ℚ, ◌*ℚ◌}
-use Rattle.exact_numbers.proofs.FractionArithmetic.{*ℚ_cancel, *ℚ_zero, zero-*ℚ}
+use Rattle.exact_numbers.proofs.RationalLaws.{*ℚ_cancel, *ℚ_zero, zero-*ℚ}
 use Rattle.linear_program.specs.Lines.{line_scaled, products_fit, Line}
 use Rattle.linear_program.specs.Coefs.{Term, value_or_zero, coef_in, AreAscending, AreProducts, HasWideProduct}
 use Rattle.text_base.specs.declared.stop.Stop.{Stop}

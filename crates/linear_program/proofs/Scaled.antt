@@ -7,7 +7,7 @@ use Rattle.exact_numbers.specs.declared.frac.Frac.{Frac}
 use Rattle.exact_numbers.specs.Values.{frac_value}
 use Rattle.exact_numbers.specs.Fits.{fits, sum_fits}
 use Rattle.exact_numbers.specs.Rational.{ℚ, whole, zero_ℚ, ◌+ℚ◌, ◌*ℚ◌}
-use Rattle.exact_numbers.proofs.FractionArithmetic.{*ℚ_one, *ℚ_zero, +ℚ_zero}
+use Rattle.exact_numbers.proofs.RationalLaws.{*ℚ_one, *ℚ_zero, +ℚ_zero}
 use Rattle.linear_program.specs.Lines.{line_sum, line_scaled, line_with, Line, all_below, is_zero, is_constant}
 use Rattle.linear_program.proofs.LineLemmas.{same-eqb, apart-eqb, all_below-true, is_zero-true}
 use Rattle.linear_program.specs.declared.too_wide.Wide.{Wide}

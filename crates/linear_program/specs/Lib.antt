@@ -11,6 +11,6 @@ pub mod Numbers
 pub mod Places
 pub mod Programs
 pub mod InsideTermLists
-pub mod InsideBatches
+pub mod InsideBuckets
 pub mod InsidePart
 pub mod Parts

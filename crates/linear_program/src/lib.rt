@@ -3,7 +3,7 @@
 #![tactic(auto)]
 
 mod accumulator;
-mod batches;
+mod buckets;
 mod by_column;
 mod chunks;
 mod coefficients;
@@ -25,7 +25,7 @@ mod sum;
 mod terms;
 mod too_wide;
 
-pub use batches::{Batches, part_end};
+pub use buckets::{Buckets, part_end};
 pub use by_column::{count_terms, empty_columns};
 pub use coefficients::Coefficients;
 pub use few::Few;

@@ -32,7 +32,7 @@ use Rattle.mps_program.specs.InsideForms.{IsFormOf, AreBodiesOf, AreTermsFrom}
 use Rattle.mps_program.proofs.LawLemmas.{past_columns}
 use Rattle.mps_program.proofs.TermLemmas.{AreApart, row_decimals, row_coefs}
 use Rattle.linear_program.specs.Parts.{AreLater, ArePart}
-use Rattle.linear_program.proofs.BatchLemmas.{part_later}
+use Rattle.linear_program.proofs.BucketLemmas.{part_later}
 
 -- ---- one form
 module _ (m : Mps Dec) (apart : AreApart (length m.rows) m.columns) (i : ℕ) (fit : has_wide_term (row_terms m i) ≡ false) (k : ℚ) (f : Form) (is : IsFormOf k (row_terms m i) f) where

@@ -5,7 +5,7 @@ use Rattle.std.proofs.lemmas.List.{get_or_past}
 use Rattle.std.proofs.lemmas.List.Elements.{All-nil, All-cons, All-head, All-tail}
 use Rattle.exact_numbers.specs.Rational.{ℚ, zero_ℚ, one_ℚ, ◌+ℚ◌, ◌*ℚ◌, neg_ℚ}
 use Rattle.exact_numbers.specs.Sums.{sum_over}
-use Rattle.exact_numbers.proofs.FractionArithmetic.{zero-+ℚ, +ℚ_comm, -ℚ_lem, zero-*ℚ, *ℚ_one, +ℚ-*ℚ}
+use Rattle.exact_numbers.proofs.RationalLaws.{zero-+ℚ, +ℚ_comm, -ℚ_lem, zero-*ℚ, *ℚ_one, +ℚ-*ℚ}
 use Rattle.exact_numbers.proofs.Adding.{sum_below_same}
 use Rattle.linear_program.specs.Elements.{elements_from}
 use Rattle.linear_program.specs.Linear.{Row, Variable, IsInside, AreOrdered, value_at, linear_part, form_value, no_variable, variable_at, variable_count, RowHolds, IsFeasible, objective_value, IsLinear}

@@ -8,7 +8,7 @@ use Rattle.std.specs.Ordering.{MatchOrdering, is_gt}
 use Rattle.std.specs.declared.cmp.Ordering.{Ordering}
 use Rattle.std.specs.declared.cmp.Ordering.TheVariants.{Less, Equal, Greater}
 use Rattle.exact_numbers.specs.Rational.{ℚ, zero_ℚ, ◌+ℚ◌, neg_ℚ, ◌≤ℚ◌, ◌<ℚ◌}
-use Rattle.exact_numbers.proofs.FractionArithmetic.{≤ℚ_refl, ≤ℚ_by, ≤ℚ_of_<ℚ, le_or_lt, not_both, +ℚ-≤ℚ, +ℚ_comm, zero-+ℚ, -ℚ_lem}
+use Rattle.exact_numbers.proofs.RationalLaws.{≤ℚ_refl, ≤ℚ_by, ≤ℚ_of_<ℚ, le_or_lt, not_both, +ℚ-≤ℚ, +ℚ_comm, zero-+ℚ, -ℚ_lem}
 use Rattle.linear_program.specs.Linear.{Interval}
 use Rattle.exact_numbers.specs.declared.dec.Dec.{Dec}
 use Rattle.exact_numbers.specs.Values.{dec_value, order_of}

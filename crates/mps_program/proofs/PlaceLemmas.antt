@@ -4,7 +4,7 @@ use Rattle.std.proofs.lemmas.List.{length-append, get_or_append_left, get_or-app
 use Rattle.std.proofs.lemmas.List.Elements.{All-append}
 use Rattle.exact_numbers.specs.Rational.{ℚ, zero_ℚ, ◌+ℚ◌}
 use Rattle.exact_numbers.specs.Sums.{sum_over, sum_below}
-use Rattle.exact_numbers.proofs.FractionArithmetic.{+ℚ_zero, zero-+ℚ}
+use Rattle.exact_numbers.proofs.RationalLaws.{+ℚ_zero, zero-+ℚ}
 use Rattle.exact_numbers.proofs.Adding.{+ℚ_swap, sum_over-append}
 use Rattle.mps_program.specs.Places.{places, first}
 use Rattle.std.proofs.lemmas.Bool.{cases_Bool, cases_lt}

@@ -2,7 +2,7 @@
 use Rattle.std.proofs.Common.{◌≡◌, ◌↔◌, ◌∙◌, sym, ap, ap₂, refl, subst, arith, pos, int_lt, ◌<ℤ◌, Bool, true, false, IsTrue, ◌&&◌, cond, Option, Some, None, MatchOption}
 use Rattle.exact_numbers.specs.Rational.{ℚ, zero_ℚ, ◌+ℚ◌, ◌<ℚ◌}
 use Rattle.exact_numbers.specs.Fits.{fits, sum_fits}
-use Rattle.exact_numbers.proofs.FractionArithmetic.{zero_value, -ℚ_lem}
+use Rattle.exact_numbers.proofs.RationalLaws.{zero_value, -ℚ_lem}
 use Rattle.exact_numbers.proofs.Values.{own_value, lt_value, value_lt}
 use Rattle.std.proofs.lemmas.Int.{ints}
 use Rattle.std.proofs.lemmas.Bool.{false_from_ne_true}

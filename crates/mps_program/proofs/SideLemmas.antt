@@ -5,7 +5,7 @@ use Rattle.std.specs.Option.{option_map}
 use Rattle.std.specs.Prelude.{option_and_then}
 use Rattle.exact_numbers.specs.Rational.{ℚ, zero_ℚ, ◌+ℚ◌, decimal_value}
 use Rattle.exact_numbers.specs.Fits.{fits, sum_fits}
-use Rattle.exact_numbers.proofs.FractionArithmetic.{ -ℚ_lem}
+use Rattle.exact_numbers.proofs.RationalLaws.{ -ℚ_lem}
 use Rattle.linear_program.specs.Linear.{Interval}
 use Rattle.exact_numbers.specs.Values.{dec_value, decimal_of, FitsDec, fits_dec}
 use Rattle.exact_numbers.specs.declared.dec.Dec.{Dec}

@@ -9,7 +9,7 @@ use Rattle.std.specs.List.{sum_by, filter_map, cons_option}
 use Rattle.exact_numbers.specs.Rational.{ℚ, zero_ℚ, one_ℚ, ◌+ℚ◌, ◌*ℚ◌}
 use Rattle.exact_numbers.specs.Fits.{fits}
 use Rattle.exact_numbers.specs.Sums.{sum_over}
-use Rattle.exact_numbers.proofs.FractionArithmetic.{*ℚ_one, +ℚ_zero, zero-+ℚ}
+use Rattle.exact_numbers.proofs.RationalLaws.{*ℚ_one, +ℚ_zero, zero-+ℚ}
 use Rattle.exact_numbers.specs.declared.dec.Dec.{Dec}
 use Rattle.exact_numbers.specs.Values.{dec_value}
 use Rattle.linear_program.specs.Coefs.{coef_in, value_or_zero}

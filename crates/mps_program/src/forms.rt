@@ -16,7 +16,7 @@ use crate::mps_fault::MpsFault;
 use crate::rows::{is_bounded_kind, objective_row, right_side};
 use crate::terms::has_wide_term;
 use exact_numbers::{Dec, Frac};
-use linear_program::{Batches, Form, PartLists, part_end};
+use linear_program::{Buckets, Form, PartLists, part_end};
 use mps_model::Mps;
 use std::alloc::{AllocError, Global};
 use text_base::Stop;
@@ -114,12 +114,12 @@ fn next_objective(
     Ok(found)
 }
 
-// The forms of rows whose terms are in batches: so many constraints, and the objective.
+// The forms of rows whose terms are in buckets: so many constraints, and the objective.
 pub(crate) fn forms_of(
     alloc: Global,
     mps: &Mps,
     count: usize,
-    mut terms: Batches,
+    mut terms: Buckets,
 ) -> Result<RowForms, Stop<MpsFault>>
     requires { terms ≡ listed (row_terms mps.now) (length mps.now.rows) }
     ensures bodies { IfOk result

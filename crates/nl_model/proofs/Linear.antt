@@ -7,7 +7,7 @@ use Rattle.code_tables.specs.declared.class.OpClass.TheVariants.{Sum, Difference
 use Rattle.exact_numbers.specs.Functions.{exponent_of, or_zero, power_of}
 use Rattle.exact_numbers.specs.Rational.{ℚ, zero_ℚ, one_ℚ, ◌+ℚ◌, ◌*ℚ◌, inverse_of, quotient_of, decimal_value}
 use Rattle.exact_numbers.specs.Sums.{sum_below, sum_of_all}
-use Rattle.exact_numbers.proofs.FractionArithmetic.{+ℚ_assoc, +ℚ_zero, zero-+ℚ, *ℚ_comm, zero-*ℚ, one-*ℚ, -ℚ_lem, quotient_some}
+use Rattle.exact_numbers.proofs.RationalLaws.{+ℚ_assoc, +ℚ_zero, zero-+ℚ, *ℚ_comm, zero-*ℚ, one-*ℚ, -ℚ_lem, quotient_some}
 use Rattle.exact_numbers.proofs.Tests.{option_or-none}
 use Rattle.exact_numbers.proofs.Adding.{sum_over_nil, sum_over_cons, sum_below_all_zero}
 use Rattle.nl_model.specs.declared.Reason.{Reason}

@@ -4,7 +4,7 @@ use Rattle.std.specs.List.{fold}
 use Rattle.std.proofs.lemmas.Bool.{eq-eqb}
 use Rattle.exact_numbers.specs.Functions.{or_zero}
 use Rattle.exact_numbers.specs.Rational.{ℚ, zero_ℚ, ◌+ℚ◌, ◌-ℚ◌, ◌*ℚ◌}
-use Rattle.exact_numbers.proofs.FractionArithmetic.{+ℚ-neg, -ℚ_lem}
+use Rattle.exact_numbers.proofs.RationalLaws.{+ℚ-neg, -ℚ_lem}
 use Rattle.exact_numbers.proofs.Adding.{sum_over_nil, sum_over_cons}
 use Rattle.nl_model.specs.Faults.{expression_line}
 use Rattle.linear_program.specs.Lines.{origin, unit_point, Point}

@@ -4,7 +4,7 @@ use Rattle.exact_numbers.specs.Values.{dec_value}
 use Rattle.exact_numbers.specs.Functions.{or_zero}
 use Rattle.exact_numbers.specs.Rational.{ℚ, zero_ℚ, ◌+ℚ◌, ◌*ℚ◌, ◌-ℚ◌, decimal_value}
 use Rattle.exact_numbers.specs.Sums.{sum_over}
-use Rattle.exact_numbers.proofs.FractionArithmetic.{*ℚ_zero, *ℚ_one, +ℚ_zero}
+use Rattle.exact_numbers.proofs.RationalLaws.{*ℚ_zero, *ℚ_one, +ℚ_zero}
 use Rattle.exact_numbers.proofs.Adding.{sum_over-map, sum_over_same, sum_over-zero}
 use Rattle.exact_numbers.proofs.Ring.{ring, v, ◌⊕◌, ◌⊖◌}
 use Rattle.linear_program.specs.Linear.{value_at, linear_part, form_value}

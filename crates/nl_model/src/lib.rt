@@ -18,13 +18,13 @@ mod header_counts;
 mod header_rules;
 mod kinds;
 pub mod laws;
-pub mod meaning_laws;
 mod node;
 mod objective;
 mod options;
 mod places;
 mod suffix;
 mod suffix_kinds;
+pub mod tree_laws;
 
 pub use at::{At, Owner};
 pub use builder::NlBuilder;

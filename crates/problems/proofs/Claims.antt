@@ -4,7 +4,7 @@ use Rattle.exact_numbers.specs.Rational.{ℚ}
 use Rattle.linear_program.specs.Linear.{variable_count}
 use Rattle.certificates.specs.Certificate.{Cause, fails, holds}
 use Rattle.certificates.specs.ProblemSays.{Denies}
-use Rattle.certificates.specs.DualityTold.{IsToldTrue}
+use Rattle.certificates.specs.ToldMeaning.{IsToldTrue}
 use Rattle.exact_numbers.specs.declared.dec.Dec.{Dec}
 use Rattle.linear_program.specs.Numbers.{spread}
 use Rattle.mps_model.specs.Mps.{Mps}

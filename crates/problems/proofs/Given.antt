@@ -18,7 +18,7 @@ use Rattle.problems.proofs.NlSettings.{file_setting}
 use Rattle.linear_program.specs.Numbers.{spread}
 use Rattle.problems.proofs.Files.{meant, rows_counted}
 use Rattle.certificates.specs.ProblemSays.{Denies}
-use Rattle.certificates.specs.DualityTold.{IsToldTrue}
+use Rattle.certificates.specs.ToldMeaning.{IsToldTrue}
 use Rattle.certificates.specs.Told.{told_claim}
 use Rattle.problems.specs.FileProblem.{problem_of}
 use Rattle.certificates.proofs.ClaimsTold.{given_denied, given_true}

@@ -6,7 +6,7 @@ ghost use Rattle.certificates.specs.Certificate.{Cause, fails, holds};
 ghost use Rattle.certificates.specs.Means.{Means};
 ghost use Rattle.certificates.specs.Problem.{IsFeasible};
 ghost use Rattle.certificates.specs.ProblemSays.{Denies};
-ghost use Rattle.certificates.specs.DualityTold.{IsToldTrue};
+ghost use Rattle.certificates.specs.ToldMeaning.{IsToldTrue};
 ghost use Rattle.linear_program.specs.Numbers.{spread};
 ghost use Rattle.mps_model.specs.Mps.{IsMpsFeasible, Mps};
 ghost use Rattle.mps_program.specs.Program.{linear_of, values_of};

@@ -7,7 +7,7 @@ ghost use Rattle.certificates.specs.LeafSays.{IsLeafDenied};
 ghost use Rattle.certificates.specs.Means.{Means};
 ghost use Rattle.certificates.specs.Problem.{IsBestRelaxed, IsBound, IsBroken, IsConstraintBroken, IsFeasible, IsInfeasible, IsReached, IsRelaxed, IsUnbounded};
 ghost use Rattle.certificates.specs.ProblemSays.{Denies, OutcomeSays, VerdictSays};
-ghost use Rattle.certificates.specs.DualityTold.{IsToldTrue};
+ghost use Rattle.certificates.specs.ToldMeaning.{IsToldTrue};
 ghost use Rattle.certificates.specs.Verdict.{verdict, yes};
 ghost use Rattle.linear_program.specs.Numbers.{spread};
 ghost use Rattle.nl_model.specs.File.{File};

@@ -4,7 +4,7 @@ use Rattle.std.specs.List.{sum_by}
 use Rattle.std.proofs.lemmas.List.Sums.{sum_by-cons}
 use Rattle.exact_numbers.specs.Rational.{ℚ, zero_ℚ, whole, ◌*ℚ◌}
 use Rattle.exact_numbers.specs.Functions.{is_zero}
-use Rattle.exact_numbers.proofs.FractionArithmetic.{*ℚ_zero}
+use Rattle.exact_numbers.proofs.RationalLaws.{*ℚ_zero}
 use Rattle.exact_numbers.proofs.Tests.{is_zero-true}
 use Rattle.linear_program.specs.Linear.{Form, Linear, Row, Variable, has_side, variable_count}
 use Rattle.mps_model.specs.Mps.{Entry, Column}

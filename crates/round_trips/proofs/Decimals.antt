@@ -6,7 +6,7 @@ use Rattle.std.proofs.lemmas.List.Elements.{All-append, All-cons, All-nil}
 use Rattle.exact_numbers.specs.Rational.{ℚ, zero_ℚ, ◌+ℚ◌}
 use Rattle.exact_numbers.specs.Sums.{sum_over}
 use Rattle.exact_numbers.proofs.Adding.{sum_over-append}
-use Rattle.exact_numbers.proofs.FractionArithmetic.{+ℚ_zero, zero-+ℚ}
+use Rattle.exact_numbers.proofs.RationalLaws.{+ℚ_zero, zero-+ℚ}
 use Rattle.exact_numbers.specs.declared.dec.Dec.{Dec}
 use Rattle.exact_numbers.specs.Values.{FitsDec, dec_value}
 use Rattle.nl_model.specs.File.{Term}

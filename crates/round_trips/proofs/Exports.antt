@@ -6,7 +6,7 @@ use Rattle.std.proofs.lemmas.Bool.{cases_lt, eq-eqb}
 use Rattle.std.proofs.lemmas.List.{length-append}
 use Rattle.std.proofs.lemmas.List.Elements.{All-head, All-tail}
 use Rattle.exact_numbers.specs.Rational.{ℚ, zero_ℚ, one_ℚ, whole, neg_ℚ, ◌-ℚ◌, ◌*ℚ◌, is_zero}
-use Rattle.exact_numbers.proofs.FractionArithmetic.{*ℚ_zero, *ℚ_one, *ℚ-neg, +ℚ-neg, -ℚ_lem}
+use Rattle.exact_numbers.proofs.RationalLaws.{*ℚ_zero, *ℚ_one, *ℚ-neg, +ℚ-neg, -ℚ_lem}
 use Rattle.exact_numbers.proofs.Ring.{ring, v, num, ◌⊖◌, ◌⊗◌, opp}
 use Rattle.exact_numbers.specs.Values.{FitsDec}
 use Rattle.linear_program.specs.Linear.{Form, Row, no_row}

@@ -5,7 +5,7 @@ use Rattle.std.specs.Prelude.{All}
 use Rattle.std.proofs.lemmas.List.{length-append}
 use Rattle.std.proofs.lemmas.List.Elements.{All-push}
 use Rattle.exact_numbers.specs.Rational.{ℚ, zero_ℚ, one_ℚ, neg_ℚ, whole, ◌*ℚ◌}
-use Rattle.exact_numbers.proofs.FractionArithmetic.{*ℚ_zero}
+use Rattle.exact_numbers.proofs.RationalLaws.{*ℚ_zero}
 use Rattle.exact_numbers.specs.declared.dec.Dec.{Dec}
 use Rattle.exact_numbers.specs.Values.{value_text}
 use Rattle.linear_program.specs.Linear.{Form, Linear, Variable, row_count, variable_count}

@@ -5,7 +5,7 @@ use Rattle.std.proofs.lemmas.Bool.{cases_eq, cases_lt}
 use Rattle.std.proofs.lemmas.List.Elements.{All-nil, All-cons, All-head, All-tail, All-push, All-append}
 use Rattle.std.proofs.lemmas.Nat.Gcd.{dvd_antisymm, dvd_refl}
 use Rattle.exact_numbers.specs.Rational.{ℚ, zero_ℚ, whole, ◌*ℚ◌, ◌+ℚ◌, ◌-ℚ◌}
-use Rattle.exact_numbers.proofs.FractionArithmetic.{*ℚ_zero, +ℚ_zero, zero-*ℚ, *ℚ_comm, *ℚ_cancel, same_whole}
+use Rattle.exact_numbers.proofs.RationalLaws.{*ℚ_zero, +ℚ_zero, zero-*ℚ, *ℚ_comm, *ℚ_cancel, same_whole}
 use Rattle.scaled_program.specs.Factor.{IsFinite, least_factor, coefficients_below, side_less}
 use Rattle.scaled_program.proofs.Factor.{factor_multiples, factor_above}
 use Rattle.exact_numbers.specs.Values.{frac_value, dec_value, FitsDec}

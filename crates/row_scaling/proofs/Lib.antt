@@ -8,5 +8,5 @@ mod MovedRows
 pub mod AddLemmas
 pub mod ColumnLemmas
 pub mod LineLemmas
-pub mod ExportNumberLemmas
+pub mod ZeroLemmas
 pub mod RowLemmas

@@ -27,7 +27,7 @@ use Rattle.row_scaling.proofs.SharedLemmas.{zero_decimal, zero_fits, one_not_zer
 use Rattle.std.proofs.lemmas.List.Elements.{All-nil, All-cons, All-head, All-tail}
 use Rattle.exact_numbers.specs.Fits.{fits}
 use Rattle.exact_numbers.specs.Rational.{ℚ, zero_ℚ, one_ℚ, whole, neg_ℚ, ◌*ℚ◌, ◌-ℚ◌}
-use Rattle.exact_numbers.proofs.FractionArithmetic.{one-*ℚ, *ℚ_one, *ℚ-neg}
+use Rattle.exact_numbers.proofs.RationalLaws.{one-*ℚ, *ℚ_one, *ℚ-neg}
 use Rattle.scaled_program.specs.Factor.{least_factor, objective_numbers, coefficients_below}
 use Rattle.exact_numbers.specs.declared.frac.Frac.{Frac}
 use Rattle.exact_numbers.specs.Values.{FitsDec, frac_value}

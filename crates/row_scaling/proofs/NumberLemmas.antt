@@ -2,7 +2,7 @@ use Rattle.std.proofs.Common.{◌≡◌, ◌<◌, ◌⊎◌, unsigned_abs, ◌^�
 use Rattle.std.proofs.lemmas.Int.{ints}
 use Rattle.exact_numbers.specs.Fits.{fits, is_small, least_multiple}
 use Rattle.exact_numbers.specs.Rational.{ℚ, whole, over, one_ℚ, ◌*ℚ◌, above_zero, below_zero, decimal_value}
-use Rattle.exact_numbers.proofs.FractionArithmetic.{decimal_value_lem, one-*ℚ, over_whole}
+use Rattle.exact_numbers.proofs.RationalLaws.{decimal_value_lem, one-*ℚ, over_whole}
 use Rattle.std.proofs.lemmas.Bool.{ltb-true, and_from}
 use Prim.Native.Nat.{◌∣◌}
 use Rattle.std.proofs.Math.Nat.{dvd-mul_right, eq-one_of_dvd-one}
@@ -19,7 +19,7 @@ use Rattle.exact_numbers.specs.Values.{frac_value, dec_value, FitsDec, IsDecOf}
 use Rattle.linear_program.specs.Coefs.{Term, AreDecimalsOf}
 use Rattle.row_scaling.specs.Fitting.{coefficients_in, NumberFits, AreTermsTimes}
 use Rattle.row_scaling.proofs.FitLemmas.{Finite, all_left, fraction_small}
-use Rattle.exact_numbers.proofs.FractionSigned.{times_twice}
+use Rattle.exact_numbers.proofs.IntegerLaws.{times_twice}
 use Rattle.exact_numbers.proofs.Values.{over_value, own_value, product_value, same_value}
 use lib.IntN.{*ℤ_comm}
 use Rattle.exact_numbers.proofs.Coprime.{coprime-pow}

@@ -2,7 +2,7 @@
 use Rattle.std.proofs.Common.{◌≡◌, ℕ, ◌∙◌, sym, ap, ap₂, refl, subst, List, ◌++◌, pos, Option, Some, None, IsTrue, append-nil}
 use Rattle.exact_numbers.specs.Fits.{fits, sum_fits}
 use Rattle.exact_numbers.specs.Rational.{decimal_value, ℚ, zero_ℚ, one_ℚ, whole, neg_ℚ, ◌*ℚ◌, ◌-ℚ◌, ◌+ℚ◌}
-use Rattle.exact_numbers.proofs.FractionArithmetic.{one-*ℚ, neg_zero, +ℚ_zero, -ℚ_lem}
+use Rattle.exact_numbers.proofs.RationalLaws.{one-*ℚ, neg_zero, +ℚ_zero, -ℚ_lem}
 use Rattle.exact_numbers.proofs.Zeros.{sum_fits_zero}
 use Rattle.exact_numbers.specs.declared.dec.Dec.{Dec}
 use Rattle.exact_numbers.specs.declared.frac.Frac.{Frac}

@@ -4,7 +4,7 @@ use Rattle.std.specs.Ordering.{int_cmp, ordering_index}
 use Rattle.std.specs.declared.cmp.Ordering.{Ordering}
 use Rattle.exact_numbers.specs.Rational.{ℚ, zero_ℚ, one_ℚ, whole, decimal_value, ◌+ℚ◌, ◌-ℚ◌, neg_ℚ}
 use Rattle.exact_numbers.proofs.Values.{same_crosswise, same_value, whole_value}
-use Rattle.exact_numbers.proofs.FractionArithmetic.{decimal_value_lem, zero-+ℚ, same_whole, +ℚ-neg, -ℚ_lem}
+use Rattle.exact_numbers.proofs.RationalLaws.{decimal_value_lem, zero-+ℚ, same_whole, +ℚ-neg, -ℚ_lem}
 use Rattle.std.proofs.lemmas.Bool.{eq-eqb, ne_eqb}
 use Rattle.scaled_program.specs.Program.{nonzero, range_of}
 use Rattle.scaled_program.proofs.Sides.{nonzero_cases, difference_zero}

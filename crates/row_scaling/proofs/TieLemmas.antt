@@ -9,7 +9,7 @@ use Rattle.std.proofs.lemmas.List.Elements.{All-nil, All-push}
 use Rattle.std.proofs.lemmas.List.Sums.{sum_by-append, sum_by-cons}
 use Rattle.std.specs.Option.{option_map_or}
 use Rattle.exact_numbers.specs.Rational.{ℚ, zero_ℚ, one_ℚ, neg_ℚ, ◌+ℚ◌, ◌-ℚ◌}
-use Rattle.exact_numbers.proofs.FractionArithmetic.{+ℚ_zero, zero-+ℚ, whole-neg, same_whole}
+use Rattle.exact_numbers.proofs.RationalLaws.{+ℚ_zero, zero-+ℚ, whole-neg, same_whole}
 use Rattle.exact_numbers.proofs.Adding.{sum_over-append}
 use Rattle.exact_numbers.specs.declared.dec.Dec.{Dec}
 use Rattle.exact_numbers.specs.Values.{dec_value}

@@ -17,7 +17,7 @@ use crate::heads::Heads;
 use crate::names::column_name;
 use crate::pieces::{Pieces, put_change, put_line};
 use crate::program_columns::is_whole;
-use linear_program::{Batches, PartLists, part_end};
+use linear_program::{Buckets, PartLists, part_end};
 use mps_writer::{MpsName, put_name};
 use std::alloc::{AllocError, Global};
 use written_texts::LineText;
@@ -82,17 +82,17 @@ fn put_part(
     Ok(Place { marked, markers })
 }
 
-// All columns, batch by batch.
+// All columns, bucket by bucket.
 fn put_parts(
     out: &mut Pieces,
     alloc: Global,
     heads: &Heads,
-    mut batches: Batches,
+    mut buckets: Buckets,
 ) -> Result<Place, AllocError>
-    requires { length batches ≡ length heads.now.kinds.items }
+    requires { length buckets ≡ length heads.now.kinds.items }
     ensures few { IfOk result (λ to. to.markers ≤ length heads.now.kinds.items) }
     ensures text { (s : ScaledValue) → AreHeads s heads.now
-        → AreColumns (λ c. c) (column_count s) (entries_in_column s) batches
+        → AreColumns (λ c. c) (column_count s) (entries_in_column s) buckets
         → IfOk result (λ to. out.new
         ++ lines_text (lines_from s to.marked to.markers (length heads.now.kinds.items))
         ≡ out.old ++ lines_text (lines_from s false 0 0)) }
@@ -106,7 +106,7 @@ fn put_parts(
     let mut done = 0usize;
     'parts: while done < total {
         let end = part_end(done, total);
-        columns = batches.take_part(done as u32, end - done, columns)?;
+        columns = buckets.take_part(done as u32, end - done, columns)?;
         place = put_part(out, heads, done as u32, &columns, place)?;
         done = end;
     }
@@ -118,17 +118,17 @@ pub(crate) fn put_columns(
     out: &mut Pieces,
     alloc: Global,
     heads: &Heads,
-    batches: Batches,
+    buckets: Buckets,
 ) -> Result<(), AllocError>
-    requires { length batches ≡ length heads.now.kinds.items }
+    requires { length buckets ≡ length heads.now.kinds.items }
     ensures { (s : ScaledValue) → AreHeads s heads.now
-        → AreColumns (λ c. c) (column_count s) (entries_in_column s) batches
+        → AreColumns (λ c. c) (column_count s) (entries_in_column s) buckets
         → OnOk result (out.new ≡ out.old ++ lines_text
         (section (codes "COLUMNS") ∷ column_lines value_text (all_rows s) false 0
         (all_columns s))) }
 {
     put_line(out, b"COLUMNS")?;
-    let end = put_parts(out, alloc, heads, batches)?;
+    let end = put_parts(out, alloc, heads, buckets)?;
     put_change(out, end.marked, false, end.markers)?;
     Ok(())
 }

@@ -9,7 +9,7 @@ use exact_numbers::Dec;
 use std::cmp::Ordering;
 
 // The number, but none where it is 0.
-#[tactic(auto, using(crate::proofs::ExportNumberLemmas::none_at_zero, crate::proofs::ExportNumberLemmas::some_at_other))]
+#[tactic(auto, using(crate::proofs::ZeroLemmas::none_at_zero, crate::proofs::ZeroLemmas::some_at_other))]
 pub(crate) fn nonzero(d: Dec) -> Option<Dec>
     ensures { option_map dec_value result ≡ nonzero (dec_value d) }
 {

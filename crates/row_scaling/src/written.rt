@@ -15,14 +15,14 @@ ghost use Rattle.row_scaling.specs.InsideSections.{first_lines, last_lines};
 use crate::Scaled;
 use crate::bound_lines::put_bounds;
 use crate::column_lines::put_columns;
-use crate::columns::moved_batches;
+use crate::columns::moved_buckets;
 use crate::export::program;
 use crate::heads::Heads;
 use crate::heads_of::heads_of;
 use crate::pieces::{Pieces, put, put_line, put_sense};
 use crate::row_lines::put_rows;
 use crate::side_lines::{put_ranges, put_sides};
-use linear_program::Batches;
+use linear_program::Buckets;
 use mps_writer::write_mps;
 use std::alloc::{AllocError, Global};
 
@@ -54,17 +54,17 @@ fn with_columns(
     alloc: Global,
     mut first: Pieces,
     heads: &Heads,
-    batches: Batches,
+    buckets: Buckets,
     last: Pieces,
 ) -> Result<Vec<Vec<u8>>, AllocError>
-    requires { length batches ≡ length heads.now.kinds.items }
+    requires { length buckets ≡ length heads.now.kinds.items }
     ensures { (s : ScaledValue) → first ≡ lines_text (first_lines s)
         → last ≡ lines_text (last_lines s) → AreHeads s heads.now
-        → AreColumns (λ c. c) (column_count s) (entries_in_column s) batches
+        → AreColumns (λ c. c) (column_count s) (entries_in_column s) buckets
         → IfOk result (λ v. flat_map (λ p. p.items) v.items
         ≡ mps_text_by value_text (mps_of (scaled_as s))) }
 {
-    put_columns(&mut first, alloc, heads, batches)?;
+    put_columns(&mut first, alloc, heads, buckets)?;
     first.followed_by(last)
 }
 
@@ -77,8 +77,8 @@ pub fn text_in_pieces(alloc: Global, scaled: Scaled) -> Result<Vec<Vec<u8>>, All
     let last = last_sections(alloc, &scaled)?;
     let first = first_sections(alloc, &scaled)?;
     let heads = heads_of(alloc, &scaled)?;
-    let batches = moved_batches(alloc, scaled)?;
-    with_columns(alloc, first, &heads, batches, last)
+    let buckets = moved_buckets(alloc, scaled)?;
+    with_columns(alloc, first, &heads, buckets, last)
 }
 
 /// The written text of the MPS program.

@@ -3,7 +3,7 @@ use Rattle.std.proofs.Common.{◌≡◌, if◌then◌else◌, ℕ, zero, suc, �
 use Rattle.std.proofs.lemmas.Bool.{eq-eqb, ne_eqb}
 use Rattle.exact_numbers.specs.Rational.{ℚ, zero_ℚ, ◌+ℚ◌, ◌*ℚ◌, is_zero}
 use Rattle.exact_numbers.specs.Sums.{sum_over}
-use Rattle.exact_numbers.proofs.FractionArithmetic.{+ℚ_zero, zero-+ℚ, zero-*ℚ, is_zero-true}
+use Rattle.exact_numbers.proofs.RationalLaws.{+ℚ_zero, zero-+ℚ, zero-*ℚ, is_zero-true}
 use Rattle.linear_program.specs.Linear.{Form, Variable}
 use Rattle.mps_model.specs.Mps.{Entry, at_row, part_of_row, or_zero, no_column}
 use Rattle.scaled_program.specs.Program.{ScaledRow, nonzero}

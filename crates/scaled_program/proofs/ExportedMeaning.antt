@@ -4,7 +4,7 @@ use Rattle.std.proofs.Math.ListN.{get_or-map}
 use Rattle.std.proofs.lemmas.List.{get_or_default, length-map}
 use Rattle.exact_numbers.specs.Rational.{ℚ, ◌+ℚ◌, ◌-ℚ◌, ◌*ℚ◌, neg_ℚ}
 use Rattle.exact_numbers.specs.Sums.{sum_below}
-use Rattle.exact_numbers.proofs.FractionArithmetic.{+ℚ_comm, neg-neg, -ℚ_lem}
+use Rattle.exact_numbers.proofs.RationalLaws.{+ℚ_comm, neg-neg, -ℚ_lem}
 use Rattle.exact_numbers.proofs.Adding.{sum_below_same}
 use Rattle.linear_program.specs.Linear.{AreOrdered, IsInside, linear_part, value_at, unbounded, no_variable}
 use Rattle.mps_model.specs.Mps.{Column, at_row, or_zero, part_of_row, row_value, row_sides, row_interval, column_at, column_interval, is_whole_column, has_whole_record, IsMpsFeasible, mps_objective, objective_row}

@@ -2,7 +2,7 @@
 use Rattle.std.proofs.Common.{◌≡◌, ℕ, zero, suc, ◌+◌, ◌<◌, ◌∙◌, sym, ap, refl, arith, Bool, true, false, cond, nat_eq, List, [], ◌∷◌, ◌++◌, length, get_or, Option, Some, None, pos, int_lt, ◌≤ℤ◌, ◌⊎◌, ⊎_elim, ◌||◌, ◌&&◌}
 use Rattle.std.proofs.lemmas.Bool.{eq-eqb, ne_eqb}
 use Rattle.exact_numbers.specs.Rational.{ℚ, zero_ℚ, ◌+ℚ◌, ◌-ℚ◌, neg_ℚ, ◌≤ℚ◌}
-use Rattle.exact_numbers.proofs.FractionArithmetic.{difference_above, zero_value}
+use Rattle.exact_numbers.proofs.RationalLaws.{difference_above, zero_value}
 use Rattle.exact_numbers.proofs.Values.{own_value, le_value}
 use Rattle.std.proofs.lemmas.Int.{ints}
 use Rattle.linear_program.specs.Linear.{Interval, AreOrdered, Variable}

@@ -5,7 +5,7 @@ use Rattle.std.proofs.Math.Seq.{get_or-append_seam}
 use Rattle.std.proofs.Math.ListN.{get_or-append}
 use Rattle.std.proofs.lemmas.List.Elements.{All-push}
 use Rattle.exact_numbers.specs.Rational.{ℚ, zero_ℚ, one_ℚ, ◌+ℚ◌, ◌*ℚ◌, neg_ℚ, IsWhole}
-use Rattle.exact_numbers.proofs.FractionArithmetic.{+ℚ_assoc, +ℚ_zero, zero-+ℚ, +ℚ-neg, zero-*ℚ, one-*ℚ, neg-*ℚ, +ℚ_cancel, ≤ℚ_of_same, ≤ℚ_antisymm}
+use Rattle.exact_numbers.proofs.RationalLaws.{+ℚ_assoc, +ℚ_zero, zero-+ℚ, +ℚ-neg, zero-*ℚ, one-*ℚ, neg-*ℚ, +ℚ_cancel, ≤ℚ_of_same, ≤ℚ_antisymm}
 use Rattle.exact_numbers.proofs.Adding.{sum_below_same, sum_below_suc, sum_below_all_zero}
 use Rattle.linear_program.specs.Linear.{IsInside, Form, Row, RowHolds, Linear, IsLinear, IsFeasible, form_value, linear_part, value_at, no_variable, variable_count, objective_value}
 use Rattle.scaled_program.specs.Meaning.{HasOrderedSides, IsScaledFeasible, ScaledHolds, scaled_objective}

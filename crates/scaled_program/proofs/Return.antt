@@ -2,7 +2,7 @@
 use Rattle.std.proofs.Common.{◌≡◌, ℕ, zero, suc, ◌+◌, ◌<◌, ◌∙◌, sym, ap, subst, refl, arith, true, false, cond, List, [], ◌∷◌, ◌++◌, length, get_or, pos, IsTrue}
 use Rattle.std.proofs.Math.ListN.{get_or-append}
 use Rattle.exact_numbers.specs.Rational.{ℚ, zero_ℚ, whole, ◌+ℚ◌, ◌-ℚ◌, ◌*ℚ◌, neg_ℚ}
-use Rattle.exact_numbers.proofs.FractionArithmetic.{+ℚ_comm, +ℚ_assoc, +ℚ_zero, +ℚ-neg, -ℚ_lem, *ℚ_assoc, *ℚ_comm, *ℚ_zero, zero-*ℚ}
+use Rattle.exact_numbers.proofs.RationalLaws.{+ℚ_comm, +ℚ_assoc, +ℚ_zero, +ℚ-neg, -ℚ_lem, *ℚ_assoc, *ℚ_comm, *ℚ_zero, zero-*ℚ}
 use Rattle.exact_numbers.proofs.Adding.{sum_below_all_zero}
 use Rattle.linear_program.specs.Linear.{Form, Row, Linear, form_value, linear_part, value_at, variable_count, IsLinear, no_row, row_at}
 use Rattle.scaled_program.specs.Meaning.{no_scaled_row, scaled_row_value}

@@ -4,7 +4,7 @@ use Rattle.std.specs.Prelude.{is_some, ◌||◌}
 use Rattle.std.proofs.lemmas.Int.{ints}
 use Rattle.std.proofs.lemmas.List.Elements.{All-nil, All-cons, All-head, All-tail}
 use Rattle.exact_numbers.specs.Rational.{ℚ, zero_ℚ, whole, ◌+ℚ◌, ◌-ℚ◌, ◌*ℚ◌, neg_ℚ, ◌≤ℚ◌}
-use Rattle.exact_numbers.proofs.FractionArithmetic.{+ℚ_comm, +ℚ_assoc, +ℚ_zero, +ℚ-neg, -ℚ_lem, +ℚ-≤ℚ, *ℚ_assoc, *ℚ_comm, *ℚ-≤ℚ, le_or_lt, ≤ℚ_antisymm, ≤ℚ_of_<ℚ, ≤ℚ_of_same, *ℚ_cancel, whole-≤ℚ, same_whole}
+use Rattle.exact_numbers.proofs.RationalLaws.{+ℚ_comm, +ℚ_assoc, +ℚ_zero, +ℚ-neg, -ℚ_lem, +ℚ-≤ℚ, *ℚ_assoc, *ℚ_comm, *ℚ-≤ℚ, le_or_lt, ≤ℚ_antisymm, ≤ℚ_of_<ℚ, ≤ℚ_of_same, *ℚ_cancel, whole-≤ℚ, same_whole}
 use Rattle.exact_numbers.proofs.Adding.{sum_below_same, sum_below-*ℚ}
 use Rattle.linear_program.specs.Linear.{AreOrdered, Row, RowHolds, form_value, linear_part, value_at, has_side}
 use Rattle.linear_program.proofs.Sides.{AtLeast, AtMost}

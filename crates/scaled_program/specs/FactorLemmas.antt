@@ -10,7 +10,7 @@ use Rattle.exact_numbers.specs.Fits.{least_multiple}
 use Rattle.exact_numbers.specs.Divisors.{AreCoprime}
 use Rattle.exact_numbers.specs.LowestLemmas.{gcd_of, is_gcd, dvd_other, coprime-swap, Reduced, reduced_lem}
 use Rattle.exact_numbers.specs.Rational.{ℚ, whole, ◌*ℚ◌, decimal_value, above_zero, below_zero}
-use Rattle.exact_numbers.proofs.FractionArithmetic.{decimal_value_lem}
+use Rattle.exact_numbers.proofs.RationalLaws.{decimal_value_lem}
 use Rattle.exact_numbers.proofs.Coprimes.{coprime-pow}
 use Rattle.exact_numbers.proofs.Values.{HasValue, sizes_of, own_value, whole_value, product_value, scaled_value, same_over}
 use Rattle.scaled_program.specs.Finite.{IsFinite, IsLeastFactor}

@@ -1,4 +1,4 @@
-use Rattle.exact_numbers.proofs.FractionArithmetic.{over_same, over_parts, over-+ℚ, over-*ℚ, over-neg, over-≤ℚ}
+use Rattle.exact_numbers.proofs.RationalLaws.{over_same, over_parts, over-+ℚ, over-*ℚ, over-neg, over-≤ℚ}
 use Rattle.exact_numbers.proofs.fraction_laws.numbers_are_pairs.Goals as goal
 
 pub returns-clause-same : goal.returns-clause-same

@@ -1,4 +1,4 @@
-use Rattle.exact_numbers.proofs.FractionArithmetic.{≤ℚ_refl, ≤ℚ_trans, ≤ℚ_antisymm, le_or_lt, not_both, +ℚ-≤ℚ, *ℚ-≤ℚ}
+use Rattle.exact_numbers.proofs.RationalLaws.{≤ℚ_refl, ≤ℚ_trans, ≤ℚ_antisymm, le_or_lt, not_both, +ℚ-≤ℚ, *ℚ-≤ℚ}
 use Rattle.exact_numbers.proofs.Extremes.{is_smaller_test}
 use Rattle.exact_numbers.proofs.fraction_laws.order.Goals as goal
 

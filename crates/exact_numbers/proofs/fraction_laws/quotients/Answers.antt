@@ -1,4 +1,4 @@
-use Rattle.exact_numbers.proofs.FractionArithmetic.{quotient_none, quotient_there}
+use Rattle.exact_numbers.proofs.RationalLaws.{quotient_none, quotient_there}
 use Rattle.exact_numbers.proofs.fraction_laws.quotients.Goals as goal
 
 pub returns-clause-missing : goal.returns-clause-missing

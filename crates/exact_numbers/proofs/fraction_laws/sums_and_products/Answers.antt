@@ -1,4 +1,4 @@
-use Rattle.exact_numbers.proofs.FractionArithmetic.{+ℚ_comm, +ℚ_assoc, +ℚ_zero, +ℚ-neg, *ℚ_comm, *ℚ_assoc, *ℚ_one, *ℚ-+ℚ}
+use Rattle.exact_numbers.proofs.RationalLaws.{+ℚ_comm, +ℚ_assoc, +ℚ_zero, +ℚ-neg, *ℚ_comm, *ℚ_assoc, *ℚ_one, *ℚ-+ℚ}
 use Rattle.exact_numbers.proofs.fraction_laws.sums_and_products.Goals as goal
 
 pub returns-clause-sum_comm : goal.returns-clause-sum_comm

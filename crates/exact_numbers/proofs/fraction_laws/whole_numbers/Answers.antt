@@ -1,4 +1,4 @@
-use Rattle.exact_numbers.proofs.FractionArithmetic.{IsWhole-whole, whole_of, same_whole}
+use Rattle.exact_numbers.proofs.RationalLaws.{IsWhole-whole, whole_of, same_whole}
 use Rattle.exact_numbers.proofs.fraction_laws.whole_numbers.Goals as goal
 
 pub returns-clause-whole : goal.returns-clause-whole

@@ -12,9 +12,9 @@ abbrev pub invariant-parts : goal.invariant-parts
 invariant-parts l = record {
   within : l.done ≤ l.total;
   start : l.done < l.total → l.done % 1024 ≡ 0;
-  later : AreLater l.done l.initial.batches l.batches;
+  later : AreLater l.done l.initial.buckets l.buckets;
   few : l.place.markers ≤ l.done;
-  text : (s : ScaledValue) → AreHeads s l.heads → AreColumns (λ c. c) (column_count s) (entries_in_column s) l.initial.batches →
+  text : (s : ScaledValue) → AreHeads s l.heads → AreColumns (λ c. c) (column_count s) (entries_in_column s) l.initial.buckets →
       l.out ++ lines_text (lines_from s l.place.marked l.place.markers l.done) ≡ l.initial.out ++ lines_text (lines_from s false 0 0);
 }
 

@@ -2,7 +2,7 @@ use Rattle.std.proofs.Common.{sym, ap, ◌∙◌}
 use Rattle.exact_numbers.specs.Values.{frac_value}
 use Rattle.exact_numbers.proofs.Bridge.{is_fitting}
 use Rattle.exact_numbers.specs.Rational.{◌*ℚ◌}
-use Rattle.exact_numbers.proofs.FractionArithmetic.{*ℚ_one, one-*ℚ}
+use Rattle.exact_numbers.proofs.RationalLaws.{*ℚ_one, one-*ℚ}
 use Rattle.exact_numbers.proofs.frac.Frac.mul.Goals as goal
 
 pub returns-then-is_one : goal.returns-then-is_one

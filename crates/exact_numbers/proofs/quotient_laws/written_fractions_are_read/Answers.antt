@@ -1,5 +1,0 @@
-use Rattle.exact_numbers.proofs.Written.{fraction_read}
-use Rattle.exact_numbers.proofs.quotient_laws.written_fractions_are_read.Goals as goal
-
-pub returns : goal.returns
-returns c = fraction_read
