@@ -27,6 +27,7 @@ fn sum_up(alloc: Global, scaled: Scaled, variables: u32, rows: usize) -> Result<
     ensures { IfOk result (λ out. IsSummedUp variables rows (mps_of (scaled_as scaled)) out.items) }
 {
     let mps = exported(alloc, scaled)?;
+    // for the prover alone: it brings what an `Mps` always keeps
     let _ = mps.rows();
     let terms = coefficient_count(&mps, rows);
     let text = write_mps(alloc, &mps)?;

@@ -47,6 +47,7 @@ fn write_named(
 {
     let plain = exported(alloc, scaled)?;
     let mps = renamed(alloc, plain, rows, columns)?;
+    // for the prover alone: it brings what an `Mps` always keeps
     let _ = mps.rows();
     let out = write_mps(alloc, &mps)?;
     Ok(out)

@@ -48,6 +48,7 @@ fn mps_output(alloc: Global, mps: &Mps) -> Result<(bool, Vec<u8>), Stop<Refusal>
     ensures comes { Comes (λ outcome. outcome ≡ Done true (mps_text mps.now)) result }
     ensures means { IfOk result (λ t. IsMpsMeant mps.now) }
 {
+    // for the prover alone: it brings what an `Mps` always keeps
     let _ = mps.rows();
     let out = write_mps(alloc, mps)?;
     Ok((true, out))

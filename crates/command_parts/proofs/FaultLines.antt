@@ -5,7 +5,7 @@ use Rattle.std.specs.Option.{option_or}
 use Rattle.std.proofs.lemmas.Bool.{ltb-false, ltb-true}
 use Rattle.std.proofs.lemmas.Option.{same_Some}
 use Rattle.exact_numbers.specs.Rational.{decimal_value}
-use Rattle.nl_model.specs.declared.Fault.{Fault}
+use Rattle.nl_model.specs.declared.fault.Fault.{Fault}
 use Rattle.linear_program.specs.Lines.{constant_line, line_by}
 use Rattle.nl_model.specs.Faults.{expression_fault}
 use Rattle.nl_model.specs.Trees.{Expression, Tree, expression_given}

@@ -35,6 +35,7 @@ pub fn fold_read<L: Ledger>(
     ensures counts { steps.new ≤ steps.old + fold_steps (value_of read) objective }
 {
     let NlRead { file, places } = read;
+    // for the prover alone: it brings what an `NlFile` always keeps
     let _ = file.header();
     match fold_file(alloc, file, objective, steps) {
         Ok(linear) => Ok(linear),

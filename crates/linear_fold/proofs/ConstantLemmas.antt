@@ -20,7 +20,7 @@ use Rattle.exact_numbers.proofs.RationalLaws.{over_lowest, zero_value, over_whol
 use Rattle.exact_numbers.proofs.Values.{own_value, value_le, value_lt}
 use Rattle.linear_program.specs.Lines.{constant_line, Line, is_constant, are_constant, constants_of}
 use Rattle.nl_model.specs.Faults.{constants_line, operator_fault, operator_line, power_fault, too_wide_unless}
-use Rattle.nl_model.specs.declared.Reason.TheVariants.{Nonlinear, RefusedPower, TooWide}
+use Rattle.nl_model.specs.declared.fault.Reason.TheVariants.{Nonlinear, RefusedPower, TooWide}
 use Rattle.nl_model.specs.Trees.{applied, rule_of}
 use Rattle.code_tables.specs.declared.class.OpClass.{OpClass}
 use Rattle.code_tables.specs.declared.class.OpClass.TheVariants.{Greatest, Least, Power}

@@ -7,7 +7,7 @@ use Rattle.exact_numbers.specs.Values.{frac_value}
 use Rattle.exact_numbers.specs.Fits.{fits, sum_fits}
 use Rattle.exact_numbers.specs.Rational.{ℚ, zero_ℚ, ◌+ℚ◌, one_ℚ, ◌*ℚ◌}
 use Rattle.exact_numbers.proofs.RationalLaws.{zero-+ℚ, *ℚ_zero, +ℚ_zero}
-use Rattle.nl_model.specs.declared.Fault.{Fault}
+use Rattle.nl_model.specs.declared.fault.Fault.{Fault}
 use Rattle.nl_model.specs.Faults.{fault_at, too_wide_unless, line_with_terms, terms_fault, tree_fault}
 use Rattle.linear_program.specs.Lines.{line_with, Line, line_value, constant_line, products_fit, Point}
 use Rattle.nl_model.specs.Trees.{LinearTerm, Known, Tree, Trees, AreTermsBelow, tree_size, trees_size, tree_given, number}

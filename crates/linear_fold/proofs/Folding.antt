@@ -9,8 +9,8 @@ use Rattle.exact_numbers.specs.declared.frac.Frac.{Frac}
 use Rattle.exact_numbers.specs.Values.{frac_value}
 use Rattle.exact_numbers.specs.Rational.{ℚ, zero_ℚ, one_ℚ, ◌+ℚ◌, ◌*ℚ◌, neg_ℚ, inverse_of}
 use Rattle.exact_numbers.proofs.RationalLaws.{*ℚ_zero, +ℚ_zero, neg_zero}
-use Rattle.nl_model.specs.declared.Fault.{Fault}
-use Rattle.nl_model.specs.declared.Reason.{Reason}
+use Rattle.nl_model.specs.declared.fault.Fault.{Fault}
+use Rattle.nl_model.specs.declared.fault.Reason.{Reason}
 use Rattle.linear_program.specs.Lines.{Line, line_values, line_value, line_by, is_constant, line_with, line_sum, line_scaled, line_neg, running_line, constant_line, Point}
 use Rattle.nl_model.specs.Faults.{operator_fault, operator_line, fault_at, trees_lines, tree_fault, trees_fault}
 use Rattle.nl_model.specs.Trees.{Known, Tree, operator, Trees, none, more, applied, rule_of, tree_given, trees_given, Takes, tree_size, trees_size, first_trees}

@@ -7,7 +7,7 @@ use Rattle.exact_numbers.specs.Values.{dec_value, frac_value}
 use Rattle.exact_numbers.specs.Fits.{fits}
 use Rattle.exact_numbers.specs.Rational.{zero_ℚ}
 use Rattle.linear_program.specs.Lines.{constant_line}
-use Rattle.nl_model.specs.declared.Fault.{Fault}
+use Rattle.nl_model.specs.declared.fault.Fault.{Fault}
 use Rattle.nl_model.specs.Faults.{fault_at, too_wide_unless}
 use Rattle.nl_model.specs.Trees.{Tree, number, tree_size}
 use Rattle.nl_model.specs.declared.at.At.TheVariants.{Head}

@@ -28,8 +28,8 @@ use Rattle.linear_program.proofs.Scaled.{all_below-false, all_below-intro, same_
 use Rattle.std.proofs.Math.Nat.{mul-le-mul_left}
 use Rattle.code_tables.specs.declared.class.OpClass.{OpClass}
 use Rattle.code_tables.specs.declared.class.OpClass.TheVariants.{Quotient}
-use Rattle.nl_model.specs.declared.Reason.{Reason}
-use Rattle.nl_model.specs.declared.Reason.TheVariants.{DivideByZero}
+use Rattle.nl_model.specs.declared.fault.Reason.{Reason}
+use Rattle.nl_model.specs.declared.fault.Reason.TheVariants.{DivideByZero}
 use Rattle.nl_model.specs.Faults.{too_wide_unless, operator_fault}
 use Rattle.linear_fold.specs.declared.operate.Outcome.{Outcome}
 use Rattle.linear_fold.specs.declared.operate.Outcome.TheVariants.{Linear as Made, Refused}

@@ -7,9 +7,9 @@ use Rattle.std.proofs.lemmas.List.Sums.{get_or-le-sum_by}
 use Rattle.exact_numbers.specs.Rational.{decimal_value}
 use Rattle.exact_numbers.specs.Fits.{fits, sum_fits}
 use Rattle.exact_numbers.proofs.Bridge.{zero_decimal}
-use Rattle.nl_model.specs.declared.Fault.{Fault}
-use Rattle.nl_model.specs.declared.Reason.{Reason}
-use Rattle.nl_model.specs.declared.Reason.TheVariants.{Nonlinear as IsNonlinear}
+use Rattle.nl_model.specs.declared.fault.Fault.{Fault}
+use Rattle.nl_model.specs.declared.fault.Reason.{Reason}
+use Rattle.nl_model.specs.declared.fault.Reason.TheVariants.{Nonlinear as IsNonlinear}
 use Rattle.linear_program.specs.Lines.{Line, constant_line, line_with, Point}
 use Rattle.nl_model.specs.Faults.{fault_at, too_wide_unless, tree_fault, trees_fault, terms_fault, expression_fault, tree_line, trees_lines, operator_fault}
 use Rattle.nl_model.specs.Trees.{Known, Tree, number, variable, defined, operator, Trees, none, more, Expression, expression_given, tree_size, trees_size}

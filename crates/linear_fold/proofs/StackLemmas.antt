@@ -1,7 +1,7 @@
 -- Stacks of parts, of which some are closed or taken.
 use Rattle.std.proofs.Common.{◌≡◌, ℕ, zero, suc, ◌+◌, ◌-◌, ◌<◌, ◌≤◌, ◌∙◌, sym, ap, refl, subst, arith, Option, None, Some, Result, Ok, Err, OnOk, List, [], ◌∷◌, ◌++◌, length, reverse, take, drop, get_or, set, subst₂}
 use Rattle.std.proofs.lemmas.List.{length-reverse, length-take-le, reverse-append, take-take}
-use Rattle.nl_model.specs.declared.Fault.{Fault}
+use Rattle.nl_model.specs.declared.fault.Fault.{Fault}
 use Rattle.nl_model.specs.Faults.{tree_fault}
 use Rattle.nl_model.specs.Trees.{Known, Tree, tree_size}
 use Rattle.linear_program.specs.Lines.{Point}

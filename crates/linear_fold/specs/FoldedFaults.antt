@@ -2,8 +2,8 @@
 use Rattle.std.specs.Prelude.{ℕ, ◌+◌, ◌-◌, ◌*◌, nat_lt, length, Option, option_map, if◌then◌else◌}
 use Rattle.std.specs.List.{sum_by}
 use Rattle.std.specs.Option.{option_map_or}
-use Rattle.nl_model.specs.declared.Reason.{Reason}
-use Rattle.nl_model.specs.declared.Reason.TheVariants.{Nonlinear as IsNonlinear, DivideByZero as DividesByZero, TooWide as IsTooWide, RefusedPower as HasRefusedPower}
+use Rattle.nl_model.specs.declared.fault.Reason.{Reason}
+use Rattle.nl_model.specs.declared.fault.Reason.TheVariants.{Nonlinear as IsNonlinear, DivideByZero as DividesByZero, TooWide as IsTooWide, RefusedPower as HasRefusedPower}
 use Rattle.nl_model.specs.Trees.{tree_size}
 use Rattle.nl_model.specs.declared.at.At.{At}
 use Rattle.nl_model.specs.declared.at.At.TheVariants.{Node, Term, Head}

@@ -4,7 +4,7 @@ use Rattle.text_base.specs.declared.stop.Stop.{Stop}
 use Rattle.text_base.specs.declared.stop.Stop.TheVariants.{Fault as Stopped, Memory}
 use Rattle.code_tables.specs.Opcodes.{class_of}
 use Rattle.exact_numbers.specs.Rational.{ℚ}
-use Rattle.nl_model.specs.declared.Fault.{Fault}
+use Rattle.nl_model.specs.declared.fault.Fault.{Fault}
 use Rattle.nl_model.specs.Faults.{expression_fault, line_with_terms, terms_fault, tree_fault, trees_fault}
 use Rattle.linear_program.specs.Lines.{Line, line_value, Point}
 use Rattle.nl_model.specs.Trees.{Known, Tree, number, variable, defined, operator, Trees, none, more, LinearTerm, Expression, Takes, rule_of, expression_given, tree_size, tree_given}

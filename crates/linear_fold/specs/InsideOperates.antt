@@ -6,8 +6,8 @@ use Rattle.code_tables.specs.declared.class.OpClass.{OpClass}
 use Rattle.code_tables.specs.declared.class.OpClass.TheVariants.{Least, Greatest}
 use Rattle.exact_numbers.specs.Functions.{lesser_of, greater_of}
 use Rattle.exact_numbers.specs.Rational.{ℚ, neg_ℚ, one_ℚ, zero_ℚ}
-use Rattle.nl_model.specs.declared.Fault.{Fault as NodeFault}
-use Rattle.nl_model.specs.declared.Reason.TheVariants.{TooWide}
+use Rattle.nl_model.specs.declared.fault.Fault.{Fault as NodeFault}
+use Rattle.nl_model.specs.declared.fault.Reason.TheVariants.{TooWide}
 use Rattle.linear_program.specs.Lines.{constant_line, line_neg, line_sum, line_with, Line, are_constant, constants_of, sums_fit}
 use Rattle.nl_model.specs.Faults.{operator_fault, operator_line}
 use Rattle.nl_model.specs.Trees.{applied, rule_of}

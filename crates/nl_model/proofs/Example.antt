@@ -4,7 +4,7 @@ use Rattle.exact_numbers.specs.LowestLemmas.{gcd_of, steps_of_euclid}
 use Rattle.exact_numbers.specs.Functions.{power_of, lesser_of, least_of, floor_of, ceiling_of}
 use Rattle.exact_numbers.specs.Rational.{over, whole, ◌+ℚ◌, ◌*ℚ◌, ◌-ℚ◌, neg_ℚ, decimal_value}
 use Rattle.exact_numbers.proofs.Values.{same_parts}
-use Rattle.nl_model.specs.declared.Reason.TheVariants.{Nonlinear, TooWide, RefusedPower}
+use Rattle.nl_model.specs.declared.fault.Reason.TheVariants.{Nonlinear, TooWide, RefusedPower}
 use Rattle.nl_model.specs.Example.{power_and_least}
 use Rattle.nl_model.specs.Faults.{first_fault}
 use Rattle.linear_program.specs.Lines.{Point}

@@ -3,7 +3,7 @@ use Rattle.std.proofs.Common.{◌≡◌, ℕ, zero, suc, ◌+◌, ◌<◌, ◌�
 use Rattle.std.specs.List.{fold}
 use Rattle.std.specs.Option.{option_or}
 use Rattle.linear_program.specs.Linear.{value_at}
-use Rattle.nl_model.specs.declared.Fault.{Fault}
+use Rattle.nl_model.specs.declared.fault.Fault.{Fault}
 use Rattle.nl_model.specs.Faults.{expression_fault, definitions_fault, tree_line, line_with_terms, expression_line}
 use Rattle.nl_model.specs.Parts.{IsPart, IsLinearTree}
 use Rattle.nl_model.specs.Trees.{Tree, Known, with_definition, Expression, Definition, known_values, expression_value, IsExpressionFormed, AreDefined, IsOneOf, indices_of}

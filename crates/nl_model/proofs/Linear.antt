@@ -10,8 +10,8 @@ use Rattle.exact_numbers.specs.Sums.{sum_below, sum_of_all}
 use Rattle.exact_numbers.proofs.RationalLaws.{+ℚ_assoc, +ℚ_zero, zero-+ℚ, *ℚ_comm, zero-*ℚ, one-*ℚ, -ℚ_lem, quotient_some}
 use Rattle.exact_numbers.proofs.Tests.{option_or-none}
 use Rattle.exact_numbers.proofs.Adding.{sum_over_nil, sum_over_cons, sum_below_all_zero}
-use Rattle.nl_model.specs.declared.Reason.{Reason}
-use Rattle.nl_model.specs.declared.Reason.TheVariants.{Nonlinear, DivideByZero}
+use Rattle.nl_model.specs.declared.fault.Reason.{Reason}
+use Rattle.nl_model.specs.declared.fault.Reason.TheVariants.{Nonlinear, DivideByZero}
 use Rattle.linear_program.specs.Lines.{Line, line_value, line_values, is_zero, is_constant, are_constant, constants_of, constant_line, running_line, line_sum, line_scaled, line_neg, line_with, Point}
 use Rattle.nl_model.specs.Faults.{power_fault, constants_line, operator_line, line_with_terms, operator_fault, fault_at, tree_line, trees_lines, tree_fault, trees_fault, expression_fault, definitions_fault, first_fault, first_expression_fault, coef, constant_of, expression_line}
 use Rattle.nl_model.specs.Trees.{Known, Tree, number, variable, defined, operator, Trees, none, more, applied, rule_of, tree_given, trees_given, LinearTerm, Expression, Definition, terms_value, expression_given, with_definition, known_values, tree_value, expression_value, tree_size, count_of, Takes, IsOneOf, IsFormed, AreFormed, AreTermsBelow, IsExpressionFormed, indices_after, indices_of, AreDefined}

@@ -6,9 +6,9 @@ use Rattle.code_tables.specs.declared.class.OpClass.TheVariants.{Sum, Difference
 use Rattle.exact_numbers.specs.Fits.{fits, sum_fits}
 use Rattle.exact_numbers.specs.Functions.{exponent_of, or_zero, power_of}
 use Rattle.exact_numbers.specs.Rational.{ℚ, inverse_of, decimal_value}
-use Rattle.nl_model.specs.declared.Fault.{Fault}
-use Rattle.nl_model.specs.declared.Reason.{Reason}
-use Rattle.nl_model.specs.declared.Reason.TheVariants.{Nonlinear, DivideByZero, TooWide, RefusedPower}
+use Rattle.nl_model.specs.declared.fault.Fault.{Fault}
+use Rattle.nl_model.specs.declared.fault.Reason.{Reason}
+use Rattle.nl_model.specs.declared.fault.Reason.TheVariants.{Nonlinear, DivideByZero, TooWide, RefusedPower}
 use Rattle.linear_program.specs.Lines.{Line, line_by, is_zero, is_constant, are_constant, constants_of, Point, line_sum, line_scaled, line_neg, constant_line, running_line, line_with, sums_fit, products_fit, running_sums_fit}
 use Rattle.nl_model.specs.Trees.{Tree, number, variable, defined, operator, Trees, none, more, Known, with_definition, LinearTerm, Expression, Definition, applied, rule_of, tree_given, known_values, tree_value, expression_value, tree_size}
 

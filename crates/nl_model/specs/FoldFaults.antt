@@ -1,7 +1,7 @@
 -- The first fault of folding an .nl file to its linear program (own profile).
 use Rattle.std.specs.Prelude.{ℕ, zero, suc, ◌+◌, ◌^◌, ◌==◌, ◌&&◌, ◌||◌, nat_lt, Bool, if◌then◌else◌, List, [], ◌∷◌, ◌++◌, length, get_or, take, Option, Some, None, option_map}
 use Rattle.std.specs.Option.{option_or}
-use Rattle.nl_model.specs.declared.Fault.{Fault}
+use Rattle.nl_model.specs.declared.fault.Fault.{Fault}
 use Rattle.nl_model.specs.Faults.{expression_fault}
 use Rattle.linear_program.specs.Lines.{Line, line_by, is_zero, Point}
 use Rattle.nl_model.specs.Trees.{Known, Expression, Definition, expression_given, known_values}

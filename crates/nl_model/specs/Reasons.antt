@@ -1,7 +1,7 @@
 -- What is said of a tree that has no line.
 use Rattle.std.specs.Prelude.{ℕ, List, codes}
-use Rattle.nl_model.specs.declared.Reason.{Reason}
-use Rattle.nl_model.specs.declared.Reason.TheVariants.{Nonlinear, DivideByZero, TooWide, RefusedPower}
+use Rattle.nl_model.specs.declared.fault.Reason.{Reason}
+use Rattle.nl_model.specs.declared.fault.Reason.TheVariants.{Nonlinear, DivideByZero, TooWide, RefusedPower}
 
 -- the words of each reason
 abbrev pub tree_reason_text : Reason → List ℕ

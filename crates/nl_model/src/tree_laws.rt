@@ -2,7 +2,7 @@
 ghost use Rattle.std.specs.Prelude.{◌≡◌, ℕ, ◌≤◌, List, None, Some, [], pos, negsuc};
 ghost use Rattle.exact_numbers.specs.Rational.{zero_ℚ, ◌+ℚ◌, ◌*ℚ◌, decimal_value};
 ghost use Rattle.exact_numbers.specs.Sums.{sum_below};
-ghost use Rattle.nl_model.specs.declared.Reason.TheVariants.{Nonlinear, RefusedPower, TooWide};
+ghost use Rattle.nl_model.specs.declared.fault.Reason.TheVariants.{Nonlinear, RefusedPower, TooWide};
 ghost use Rattle.nl_model.specs.Example.{power_and_least};
 ghost use Rattle.nl_model.specs.Faults.{coef, constant_of, expression_line, first_expression_fault, first_fault};
 ghost use Rattle.linear_program.specs.Lines.{line_value, Point};

@@ -3,7 +3,7 @@ use Rattle.nl_model.specs.Draft.{Draft}
 use Rattle.bridge_tool.specs.InsideMaking.{CanAddRow, with_row}
 use Rattle.bridge_tool.specs.declared.draws.Row.{Row}
 use Rattle.bridge_tool.proofs.Drafting.{added, begun, can_add, full}
-use Rattle.bridge_tool.proofs.make_instance.Goals as goal
+use Rattle.bridge_tool.proofs.instance.make_instance.Goals as goal
 
 pub loop-k-init : goal.loop-k-init
 loop-k-init c =

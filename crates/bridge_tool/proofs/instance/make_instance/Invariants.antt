@@ -1,7 +1,7 @@
 use Rattle.std.proofs.Common.{◌≡◌, ◌*◌}
 use Rattle.bridge_tool.specs.Draws.{state_after}
 use Rattle.bridge_tool.specs.InsideMaking.{drafted}
-use Rattle.bridge_tool.proofs.make_instance.Given as goal
+use Rattle.bridge_tool.proofs.instance.make_instance.Given as goal
 
 abbrev pub invariant-loop-k : goal.invariant-loop-k
 invariant-loop-k l = record {
