@@ -41,7 +41,7 @@ ARITHMETIC = {  # what numbers are
         "Fits",
         "FloorLemmas",
         "Fraction",
-        "FractionNumbers",
+        "LowestTerms",
         "Functions",
         "LowestLemmas",
         "Rational",

@@ -13,12 +13,12 @@ ghost use Rattle.bridge_tool.specs.Check.{by_fold, check_outcome, check_promise,
 ghost use Rattle.command_core.specs.SeveralFiles.{Comes};
 ghost use Rattle.command_parts.specs.VerdictTold.{is_yes, verdict_line};
 
-use certificate_check::fit;
+use certificate_check::{certify, fit};
 use command_core::{Answer, Refusal, end};
 use command_parts::{
     fit_refusal, fold_read, is_yes, negative_refusal, open_nl, open_sol, verdict_line,
 };
-use exact_checks::{Columns, Verdict, certify};
+use exact_checks::{Columns, Verdict};
 use exact_numbers::Dec;
 use linear_program::Linear;
 use nl_model::NlFile;

@@ -14,9 +14,9 @@ ghost use Rattle.exact_checks.specs.Sums.{IsNeeded, less_part, short_value, sum_
 ghost use Rattle.exact_checks.specs.Terms.{value_found};
 ghost use Rattle.exact_checks.specs.declared.sums.RunningSum.TheVariants.{Untouched};
 
-use crate::duals::side_fraction;
 use crate::number::{is_negative, less_product};
 use crate::short_fraction::ShortFraction;
+use crate::sides::side_fraction;
 use crate::verdict::{Fault, Spot};
 use exact_numbers::{Dec, Frac};
 use linear_program::Number;
