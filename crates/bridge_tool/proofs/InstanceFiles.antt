@@ -16,6 +16,7 @@ use Rattle.bridge_tool.proofs.Drafting.{can_add}
 use Rattle.bridge_tool.proofs.NumberLemmas.{is_headed}
 use Rattle.bridge_tool.proofs.RowLemmas.{is_one, not_defined, terms_so_far}
 use Rattle.bridge_tool.proofs.InstanceNumbers.{above_zero}
+use Rattle.round_trips.proofs.Files.{one}
 
 -- what holds of each number below the limit holds of m of them from a on
 all_from : {A : Type 0} (P : A → Type 0) (f : ℕ → A) (limit a m : ℕ) → a + m ≤ limit → ((k : ℕ) → k < limit → P (f k)) → All P (map f (range_with_len a m))
@@ -24,9 +25,6 @@ all_from P f limit a (suc m) le h = All-cons P (f a) (map f (range_with_len (a +
 
 pub all_each : {A : Type 0} (P : A → Type 0) (f : ℕ → A) (n : ℕ) → ((k : ℕ) → k < n → P (f k)) → All P (each n f)
 all_each P f n h = all_from P f n 0 n (omega arith) h
-
-one : {A : Type 0} (P : A → Type 0) (x : A) → P x → All P (x ∷ [])
-one P x h = All-cons P x [] h (All-nil P)
 
 -- ---- definitions
 
