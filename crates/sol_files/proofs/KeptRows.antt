@@ -40,10 +40,6 @@ pub is_there : {A : Type 0} (o : Option A) → is_none o ≡ false → IsThere o
 is_there None e = absurd cc
 is_there (Some x) e = record { value = x; is = refl }
 
--- a signed number that was read fits
-some_is : {A : Type 0} (x y : A) → Some x ≡ Some y → x ≡ y
-some_is x y g = cc
-
 -- ---- options
 
 await_options : (s : Progress) (n : ℕ) → Speaks s.sol.message s.is_held_back → HasOptions n s.sol.options → s.sol.n_con ≤ 2 ^ 20 → s.sol.n_var ≤ 2 ^ 20 → IfSome s.sol.objno IsSignedPair → HasNoValues s.sol × NoneBegun s → KeepsAt (options_await n) s
