@@ -1,5 +1,6 @@
 -- The nodes and pairs of a proof become those of a tree of a certificate, whatever trees are still to come.
-use Rattle.std.proofs.Common.{◌≡◌, ℕ, ◌+◌, ◌<◌, ◌≤◌, ◌∙◌, sym, ap, ap₂, subst, refl, arith, List, [], ◌∷◌, ◌++◌, length, length-append, take, drop, drop-cons, get_or, add-one, append-nil, append_assoc, ℤ, All}
+use Rattle.std.proofs.Common.{◌≡◌, ℕ, ◌+◌, ◌<◌, ◌≤◌, ◌∙◌, sym, ap, ap₂, subst, refl, arith, List, [], ◌∷◌, ◌++◌, length}
+use Rattle.std.proofs.Common.{length-append, take, drop, drop-cons, get_or, add-one, append-nil, append_assoc, ℤ, All}
 use Rattle.std.specs.Prelude.{flat_map}
 use Rattle.std.proofs.lemmas.List.{drop_all, length-take-le, take_at, drop_at}
 use Rattle.exact_numbers.specs.Rational.{zero_ℚ}
@@ -7,7 +8,10 @@ use Rattle.linear_program.specs.Linear.{Linear, row_count, variable_count}
 use Rattle.certificates.specs.Branch.{split as split_tree, duals as duals_leaf, weights as weights_leaf}
 use Rattle.certificates.specs.Parts.{bound}
 use Rattle.linear_program.specs.Elements.{elements_from}
-use Rattle.certificates.specs.Certificates.{CertificateTree, IsCutNumber, split as written_split, duals as written_duals, weights as written_weights, nodes_of as written_nodes_of, pairs_of as written_pairs_of, tree_over as written_over}
+use Rattle.certificates.specs.Certificates.{CertificateTree, IsCutNumber, split as written_split}
+use Rattle.certificates.specs.Certificates.{duals as written_duals, weights as written_weights}
+use Rattle.certificates.specs.Certificates.{nodes_of as written_nodes_of, pairs_of as written_pairs_of}
+use Rattle.certificates.specs.Certificates.{tree_over as written_over}
 use Rattle.linear_program.specs.Numbers.{Pair as WrittenPair, number_of as written_number, spread as written_spread}
 use Rattle.certificates.specs.declared.certificate.CertificateNode.{CertificateNode}
 use Rattle.certificates.specs.declared.certificate.CertificateNode.TheVariants.{Split as SplitAt}
@@ -99,7 +103,9 @@ module _ (f : Linear) where
               same = w.same.same;
             }
 
-        by : (more : List ProofTree) → [] ≡ flat_map nodes_of more → ((ws : List CertificateTree) → AreSame more ws → IsWhole all (done ++ flat_map written_nodes_of ws) (given ++ flat_map written_pairs_of ws)) → IsTreeFor f all done given
+        by : (more : List ProofTree) → [] ≡ flat_map nodes_of more
+          → ((ws : List CertificateTree) → AreSame more ws → IsWhole all (done ++ flat_map written_nodes_of ws)
+            (given ++ flat_map written_pairs_of ws)) → IsTreeFor f all done given
         by [] none whole = ended (whole [] tt)
         by (split j t a b ∷ more) none whole = absurd (cc)
         by (duals ps ∷ more) none whole = absurd (cc)
@@ -116,7 +122,9 @@ module _ (f : Linear) where
           → OnWrite all nodes (drop (announced_pairs node) pairs) (done ++ node_with node (length own) ∷ []) (given ++ own)
 
     module _ (more : List ProofTree) (trees : AreTrees more) where
-      at_split : (j : ℕ) (t : ℤ) (a b : ProofTree) (nodes : List ProofNode) → nodes ≡ (nodes_of a ++ nodes_of b) ++ flat_map nodes_of more → pairs ≡ (pairs_of a ++ pairs_of b) ++ flat_map pairs_of more → IsTreeOf f (split j t a b)
+      at_split : (j : ℕ) (t : ℤ) (a b : ProofTree) (nodes : List ProofNode)
+        → nodes ≡ (nodes_of a ++ nodes_of b) ++ flat_map nodes_of more
+        → pairs ≡ (pairs_of a ++ pairs_of b) ++ flat_map pairs_of more → IsTreeOf f (split j t a b)
           → ((ws : List CertificateTree) → AreSame (split j t a b ∷ more) ws → IsWhole all (done ++ flat_map written_nodes_of ws) (given ++ flat_map written_pairs_of ws)) → AtNode (Split j t) nodes
       unfolding IsTreeOf AreTrees AreSame written_nodes_of written_pairs_of
       at_split j t a b nodes left ps fine whole =
@@ -133,7 +141,9 @@ module _ (f : Linear) where
                 };
           }
         where
-          next : (own : List WrittenPair) → own ≡ [] → IsCutNumber t → (ws : List CertificateTree) → AreSame (a ∷ b ∷ more) ws → IsWhole all ((done ++ SplitAt j t ∷ []) ++ flat_map written_nodes_of ws) ((given ++ own) ++ flat_map written_pairs_of ws)
+          next : (own : List WrittenPair) → own ≡ [] → IsCutNumber t → (ws : List CertificateTree)
+            → AreSame (a ∷ b ∷ more) ws → IsWhole all ((done ++ SplitAt j t ∷ []) ++ flat_map written_nodes_of ws)
+            ((given ++ own) ++ flat_map written_pairs_of ws)
           next own none number [] h = absurd h
           next own none number (v ∷ []) h = absurd h.1
           next own none number (v ∷ w ∷ ws) h =
@@ -182,7 +192,8 @@ module _ (f : Linear) where
                         let is = whole (leaf own ∷ ws) (same own indices (spread_in_order (row_count f) ps own (λ i. numbers i ∙ ap (λ qs. number_of qs i zero_ℚ) front)), h) in
                         record {
                           written = is.written;
-                          nodes_are = is.nodes_are ∙ ap (λ ns. done ++ (ns ++ flat_map written_nodes_of ws)) (one own) ∙ sym (append_assoc done (node_with node (length own) ∷ []) (flat_map written_nodes_of ws));
+                          nodes_are = is.nodes_are ∙ ap (λ ns. done ++ (ns ++ flat_map written_nodes_of ws)) (one own)
+                            ∙ sym (append_assoc done (node_with node (length own) ∷ []) (flat_map written_nodes_of ws));
                           pairs_are = is.pairs_are ∙ ap (λ qs. given ++ (qs ++ flat_map written_pairs_of ws)) (two own) ∙ sym (append_assoc given own (flat_map written_pairs_of ws));
                           same = is.same;
                         };
@@ -193,7 +204,10 @@ module _ (f : Linear) where
     unfolding nodes_of pairs_of AreTrees IsTreeOf written_nodes_of written_pairs_of
     at_node node nodes on = by on.more on.nodes_are on.pairs_are on.trees on.whole
       where
-        by : (more : List ProofTree) → node ∷ nodes ≡ flat_map nodes_of more → pairs ≡ flat_map pairs_of more → AreTrees more → ((ws : List CertificateTree) → AreSame more ws → IsWhole all (done ++ flat_map written_nodes_of ws) (given ++ flat_map written_pairs_of ws)) → AtNode node nodes
+        by : (more : List ProofTree) → node ∷ nodes ≡ flat_map nodes_of more → pairs ≡ flat_map pairs_of more
+          → AreTrees more → ((ws : List CertificateTree) → AreSame more ws
+            → IsWhole all (done ++ flat_map written_nodes_of ws) (given ++ flat_map written_pairs_of ws))
+          → AtNode node nodes
         by [] ns ps trees whole = absurd (cc)
         by (split j t a b ∷ more) ns ps trees whole =
             let is : node ≡ Split j t = cc in
@@ -206,10 +220,13 @@ module _ (f : Linear) where
         by (weights qs ∷ more) ns ps trees whole =
             let is : node ≡ Weights (length qs) = cc in
             let left : nodes ≡ flat_map nodes_of more = cc in
-            subst (λ n. AtNode n nodes) (sym is) (at_leaf more trees.1 qs nodes left ps trees.0 (weights qs) (Weights (length qs)) written_weights refl (λ own. refl) (λ own. refl) (same_weights qs) whole)
+            subst (λ n. AtNode n nodes) (sym is) (at_leaf more trees.1 qs nodes left ps trees.0 (weights qs)
+                (Weights (length qs)) written_weights refl (λ own. refl) (λ own. refl) (same_weights qs) whole)
 
 -- ---- the node at index k, once its pairs are put in order
-module _ (f : Linear) (all : ProofTree) (nodes : List ProofNode) (k : ℕ) (pairs : List Pair) (done : List CertificateNode) (given : List WrittenPair) (on : OnWrite f all (drop k nodes) pairs done given) (none : ProofNode) (within : k < length nodes) where
+module _ (f : Linear) (all : ProofTree) (nodes : List ProofNode) (k : ℕ) (pairs : List Pair)
+  (done : List CertificateNode) (given : List WrittenPair) (on : OnWrite f all (drop k nodes) pairs done given)
+  (none : ProofNode) (within : k < length nodes) where
   abbrev node : ProofNode
   node = get_or nodes k none
 
@@ -226,7 +243,9 @@ module _ (f : Linear) (all : ProofTree) (nodes : List ProofNode) (k : ℕ) (pair
     pub own_rows : (m : ℕ) → row_count f ≡ m → All (λ (p : Pair). p.0 < m) own
     own_rows m rows = subst (λ m. All (λ (p : Pair). p.0 < m) own) rows (subst (All (λ (p : Pair). p.0 < row_count f)) (sym front_here) here.within)
 
-    module _ (added : List WrittenPair) (m : ℕ) (rows : row_count f ≡ m) (a : AreAdded m (λ i. number_of own i zero_ℚ) given added) (count : ℕ) (total : length added ≡ length given + count) (few : count ≤ length own) where
+    module _ (added : List WrittenPair) (m : ℕ) (rows : row_count f ≡ m)
+      (a : AreAdded m (λ i. number_of own i zero_ℚ) given added) (count : ℕ)
+      (total : length added ≡ length given + count) (few : count ≤ length own) where
       counted : length a.own ≡ count
       counted = let sum = ap length a.more ∙ length-append given a.own in omega (arith, sum, total)
 
@@ -238,22 +257,27 @@ module _ (f : Linear) (all : ProofTree) (nodes : List ProofNode) (k : ℕ) (pair
       pub node_added : (x : CertificateNode) → x ≡ node_with node count → HasCutNumber x → (now : List CertificateNode) → now ≡ done ++ x ∷ [] → OnWrite f all (drop (k + 1) nodes) later now added
       node_added x is number now pushed =
           let x_is : x ≡ node_with node (length a.own) = is ∙ ap (node_with node) (sym counted) in
-          let on = here.goes_on a.own (subst (λ m. AreIndices 0 m a.own) (sym rows) a.indices) (λ i. a.numbers i ∙ ap (λ ps. number_of ps i zero_ℚ) front_here) short (subst HasCutNumber x_is number) in
+          let on = here.goes_on a.own (subst (λ m. AreIndices 0 m a.own) (sym rows) a.indices)
+            (λ i. a.numbers i ∙ ap (λ ps. number_of ps i zero_ℚ) front_here) short (subst HasCutNumber x_is number) in
           subst (λ ns. OnWrite f all (drop (k + 1) nodes) later ns added) (sym (pushed ∙ ap (λ y. done ++ y ∷ []) x_is))
           (subst (λ ps. OnWrite f all (drop (k + 1) nodes) later (done ++ node_with node (length a.own) ∷ []) ps) (sym a.more)
           (subst (λ ps. OnWrite f all (drop (k + 1) nodes) ps (done ++ node_with node (length a.own) ∷ []) (given ++ a.own)) (sym (back ∙ ap (λ m. drop m pairs) many)) on))
 
-  pub one_counted : (now : List CertificateNode) (x : CertificateNode) → now ≡ done ++ x ∷ [] → length done + length (drop k nodes) ≡ length nodes → length now + length (drop (k + 1) nodes) ≡ length nodes
+  pub one_counted : (now : List CertificateNode) (x : CertificateNode) → now ≡ done ++ x ∷ []
+    → length done + length (drop k nodes) ≡ length nodes → length now + length (drop (k + 1) nodes) ≡ length nodes
   one_counted now x pushed counted = let one = ap length pushed ∙ length-append done (x ∷ []) in let less = ap length next in omega (arith, counted, one, less)
 
 -- ---- before the first node, and after the last
 module _ (f : Linear) where
-  pub whole_begins : (p : ProofValue) (h : IsProofOf f p) (pairs : List Pair) (done : List CertificateNode) (given : List WrittenPair) → pairs ≡ p.pairs → done ≡ [] → given ≡ [] → OnWrite f h.tree p.nodes pairs done given
+  pub whole_begins : (p : ProofValue) (h : IsProofOf f p) (pairs : List Pair) (done : List CertificateNode)
+    (given : List WrittenPair) → pairs ≡ p.pairs → done ≡ [] → given ≡ [] → OnWrite f h.tree p.nodes pairs done given
   whole_begins p h pairs done given are none_done none_given =
       subst (λ ns. OnWrite f h.tree ns pairs done given) h.nodes
       (subst (λ ps. OnWrite f h.tree (nodes_of h.tree) ps done given) (h.pairs ∙ sym are)
       (subst (λ ns. OnWrite f h.tree (nodes_of h.tree) (pairs_of h.tree) ns given) (sym none_done)
       (subst (λ qs. OnWrite f h.tree (nodes_of h.tree) (pairs_of h.tree) [] qs) (sym none_given) (write_begins f h.tree h.fine))))
 
-  pub whole_ends : (all : ProofTree) (nodes : List ProofNode) (k : ℕ) (pairs : List Pair) (done : List CertificateNode) (given : List WrittenPair) → OnWrite f all (drop k nodes) pairs done given → length nodes ≤ k → IsTreeFor f all done given
+  pub whole_ends : (all : ProofTree) (nodes : List ProofNode) (k : ℕ) (pairs : List Pair) (done : List CertificateNode)
+    (given : List WrittenPair) → OnWrite f all (drop k nodes) pairs done given → length nodes ≤ k
+    → IsTreeFor f all done given
   whole_ends all nodes k pairs done given on past = write_ends f all pairs done given (subst (λ ns. OnWrite f all ns pairs done given) (drop_all k nodes past) on)

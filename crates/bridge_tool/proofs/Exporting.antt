@@ -40,7 +40,9 @@ module _ (nl : NlValue) (k : ℕ) where
   one_text a b h j = h.written ∙ ap (λ p. mps_text_by value_text (mps_of p)) (one_program (linear_of nl.file k) h.program j.program h.exports j.exports) ∙ sym j.written
 
   -- what is accepted needs both stages and no more
-  pub staged_either : (accepts : List ℕ → Type 0) → ((a b : List ℕ) → accepts a → accepts b → a ≡ b) → ((bytes : List ℕ) → accepts bytes → CanBeExported nl k) → (CanBeExported nl k → (bytes : List ℕ) × accepts bytes) → IsEither accepts (CannotBeExported nl k)
+  pub staged_either : (accepts : List ℕ → Type 0) → ((a b : List ℕ) → accepts a → accepts b → a ≡ b)
+    → ((bytes : List ℕ) → accepts bytes → CanBeExported nl k) → (CanBeExported nl k → (bytes : List ℕ) × accepts bytes)
+    → IsEither accepts (CannotBeExported nl k)
   staged_either accepts one needs gives = record {
     accepted = one;
     refused = one_reason nl k;
@@ -52,10 +54,12 @@ module _ (nl : NlValue) (k : ℕ) where
   an_export s = let m = a_program (linear_of nl.file k) in (mps_text_by value_text (mps_of m.0), record { program = m.0; staged = s; exports = m.1; written = refl })
 
 pub export_last : (k : ℕ) → IsLast false IsNl HasTextRefusal (λ nl. ExportsAs nl k) (λ nl old new. new ≤ old + fold_steps nl k)
-export_last k = either_last nl_read (λ nl. IsExported nl k) (λ nl. CannotBeExported nl k) (λ nl. fold_steps nl k) (λ nl. staged_either nl k (IsExported nl k) (one_text nl k) (λ bytes e. e.staged) (an_export nl k))
+export_last k = either_last nl_read (λ nl. IsExported nl k) (λ nl. CannotBeExported nl k) (λ nl. fold_steps nl k)
+  (λ nl. staged_either nl k (IsExported nl k) (one_text nl k) (λ bytes e. e.staged) (an_export nl k))
 
 -- what was folded, scaled and written
-pub exported_so : (nl : NlValue) (k : ℕ) (l : LinearValue) (s : ScaledValue) (bytes : List ℕ) → HasFolded nl k l → HasScaled (linear_value l) s → bytes ≡ mps_text_by value_text (mps_of (scaled_as s)) → IsExported nl k bytes
+pub exported_so : (nl : NlValue) (k : ℕ) (l : LinearValue) (s : ScaledValue) (bytes : List ℕ) → HasFolded nl k l
+  → HasScaled (linear_value l) s → bytes ≡ mps_text_by value_text (mps_of (scaled_as s)) → IsExported nl k bytes
 exported_so nl k l s bytes folds scales written = record { program = scaled_as s; staged = staged_so nl k l folds s scales; exports = exports_so nl k l folds s scales; written = written }
 
 row_factors : (f : File) (k i : ℕ) → 0 < factor_of_row (linear_of f k) i

@@ -1,5 +1,6 @@
 -- The linear program of a file is named by number, and within the limits of what is exported where the file folds.
-use Rattle.std.proofs.Common.{◌≡◌, ◌∙◌, if◌then◌else◌, ℕ, zero, suc, ◌+◌, ◌≤◌, ◌^◌, Bool, true, false, nat_lt, List, [], ◌∷◌, ◌++◌, length, get_or, Option, Some, None, refl, sym, ap, ap₂, subst, arith}
+use Rattle.std.proofs.Common.{◌≡◌, ◌∙◌, if◌then◌else◌, ℕ, zero, suc, ◌+◌, ◌≤◌, ◌^◌, Bool, true, false, nat_lt, List, []}
+use Rattle.std.proofs.Common.{◌∷◌, ◌++◌, length, get_or, Option, Some, None, refl, sym, ap, ap₂, subst, arith}
 use Rattle.std.specs.Prelude.{All, IfSome, option_map}
 use Rattle.std.specs.List.{sum_by}
 use Rattle.std.proofs.lemmas.Bool.{ltb-false}
@@ -99,7 +100,10 @@ bodies_count : (f : File) (n i m : ℕ) → sum_by (size n) (elements_from (λ i
 unfolding elements_from
 bodies_count f n i zero = refl
 bodies_count f n i (suc m) =
-    sum_by-cons (size n) (owned_by f (Con i) (body_of f i)) (elements_from (λ i. owned_by f (Con i) (body_of f i)) (suc i) m) ∙ ap₂ (λ (a b : ℕ). a + b) (same_count (owned_line (owned_by f (Con i) (body_of f i))) n) (bodies_count f n (suc i) m)
+    sum_by-cons (size n) (owned_by f (Con i) (body_of f i))
+      (elements_from (λ i. owned_by f (Con i) (body_of f i)) (suc i) m)
+      ∙ ap₂ (λ (a b : ℕ). a + b) (same_count (owned_line (owned_by f (Con i) (body_of f i))) n)
+      (bodies_count f n (suc i) m)
     ∙ sym (sum_by-cons (λ r. form_count n r.body) (linear_row f i) (elements_from (linear_row f) (suc i) m))
 
 few_coefficients : (f : File) (k : ℕ) → fold_fault f k ≡ None
@@ -133,7 +137,8 @@ few_coefficients f k e = by (has_objective f k) e
 total_of : (f : File) (k : ℕ) → fold_fault f k ≡ None → coefficient_total (linear_of f k) ≤ 2 ^ 23
 unfolding linear_of
 total_of f k folded =
-    subst (λ (n : ℕ). sum_by (λ r. form_count n r.body) (elements_from (linear_row f) 0 f.counts.n_con) + form_count n (objective_form f k) ≤ 2 ^ 23) (sym (elements_length (linear_variable f) 0 f.counts.n_var))
+    subst (λ (n : ℕ). sum_by (λ r. form_count n r.body) (elements_from (linear_row f) 0 f.counts.n_con)
+        + form_count n (objective_form f k) ≤ 2 ^ 23) (sym (elements_length (linear_variable f) 0 f.counts.n_var))
     (few_coefficients f k folded)
 
 pub file_exportable : (f : File) (k : ℕ) → IsFile f → fold_fault f k ≡ None → IsExportable (linear_of f k)

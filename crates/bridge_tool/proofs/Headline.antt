@@ -76,7 +76,9 @@ some_outcome texts words = let h = has_one texts (command_of words) in (h.outcom
 pub one_outcome : (texts : Option Texts) (words : List (List ℕ)) (a b : Outcome) → ComesTo texts words a → ComesTo texts words b → a ≡ b
 one_outcome texts words a b p q = let h = has_one texts (command_of words) in h.one a p ∙ sym (h.one b q)
 
-told_by_status : (o : Outcome) (status : ℕ) (line : List ℕ) (P : List ℕ → Type 0) → IfSome (told_line o status) (λ x. x ≡ line) → ((1 < status) ⊎ (status ≤ 1)) → (1 < status → P line) → IfSome (told_line o status) P
+told_by_status : (o : Outcome) (status : ℕ) (line : List ℕ) (P : List ℕ → Type 0)
+  → IfSome (told_line o status) (λ x. x ≡ line) → ((1 < status) ⊎ (status ≤ 1)) → (1 < status → P line)
+  → IfSome (told_line o status) P
 told_by_status o status line P is (inl lt) tells = IfSome_then (told_line o status) is (λ x e. subst P (sym e) (tells lt))
 told_by_status o status line P is (inr le) tells = rw (line_none o status le) tt
 
@@ -97,9 +99,15 @@ answered_so : (p : Promise) (old mid new : Meaning) (answer : Answer) → IsWork
     → OnlyMessages mid new → IsAnswered p old new (status_of answer)
 answered_so p old mid new answer h tells silent rest =
     let P : List ℕ → Type 0 = λ line. TellsFront old.told new.told old.message_faults new.message_faults line in
-    let tells_old : 1 < status_of answer → P (told_by answer) = λ lt. subst (λ (n : ℕ). TellsFront old.told new.told n new.message_faults (told_by answer)) h.messages (subst (λ (t : Option (List ℕ)). TellsFront t new.told mid.message_faults new.message_faults (told_by answer)) h.told (tells lt)) in
+    let tells_old : 1 < status_of answer → P (told_by answer) =
+      λ lt. subst (λ (n : ℕ). TellsFront old.told new.told n new.message_faults (told_by answer)) h.messages
+      (subst (λ (t : Option (List ℕ)). TellsFront t new.told mid.message_faults new.message_faults (told_by answer))
+        h.told (tells lt)) in
     record {
-      which = λ o c. subst (λ (n : ℕ). Status o (Rose old.input_faults n) (Rose old.output_faults new.output_faults) (status_of answer)) (sym rest.input_faults) (subst (λ (n : ℕ). Status o (Rose old.input_faults mid.input_faults) (Rose old.output_faults n) (status_of answer)) (sym rest.output_faults) (h.status o c));
+      which = λ o c. subst (λ (n : ℕ). Status o (Rose old.input_faults n) (Rose old.output_faults new.output_faults)
+          (status_of answer)) (sym rest.input_faults) (subst
+          (λ (n : ℕ). Status o (Rose old.input_faults mid.input_faults) (Rose old.output_faults n) (status_of answer))
+          (sym rest.output_faults) (h.status o c));
       written = λ o c. subst (λ (w : Option (List ℕ)). Written o old.written w (status_of answer)) (sym rest.written) (h.written o c);
       refusal = λ e. (told_by answer, refusal_told answer e, tells_old (omega (arith, e)));
       quiet = λ q. rest.written ∙ h.quiet q;
@@ -116,9 +124,13 @@ pub answered : (p : Promise) (old mid new : Meaning) (answer : Answer) (status :
 answered p old mid new answer status h is tells silent rest =
     subst (IsAnswered p old new) (sym is) (answered_so p old mid new answer h (λ lt. tells (subst (λ (n : ℕ). 1 < n) (sym is) lt)) (λ le. silent (subst (λ (n : ℕ). n ≤ 1) (sym is) le)) rest)
 
-module _ (p : Promise) (old new : Meaning) (status : ℕ) (a : IsAnswered p old new status) (memory : status ≢ 6) (no_input : Rose old.input_faults new.input_faults → ⊥) (no_output : Rose old.output_faults new.output_faults → ⊥) where
+module _ (p : Promise) (old new : Meaning) (status : ℕ) (a : IsAnswered p old new status) (memory : status ≢ 6)
+  (no_input : Rose old.input_faults new.input_faults → ⊥) (no_output : Rose old.output_faults new.output_faults → ⊥)
+  where
   -- nothing is done, and the status says why
-  not_done : 2 ≤ status → ((holds : Bool) (bytes : List ℕ) → p.comes (Done holds bytes) → ⊥) → ((line : List ℕ) × (status ≡ 2) × Tells p old new (Refused line) line) ⊎ ((status ≡ 4) × Tells p old new NoText (codes "input fault\n")) → Answers p old new status
+  not_done : 2 ≤ status → ((holds : Bool) (bytes : List ℕ) → p.comes (Done holds bytes) → ⊥)
+    → ((line : List ℕ) × (status ≡ 2) × Tells p old new (Refused line) line) ⊎
+    ((status ≡ 4) × Tells p old new NoText (codes "input fault\n")) → Answers p old new status
   not_done high is_not why = record {
     done = (λ z. absurd (omega (arith, z, high)), λ e. absurd (is_not true e.0 e.1));
     denied = (λ z. absurd (omega (arith, z, high)), λ e. absurd (is_not false e.0 e.1));
@@ -141,7 +153,9 @@ module _ (p : Promise) (old new : Meaning) (status : ℕ) (a : IsAnswered p old 
       (inl (line, two, record { comes = h; quiet = a.quiet (inl two); told = rw two at (a.told (Refused line) h) }))
 
   verdict : (holds : Bool) (bytes : List ℕ) → p.comes (Done holds bytes) → status ≡ verdict_status holds
-  verdict holds bytes h = elim (a.which (Done holds bytes) h) [ inl e ↦ e | inr q ↦ elim q [ inl e ↦ absurd (memory e) | inr r ↦ elim r [ inl f ↦ absurd (no_input f.1) | inr f ↦ absurd (no_output f.1) ] ] ]
+  verdict holds bytes h = elim (a.which (Done holds bytes) h)
+    [ inl e ↦ e | inr q ↦ elim q [ inl e ↦ absurd (memory e) | inr r ↦ elim r
+        [ inl f ↦ absurd (no_input f.1) | inr f ↦ absurd (no_output f.1) ] ] ]
 
   wrote : (holds : Bool) (bytes : List ℕ) → p.comes (Done holds bytes) → Appends old.written new.written bytes × (new.told ≡ old.told)
   wrote holds bytes h =

@@ -14,7 +14,9 @@ use Rattle.linear_program.specs.Linear.{Form, Interval, Linear, Row as LinearRow
 use Rattle.certificates.specs.Checked.{fitting, fitting_difference, less_product, plus_product, run}
 use Rattle.certificates.specs.Parts.{NumberForm, added_row, at_most, sum_of, with_added_row}
 use Rattle.certificates.specs.Points.{Box, Numbers}
-use Rattle.certificates.specs.Verdict.{bound_or_fault, bound_total, cost_check, cost_fault, cost_part, cost_part_of, cost_step, dual_bound, dual_fault, first_fault, has_needed, needed_side, reduced_cost, row_part, row_part_of, row_side_missing, side_fault}
+use Rattle.certificates.specs.Verdict.{bound_or_fault, bound_total, cost_check, cost_fault, cost_part, cost_part_of}
+use Rattle.certificates.specs.Verdict.{cost_step, dual_bound, dual_fault, first_fault, has_needed, needed_side}
+use Rattle.certificates.specs.Verdict.{reduced_cost, row_part, row_part_of, row_side_missing, side_fault}
 use Rattle.exact_numbers.proofs.Bridge.{frac_fits_lem}
 use Rattle.exact_numbers.proofs.Zeros.{fits_zero, sum_fits_zero, zero_sum_fits}
 use Rattle.linear_program.specs.Intervals.{interval_of}
@@ -100,7 +102,9 @@ module _ (t : ℚ) (fit : fits t ≡ true) (s d : ℚ) where
       ∙ ap (λ o. option_and_then (λ v. option_and_then (λ w. plus_product s v w) o) (fitting d)) (from_zero ∙ sym from_most)
       ∙ sym (ap (option_and_then (with_side zero_ℚ)) (fitting_known t fit))
 
-  by_sign : (max : Bool) (z : ℤ) → option_and_then (with_side (neg_ℚ t)) (option_and_then fitting (needed_side max z (at_most zero_ℚ))) ≡ option_and_then (with_side zero_ℚ) (option_and_then fitting (needed_side max z (at_most t)))
+  by_sign : (max : Bool) (z : ℤ) → option_and_then (with_side (neg_ℚ t))
+    (option_and_then fitting (needed_side max z (at_most zero_ℚ)))
+    ≡ option_and_then (with_side zero_ℚ) (option_and_then fitting (needed_side max z (at_most t)))
   by_sign false (negsuc n) = upper
   by_sign true (pos n) = upper
   by_sign max z = refl

@@ -1,5 +1,7 @@
 -- Numbers of pairs, written one by one.
-use Rattle.std.proofs.Common.{◌≡◌, ℕ, zero, suc, ◌+◌, ◌<◌, ◌≤◌, ◌==◌, ◌∙◌, sym, ap, subst, refl, arith, true, List, [], ◌∷◌, length, drop, map, get_or, set, ⊎_elim, length-set, get_or-set_same, get_or-set_other}
+use Rattle.std.proofs.Common.{◌≡◌, ℕ, zero, suc, ◌+◌, ◌<◌, ◌≤◌, ◌==◌, ◌∙◌, sym, ap, subst, refl, arith, true, List, []}
+use Rattle.std.proofs.Common.{◌∷◌, length, drop, map, get_or, set, ⊎_elim, length-set, get_or-set_same}
+use Rattle.std.proofs.Common.{get_or-set_other}
 use Rattle.std.specs.Prelude.{if◌then◌else◌, slice_get, option_map, Some, None}
 use Rattle.std.proofs.lemmas.Bool.{cases_eq, eq-eqb, ne_eqb}
 use Rattle.std.proofs.lemmas.List.{drop_all, length-map, same_lists}

@@ -4,7 +4,12 @@ use Rattle.std.specs.Prelude.{IfSome, if◌then◌else◌, ◌&&◌}
 use Rattle.exact_numbers.specs.Rational.{ℚ, zero_ℚ}
 use Rattle.linear_program.specs.Linear.{Interval, Linear, value_at, variable_count, row_at, row_count}
 use Rattle.certificates.specs.Branch.{BranchTree, LeafFault, proof_fault}
-use Rattle.certificates.specs.Certificate.{Certificate, optimal, near, bounded, feasible, infeasible, unbounded, Cause, at_point, not_whole, objective_wide, at_ray, at_leaf, Judged, valued as judged_valued, refused as judged_refused, judged, judged_by, given_fault, whole_fault, fitting_bound_fault, can_compare, unless_leaf, unless_ray, with_proof, with_leaves, with_ray, alone, ClaimOutcome, holds, fails, outcome}
+use Rattle.certificates.specs.Certificate.{Certificate, optimal, near, bounded, feasible, infeasible, unbounded, Cause}
+use Rattle.certificates.specs.Certificate.{at_point, not_whole, objective_wide, at_ray, at_leaf, Judged}
+use Rattle.certificates.specs.Certificate.{valued as judged_valued, refused as judged_refused, judged, judged_by}
+use Rattle.certificates.specs.Certificate.{given_fault, whole_fault, fitting_bound_fault, can_compare, unless_leaf}
+use Rattle.certificates.specs.Certificate.{unless_ray, with_proof, with_leaves, with_ray, alone, ClaimOutcome, holds}
+use Rattle.certificates.specs.Certificate.{fails, outcome}
 use Rattle.certificates.specs.Points.{Numbers, bounds_of}
 use Rattle.certificates.specs.Ray.{RayFault, ray_fault}
 use Rattle.certificates.specs.Verdict.{Fault, row_broken, bound_broken, too_wide, at_row, at_bound, first_fault, row_fault, row_check, bound_fault, run_form, sides_fit, is_inside}
@@ -112,7 +117,9 @@ ray_has : (p : Linear) (c : Certificate) → HasPoint c → (r : Option RayFault
 ray_has p c at None = tt
 ray_has p c at (Some g) = at
 
-judged_has : (p : Linear) (c : Certificate) (xs : List ℚ) (after : Judged → ClaimOutcome) → ((g : Cause) → after (judged_refused g) ≡ fails g) → HasPoint c → ((v : ℚ) → OutcomeHas p c (after (judged_valued v))) → OutcomeHas p c (after (judged p xs))
+judged_has : (p : Linear) (c : Certificate) (xs : List ℚ) (after : Judged → ClaimOutcome)
+  → ((g : Cause) → after (judged_refused g) ≡ fails g) → HasPoint c
+  → ((v : ℚ) → OutcomeHas p c (after (judged_valued v))) → OutcomeHas p c (after (judged p xs))
 judged_has p c xs after none at some = by (judged p xs) (judged_kind p xs)
   where
     by : (j : Judged) → JudgedKind j → OutcomeHas p c (after j)

@@ -6,7 +6,9 @@ use Rattle.exact_numbers.specs.Rational.{ℚ}
 use Rattle.linear_program.specs.Linear.{Interval, Row, Linear, IsInside, IsRelaxed, RowHolds, value_at, variable_count, no_row, row_count, row_at}
 use Rattle.linear_program.proofs.Sides.{AtLeast, AtMost}
 use Rattle.certificates.specs.Points.{bounds_of}
-use Rattle.certificates.specs.Verdict.{row_broken, bound_broken, too_wide, at_row, sides_fit, is_inside, is_not_below, is_not_above, first_fault, row_fault, row_check, bound_fault, run_form, point_fault}
+use Rattle.certificates.specs.Verdict.{row_broken, bound_broken, too_wide, at_row, sides_fit, is_inside, is_not_below}
+use Rattle.certificates.specs.Verdict.{is_not_above, first_fault, row_fault, row_check, bound_fault, run_form}
+use Rattle.certificates.specs.Verdict.{point_fault}
 use Rattle.exact_numbers.proofs.Tests.{option_or-none}
 use Rattle.std.proofs.lemmas.Bool.{and_parts}
 use Rattle.certificates.proofs.Checks.{at_most_yes, if_none, no_fault}

@@ -13,7 +13,10 @@ use Rattle.certificates.specs.Checked.{is_at_most}
 use Rattle.linear_program.specs.Linear.{Interval, Form, Linear, IsInside, IsFeasible, RowHolds, value_at, variable_at, variable_count, linear_part, form_value, no_row, row_at, row_count}
 use Rattle.linear_program.proofs.Sides.{AtLeast, AtMost}
 use Rattle.certificates.specs.Points.{Box, IsRelaxedIn}
-use Rattle.certificates.specs.Parts.{Part, Cut, bound, plane, lemma, WholeForm, NumberForm, IsFeasibleIn, IsWholeVariable, IsCutWhole, factor_of, form_of, least, greatest, capped, raised, at_most, at_least, sum_of, added_row, with_added_row, first_part, second_part, whole_part}
+use Rattle.certificates.specs.Parts.{Part, Cut, bound, plane, lemma, WholeForm, NumberForm, IsFeasibleIn}
+use Rattle.certificates.specs.Parts.{IsWholeVariable, IsCutWhole, factor_of, form_of, least, greatest, capped, raised}
+use Rattle.certificates.specs.Parts.{at_most, at_least, sum_of, added_row, with_added_row, first_part, second_part}
+use Rattle.certificates.specs.Parts.{whole_part}
 
 -- a whole number is at most t or at least t + 1
 whole_parts : (x : ℚ) (t : ℤ) → IsWhole x → (x ≤ℚ whole t) ⊎ (whole (t +ℤ pos 1) ≤ℚ x)
@@ -86,7 +89,8 @@ module _ (f : Linear) (xs : List ℚ) (whole_ones : (j : ℕ) → j < variable_c
       (whole_sum_below (λ j. whole (factor_of ps j) *ℚ value_at xs j) (variable_count f) (λ j l. factor_whole ps j h))
 
 -- one row more
-pub with_row_holds : (f : Linear) (box : Box) (form : Form) (side : Interval) (xs : List ℚ) → IsRelaxedIn f box xs → IsInside side (form_value form (variable_count f) xs) → IsRelaxedIn (with_added_row f form side) box xs
+pub with_row_holds : (f : Linear) (box : Box) (form : Form) (side : Interval) (xs : List ℚ) → IsRelaxedIn f box xs
+  → IsInside side (form_value form (variable_count f) xs) → IsRelaxedIn (with_added_row f form side) box xs
 with_row_holds f box form side xs ok h =
     record {
       rows = All-push (RowHolds (variable_count f) xs) f.rows (added_row form side) ok.rows h;

@@ -3,7 +3,12 @@ use Rattle.std.proofs.Common.{◌≡◌, ◌∙◌, inl, inr, ℕ, ◌<◌, sym,
 use Rattle.exact_numbers.specs.Rational.{ℚ, zero_ℚ}
 use Rattle.linear_program.specs.Linear.{Linear, IsFeasible as IsFeasibleProgram, IsInside, IsRelaxed as IsRelaxedProgram, RowHolds, objective_value, row_at, value_at, variable_count}
 use Rattle.certificates.specs.Branch.{LeafFault, BranchTree, duals, open_gap, weights, AreSplitsWhole, proof_fault}
-use Rattle.certificates.specs.Certificate.{Certificate, optimal, near, bounded, feasible, infeasible, unbounded, IsCertificate, Cause, at_point, not_whole, objective_wide, at_ray, at_leaf, Judged, valued as judged_valued, refused as judged_refused, judged, unless_leaf, with_ray, ClaimOutcome, holds, fails, outcome, IsShown as IsShownProgram, PointSays as PointSaysProgram, CauseSays as CauseSaysProgram, OutcomeSays as OutcomeSaysProgram}
+use Rattle.certificates.specs.Certificate.{Certificate, optimal, near, bounded, feasible, infeasible, unbounded}
+use Rattle.certificates.specs.Certificate.{IsCertificate, Cause, at_point, not_whole, objective_wide, at_ray, at_leaf}
+use Rattle.certificates.specs.Certificate.{Judged, valued as judged_valued, refused as judged_refused, judged}
+use Rattle.certificates.specs.Certificate.{unless_leaf, with_ray, ClaimOutcome, holds, fails, outcome}
+use Rattle.certificates.specs.Certificate.{IsShown as IsShownProgram, PointSays as PointSaysProgram}
+use Rattle.certificates.specs.Certificate.{CauseSays as CauseSaysProgram, OutcomeSays as OutcomeSaysProgram}
 use Rattle.certificates.specs.LeafSays.{IsLeafDenied, leaf_at as leaf_of}
 use Rattle.certificates.specs.Means.{Means}
 use Rattle.certificates.specs.Parts.{whole_part}
@@ -14,7 +19,9 @@ use Rattle.certificates.specs.Ray.{RayFault, ray_fault}
 use Rattle.certificates.specs.Says.{IsMetBeforeBound as IsMetBeforeBoundProgram, IsMetBeforeRow, IsWithinGap as IsWithinGapProgram, FaultSays as FaultSaysProgram, VerdictSays as VerdictSaysProgram}
 use Rattle.certificates.specs.Solutions.{IsBound as IsBoundProgram, IsSolution as IsSolutionProgram}
 use Rattle.certificates.specs.ToldMeaning.{optimal as told_optimal, within as told_within, bound as told_bound, feasible as told_feasible, infeasible as told_infeasible, unbounded as told_unbounded}
-use Rattle.certificates.specs.Verdict.{at_row, at_bound, at_cost, at_objective, at_total, Fault, row_broken, bound_broken, row_side_missing, bound_side_missing, too_wide, Verdict, yes, gap, refused, verdict}
+use Rattle.certificates.specs.Verdict.{at_row, at_bound, at_cost, at_objective, at_total, Fault, row_broken}
+use Rattle.certificates.specs.Verdict.{bound_broken, row_side_missing, bound_side_missing, too_wide, Verdict, yes, gap}
+use Rattle.certificates.specs.Verdict.{refused, verdict}
 use Rattle.certificates.proofs.Branches.{branches, infeasible as infeasible_leaf}
 use Rattle.certificates.proofs.Broken.{broken_of, inside_or_not}
 use Rattle.certificates.proofs.Causes.{CauseHas, IsOpenLeaf, IsPointFault, OutcomeHas, outcome_has}
@@ -136,7 +143,8 @@ module _ (f : Linear) (p : Problem) (means : Means f p) where
   shown_of_problem (infeasible tree) (Some v) h w = absurd w
   shown_of_problem (infeasible tree) None h w = record { told = told_infeasible; is_told = refl; true_of = infeasible_of f p means (λ xs ok. h xs ((means.feasible xs).0 ok)) }
   shown_of_problem (unbounded xs ds) (Some v) h w = absurd w
-  shown_of_problem (unbounded xs ds) None h w = record { told = told_unbounded; is_told = refl; true_of = λ v. let b = h v in let better = beaten_of v b.0 b.1 b.2 in (b.0, objective_value f b.0, better.0, better.1) }
+  shown_of_problem (unbounded xs ds) None h w = record { told = told_unbounded; is_told = refl; true_of = λ v. let b =
+      h v in let better = beaten_of v b.0 b.1 b.2 in (b.0, objective_value f b.0, better.0, better.1) }
 
   fault_at : (xs : List ℚ) (g : Fault) → FaultSaysProgram f xs g → IsPointFault g → PointDenies p xs g
   fault_at xs (row_broken i) h w = fault_of_problem xs (row_broken i) h

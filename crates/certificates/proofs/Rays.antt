@@ -15,7 +15,9 @@ use Rattle.linear_program.specs.Linear.{Interval, Form, Linear, Row, IsInside, I
 use Rattle.linear_program.proofs.Sides.{AtLeast, AtMost}
 use Rattle.certificates.specs.Branch.{is_as_good}
 use Rattle.certificates.specs.Points.{IsBetter, bounds_of}
-use Rattle.certificates.specs.Ray.{zero_side, recession, IsRay, ray_row_broken, ray_bound_broken, ray_no_better, without_constant, run_change, ray_row_check, ray_row_fault, ray_bound_fault, ray_objective_check, ray_fault}
+use Rattle.certificates.specs.Ray.{zero_side, recession, IsRay, ray_row_broken, ray_bound_broken, ray_no_better}
+use Rattle.certificates.specs.Ray.{without_constant, run_change, ray_row_check, ray_row_fault, ray_bound_fault}
+use Rattle.certificates.specs.Ray.{ray_objective_check, ray_fault}
 use Rattle.certificates.specs.Solutions.{IsUnbounded}
 use Rattle.certificates.specs.Verdict.{first_fault, is_inside}
 use Rattle.certificates.proofs.Feasible.{all_rows, inside_yes}

@@ -6,7 +6,11 @@ use Rattle.linear_program.specs.Linear.{Interval, Linear, IsInside, IsRelaxed, n
 use Rattle.linear_program.proofs.Sides.{AtLeast, AtMost}
 use Rattle.certificates.specs.Checked.{is_same}
 use Rattle.certificates.specs.Points.{bounds_of}
-use Rattle.certificates.specs.Verdict.{Fault, row_broken, bound_broken, row_side_missing, bound_side_missing, too_wide, at_row, at_bound, at_cost, at_objective, at_total, yes, gap, sides_fit, is_inside, is_not_below, is_not_above, first_fault, row_fault, row_check, bound_fault, run_form, point_fault, early_fault, dual_fault, last_of, bound_total, verdict, IsDualFault}
+use Rattle.certificates.specs.Verdict.{Fault, row_broken, bound_broken, row_side_missing, bound_side_missing, too_wide}
+use Rattle.certificates.specs.Verdict.{at_row, at_bound, at_cost, at_objective, at_total, yes, gap, sides_fit}
+use Rattle.certificates.specs.Verdict.{is_inside, is_not_below, is_not_above, first_fault, row_fault, row_check}
+use Rattle.certificates.specs.Verdict.{bound_fault, run_form, point_fault, early_fault, dual_fault, last_of}
+use Rattle.certificates.specs.Verdict.{bound_total, verdict, IsDualFault}
 use Rattle.certificates.specs.Says.{IsMetBeforeRow, IsMetBeforeBound, IsWithinGap, FaultSays, VerdictSays}
 use Rattle.exact_numbers.proofs.Tests.{option_or-none}
 use Rattle.certificates.proofs.Feasible.{bound_met, relaxed_at, row_met}
@@ -99,7 +103,9 @@ module _ (f : Linear) (xs : List ℚ) where
   unfolding verdict early_fault
   says ys = by (early_fault f (value_at xs) (value_at ys)) (run_form (variable_count f) f.objective (value_at xs)) (bound_total f (bounds_of f) (value_at ys)) refl refl refl
     where
-      within : (v b : ℚ) → early_fault f (value_at xs) (value_at ys) ≡ None → run_form (variable_count f) f.objective (value_at xs) ≡ Some v → bound_total f (bounds_of f) (value_at ys) ≡ Some b → IsWithinGap f xs v b
+      within : (v b : ℚ) → early_fault f (value_at xs) (value_at ys) ≡ None
+        → run_form (variable_count f) f.objective (value_at xs) ≡ Some v
+        → bound_total f (bounds_of f) (value_at ys) ≡ Some b → IsWithinGap f xs v b
       within v b e h k =
           record {
             relaxed = relaxed_at f xs (option_or-none (point_fault f (value_at xs)) (dual_fault f (bounds_of f) (value_at ys)) e).0;
@@ -111,7 +117,9 @@ module _ (f : Linear) (xs : List ℚ) where
       compared v b true e w = subst (λ z. IsWithinGap f xs v z) (sym (same_yes v b e)) w
       compared v b false e w = w
 
-      by : (g : Option Fault) (o q : Option ℚ) → early_fault f (value_at xs) (value_at ys) ≡ g → run_form (variable_count f) f.objective (value_at xs) ≡ o → bound_total f (bounds_of f) (value_at ys) ≡ q → VerdictSays f xs (last_of g o q)
+      by : (g : Option Fault) (o q : Option ℚ) → early_fault f (value_at xs) (value_at ys) ≡ g
+        → run_form (variable_count f) f.objective (value_at xs) ≡ o → bound_total f (bounds_of f) (value_at ys) ≡ q
+        → VerdictSays f xs (last_of g o q)
       by (Some v) o q e h k = rw e at (early_says ys)
       by None None q e h k = relaxed_at f xs (option_or-none (point_fault f (value_at xs)) (dual_fault f (bounds_of f) (value_at ys)) e).0
       by None (Some v) None e h k = relaxed_at f xs (option_or-none (point_fault f (value_at xs)) (dual_fault f (bounds_of f) (value_at ys)) e).0

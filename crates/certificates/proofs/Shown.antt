@@ -6,7 +6,12 @@ use Rattle.exact_numbers.specs.Rational.{ℚ, zero_ℚ, IsWhole}
 use Rattle.exact_numbers.proofs.Tests.{option_or-none}
 use Rattle.linear_program.specs.Linear.{Linear, IsFeasible, IsRelaxed, value_at, variable_at, variable_count, row_count}
 use Rattle.certificates.specs.Branch.{LeafFault, proof_fault}
-use Rattle.certificates.specs.Certificate.{Certificate, optimal, near, bounded, feasible, infeasible, unbounded, IsCertificate, Cause, at_ray, at_leaf, ClaimOutcome, holds, fails, can_compare, fitting_bound_fault, given_fault, is_whole_number, wholeness, whole_fault, Judged, valued, refused, judged_by, judged, unless_leaf, unless_ray, with_proof, with_leaves, alone, with_ray, outcome, PointSays, OutcomeSays}
+use Rattle.certificates.specs.Certificate.{Certificate, optimal, near, bounded, feasible, infeasible, unbounded}
+use Rattle.certificates.specs.Certificate.{IsCertificate, Cause, at_ray, at_leaf, ClaimOutcome, holds, fails}
+use Rattle.certificates.specs.Certificate.{can_compare, fitting_bound_fault, given_fault, is_whole_number, wholeness}
+use Rattle.certificates.specs.Certificate.{whole_fault, Judged, valued, refused, judged_by, judged, unless_leaf}
+use Rattle.certificates.specs.Certificate.{unless_ray, with_proof, with_leaves, alone, with_ray, outcome, PointSays}
+use Rattle.certificates.specs.Certificate.{OutcomeSays}
 use Rattle.certificates.specs.Points.{bounds_of}
 use Rattle.certificates.specs.Ray.{RayFault, ray_fault}
 use Rattle.certificates.specs.Says.{FaultSays, IsMetBeforeBound, IsNotWhole}
@@ -94,14 +99,18 @@ module _ (f : Linear) (xs : List ℚ) where
   unfolding judged
   judged_says = by (given_fault f (value_at xs)) (whole_fault f (value_at xs)) (run_form (variable_count f) f.objective (value_at xs)) refl refl refl
     where
-      by : (g : Option Fault) (w : Option ℕ) (o : Option ℚ) → given_fault f (value_at xs) ≡ g → whole_fault f (value_at xs) ≡ w → run_form (variable_count f) f.objective (value_at xs) ≡ o → JudgedSays (judged_by g w o)
+      by : (g : Option Fault) (w : Option ℕ) (o : Option ℚ) → given_fault f (value_at xs) ≡ g
+        → whole_fault f (value_at xs) ≡ w → run_form (variable_count f) f.objective (value_at xs) ≡ o
+        → JudgedSays (judged_by g w o)
       by (Some g) w o a b c = rw a at given_says
       by None (Some j) o a b c = (given_relaxed f xs a, rw b at not_whole_says)
       by None None None a b c = given_feasible f xs a b
       by None None (Some v) a b c = record { feasible = given_feasible f xs a b; value = form_some (variable_count f) f.objective xs v c }
 
   -- what follows on the point, of each value that it may have
-  at_judged : (after : Judged → ClaimOutcome) (P : ClaimOutcome → Type 0) → ((d : Cause) → PointSays f xs d → P (after (refused d))) → ((v : ℚ) → IsSolution f xs v → P (after (valued v))) → P (after (judged f xs))
+  at_judged : (after : Judged → ClaimOutcome) (P : ClaimOutcome → Type 0)
+    → ((d : Cause) → PointSays f xs d → P (after (refused d))) → ((v : ℚ) → IsSolution f xs v → P (after (valued v)))
+    → P (after (judged f xs))
   at_judged after P none some = by (judged f xs) judged_says
     where
       by : (r : Judged) → JudgedSays r → P (after r)

@@ -1,6 +1,8 @@
 -- What is told of a text that is refused names one of its lines: the first fault of folding it stands at a place of the
 -- file, and each line that tells a refusal begins with `refused `, and ends its line.
-use Rattle.std.proofs.Common.{[], ◌≡◌, ℕ, zero, suc, ◌+◌, ◌≤◌, Bool, true, false, not, ◌||◌, ◌==◌, IsTrue, List, ◌∷◌, ◌++◌, length, refl, sym, subst, subst₂, arith, Option, Some, None, is_some, nat_lt, pos, option_map, if◌then◌else◌, ◌∙◌, ◌<◌, ap, inl, inr, append_assoc, codes}
+use Rattle.std.proofs.Common.{[], ◌≡◌, ℕ, zero, suc, ◌+◌, ◌≤◌, Bool, true, false, not, ◌||◌, ◌==◌, IsTrue, List, ◌∷◌}
+use Rattle.std.proofs.Common.{◌++◌, length, refl, sym, subst, subst₂, arith, Option, Some, None, is_some, nat_lt, pos}
+use Rattle.std.proofs.Common.{option_map, if◌then◌else◌, ◌∙◌, ◌<◌, ap, inl, inr, append_assoc, codes}
 use Rattle.std.specs.Option.{option_or}
 use Rattle.std.proofs.lemmas.Bool.{ltb-false, ltb-true}
 use Rattle.std.proofs.lemmas.Option.{same_Some}
@@ -16,7 +18,9 @@ use Rattle.nl_model.specs.declared.at.Owner.TheVariants.{Con, Def, Obj}
 use Rattle.nl_model.specs.File.{File, Term}
 use Rattle.nl_model.specs.FilePlaces.{terms_at, tree_at}
 use Rattle.nl_model.specs.Expressions.{linear_terms, tree_or_zero}
-use Rattle.nl_model.specs.FoldFaults.{FoldFault as FileFault, Owned, at_place, coefficient_count, fold_fault, fold_too_large, has_objective, head_fault, most_coefficients, no_such_objective, owned_line, owner_fault, owners_fault, owners_of}
+use Rattle.nl_model.specs.FoldFaults.{FoldFault as FileFault, Owned, at_place, coefficient_count, fold_fault}
+use Rattle.nl_model.specs.FoldFaults.{fold_too_large, has_objective, head_fault, most_coefficients, no_such_objective}
+use Rattle.nl_model.specs.FoldFaults.{owned_line, owner_fault, owners_fault, owners_of}
 use Rattle.linear_program.specs.Elements.{elements_from}
 use Rattle.linear_fold.specs.declared.fold_fault.FoldFault.{FoldFault}
 use Rattle.linear_fold.specs.FoldedFaults.{HasFaultPlace, first_fold_fault, named_fault}
@@ -139,7 +143,8 @@ owners_placed f (w ∷ os) before x h few e = by (owner_fault n total w) refl e 
     total : ℕ
     total = before + coefficient_count n (owned_line w)
 
-    by : (r : Option FileFault) → owner_fault n total w ≡ r → option_or r (owners_fault n total os) ≡ Some x → (total ≤ most_coefficients → owners_fault n total os ≡ Some x → IsPlaced f x) → IsPlaced f x
+    by : (r : Option FileFault) → owner_fault n total w ≡ r → option_or r (owners_fault n total os) ≡ Some x
+      → (total ≤ most_coefficients → owners_fault n total os ≡ Some x → IsPlaced f x) → IsPlaced f x
     by None q e rest = rest (few_after w.owner (option_map (at_place w.owner) (expression_fault w.known n w.expression)) total q) e
     by (Some y) q e rest =
         subst (IsPlaced f) (same_Some y x e)

@@ -1,5 +1,6 @@
 -- Powers, least and greatest, whole parts and absolute values: what their definitions say.
-use Rattle.std.proofs.Common.{◌≡◌, ℕ, suc, ◌⊎◌, ◌↔◌, IsTrue, inl, inr, ⊎_elim, ◌∙◌, sym, ap, refl, subst, subst₂, arith, Bool, true, false, if◌then◌else◌, pos, ◌*ℤ◌, ◌<ℤ◌, neg_ℤ, List, [], ◌∷◌, All, Contains}
+use Rattle.std.proofs.Common.{◌≡◌, ℕ, suc, ◌⊎◌, ◌↔◌, IsTrue, inl, inr, ⊎_elim, ◌∙◌, sym, ap, refl, subst, subst₂, arith}
+use Rattle.std.proofs.Common.{Bool, true, false, if◌then◌else◌, pos, ◌*ℤ◌, ◌<ℤ◌, neg_ℤ, List, [], ◌∷◌, All, Contains}
 use Rattle.std.proofs.lemmas.Int.{ints}
 use Rattle.std.proofs.lemmas.List.Elements.{All-nil, All-cons}
 use Rattle.exact_numbers.specs.Functions.{power_of, is_smaller, lesser_of, greater_of, least_of, greatest_of, floor_of, ceiling_of, absolute_of}
@@ -129,7 +130,9 @@ pub record IsCeiling (x z : ℚ) : Type 0 where
   pub near : (z -ℚ one_ℚ) <ℚ x
 
 neg-<ℚ : (x y : ℚ) → x <ℚ y → neg_ℚ y <ℚ neg_ℚ x
-neg-<ℚ x y h = ⊎_elim (λ (l : neg_ℚ x ≤ℚ neg_ℚ y). absurd (not_both y x (subst₂ (λ a b. a ≤ℚ b) (neg-neg y) (neg-neg x) (neg-≤ℚ (neg_ℚ x) (neg_ℚ y) l)) h)) (λ (l : neg_ℚ y <ℚ neg_ℚ x). l) (le_or_lt (neg_ℚ x) (neg_ℚ y))
+neg-<ℚ x y h = ⊎_elim (λ (l : neg_ℚ x ≤ℚ neg_ℚ y). absurd (not_both y x
+      (subst₂ (λ a b. a ≤ℚ b) (neg-neg y) (neg-neg x) (neg-≤ℚ (neg_ℚ x) (neg_ℚ y) l)) h))
+  (λ (l : neg_ℚ y <ℚ neg_ℚ x). l) (le_or_lt (neg_ℚ x) (neg_ℚ y))
 
 neg_whole : (z : ℚ) → IsWhole z → IsWhole (neg_ℚ z)
 neg_whole z h = let r = whole_of z h in subst IsWhole (sym (ap neg_ℚ r.1 ∙ whole-neg r.0)) (IsWhole-whole (neg_ℤ r.0))

@@ -39,7 +39,9 @@ stripped n z size some small =
       m = signed negative s.rest;
       e = pos s.zeros;
       dec = is_dec negative (signed negative s.rest) (pos s.zeros) s.rest refl s.odd rest_le (omega (arith, ints)) (omega (arith, ints));
-      same = same_dec_value (signed negative s.rest) (pos s.zeros) (decimal_value (signed negative n) (pos 0)) _ (decimal_is (signed negative n) (pos 0)) (signed_moved negative s.rest n s.zeros (pos 0) (pos s.zeros) s.whole (omega (arith, ints)))
+      same = same_dec_value (signed negative s.rest) (pos s.zeros) (decimal_value (signed negative n) (pos 0)) _
+        (decimal_is (signed negative n) (pos 0)) (signed_moved negative s.rest n s.zeros (pos 0) (pos s.zeros) s.whole
+          (omega (arith, ints)))
           ∙ ap (λ y. decimal_value y (pos 0)) self ∙ decimal_whole z;
     }
   where

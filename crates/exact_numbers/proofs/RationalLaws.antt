@@ -1,6 +1,8 @@
 -- The laws of exact fractions.
 use Prim.Native.Nat.{◌∣◌}
-use Rattle.std.proofs.Common.{◌^◌, lit<, unsigned_abs, ◌≡◌, ◌≢◌, ℕ, zero, suc, ◌*◌, ◌<◌, ◌⊎◌, ◌↔◌, inl, inr, ⊎_elim, ◌∙◌, sym, ap, ap₂, arith, refl, subst, subst₂, one-mul, mul_comm, mul_assoc, ℤ, pos, negsuc, ◌+ℤ◌, ◌*ℤ◌, neg_ℤ, ◌≤ℤ◌, ◌<ℤ◌, Bool, true, false, ◌==◌, min, Some, None}
+use Rattle.std.proofs.Common.{◌^◌, lit<, unsigned_abs, ◌≡◌, ◌≢◌, ℕ, zero, suc, ◌*◌, ◌<◌, ◌⊎◌, ◌↔◌, inl, inr, ⊎_elim}
+use Rattle.std.proofs.Common.{◌∙◌, sym, ap, ap₂, arith, refl, subst, subst₂, one-mul, mul_comm, mul_assoc, ℤ, pos}
+use Rattle.std.proofs.Common.{negsuc, ◌+ℤ◌, ◌*ℤ◌, neg_ℤ, ◌≤ℤ◌, ◌<ℤ◌, Bool, true, false, ◌==◌, min, Some, None}
 use Rattle.std.proofs.lemmas.Int.{ints, by_lt_z}
 use Rattle.std.specs.Int.Signed.{≤ℤ_refl}
 use Rattle.std.proofs.lemmas.Nat.Gcd.{dvd_refl}
@@ -11,7 +13,9 @@ use lib.IntN.{+ℤ_assoc, +ℤ_comm, +ℤ_idr, +ℤ_invr, *ℤ_comm, zero-*ℤ, 
 use Rattle.exact_numbers.specs.Divisors.{AreCoprime}
 use Rattle.exact_numbers.specs.Rational.{decimal_value, above_zero, below_zero, ℚ, over, whole, zero_ℚ, one_ℚ, ◌+ℚ◌, ◌*ℚ◌, ◌-ℚ◌, neg_ℚ, ◌≤ℚ◌, ◌<ℚ◌, is_zero, inverse_of, quotient_of, IsWhole}
 use Rattle.exact_numbers.proofs.IntegerLaws.{*ℤ_assoc, *ℤ-+ℤ, neg-*ℤ, times_le_by}
-use Rattle.exact_numbers.proofs.Values.{HasValue, own_value, same_value, same_over, scaled_value, equal_tops, over_value, whole_value, sum_value, product_value, neg_value, le_value, value_le, lt_value, value_lt, together, all_together}
+use Rattle.exact_numbers.proofs.Values.{HasValue, own_value, same_value, same_over, scaled_value, equal_tops}
+use Rattle.exact_numbers.proofs.Values.{over_value, whole_value, sum_value, product_value, neg_value, le_value}
+use Rattle.exact_numbers.proofs.Values.{value_le, lt_value, value_lt, together, all_together}
 
 -- ---- sums
 pub +ℚ_comm : (x y : ℚ) → x +ℚ y ≡ y +ℚ x
@@ -116,7 +120,9 @@ turned_back x (pos (suc n)) b h some =
 turned_back x (negsuc n) b h some =
     subst (λ z. x *ℚ over z (suc n) ≡ one_ℚ) (sym (with_sign_below n b))
     (same_value (product_value h (over_value (neg_ℤ (pos b)) (suc n) (omega arith))) (whole_value (pos 1))
-    (ap (λ z. z *ℤ pos 1) (neg-*ℤ (pos (suc n)) (neg_ℤ (pos b)) ∙ ap neg_ℤ (*ℤ_comm (pos (suc n)) (neg_ℤ (pos b)) ∙ neg-*ℤ (pos b) (pos (suc n))) ∙ neg_ℤ-neg_ℤ (pos (b * suc n))) ∙ ap pos (omega arith)))
+    (ap (λ z. z *ℤ pos 1) (neg-*ℤ (pos (suc n)) (neg_ℤ (pos b))
+        ∙ ap neg_ℤ (*ℤ_comm (pos (suc n)) (neg_ℤ (pos b)) ∙ neg-*ℤ (pos b) (pos (suc n)))
+        ∙ neg_ℤ-neg_ℤ (pos (b * suc n))) ∙ ap pos (omega arith)))
 
 pub *ℚ-inverse : (x : ℚ) → x ≢ zero_ℚ → x *ℚ inverse_of x ≡ one_ℚ
 unfolding inverse_of

@@ -2,7 +2,9 @@
 use Rattle.std.proofs.Common.{◌≡◌, ℕ, zero, suc, ◌∙◌, sym, ap, ap₂, refl, List, [], ◌∷◌, Bool, true, false, ◌&&◌, ℤ, pos, negsuc, ◌+ℤ◌, ◌*ℤ◌, neg_ℤ}
 use Rattle.std.proofs.lemmas.Bool.{and_parts}
 use Rattle.exact_numbers.specs.Rational.{ℚ, whole, zero_ℚ, one_ℚ, ◌+ℚ◌, ◌*ℚ◌, ◌-ℚ◌, neg_ℚ}
-use Rattle.exact_numbers.proofs.RationalLaws.{+ℚ_comm, +ℚ_assoc, +ℚ_zero, zero-+ℚ, +ℚ-neg, +ℚ_cancel, *ℚ_comm, *ℚ_assoc, *ℚ_one, one-*ℚ, *ℚ_zero, zero-*ℚ, *ℚ-+ℚ, +ℚ-*ℚ, neg-*ℚ, neg-+ℚ, neg_zero, -ℚ_lem, whole-+ℚ, whole-*ℚ, whole-neg}
+use Rattle.exact_numbers.proofs.RationalLaws.{+ℚ_comm, +ℚ_assoc, +ℚ_zero, zero-+ℚ, +ℚ-neg, +ℚ_cancel, *ℚ_comm, *ℚ_assoc}
+use Rattle.exact_numbers.proofs.RationalLaws.{*ℚ_one, one-*ℚ, *ℚ_zero, zero-*ℚ, *ℚ-+ℚ, +ℚ-*ℚ, neg-*ℚ, neg-+ℚ}
+use Rattle.exact_numbers.proofs.RationalLaws.{neg_zero, -ℚ_lem, whole-+ℚ, whole-*ℚ, whole-neg}
 
 infixl 6 ◌⊕◌ ◌⊖◌
 infixl 7 ◌⊗◌

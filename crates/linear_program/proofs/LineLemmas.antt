@@ -8,7 +8,9 @@ use Rattle.exact_numbers.proofs.RationalLaws.{+ℚ_assoc, +ℚ_zero, *ℚ-+ℚ, 
 use Rattle.exact_numbers.proofs.Adding.{+ℚ_swap, sum_below_same, sum_below-+ℚ, sum_below-*ℚ, sum_below-neg, sum_below_all_zero, sum_below_one}
 pub use Rattle.exact_numbers.proofs.Tests.{is_zero-true, is_zero-false}
 use Rattle.exact_numbers.proofs.Ring.{ring, v, ◌⊕◌, ◌⊖◌}
-use Rattle.linear_program.specs.Lines.{origin, unit_point, one_if, Line, line_value, line_by, all_below, is_zero, is_constant, are_constant, constants_of, line_values, line_sum, line_scaled, line_neg, line_with, Point}
+use Rattle.linear_program.specs.Lines.{origin, unit_point, one_if, Line, line_value, line_by, all_below, is_zero}
+use Rattle.linear_program.specs.Lines.{is_constant, are_constant, constants_of, line_values, line_sum, line_scaled}
+use Rattle.linear_program.specs.Lines.{line_neg, line_with, Point}
 use Rattle.std.proofs.Common.{List, [], ◌∷◌}
 
 -- ---- tests

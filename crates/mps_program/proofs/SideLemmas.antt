@@ -16,7 +16,9 @@ use Rattle.mps_model.specs.declared.kinds.RowKind.{RowKind}
 use Rattle.mps_model.specs.declared.kinds.RowKind.TheVariants.{N, L, G, E}
 use Rattle.mps_model.specs.declared.kinds.BoundKind.{BoundKind}
 use Rattle.mps_model.specs.declared.kinds.BoundKind.TheVariants.{Lo, Up, Fx, Bv, Li, Ui}
-use Rattle.mps_model.specs.Mps.{Entry, Bound, entry_with, bound_with, at_row, or_zero, row_sides, is_negative, size_of, Side, Unset, Open, At, SetSides, sets, first_side, sides_set, lower_side, upper_side, interval_set}
+use Rattle.mps_model.specs.Mps.{Entry, Bound, entry_with, bound_with, at_row, or_zero, row_sides, is_negative, size_of}
+use Rattle.mps_model.specs.Mps.{Side, Unset, Open, At, SetSides, sets, first_side, sides_set, lower_side, upper_side}
+use Rattle.mps_model.specs.Mps.{interval_set}
 use Rattle.linear_program.specs.Intervals.{interval_of}
 use Rattle.exact_numbers.specs.Numbers.{dec_from}
 use Rattle.exact_numbers.proofs.NumberLemmas.{dec_from-value, dec_from-fits}

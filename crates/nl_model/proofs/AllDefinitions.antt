@@ -1,5 +1,7 @@
 -- The tree of a definition with all definitions of a file: those after it change nothing.
-use Rattle.std.proofs.Common.{◌≡◌, ℕ, zero, suc, ◌∙◌, sym, ap, ap₂, refl, subst, ⊎_elim, Bool, true, false, ◌==◌, if◌then◌else◌, Option, Some, None, List, [], ◌∷◌, ◌++◌, map, take, slice_get, ◌||◌, option_and_then, option_map}
+use Rattle.std.proofs.Common.{◌≡◌, ℕ, zero, suc, ◌∙◌, sym, ap, ap₂, refl, subst, ⊎_elim, Bool, true, false, ◌==◌}
+use Rattle.std.proofs.Common.{if◌then◌else◌, Option, Some, None, List, [], ◌∷◌, ◌++◌, map, take, slice_get, ◌||◌}
+use Rattle.std.proofs.Common.{option_and_then, option_map}
 use Rattle.std.specs.List.{fold}
 use Rattle.std.specs.Option.{option_map_or}
 use Rattle.std.proofs.lemmas.Bool.{eqb-true}
@@ -8,7 +10,9 @@ use Rattle.exact_numbers.specs.Rational.{ℚ, ◌+ℚ◌, ◌*ℚ◌}
 use Rattle.exact_numbers.specs.Sums.{sum_below}
 use Rattle.linear_program.specs.Lines.{line_by, Point}
 use Rattle.nl_model.specs.Parts.{IsLinearTree, IsPart, IsPartOfOne}
-use Rattle.nl_model.specs.Trees.{Tree, number, variable, defined, operator, Trees, none, more, Known, Definition as Meant, applied, rule_of, tree_given, trees_given, expression_given, with_definition, tree_value}
+use Rattle.nl_model.specs.Trees.{Tree, number, variable, defined, operator, Trees, none, more, Known}
+use Rattle.nl_model.specs.Trees.{Definition as Meant, applied, rule_of, tree_given, trees_given, expression_given}
+use Rattle.nl_model.specs.Trees.{with_definition, tree_value}
 use Rattle.nl_model.specs.File.{File}
 use Rattle.nl_model.specs.declared.definition.Def.{Def as Definition}
 use Rattle.nl_model.specs.HeaderRules.{defined_count}
@@ -26,7 +30,9 @@ mutual
   same_tree n ds a b at same (defined i) w = same i w
   same_tree n ds a b at same (operator c ts) w = ap (option_and_then (applied (rule_of c))) (same_trees n ds a b at same ts w)
 
-  same_trees : (n : ℕ) (ds : List Definition) (a b : Known) (at : Point) → ((j : ℕ) → is_defined ds j ≡ true → a j ≡ b j) → (ts : Trees) → AreTreesWithin n ds ts → trees_given a ts at ≡ trees_given b ts at
+  same_trees : (n : ℕ) (ds : List Definition) (a b : Known) (at : Point)
+    → ((j : ℕ) → is_defined ds j ≡ true → a j ≡ b j) → (ts : Trees) → AreTreesWithin n ds ts
+    → trees_given a ts at ≡ trees_given b ts at
   same_trees n ds a b at same none w = refl
   same_trees n ds a b at same (more t ts) w = ap₂ (λ v vs. option_and_then (λ x. option_map (λ xs. x ∷ xs) vs) v) (same_tree n ds a b at same t w.0) (same_trees n ds a b at same ts w.1)
 
@@ -44,21 +50,28 @@ mutual
       ⊎_elim (λ (q : IsPart u t). part_within n ds u t w.0 q) (λ (q : IsPartOfOne u ts). part_of_within n ds u ts w.1 q) p
 
 -- ---- later definitions keep the values of those before
-kept_value : (known : Known) (i j : ℕ) (ds : List Definition) (d : Definition) (at : Point) → is_defined ds d.index ≡ false → is_defined ds j ≡ true → (if j == d.index then expression_given known (definition_of d).expression at else known j) ≡ known j
+kept_value : (known : Known) (i j : ℕ) (ds : List Definition) (d : Definition) (at : Point)
+  → is_defined ds d.index ≡ false → is_defined ds j ≡ true →
+  (if j == d.index then expression_given known (definition_of d).expression at else known j) ≡ known j
 kept_value known i j ds d at fresh e = by (j == d.index) refl
   where
     by : (b : Bool) → j == d.index ≡ b → (if b then expression_given known (definition_of d).expression at else known j) ≡ known j
     by true same = absurd (let clash : true ≡ false = sym e ∙ ap (is_defined ds) (eqb-true j d.index same) ∙ fresh in cc)
     by false same = refl
 
-later_keep : (n k : ℕ) (before ds : List Definition) → AreDefinitions n k before ds → (known : Point → Known) (at : Point) (j : ℕ) → is_defined before j ≡ true → fold with_definition known (map definition_of ds) at j ≡ known at j
+later_keep : (n k : ℕ) (before ds : List Definition) → AreDefinitions n k before ds
+  → (known : Point → Known) (at : Point) (j : ℕ) → is_defined before j ≡ true
+  → fold with_definition known (map definition_of ds) at j ≡ known at j
 later_keep n k before [] h known at j e = refl
 later_keep n k before (d ∷ ds) h known at j e =
     later_keep n k (before ++ d ∷ []) ds h.1 (with_definition known (definition_of d)) at j
     (list_any-append (λ (x : Definition). x.index == j) before (d ∷ []) ∙ ap (λ b. b || is_defined (d ∷ []) j) e)
     ∙ kept_value (known at) d.index j before d at h.0.fresh e
 
-values_kept : (n k : ℕ) (before ds : List Definition) → AreDefinitions n k before ds → (known : Point → Known) (at : Point) (i : ℕ) (d : Meant) → slice_get (map definition_of ds) i ≡ Some d → (u : Tree) → IsPart u d.expression.tree → tree_given (fold with_definition known (take i (map definition_of ds)) at) u at ≡ tree_given (fold with_definition known (map definition_of ds) at) u at
+values_kept : (n k : ℕ) (before ds : List Definition) → AreDefinitions n k before ds
+  → (known : Point → Known) (at : Point) (i : ℕ) (d : Meant) → slice_get (map definition_of ds) i ≡ Some d → (u : Tree)
+  → IsPart u d.expression.tree → tree_given (fold with_definition known (take i (map definition_of ds)) at) u at
+  ≡ tree_given (fold with_definition known (map definition_of ds) at) u at
 values_kept n k before [] h known at i d e u p = cc
 values_kept n k before (x ∷ ds) h known at zero d e u p =
     let same : definition_of x ≡ d = ap (λ o. option_map_or (λ y. y) o (definition_of x)) e in

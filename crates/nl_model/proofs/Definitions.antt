@@ -1,5 +1,7 @@
 -- What definitions keep as one more is given.
-use Rattle.std.proofs.Common.{◌≡◌, ◌⊎◌, ℕ, ◌+◌, ◌<◌, ◌≤◌, Bool, true, false, ◌||◌, eqb, List, [], ◌∷◌, ◌++◌, length, get_or, set, ◌∙◌, sym, ap, subst, refl, arith, Option, IfSome, None, Some, append_assoc, append-nil, inl, inr, get_or-set_same, get_or-set_other, eq-eqb}
+use Rattle.std.proofs.Common.{◌≡◌, ◌⊎◌, ℕ, ◌+◌, ◌<◌, ◌≤◌, Bool, true, false, ◌||◌, eqb, List, [], ◌∷◌, ◌++◌, length}
+use Rattle.std.proofs.Common.{get_or, set, ◌∙◌, sym, ap, subst, refl, arith, Option, IfSome, None, Some, append_assoc}
+use Rattle.std.proofs.Common.{append-nil, inl, inr, get_or-set_same, get_or-set_other, eq-eqb}
 use Rattle.std.proofs.Math.ListN.{length-set}
 use Rattle.std.proofs.lemmas.Bool.{ne_eqb, cases_eq, or_left}
 use Rattle.std.proofs.lemmas.List.Elements.{All-weaker}
@@ -98,7 +100,9 @@ kept-define d marks count x place k fine at =
         };
         objectives = record {
           count = k.draft.objectives.count;
-          known = All-weaker (λ o. IfSome o (λ y. IsTreeKnown n d.definitions y.tree)) (λ o. IfSome o (λ y. IsTreeKnown n (d.definitions ++ x ∷ []) y.tree)) (objective_more n d.definitions x) d.objectives k.draft.objectives.known;
+          known = All-weaker (λ o. IfSome o (λ y. IsTreeKnown n d.definitions y.tree))
+            (λ o. IfSome o (λ y. IsTreeKnown n (d.definitions ++ x ∷ []) y.tree)) (objective_more n d.definitions x)
+            d.objectives k.draft.objectives.known;
         };
         terms = k.draft.terms;
         side_count = k.draft.side_count;

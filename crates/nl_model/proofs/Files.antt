@@ -1,7 +1,9 @@
 -- A file and its linear program have the same feasible assignments and the same objective.
 use Rattle.std.proofs.Common.{◌≡◌, ℕ, ◌<◌, ◌≤◌, ◌↔◌, ◌∙◌, sym, ap, refl, subst, arith, IsTrue, Some, List, All}
 use Rattle.exact_numbers.specs.Rational.{ℚ, zero_ℚ}
-use Rattle.linear_program.specs.Linear.{Row, IsInside, AreOrdered, value_at, form_value, no_variable, variable_at, variable_count, RowHolds, IsLinear, IsRelaxed as IsRelaxedProgram, IsFeasible as IsFeasibleProgram, objective_value as program_objective}
+use Rattle.linear_program.specs.Linear.{Row, IsInside, AreOrdered, value_at, form_value, no_variable, variable_at}
+use Rattle.linear_program.specs.Linear.{variable_count, RowHolds, IsLinear, IsRelaxed as IsRelaxedProgram}
+use Rattle.linear_program.specs.Linear.{IsFeasible as IsFeasibleProgram, objective_value as program_objective}
 use Rattle.nl_model.specs.File.{File}
 use Rattle.nl_model.proofs.Local.{no_coefficient_beyond}
 use Rattle.nl_model.specs.Expressions.{definitions_of, body_of, maximises}
@@ -49,14 +51,18 @@ module _ (f : File) (k : ℕ) where
     relaxed_to : IsRelaxed f xs → IsRelaxedProgram (linear_of f k) xs
     relaxed_to r =
         record {
-          rows = rows_all (RowHolds (variable_count (linear_of f k)) xs) (λ i h. counted (λ n. IsInside (side_of f i) (form_value (body_form f i) n xs)) (subst (HasValueInside (side_of f i)) (lines.bodies i h xs) (r.bodies i h)));
+          rows = rows_all (RowHolds (variable_count (linear_of f k)) xs)
+            (λ i h. counted (λ n. IsInside (side_of f i) (form_value (body_form f i) n xs))
+              (subst (HasValueInside (side_of f i)) (lines.bodies i h xs) (r.bodies i h)));
           bounds = λ j h. let below = uncounted (λ n. j < n) h in subst (λ v. IsInside v.bound (value_at xs j)) (sym (variable_lem j below)) (r.bounds j below);
         }
 
     relaxed_from : IsRelaxedProgram (linear_of f k) xs → IsRelaxed f xs
     relaxed_from r =
         record {
-          bodies = λ i h. subst (HasValueInside (side_of f i)) (sym (lines.bodies i h xs)) (uncounted (λ n. IsInside (side_of f i) (form_value (body_form f i) n xs)) (all_rows (RowHolds (variable_count (linear_of f k)) xs) r.rows i h));
+          bodies = λ i h. subst (HasValueInside (side_of f i)) (sym (lines.bodies i h xs))
+            (uncounted (λ n. IsInside (side_of f i) (form_value (body_form f i) n xs))
+              (all_rows (RowHolds (variable_count (linear_of f k)) xs) r.rows i h));
           bounds = λ j h. subst (λ v. IsInside v.bound (value_at xs j)) (variable_lem j h) (r.bounds j (counted (λ n. j < n) h));
         }
 
@@ -85,5 +91,7 @@ module _ (f : File) (k : ℕ) where
   linear_lem formed =
       record {
         ordered = rows_all (λ r. AreOrdered r.side.lower r.side.upper) formed.ordered;
-        within = rows_all (λ r. (j : ℕ) → variable_count (linear_of f k) ≤ j → r.body.coefficient j ≡ zero_ℚ) (λ i h j g. no_coefficient_beyond f.counts.n_var (definitions_of f) formed.definitions (body_of f i) (formed.bodies i h) j (uncounted (λ n. n ≤ j) g));
+        within = rows_all (λ r. (j : ℕ) → variable_count (linear_of f k) ≤ j → r.body.coefficient j ≡ zero_ℚ)
+          (λ i h j g. no_coefficient_beyond f.counts.n_var (definitions_of f) formed.definitions (body_of f i)
+            (formed.bodies i h) j (uncounted (λ n. n ≤ j) g));
       }

@@ -8,7 +8,10 @@ use Rattle.exact_numbers.proofs.RationalLaws.{+ℚ-neg, -ℚ_lem}
 use Rattle.exact_numbers.proofs.Adding.{sum_over_nil, sum_over_cons}
 use Rattle.nl_model.specs.Faults.{expression_line}
 use Rattle.linear_program.specs.Lines.{origin, unit_point, Point}
-use Rattle.nl_model.specs.Trees.{Known, Tree, number, variable, defined, operator, Trees, none, more, applied, rule_of, tree_given, trees_given, LinearTerm, Expression, Definition, terms_value, expression_given, with_definition, known_values, expression_value, IsOneOf, IsFormed, AreFormed, AreTermsBelow, IsExpressionFormed, indices_after, indices_of, AreDefined}
+use Rattle.nl_model.specs.Trees.{Known, Tree, number, variable, defined, operator, Trees, none, more, applied, rule_of}
+use Rattle.nl_model.specs.Trees.{tree_given, trees_given, LinearTerm, Expression, Definition, terms_value}
+use Rattle.nl_model.specs.Trees.{expression_given, with_definition, known_values, expression_value, IsOneOf, IsFormed}
+use Rattle.nl_model.specs.Trees.{AreFormed, AreTermsBelow, IsExpressionFormed, indices_after, indices_of, AreDefined}
 use Rattle.linear_program.proofs.LineLemmas.{apart-eqb}
 
 module _ (n : ℕ) (p q : Point) (same : (j : ℕ) → j < n → p j ≡ q j) where
@@ -45,7 +48,8 @@ module _ (n : ℕ) (p q : Point) (same : (j : ℕ) → j < n → p j ≡ q j) wh
       by true g = e
       by false g = agree m (⊎_elim (λ (h : m ≡ i). absurd (let clash : true ≡ false = sym (eq-eqb m i h) ∙ g in cc)) (λ (r : IsOneOf m is). r) among)
 
-  values_local : (k l : Point → Known) (is : List ℕ) → Agree (k p) (l q) is → (ds : List Definition) → AreDefined n is ds → Agree (fold with_definition k ds p) (fold with_definition l ds q) (indices_after is ds)
+  values_local : (k l : Point → Known) (is : List ℕ) → Agree (k p) (l q) is → (ds : List Definition)
+    → AreDefined n is ds → Agree (fold with_definition k ds p) (fold with_definition l ds q) (indices_after is ds)
   values_local k l is agree [] formed = agree
   values_local k l is agree (d ∷ ds) formed =
       values_local (with_definition k d) (with_definition l d) (d.index ∷ is)

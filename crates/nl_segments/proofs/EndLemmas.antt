@@ -1,5 +1,7 @@
 -- What is missing at the end, by what the reader of the body holds.
-use Rattle.std.proofs.Common.{◌≡◌, ◌∙◌, ℕ, zero, suc, ◌+◌, ◌<◌, ◌≤◌, Bool, true, false, not, ◌&&◌, ◌==◌, List, [], ◌∷◌, length, get_or, All, nat_lt, refl, sym, ap, ap₂, subst, arith, add-one, Option, Some, None}
+use Rattle.std.proofs.Common.{◌≡◌, ◌∙◌, ℕ, zero, suc, ◌+◌, ◌<◌, ◌≤◌, Bool, true, false, not, ◌&&◌, ◌==◌, List, [], ◌∷◌}
+use Rattle.std.proofs.Common.{length, get_or, All, nat_lt, refl, sym, ap, ap₂, subst, arith, add-one, Option, Some}
+use Rattle.std.proofs.Common.{None}
 use Rattle.std.proofs.lemmas.Bool.{ltb-true, ltb-false, eqb-true, not-false, true_from_ne_false, both_ways, or_parts}
 use Rattle.std.proofs.lemmas.Bool.Decides.{nat_tests}
 use Rattle.std.proofs.lemmas.List.{get_or_past}
@@ -57,7 +59,8 @@ none_used n j (ts ∷ rows) h le =
     let b = none_used n j rows (λ k d lt. h (suc k) d (omega (arith, lt))) le in
     rw (sum_by-cons (λ terms. uses_in terms j) ts rows) (omega arith)
 
-all_uses : (n : ℕ) (uses : List ℕ) (rows : List (List Term)) → length uses ≡ n → All (AreTermsBelow n) rows → ((j : ℕ) → j < n → get_or uses j 0 ≡ use_count rows j) → (j : ℕ) → get_or uses j 0 ≡ use_count rows j
+all_uses : (n : ℕ) (uses : List ℕ) (rows : List (List Term)) → length uses ≡ n → All (AreTermsBelow n) rows
+  → ((j : ℕ) → j < n → get_or uses j 0 ≡ use_count rows j) → (j : ℕ) → get_or uses j 0 ≡ use_count rows j
 all_uses n uses rows e low h j = by (nat_lt j n) refl
   where
     by : (t : Bool) → nat_lt j n ≡ t → get_or uses j 0 ≡ use_count rows j

@@ -3,7 +3,9 @@ use Rattle.std.proofs.Common.{◌≡◌, ◌↔◌, ◌∙◌, ℕ, ◌<◌, sym
 use Rattle.std.specs.Prelude.{if◌then◌else◌}
 use Rattle.std.proofs.lemmas.Option.{same_Some}
 use Rattle.exact_numbers.specs.Rational.{ℚ}
-use Rattle.linear_program.specs.Linear.{Interval, Row, Variable, IsFeasible as IsFeasibleProgram, IsInside, IsRelaxed as IsRelaxedProgram, form_value, no_row, row_at, row_count, value_at, variable_count}
+use Rattle.linear_program.specs.Linear.{Interval, Row, Variable, IsFeasible as IsFeasibleProgram, IsInside}
+use Rattle.linear_program.specs.Linear.{IsRelaxed as IsRelaxedProgram, form_value, no_row, row_at, row_count, value_at}
+use Rattle.linear_program.specs.Linear.{variable_count}
 use Rattle.linear_program.proofs.Elements.{elements_at, elements_length}
 use Rattle.certificates.specs.Means.{Means}
 use Rattle.certificates.specs.Problem.{IsBoundBroken, IsConstraintBroken, IsFeasible, IsNotWhole, IsRelaxed}
@@ -87,12 +89,16 @@ module _ (f : File) (k : ℕ) where
     feasible xs = (λ h. (same_feasible f k lines xs).0 ((feasible_points xs).0 h), λ h. (feasible_points xs).1 ((same_feasible f k lines xs).1 h))
 
     -- the row of constraint i, at its own number of variables
-    row_from : (xs : List ℚ) (i : ℕ) → i < f.counts.n_con → IsInside (row_at (linear_of f k) i).side (form_value (row_at (linear_of f k) i).body (variable_count (linear_of f k)) xs) → IsInside (side_of f i) (form_value (body_form f i) f.counts.n_var xs)
+    row_from : (xs : List ℚ) (i : ℕ) → i < f.counts.n_con → IsInside (row_at (linear_of f k) i).side
+      (form_value (row_at (linear_of f k) i).body (variable_count (linear_of f k)) xs)
+      → IsInside (side_of f i) (form_value (body_form f i) f.counts.n_var xs)
     row_from xs i l h =
         subst (λ n. IsInside (side_of f i) (form_value (body_form f i) n xs)) (count_lem f k)
         (subst (λ (r : Row). IsInside r.side (form_value r.body (variable_count (linear_of f k)) xs)) (row_lem i l) h)
 
-    row_to : (xs : List ℚ) (i : ℕ) → i < f.counts.n_con → IsInside (side_of f i) (form_value (body_form f i) f.counts.n_var xs) → IsInside (row_at (linear_of f k) i).side (form_value (row_at (linear_of f k) i).body (variable_count (linear_of f k)) xs)
+    row_to : (xs : List ℚ) (i : ℕ) → i < f.counts.n_con → IsInside (side_of f i)
+      (form_value (body_form f i) f.counts.n_var xs) → IsInside (row_at (linear_of f k) i).side
+      (form_value (row_at (linear_of f k) i).body (variable_count (linear_of f k)) xs)
     row_to xs i l h =
         subst (λ (r : Row). IsInside r.side (form_value r.body (variable_count (linear_of f k)) xs)) (sym (row_lem i l))
         (subst (λ n. IsInside (side_of f i) (form_value (body_form f i) n xs)) (sym (count_lem f k)) h)

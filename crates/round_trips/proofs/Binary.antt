@@ -1,5 +1,7 @@
 -- Each binary variable of an imported file is within 0 and 1.
-use Rattle.std.proofs.Common.{◌≡◌, ◌∙◌, ℕ, ◌+◌, ◌-◌, ◌<◌, ◌≤◌, Bool, true, false, not, ◌&&◌, List, [], ◌∷◌, ◌++◌, length, get_or, refl, sym, subst, arith, Option, Some, None, if◌then◌else◌, pos, ap, ap₂, ℤ, ◌*ℤ◌, ◌<ℤ◌}
+use Rattle.std.proofs.Common.{◌≡◌, ◌∙◌, ℕ, ◌+◌, ◌-◌, ◌<◌, ◌≤◌, Bool, true, false, not, ◌&&◌, List, [], ◌∷◌, ◌++◌}
+use Rattle.std.proofs.Common.{length, get_or, refl, sym, subst, arith, Option, Some, None, if◌then◌else◌, pos, ap, ap₂}
+use Rattle.std.proofs.Common.{ℤ, ◌*ℤ◌, ◌<ℤ◌}
 use Rattle.std.specs.Prelude.{nat_lt, sum_by}
 use Rattle.std.specs.List.{AllByRecursion}
 use Rattle.std.specs.Option.{option_map}
@@ -40,7 +42,9 @@ abbrev total : List Run → ℕ
 total gs = sum_by (λ (g : Run). g.size) gs
 
 -- they follow runs of other kinds
-binary_place : (gs : List Run) (b i j : ℕ) → AllByRecursion (λ (g : Run). is_binary g.kind ≡ false) gs → is_binary (kind_among (gs ++ run_of b Binary ∷ run_of i Integer ∷ []) j) ≡ true → (total gs ≤ j) × (j < total gs + b)
+binary_place : (gs : List Run) (b i j : ℕ) → AllByRecursion (λ (g : Run). is_binary g.kind ≡ false) gs
+  → is_binary (kind_among (gs ++ run_of b Binary ∷ run_of i Integer ∷ []) j) ≡ true
+  → (total gs ≤ j) × (j < total gs + b)
 binary_place [] b i j others e = by (nat_lt j b) refl e
   where
     last : (c : Bool) → is_binary (if c then Integer else Continuous) ≡ false
@@ -55,7 +59,9 @@ binary_place (g ∷ gs) b i j others e = by (nat_lt j g.size) refl (binary_place
     Later : Type 0
     Later = is_binary (kind_among (gs ++ run_of b Binary ∷ run_of i Integer ∷ []) (j - g.size)) ≡ true → (total gs ≤ j - g.size) × (j - g.size < total gs + b)
 
-    by : (c : Bool) → nat_lt j g.size ≡ c → Later → is_binary (if c then g.kind else kind_among (gs ++ run_of b Binary ∷ run_of i Integer ∷ []) (j - g.size)) ≡ true → (total (g ∷ gs) ≤ j) × (j < total (g ∷ gs) + b)
+    by : (c : Bool) → nat_lt j g.size ≡ c → Later → is_binary
+      (if c then g.kind else kind_among (gs ++ run_of b Binary ∷ run_of i Integer ∷ []) (j - g.size)) ≡ true
+      → (total (g ∷ gs) ≤ j) × (j < total (g ∷ gs) + b)
     by true h later e = absurd (not_both_ways (is_binary g.kind) e others.0)
     by false h later e =
         let above = ltb-false j g.size h in
@@ -87,7 +93,9 @@ module _ (m : Mps Dec) (j : ℕ) where
       let from : length firsts ≤ j = omega (arith, place.0, size) in
       let below : j - length firsts < length seconds = omega (arith, place.0, place.1, size) in
       let here = get_or-append_right firsts (seconds ++ thirds) (length firsts) j 0 refl from ∙ get_or_append_left seconds thirds 0 (j - length firsts) below in
-      subst (λ k. z k ≡ true) (sym here) (and_parts (w (get_or seconds (j - length firsts) 0)) (z (get_or seconds (j - length firsts) 0)) (all_places (λ k. w k && z k ≡ true) (λ k. w k && z k) n (λ k h e. e) (j - length firsts) 0 below)).1
+      subst (λ k. z k ≡ true) (sym here) (and_parts (w (get_or seconds (j - length firsts) 0))
+          (z (get_or seconds (j - length firsts) 0)) (all_places (λ k. w k && z k ≡ true) (λ k. w k && z k) n
+            (λ k h e. e) (j - length firsts) 0 below)).1
 
 -- ---- its sides
 
@@ -122,7 +130,8 @@ within_unit s e = by s.lo s.hi e
         let high = turned ((dec_value hi).top *ℤ pos one_ℚ.bottom) (one_ℚ.top *ℤ pos (dec_value hi).bottom) both.1 in
         ap₂ ◌&&◌ low high
 
-pub binary_within : (m : Mps Dec) (j : ℕ) (i : Sides) → j < (import_of m).counts.n_var → is_binary (variable_kind (import_of m).counts j) ≡ true → is_within_unit (get_or (import_of m).bounds j i) ≡ true
+pub binary_within : (m : Mps Dec) (j : ℕ) (i : Sides) → j < (import_of m).counts.n_var
+  → is_binary (variable_kind (import_of m).counts j) ≡ true → is_within_unit (get_or (import_of m).bounds j i) ≡ true
 unfolding import_of with_values import_counts
 binary_within m j i lt e =
     let k = get_or (order_of_columns m) j 0 in

@@ -1,5 +1,6 @@
 -- The numbers of an imported objective are decimals.
-use Rattle.std.proofs.Common.{◌≡◌, ◌≢◌, ◌∙◌, ℕ, zero, suc, Bool, true, false, ◌&&◌, not, cond, nat_eq, List, [], ◌∷◌, ◌++◌, get_or, All, AllPairs, refl, sym, ap, ap₂, subst, arith, Some, None, if◌then◌else◌}
+use Rattle.std.proofs.Common.{◌≡◌, ◌≢◌, ◌∙◌, ℕ, zero, suc, Bool, true, false, ◌&&◌, not, cond, nat_eq, List, [], ◌∷◌}
+use Rattle.std.proofs.Common.{◌++◌, get_or, All, AllPairs, refl, sym, ap, ap₂, subst, arith, Some, None, if◌then◌else◌}
 use Rattle.std.specs.List.{cons_option, filter_map}
 use Rattle.std.proofs.lemmas.Bool.{eq-eqb, eqb-true, ne_eqb}
 use Rattle.std.proofs.lemmas.List.Elements.{All-append, All-cons, All-nil}
@@ -65,7 +66,9 @@ column_fits i p (e ∷ es) apart = by (nat_eq e.row i) (is_zero_dec e.value) ref
     alone : e.row ≡ i → filter_map (term_of i p) es ≡ []
     alone same = none_in_row i p es (λ k d lt other. apart 0 (suc k) d (omega arith) (omega (arith, lt)) (same ∙ sym other))
 
-    by : (a z : Bool) → nat_eq e.row i ≡ a → FitsDec (coefficient_of (filter_map (term_of i p) es) p) → FitsDec (coefficient_of (cons_option (if a && not z then Some (p, e.value) else None) (filter_map (term_of i p) es)) p)
+    by : (a z : Bool) → nat_eq e.row i ≡ a → FitsDec (coefficient_of (filter_map (term_of i p) es) p)
+      → FitsDec (coefficient_of (cons_option (if a && not z then Some (p, e.value) else None)
+          (filter_map (term_of i p) es)) p)
     by true true s later = later
     by true false s later = subst (λ ts. FitsDec (coefficient_of ((p, e.value) ∷ ts) p)) (sym (alone (eqb-true e.row i s))) (one_fits p e.value)
     by false z s later = later

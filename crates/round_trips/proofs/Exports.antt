@@ -1,5 +1,7 @@
 -- The numbers of the program that a linear program is exported as are decimals.
-use Rattle.std.proofs.Common.{◌≡◌, if◌then◌else◌, ◌≢◌, ◌∙◌, ⊎_elim, ℕ, zero, suc, ◌<◌, ◌≤◌, ◌^◌, Bool, true, false, cond, nat_eq, List, [], ◌∷◌, ◌++◌, get_or, Option, Some, None, pos, IsTrue, refl, sym, ap, subst, arith}
+use Rattle.std.proofs.Common.{◌≡◌, if◌then◌else◌, ◌≢◌, ◌∙◌, ⊎_elim, ℕ, zero, suc, ◌<◌, ◌≤◌, ◌^◌, Bool, true, false}
+use Rattle.std.proofs.Common.{cond, nat_eq, List, [], ◌∷◌, ◌++◌, get_or, Option, Some, None, pos, IsTrue, refl, sym, ap}
+use Rattle.std.proofs.Common.{subst, arith}
 use Rattle.std.specs.Prelude.{All, is_some, ◌||◌}
 use Rattle.std.proofs.Math.ListN.{get_or-append}
 use Rattle.std.proofs.lemmas.Bool.{cases_lt, eq-eqb}
@@ -122,7 +124,9 @@ same_less x = -ℚ_lem x x ∙ +ℚ-neg x
 pub tie_written : (n g : ℕ) (objective : Form) → g < 2 ^ 127 → All (ScaledFits g) (objective_numbers n objective) → IsWritten (suc n) (scaled_row g (tie n objective))
 tie_written n g objective few parts =
     let q = whole (pos g) in
-    let side : FitsDec (q *ℚ (zero_ℚ -ℚ objective.constant)) = subst FitsDec (sym (tie_side g objective.constant)) (neg_fits (q *ℚ objective.constant) (All-head (ScaledFits g) objective.constant (coefficients_below objective.coefficient n) parts).dec) in
+    let side : FitsDec (q *ℚ (zero_ℚ -ℚ objective.constant)) =
+      subst FitsDec (sym (tie_side g objective.constant)) (neg_fits (q *ℚ objective.constant)
+        (All-head (ScaledFits g) objective.constant (coefficients_below objective.coefficient n) parts).dec) in
     let costs = All-tail (ScaledFits g) objective.constant (coefficients_below objective.coefficient n) parts in
     let s = q *ℚ (zero_ℚ -ℚ objective.constant) in
     record {
@@ -132,7 +136,9 @@ tie_written n g objective few parts =
       sided = two_not_none (nonzero (s -ℚ s));
     }
   where
-    at : (j : ℕ) → j < suc n → (b : Bool) → nat_eq j n ≡ b → All (ScaledFits g) (coefficients_below objective.coefficient n) → IfFits (nonzero (whole (pos g) *ℚ cond b (neg_ℚ one_ℚ) (objective.coefficient j)))
+    at : (j : ℕ) → j < suc n → (b : Bool) → nat_eq j n ≡ b → All (ScaledFits g)
+      (coefficients_below objective.coefficient n) → IfFits
+      (nonzero (whole (pos g) *ℚ cond b (neg_ℚ one_ℚ) (objective.coefficient j)))
     at j lt true e costs = nonzero_fits (whole (pos g) *ℚ neg_ℚ one_ℚ) (subst FitsDec (sym (tie_one g)) (neg_fits (whole (pos g)) (whole_fits (pos g) few)))
     at j lt false e costs =
         let other : j ≢ n = λ same. absurd (let is = eq-eqb j n same in cc) in
@@ -151,7 +157,9 @@ z_constant = nonzero_fits (neg_ℚ zero_ℚ) (neg_fits zero_ℚ zero_fits)
 -- ---- a decimal objective
 
 pub costs_fit : (n : ℕ) (objective : Form) → All FitsDec (objective_numbers n objective) → (j : ℕ) → j < n → IfFits (nonzero (objective.coefficient j))
-costs_fit n objective h j lt = nonzero_fits (objective.coefficient j) (below_fits FitsDec objective.coefficient n (All-tail FitsDec objective.constant (coefficients_below objective.coefficient n) h) j lt)
+costs_fit n objective h j lt = nonzero_fits (objective.coefficient j)
+  (below_fits FitsDec objective.coefficient n (All-tail FitsDec objective.constant
+      (coefficients_below objective.coefficient n) h) j lt)
 
 pub constant_fits : (n : ℕ) (objective : Form) → All FitsDec (objective_numbers n objective) → IfFits (nonzero (neg_ℚ objective.constant))
 constant_fits n objective h = nonzero_fits (neg_ℚ objective.constant) (neg_fits objective.constant (All-head FitsDec objective.constant (coefficients_below objective.coefficient n) h))

@@ -1,5 +1,7 @@
 -- The written header is read without a fault, and says its options and counts.
-use Rattle.std.proofs.Common.{◌≡◌, ◌∙◌, ℕ, zero, suc, ◌+◌, ◌-◌, ◌^◌, ◌<◌, ◌≤◌, ◌==◌, max, Bool, true, false, not, ◌&&◌, ℤ, List, [], ◌∷◌, ◌++◌, length, map, drop, get_or, refl, sym, ap, subst, arith, nat_lt, nat_le, Option, None, lt_trans, lit<}
+use Rattle.std.proofs.Common.{◌≡◌, ◌∙◌, ℕ, zero, suc, ◌+◌, ◌-◌, ◌^◌, ◌<◌, ◌≤◌, ◌==◌, max, Bool, true, false, not, ◌&&◌}
+use Rattle.std.proofs.Common.{ℤ, List, [], ◌∷◌, ◌++◌, length, map, drop, get_or, refl, sym, ap, subst, arith, nat_lt}
+use Rattle.std.proofs.Common.{nat_le, Option, None, lt_trans, lit<}
 use Rattle.std.specs.Prelude.{IsTrue, slice_index_or, unwrap_or}
 use Rattle.std.specs.List.{AllByRecursion, list_all, filter_map, flat_map}
 use Rattle.std.specs.Fmt.{decimal, signed_decimal}
@@ -11,11 +13,15 @@ use Rattle.text_base.specs.Judged.{first_reason}
 use Rattle.text_base.specs.Words.{word_at}
 use Rattle.code_tables.specs.declared.field.Field.{Field}
 use Rattle.code_tables.specs.Header.{header_rows, field_at}
-use Rattle.nl_header.specs.Head.{header_line_fault, number_line_fault, words_fault, word_tests, field_tests, must_be_zero, limit_of, lacks_number, rule_tests, first_line_tests, counts_in, counts_by, options_in, number_in}
+use Rattle.nl_header.specs.Head.{header_line_fault, number_line_fault, words_fault, word_tests, field_tests}
+use Rattle.nl_header.specs.Head.{must_be_zero, limit_of, lacks_number, rule_tests, first_line_tests, counts_in}
+use Rattle.nl_header.specs.Head.{counts_by, options_in, number_in}
 use Rattle.exact_numbers.specs.Numbers.{has_31_bits, signed_of, whole_of}
 use Rattle.exact_numbers.proofs.NumberLemmas.{signed_of-signed_decimal}
 use Rattle.nl_model.specs.declared.header_counts.Counts.{Counts}
-use Rattle.nl_model.specs.HeaderRules.{are_options, numbers_of, are_numbers, has_no_refused, are_sizes_within, are_shared_within, are_whole_within, are_definitions_within, are_counts, is_header, AreCounts}
+use Rattle.nl_model.specs.HeaderRules.{are_options, numbers_of, are_numbers, has_no_refused, are_sizes_within}
+use Rattle.nl_model.specs.HeaderRules.{are_shared_within, are_whole_within, are_definitions_within, are_counts}
+use Rattle.nl_model.specs.HeaderRules.{is_header, AreCounts}
 use Rattle.nl_model.specs.Options.{has_second_three}
 use Rattle.nl_model.proofs.Headers.{counts_of_header}
 use Rattle.text_base.specs.WordLines.{WordLine, spaced}
@@ -147,7 +153,8 @@ data AreRowsFine (first : WordLine) : List (List ℕ) → List (List ℕ) → Ty
   row : {before rest : List (List ℕ)} {ns : List ℕ} → AreFieldsFine (length before + 2) 1 ns → lacks_number header_rows (length before + 2) (length ns) ≡ false
       → first_reason (rule_tests (length before + 2) (counts_of first (before ++ ns ∷ []))) ≡ None → AreRowsFine first (before ++ ns ∷ []) rest → AreRowsFine first before (ns ∷ rest)
 
-row_fine : (first : WordLine) (before : List (List ℕ)) (ns : List ℕ) → AreAllSmall before → AreSmall ns → AreFieldsFine (length before + 2) 1 ns → lacks_number header_rows (length before + 2) (length ns) ≡ false
+row_fine : (first : WordLine) (before : List (List ℕ)) (ns : List ℕ) → AreAllSmall before → AreSmall ns
+  → AreFieldsFine (length before + 2) 1 ns → lacks_number header_rows (length before + 2) (length ns) ≡ false
     → first_reason (rule_tests (length before + 2) (counts_of first (before ++ ns ∷ []))) ≡ None → header_line_fault (first ∷ map numbers before) (numbers ns) ≡ None
 unfolding header_line_fault number_line_fault
 row_fine first before ns smalls small fields long rule =
@@ -160,7 +167,8 @@ rows_fine : (first : WordLine) (before rows : List (List ℕ)) → AreAllSmall b
 rows_fine first before [] smalls small no_row = tt
 rows_fine first before (ns ∷ rows) smalls small (row fields long rule more) = (
   row_fine first before ns smalls small.0 fields long rule,
-  subst (λ ls. AreHeadFine (first ∷ ls) (map numbers rows)) (map-append numbers before (ns ∷ [])) (rows_fine first (before ++ ns ∷ []) rows (all_append AreSmall before (ns ∷ []) smalls (small.0, tt)) small.1 more),
+  subst (λ ls. AreHeadFine (first ∷ ls) (map numbers rows)) (map-append numbers before (ns ∷ []))
+    (rows_fine first (before ++ ns ∷ []) rows (all_append AreSmall before (ns ∷ []) smalls (small.0, tt)) small.1 more),
 )
 
 -- ---- the counts of a header
@@ -240,8 +248,12 @@ unfolding counts_by
 counts_said options c h = counts_read (options_line options) (rows_of c) h.small ∙ (λ i. record c { n_lcon = sym h.none.n_lcon i })
 
 -- what holds of the first line and of a line of some numbers holds of each line
-pub header_each : (P : WordLine → Type 0) (options : List ℤ) (c : Counts) → IsHeaderReady options c → P (options_line options) → ((ns : List ℕ) → 0 < length ns → length ns ≤ 12 → AreSmall ns → P (numbers ns)) → AllByRecursion P (header_lines options c)
-header_each P options c h first each = (first, rows (rows_of c) (omega arith, (omega arith, (omega arith, (omega arith, (omega arith, (omega arith, (omega arith, (omega arith, (omega arith, tt))))))))) h.small)
+pub header_each : (P : WordLine → Type 0) (options : List ℤ) (c : Counts) → IsHeaderReady options c
+  → P (options_line options) → ((ns : List ℕ) → 0 < length ns → length ns ≤ 12 → AreSmall ns → P (numbers ns))
+  → AllByRecursion P (header_lines options c)
+header_each P options c h first each = (first, rows (rows_of c)
+    (omega arith, (omega arith, (omega arith, (omega arith,
+            (omega arith, (omega arith, (omega arith, (omega arith, (omega arith, tt))))))))) h.small)
   where
     rows : (rs : List (List ℕ)) → AllByRecursion (λ ns. (0 < length ns) × (length ns ≤ 12)) rs → AreAllSmall rs → AllByRecursion P (map numbers rs)
     rows [] sizes small = tt
@@ -249,7 +261,9 @@ header_each P options c h first each = (first, rows (rows_of c) (omega arith, (o
 
 lines_written : (options : List ℤ) (c : Counts) → IsHeaderReady options c → AllByRecursion IsWritten (header_lines options c)
 lines_written options c h =
-    header_each IsWritten options c h (options_written options h.few h.all_small) (λ ns some few all. record { some = omega (arith, length-map ns decimal); few = omega (arith, length-map ns decimal); each = numbers_words ns all })
+    header_each IsWritten options c h (options_written options h.few h.all_small)
+      (λ ns some few all. record { some = omega (arith, length-map ns decimal); few =
+          omega (arith, length-map ns decimal); each = numbers_words ns all })
 
 lines_fine : (options : List ℤ) (c : Counts) → IsHeaderReady options c → AreHeadFine [] (header_lines options c)
 unfolding field_at header_rows lacks_number rule_tests counts_by
@@ -258,16 +272,22 @@ lines_fine options c h =
     let k = h.counts in (
       first_fine options h.few h.second h.all_small,
       rows_fine (options_line options) [] (rows_of c) tt m
-          (row (free_field (field_at 2 1) c.n_var (2 ^ 20) refl refl k.variables, (free_field (field_at 2 2) c.n_con (2 ^ 20) refl refl k.constraints, (free_field (field_at 2 3) c.n_obj 256 refl refl k.objectives, open_fields 2 4 (c.n_ranges ∷ c.n_eqns ∷ []) refl m.0.1.1.1))) refl refl
+          (row (free_field (field_at 2 1) c.n_var (2 ^ 20) refl refl k.variables,
+              (free_field (field_at 2 2) c.n_con (2 ^ 20) refl refl k.constraints,
+                (free_field (field_at 2 3) c.n_obj 256 refl refl k.objectives,
+                  open_fields 2 4 (c.n_ranges ∷ c.n_eqns ∷ []) refl m.0.1.1.1))) refl refl
           (row (open_fields 3 1 (c.nlc ∷ c.nlo ∷ []) refl m.1.0) refl refl
           (row (zero_field (field_at 4 1) c.nlnc h.none.nlnc, (zero_field (field_at 4 2) c.lnc h.none.lnc, tt)) refl refl
           (row (open_fields 5 1 (c.nlvc ∷ c.nlvo ∷ c.nlvb ∷ []) refl m.1.1.1.0) refl (rw (le-leb c.nlvb c.nlvc k.shared_in_constraints, le-leb c.nlvb c.nlvo k.shared_in_objectives) refl)
           (row (zero_field (field_at 6 1) c.nwv h.none.nwv, (zero_field (field_at 6 2) c.nfunc h.none.nfunc, open_fields 6 3 (c.arith ∷ c.flags ∷ []) refl m.1.1.1.1.0.1.1)) refl refl
           (row (open_fields 7 1 (c.nbv ∷ c.niv ∷ c.nlvbi ∷ c.nlvci ∷ c.nlvoi ∷ []) refl m.1.1.1.1.1.0) refl
-          (rw (le-leb c.nlvbi c.nlvb k.whole_shared, le-leb c.nlvci (c.nlvc - c.nlvb) k.whole_in_constraints, le-leb c.nlvoi (c.nlvo - c.nlvc) k.whole_in_objectives, le-leb (max c.nlvc c.nlvo + c.nbv + c.niv) c.n_var k.grouped) refl)
+          (rw (le-leb c.nlvbi c.nlvb k.whole_shared, le-leb c.nlvci (c.nlvc - c.nlvb) k.whole_in_constraints,
+              le-leb c.nlvoi (c.nlvo - c.nlvc) k.whole_in_objectives,
+              le-leb (max c.nlvc c.nlvo + c.nbv + c.niv) c.n_var k.grouped) refl)
           (row (free_field (field_at 8 1) c.nzc (2 ^ 22) refl refl k.terms, open_fields 8 2 (c.nzo ∷ []) refl m.1.1.1.1.1.1.0.1) refl refl
           (row (open_fields 9 1 (c.row_name_len ∷ c.col_name_len ∷ []) refl m.1.1.1.1.1.1.1.0) refl refl
-          (row (open_fields 10 1 (c.comb ∷ c.comc ∷ c.como ∷ c.comc1 ∷ c.como1 ∷ []) refl m.1.1.1.1.1.1.1.1.0) refl (rw (le-leb (c.comb + c.comc + c.como + c.comc1 + c.como1) (2 ^ 20) k.defined) refl) no_row))))))))),
+          (row (open_fields 10 1 (c.comb ∷ c.comc ∷ c.como ∷ c.comc1 ∷ c.como1 ∷ []) refl m.1.1.1.1.1.1.1.1.0) refl
+            (rw (le-leb (c.comb + c.comc + c.como + c.comc1 + c.como1) (2 ^ 20) k.defined) refl) no_row))))))))),
     )
 
 -- the written header has these words, and is read as these options and counts

@@ -1,5 +1,7 @@
 -- Written expressions are taken, node by node.
-use Rattle.std.proofs.Common.{◌≡◌, ◌∙◌, ℕ, ◌+◌, ◌-◌, ◌^◌, ◌<◌, ◌≤◌, ◌==◌, true, false, ℤ, List, [], ◌∷◌, ◌++◌, length, refl, sym, ap, ap₂, subst, arith, nat_lt, nat_le, Option, Some, None, length-append, append_assoc, append-nil, lt_trans, lit<, Bool}
+use Rattle.std.proofs.Common.{◌≡◌, ◌∙◌, ℕ, ◌+◌, ◌-◌, ◌^◌, ◌<◌, ◌≤◌, ◌==◌, true, false, ℤ, List, [], ◌∷◌, ◌++◌, length}
+use Rattle.std.proofs.Common.{refl, sym, ap, ap₂, subst, arith, nat_lt, nat_le, Option, Some, None, length-append}
+use Rattle.std.proofs.Common.{append_assoc, append-nil, lt_trans, lit<, Bool}
 use Rattle.std.specs.Prelude.{codes, if◌then◌else◌}
 use Rattle.std.proofs.lemmas.Bool.{lt-ltb, le-leb, lt-leb, le-ltb, eqb-true}
 use Rattle.std.proofs.lemmas.Bool.Decides.{nat_tests}
@@ -130,7 +132,9 @@ pub record IsInTree (c : Counts) (p : Piece) (ns : List Node) (pending : Option 
   pub pend : piece_pending p ≡ pending
 
 -- with a row that adds these nodes, and leaves this opcode pending
-in_tree-more : {c : Counts} {p : Piece} {ns ms : List Node} {pending next : Option Pending} (row : NumberedRow) → only_nodes (last_nodes c.n_var pending row) ≡ ms → last_pending pending row ≡ next → IsInTree c p ns pending → IsInTree c (longer p row) (ns ++ ms) next
+in_tree-more : {c : Counts} {p : Piece} {ns ms : List Node} {pending next : Option Pending} (row : NumberedRow)
+  → only_nodes (last_nodes c.n_var pending row) ≡ ms → last_pending pending row ≡ next → IsInTree c p ns pending
+  → IsInTree c (longer p row) (ns ++ ms) next
 in_tree-more {c = c} {p = p} {ns = ns} {pending = pending} row new after h =
     let rows = late_tree p row h.tree h.late in
     let pend : pending_from None (tree_rows p) ≡ pending = h.pend in
@@ -165,7 +169,8 @@ tree_done c p ns h none =
     let all : (awaited (only_nodes (piece_nodes c p)) == 0) ≡ true = rw (h.nodes, none) refl in
     tree_awaited c p ns None h ∙ rw all refl
 
-node_room : (c : Counts) (before : List Piece) (p : Piece) (ns : List Node) (pending : Option Pending) → IsInTree c p ns pending → node_total c before + length ns < 2 ^ 22 → node_total c (before ++ p ∷ []) < 2 ^ 22
+node_room : (c : Counts) (before : List Piece) (p : Piece) (ns : List Node) (pending : Option Pending)
+  → IsInTree c p ns pending → node_total c before + length ns < 2 ^ 22 → node_total c (before ++ p ∷ []) < 2 ^ 22
 node_room c before p ns pending h room =
     let size : length (piece_nodes c p) ≡ length ns = sym (length-map (piece_nodes c p) (λ n. n.node)) ∙ ap (length {A = Node}) h.nodes in
     omega (arith, nodes-append c before p, size, room)
@@ -218,7 +223,9 @@ module _ (o : List ℤ) (c : Counts) (before : List Piece) (d : Draft) (few : Ar
       → only_nodes (last_nodes c.n_var pending (row_at n words)) ≡ ms → last_pending pending (row_at n words) ≡ next → TakesNodes o c before p n (words ∷ []) (ns ++ ms) next
   takes_row p n words a ns ms pending next line h new after = record { taken = line_taken o c before p n words a line; within = in_tree-more (row_at n words) new after h }
 
-  takes_then : (p : Piece) (n m : ℕ) (xs ys : List WordLine) (ns ms : List Node) (pending next : Option Pending) → m ≡ n + length xs → TakesNodes o c before p n xs ns pending → TakesNodes o c before (with_lines p n xs) m ys ms next
+  takes_then : (p : Piece) (n m : ℕ) (xs ys : List WordLine) (ns ms : List Node) (pending next : Option Pending)
+    → m ≡ n + length xs → TakesNodes o c before p n xs ns pending
+    → TakesNodes o c before (with_lines p n xs) m ys ms next
       → TakesNodes o c before p n (xs ++ ys) ms next
   takes_then p n m xs ys ns ms pending next e f g =
       let same = with_lines-append p n m xs ys e in
@@ -227,7 +234,9 @@ module _ (o : List ℤ) (c : Counts) (before : List Piece) (d : Draft) (few : Ar
         within = subst (λ q. IsInTree c q ms next) same g.within;
       }
 
-  node_line : (p : Piece) (ns : List Node) (m : Node) → IsInTree c p ns None → 0 < awaited ns → IsNodeFine c d.definitions m → node_total c before + length ns < 2 ^ 22 → IsLineFine o c before p (node_words m) NodeLine
+  node_line : (p : Piece) (ns : List Node) (m : Node) → IsInTree c p ns None → 0 < awaited ns
+    → IsNodeFine c d.definitions m → node_total c before + length ns < 2 ^ 22
+    → IsLineFine o c before p (node_words m) NodeLine
   unfolding node_tests
   node_line p ns m h some fine room =
       let now = before ++ p ∷ [] in
@@ -237,7 +246,9 @@ module _ (o : List ℤ) (c : Counts) (before : List Piece) (d : Draft) (few : Ar
         written = words_written c d.definitions m few fine;
         is = no_head m;
         awaited = node_awaited c p ns h some;
-        fine = reason_after (node_form_tests c (draft_of o c now) (node_words m)) ((nat_le (2 ^ 22) (node_total c now), TooLarge) ∷ []) form ∙ not_large (node_total c now) (node_room c before p ns None h room);
+        fine = reason_after (node_form_tests c (draft_of o c now) (node_words m))
+          ((nat_le (2 ^ 22) (node_total c now), TooLarge) ∷ []) form
+          ∙ not_large (node_total c now) (node_room c before p ns None h room);
       }
 
   one_row : (p : Piece) (ns : List Node) (m r : Node) (n : ℕ) → IsInTree c p ns None → 0 < awaited ns → IsNodeFine c d.definitions m → node_total c before + length ns < 2 ^ 22
@@ -260,11 +271,15 @@ module _ (o : List ℤ) (c : Counts) (before : List Piece) (d : Draft) (few : Ar
       let first = with_lines p n (words ∷ []) in
       let within : IsInTree c first ns (Some q) = subst (λ ms. IsInTree c first ms (Some q)) (append-nil ns) one.within in
       let written = written-one (decimal k) (word-decimal k (lt_trans least (lit< tt))) in
-      let line : IsLineFine o c before first count OperandCount = record { written = written; is = decimal_no_head k [] least; awaited = tree_awaited c first ns (Some q) within; fine = count_fine k more fine.1 } in
+      let line : IsLineFine o c before first count OperandCount =
+        record { written = written; is = decimal_no_head k [] least; awaited = tree_awaited c first ns (Some q) within;
+          fine = count_fine k more fine.1 } in
       let two = takes_row first (n + 1) count OperandCount ns (Op opcode k ∷ []) (Some q) None line within (rw (row-written count written, whole_of-decimal k least) refl) refl in
       takes_then p n (n + 1) (words ∷ []) (count ∷ []) (ns ++ []) (ns ++ Op opcode k ∷ []) (Some q) None refl one two
 
-  node_taken : (p : Piece) (ns : List Node) (m : Node) (n : ℕ) → IsInTree c p ns None → 0 < awaited ns → IsNodeFine c d.definitions m → node_total c before + length ns < 2 ^ 22 → TakesNodes o c before p n (node_lines m) (ns ++ m ∷ []) None
+  node_taken : (p : Piece) (ns : List Node) (m : Node) (n : ℕ) → IsInTree c p ns None → 0 < awaited ns
+    → IsNodeFine c d.definitions m → node_total c before + length ns < 2 ^ 22
+    → TakesNodes o c before p n (node_lines m) (ns ++ m ∷ []) None
   node_taken p ns (Num x) n h some fine room = one_row p ns (Num x) (Num x) n h some fine room (number_read c.n_var x)
   node_taken p ns (Var j) n h some fine room =
       let read = variable_read c.n_var j (omega (arith, fine, few.variables)) in
@@ -278,7 +293,8 @@ module _ (o : List ℤ) (c : Counts) (before : List Piece) (d : Draft) (few : Ar
       let is = operands_known opcode k fine.0 in
       by (operands_of opcode) refl is.0 (omega (arith, is.1))
     where
-      fixed : (j : ℕ) → k ≡ j → IsRead c.n_var ((codes "o" ++ decimal opcode) ∷ []) (Some (Op opcode j)) None → TakesNodes o c before p n (((codes "o" ++ decimal opcode) ∷ []) ∷ []) (ns ++ Op opcode k ∷ []) None
+      fixed : (j : ℕ) → k ≡ j → IsRead c.n_var ((codes "o" ++ decimal opcode) ∷ []) (Some (Op opcode j)) None
+        → TakesNodes o c before p n (((codes "o" ++ decimal opcode) ∷ []) ∷ []) (ns ++ Op opcode k ∷ []) None
       fixed j f read = one_row p ns (Op opcode k) (Op opcode k) n h some fine room (read.0 ∙ ap (λ j. Some (Op opcode j)) (sym f), read.1)
 
       by : (x : Option Operands) → operands_of opcode ≡ x → FitsOperands x k → opcode < 2 ^ 31 → TakesNodes o c before p n (operator_lines opcode k) (ns ++ Op opcode k ∷ []) None
@@ -287,7 +303,8 @@ module _ (o : List ℤ) (c : Counts) (before : List Piece) (d : Draft) (few : Ar
       by (Some Two) e f small = rw e (fixed 2 f (operator_read c.n_var opcode Two small e))
       by (Some OnNextLine) e f small = rw e (counted_rows p ns opcode k n h some fine room e small f)
 
-  pub nodes_taken : (p : Piece) (ns ms : List Node) (n : ℕ) → IsInTree c p ns None → AreAwaited (awaited ns) ms → AllByRecursion (IsNodeFine c d.definitions) ms → node_total c before + (length ns + length ms) ≤ 2 ^ 22
+  pub nodes_taken : (p : Piece) (ns ms : List Node) (n : ℕ) → IsInTree c p ns None → AreAwaited (awaited ns) ms
+    → AllByRecursion (IsNodeFine c d.definitions) ms → node_total c before + (length ns + length ms) ≤ 2 ^ 22
       → TakesNodes o c before p n (flat_map node_lines ms) (ns ++ ms) None
   nodes_taken p ns [] n h w fine room =
       let same : with_lines p n [] ≡ p = ap (λ rs. record p { rows = rs }) (append-nil p.rows) in
@@ -339,7 +356,9 @@ defined_in_range n k (d ∷ ds) i h e = by (d.index == i) refl e (defined_in_ran
     by false p e more = more (rw p at e)
 
 mutual
-  fine_prefix : {t : Tree} {ns : List Node} → IsPrefix t ns → (c : Counts) (ds : List Definition) → AreInRange c.n_var (defined_count c) ds → IsTreeWithin c.n_var ds t → length ns ≤ 2 ^ 22 → AllByRecursion (IsNodeFine c ds) ns
+  fine_prefix : {t : Tree} {ns : List Node} → IsPrefix t ns → (c : Counts) (ds : List Definition)
+    → AreInRange c.n_var (defined_count c) ds → IsTreeWithin c.n_var ds t → length ns ≤ 2 ^ 22
+    → AllByRecursion (IsNodeFine c ds) ns
   fine_prefix (a_number d) c ds r w few = (tt, tt)
   fine_prefix (a_variable j) c ds r w few = (w, tt)
   fine_prefix (a_defined i) c ds r w few =
@@ -349,11 +368,15 @@ mutual
       let sizes = size_prefixes h in
       ((k, omega (arith, sizes.1)), fine_prefixes h c ds r w (omega arith))
 
-  fine_prefixes : {ts : Trees} {ns : List Node} → ArePrefixes ts ns → (c : Counts) (ds : List Definition) → AreInRange c.n_var (defined_count c) ds → AreTreesWithin c.n_var ds ts → length ns ≤ 2 ^ 22 → AllByRecursion (IsNodeFine c ds) ns
+  fine_prefixes : {ts : Trees} {ns : List Node} → ArePrefixes ts ns → (c : Counts) (ds : List Definition)
+    → AreInRange c.n_var (defined_count c) ds → AreTreesWithin c.n_var ds ts → length ns ≤ 2 ^ 22
+    → AllByRecursion (IsNodeFine c ds) ns
   fine_prefixes no_tree c ds r w few = tt
   fine_prefixes (one_more t ns ts ms h k) c ds r w few =
       let size = length-append ns ms in
       all_append (IsNodeFine c ds) ns ms (fine_prefix h c ds r w.0 (omega (arith, size))) (fine_prefixes k c ds r w.1 (omega (arith, size)))
 
-pub nodes_fine : (t : Tree) (ns : List Node) → IsPrefix t ns → (c : Counts) (ds : List Definition) → AreInRange c.n_var (defined_count c) ds → IsTreeWithin c.n_var ds t → length ns ≤ 2 ^ 22 → AllByRecursion (IsNodeFine c ds) ns
+pub nodes_fine : (t : Tree) (ns : List Node) → IsPrefix t ns → (c : Counts) (ds : List Definition)
+  → AreInRange c.n_var (defined_count c) ds → IsTreeWithin c.n_var ds t → length ns ≤ 2 ^ 22
+  → AllByRecursion (IsNodeFine c ds) ns
 nodes_fine t ns h c ds r w few = fine_prefix h c ds r w few

@@ -1,5 +1,7 @@
 -- Written pieces of a head and pairs are taken.
-use Rattle.std.proofs.Common.{◌^◌, ◌<◌, arith, ◌≡◌, ℕ, ◌≤◌, false, not, ◌&&◌, ℤ, List, [], ◌∷◌, ◌++◌, length, refl, Some, None, lt_trans, lit<, ◌∙◌, suc, ◌+◌, Bool, true, ◌||◌, cond, sym, ap, subst, nat_le, length-append}
+use Rattle.std.proofs.Common.{◌^◌, ◌<◌, arith, ◌≡◌, ℕ, ◌≤◌, false, not, ◌&&◌, ℤ, List, [], ◌∷◌, ◌++◌, length, refl}
+use Rattle.std.proofs.Common.{Some, None, lt_trans, lit<, ◌∙◌, suc, ◌+◌, Bool, true, ◌||◌, cond, sym, ap, subst, nat_le}
+use Rattle.std.proofs.Common.{length-append}
 use Rattle.written_texts.specs.Words.{IsWritten}
 use Rattle.written_texts.proofs.WrittenWords.{word-decimal, word-text}
 use Rattle.nl_model.specs.File.{Term}
@@ -120,7 +122,8 @@ room_left : (counts : Head → Bool) (before : List Piece) (p : Piece) (k : ℕ)
     → counts p.head ≡ true → pair_total counts (before ++ p ∷ []) < most_terms
 room_left counts before p k h e = let room = h e in omega (arith, pair_total-append counts before p, all_more counts p e, room)
 
-pub pairs_fine : (c : Counts) (before : List Piece) (p : Piece) (n : ℕ) (terms : List Term) → length p.rows + length terms ≤ pair_count p.head → MayTake c before p terms → ArePairsFine c before p n terms
+pub pairs_fine : (c : Counts) (before : List Piece) (p : Piece) (n : ℕ) (terms : List Term)
+  → length p.rows + length terms ≤ pair_count p.head → MayTake c before p terms → ArePairsFine c before p n terms
 pairs_fine c before p n [] lacks h = tt
 pairs_fine c before p n (t ∷ terms) lacks h =
     let row = row_at n (term_line t) in
@@ -158,7 +161,8 @@ read_pairs : (n : ℕ) (terms : List Term) → AllByRecursion (λ t. t.0 < 2 ^ 3
 read_pairs n [] small = refl
 read_pairs n (t ∷ terms) small = rw (pair_read n t small.0) (ap (λ ts. t ∷ ts) (read_pairs (n + 1) terms small.1))
 
-pub pair_piece-pairs : (n : ℕ) (words : WordLine) (head : Head) (terms : List Term) → pair_count head ≡ length terms → AllByRecursion (λ t. t.0 < 2 ^ 31) terms → piece_pairs (pair_piece n words head terms) ≡ terms
+pub pair_piece-pairs : (n : ℕ) (words : WordLine) (head : Head) (terms : List Term) → pair_count head ≡ length terms
+  → AllByRecursion (λ t. t.0 < 2 ^ 31) terms → piece_pairs (pair_piece n words head terms) ≡ terms
 pair_piece-pairs n words head terms size small =
     let rows = rows_at (n + 1) (term_lines terms) in
     ap (filter_map (λ r. pair_in (row_words r))) (take_all (pair_count head) rows (omega (arith, size, line_rows_size (n + 1) term_line terms)))

@@ -11,7 +11,9 @@ use Rattle.linear_program.specs.Names.{row_name, variable_name}
 use Rattle.mps_model.specs.Valid.{marker_word}
 use Rattle.scaled_program.specs.Program.{ScaledRow, exported_rows, scaled_row, zdef_name, z_variable}
 use Rattle.scaled_program.specs.ExportedProgram.{obj_name}
-use Rattle.scaled_program.proofs.Names.{constraint_is_name, variable_is_name, z_is_name, zdef_is_name, constraints_apart, variables_apart, constraint_not_obj, constraint_not_zdef, constraint_not_marker, obj_not_zdef, zdef_not_marker, variable_not_z}
+use Rattle.scaled_program.proofs.Names.{constraint_is_name, variable_is_name, z_is_name, zdef_is_name}
+use Rattle.scaled_program.proofs.Names.{constraints_apart, variables_apart, constraint_not_obj, constraint_not_zdef}
+use Rattle.scaled_program.proofs.Names.{constraint_not_marker, obj_not_zdef, zdef_not_marker, variable_not_z}
 
 -- an element of a list is the same whatever the default
 pub other_default : {A : Type 0} (xs : List A) (i : ℕ) (d e : A) → i < length xs → get_or xs i d ≡ get_or xs i e

@@ -19,7 +19,9 @@ use Rattle.scaled_program.specs.Factor.{objective_numbers}
 use Rattle.scaled_program.specs.Program.{ScaledProgram, ScaledRow, exported_rows, nonzero, scaled_row, tie, z_form, z_variable}
 use Rattle.round_trips.specs.Exportable.{HasDecimalBounds, IsExportable, form_count}
 use Rattle.round_trips.specs.ReadAs.{IsReadAs}
-use Rattle.round_trips.proofs.Counting.{counted, exported_count, exported_rows_count, few_coefficients, form_less, in_columns, most_entries, range_last, range_ones, range_sum, sums, sums-append, there_or_not}
+use Rattle.round_trips.proofs.Counting.{counted, exported_count, exported_rows_count, few_coefficients, form_less}
+use Rattle.round_trips.proofs.Counting.{in_columns, most_entries, range_last, range_ones, range_sum, sums, sums-append}
+use Rattle.round_trips.proofs.Counting.{there_or_not}
 use Rattle.round_trips.proofs.Exports.{constant_fits, costs_fit, rows_written, tie_written, z_constant, z_costs, z_decimal}
 use Rattle.exact_numbers.proofs.Fitting.{picked}
 use Rattle.round_trips.proofs.Names.{scaled_of}

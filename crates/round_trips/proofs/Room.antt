@@ -1,5 +1,7 @@
 -- No written line of a file that keeps the rules of values is too long, and its text has room for what it says.
-use Rattle.std.proofs.Common.{◌≡◌, ◌≢◌, ◌∙◌, ℕ, zero, suc, ◌+◌, ◌*◌, ◌^◌, ◌<◌, ◌≤◌, Bool, true, false, cond, not, ◌&&◌, ◌==◌, ℤ, List, [], ◌∷◌, ◌++◌, length, get_or, map, All, AllPairs, refl, sym, ap, subst, arith, Option, Some, None, nat_le, lt_trans, lit<, length-append}
+use Rattle.std.proofs.Common.{◌≡◌, ◌≢◌, ◌∙◌, ℕ, zero, suc, ◌+◌, ◌*◌, ◌^◌, ◌<◌, ◌≤◌, Bool, true, false, cond, not, ◌&&◌}
+use Rattle.std.proofs.Common.{◌==◌, ℤ, List, [], ◌∷◌, ◌++◌, length, get_or, map, All, AllPairs, refl, sym, ap, subst}
+use Rattle.std.proofs.Common.{arith, Option, Some, None, nat_le, lt_trans, lit<, length-append}
 use Rattle.std.specs.Prelude.{IfSome, IsTrue, codes, sum_by}
 use Rattle.std.specs.List.{AllByRecursion, list_all, flat_map}
 use Rattle.std.specs.Fmt.{decimal, signed_decimal}
@@ -35,7 +37,10 @@ use Rattle.exact_numbers.specs.Values.{text_of}
 use Rattle.written_texts.proofs.Lengths.{decimal-length, signed_31-length, text-length}
 use Rattle.written_texts.proofs.LineLemmas.{spaced-length}
 use Rattle.nl_writer.specs.Trees.{is_counted, tree_lines, node_lines}
-use Rattle.nl_writer.specs.Written.{numbers, options_line, header_lines, lettered, term_line, term_lines, by_number, suffix_piece, definition_piece, body_piece, sense_word, objective_piece, guess_piece, is_same, sides_line, interval_line, interval_piece, column_lines, column_piece, term_piece, nl_lines}
+use Rattle.nl_writer.specs.Written.{numbers, options_line, header_lines, lettered, term_line, term_lines, by_number}
+use Rattle.nl_writer.specs.Written.{suffix_piece, definition_piece, body_piece, sense_word, objective_piece}
+use Rattle.nl_writer.specs.Written.{guess_piece, is_same, sides_line, interval_line, interval_piece, column_lines}
+use Rattle.nl_writer.specs.Written.{column_piece, term_piece, nl_lines}
 use Rattle.nl_writer.proofs.Writing.{node_lines-prefix}
 use Rattle.round_trips.specs.Writable.{HasNodes, HasRoom, IsWithinLimits, IsWritable, IsWritableSuffix, linear_count, node_count, value_count}
 use Rattle.round_trips.proofs.LineSections.{up_to_most}
@@ -81,7 +86,9 @@ mapped : {X : Type 0} (most : ℕ) (f : X → WordLine) (xs : List X) → most �
 mapped most f [] short all = none_fit
 mapped most f (x ∷ xs) short all = one_more most (f x) (all 0 x (omega arith)) short (mapped most f xs short (All-tail (λ x. length (spaced (f x)) < most) x xs all)) (omega arith)
 
-numbered : {X : Type 0} (w : X → ℕ) (piece : ℕ → X → List WordLine) (i : ℕ) (xs : List X) → ((j : ℕ) → j < 2 ^ 20 → All (λ x. Fits (96 * w x) (piece j x)) xs) → i + length xs ≤ 2 ^ 20 → Fits (96 * sum_by w xs) (by_number piece i xs)
+numbered : {X : Type 0} (w : X → ℕ) (piece : ℕ → X → List WordLine) (i : ℕ) (xs : List X)
+  → ((j : ℕ) → j < 2 ^ 20 → All (λ x. Fits (96 * w x) (piece j x)) xs) → i + length xs ≤ 2 ^ 20
+  → Fits (96 * sum_by w xs) (by_number piece i xs)
 numbered w piece i [] each few = none_fit
 numbered w piece i (x ∷ xs) each few =
     more_room (both (each i (omega arith) 0 x (omega arith)) (numbered w piece (i + 1) xs (λ j lt. All-tail (λ x. Fits (96 * w x) (piece j x)) x xs (each j lt)) (omega arith)))
@@ -199,10 +206,14 @@ some_node (defined i) = omega arith
 some_node (operator c ts) = omega arith
 
 -- a tree with its head
-headed : (c : Counts) (ds : List Definition) (t : Tree) (head : WordLine) → IsSized c ds → HasNodes t → IsTreeKnown c.n_var ds t → tree_size t ≤ 2 ^ 22 → length (spaced head) < 34 → Fits (96 * tree_size t) (head ∷ tree_lines t)
+headed : (c : Counts) (ds : List Definition) (t : Tree) (head : WordLine) → IsSized c ds → HasNodes t
+  → IsTreeKnown c.n_var ds t → tree_size t ≤ 2 ^ 22 → length (spaced head) < 34
+  → Fits (96 * tree_size t) (head ∷ tree_lines t)
 headed c ds t head k h is few line = let some = some_node t in one_more 34 head line (omega arith) (tree_fits c ds t k h is few) (omega (arith, some))
 
-body_fits : (c : Counts) (ds : List Definition) (i : ℕ) (b : Option Tree) → IsSized c ds → i < 2 ^ 20 → IfSome b HasNodes → IfSome b (IsTreeKnown c.n_var ds) → option_map_or tree_size b 0 ≤ 2 ^ 22 → Fits (96 * option_map_or tree_size b 0) (body_piece i b)
+body_fits : (c : Counts) (ds : List Definition) (i : ℕ) (b : Option Tree) → IsSized c ds → i < 2 ^ 20
+  → IfSome b HasNodes → IfSome b (IsTreeKnown c.n_var ds) → option_map_or tree_size b 0 ≤ 2 ^ 22
+  → Fits (96 * option_map_or tree_size b 0) (body_piece i b)
 body_fits c ds i None k lt nodes is few = none_fit
 body_fits c ds i (Some t) k lt nodes is few = let word = number_brief i (omega (arith, lt)) in headed c ds t (lettered (codes "C") i ∷ []) k nodes is few (omega (arith, word))
 
@@ -210,7 +221,9 @@ sense_word-length : (b : Bool) → length (sense_word b) ≡ 1
 sense_word-length true = refl
 sense_word-length false = refl
 
-objective_fits : (c : Counts) (ds : List Definition) (i : ℕ) (o : Objective) → IsSized c ds → i < 2 ^ 20 → HasNodes o.tree → IsTreeKnown c.n_var ds o.tree → tree_size o.tree ≤ 2 ^ 22 → Fits (96 * tree_size o.tree) (objective_piece i o)
+objective_fits : (c : Counts) (ds : List Definition) (i : ℕ) (o : Objective) → IsSized c ds → i < 2 ^ 20
+  → HasNodes o.tree → IsTreeKnown c.n_var ds o.tree → tree_size o.tree ≤ 2 ^ 22
+  → Fits (96 * tree_size o.tree) (objective_piece i o)
 objective_fits c ds i o k lt nodes is few =
     let word = number_brief i (omega (arith, lt)) in
     let sense = sense_word-length o.maximise in
@@ -218,7 +231,9 @@ objective_fits c ds i o k lt nodes is few =
 
 -- ---- definitions
 
-definition_fits : (c : Counts) (known : List Definition) (d : Definition) → IsSized c known → IsPlainDefinition d → tree_size d.tree ≤ 2 ^ 22 → IsDefinition c.n_var (defined_count c) known d → Fits (96 * tree_size d.tree + 72 * length d.terms) (definition_piece d)
+definition_fits : (c : Counts) (known : List Definition) (d : Definition) → IsSized c known → IsPlainDefinition d
+  → tree_size d.tree ≤ 2 ^ 22 → IsDefinition c.n_var (defined_count c) known d
+  → Fits (96 * tree_size d.tree + 72 * length d.terms) (definition_piece d)
 definition_fits c known d k h size is =
     let index = number_brief d.index (omega (arith, is.below, k.counts.variables, k.counts.defined)) in
     let count = number_brief (length d.terms) (omega (arith, is.few)) in
@@ -229,12 +244,16 @@ definition_fits c known d k h size is =
     (omega (arith, index, count, usage, length-append first (32 ∷ decimal (length d.terms) ++ 32 ∷ decimal d.usage), length-append (decimal (length d.terms)) (32 ∷ decimal d.usage))) (omega arith)
     (both (terms_fit c.n_var d.terms k.counts.variables is.terms) (tree_fits c known d.tree k h.nodes is.tree size)) (omega (arith, some))
 
-definitions_fit : (c : Counts) (known ds : List Definition) → IsSized c known → AreDefinitions c.n_var (defined_count c) known ds → AllByRecursion (λ d. IsPlainDefinition d × (tree_size d.tree ≤ 2 ^ 22)) ds
+definitions_fit : (c : Counts) (known ds : List Definition) → IsSized c known
+  → AreDefinitions c.n_var (defined_count c) known ds → AllByRecursion
+  (λ d. IsPlainDefinition d × (tree_size d.tree ≤ 2 ^ 22)) ds
     → Fits (96 * sum_by (λ d. tree_size d.tree) ds + 72 * sum_by (λ d. length d.terms) ds) (flat_map definition_piece ds)
 definitions_fit c known [] k are plain = none_fit
 definitions_fit c known (d ∷ ds) k are plain =
     let next : IsSized c (known ++ d ∷ []) = record { counts = k.counts; range = range_more c.n_var (defined_count c) known d k.range are.0.from are.0.below } in
-    more_room (both (definition_fits c known d k plain.0.0 plain.0.1 are.0) (definitions_fit c (known ++ d ∷ []) ds next are.1 plain.1)) (omega (arith, sum_by-cons (λ d. tree_size d.tree) d ds, sum_by-cons (λ d. length d.terms) d ds))
+    more_room (both (definition_fits c known d k plain.0.0 plain.0.1 are.0)
+        (definitions_fit c (known ++ d ∷ []) ds next are.1 plain.1))
+      (omega (arith, sum_by-cons (λ d. tree_size d.tree) d ds, sum_by-cons (λ d. length d.terms) d ds))
 
 -- ---- suffixes
 
@@ -253,7 +272,9 @@ suffix_fits c s k h =
     (omega (arith, kind, count, name, length-append first (32 ∷ decimal (length s.values) ++ 32 ∷ s.name), length-append (decimal (length s.values)) (32 ∷ s.name))) (omega arith)
     (terms_fit (object_count c s.kind) s.values (few_objects c s.kind k) h.1.below) (omega arith)
 
-suffixes_fit : (c : Counts) (ss : List Suffix) → AreCounts c → AllByRecursion (λ s. IsWritableSuffix s × IsSuffix c s) ss → Fits (340 * length ss + 72 * sum_by (λ s. length s.values) ss) (flat_map suffix_piece ss)
+suffixes_fit : (c : Counts) (ss : List Suffix) → AreCounts c
+  → AllByRecursion (λ s. IsWritableSuffix s × IsSuffix c s) ss
+  → Fits (340 * length ss + 72 * sum_by (λ s. length s.values) ss) (flat_map suffix_piece ss)
 suffixes_fit c [] k h = none_fit
 suffixes_fit c (s ∷ ss) k h = more_room (both (suffix_fits c s k h.0) (suffixes_fit c ss k h.1)) (omega (arith, sum_by-cons (λ s. length s.values) s ss))
 
@@ -272,7 +293,8 @@ side_short (Some lo) (Some hi) = by (is_same lo hi)
 intervals_fit : (b n : ℕ) (is : List Interval) → n ≤ 2 ^ 20 → length is ≡ n → Fits (2 ^ 27) (interval_piece (b ∷ []) is)
 intervals_fit b n [] le count = none_fit
 intervals_fit b n (i ∷ is) le count =
-    one_more 2 ((b ∷ []) ∷ []) (omega arith) (omega arith) (mapped 124 interval_line (i ∷ is) (omega arith) (λ k j lt. side_short (get_or (i ∷ is) k j).lo (get_or (i ∷ is) k j).hi)) (omega (arith, le, count))
+    one_more 2 ((b ∷ []) ∷ []) (omega arith) (omega arith) (mapped 124 interval_line (i ∷ is) (omega arith)
+        (λ k j lt. side_short (get_or (i ∷ is) k j).lo (get_or (i ∷ is) k j).hi)) (omega (arith, le, count))
 
 columns_fit : (rows : List (List Term)) (j n : ℕ) → term_count rows ≤ most_terms → Fits (11 * n) (column_lines rows j n)
 columns_fit rows j zero few = none_fit
@@ -299,13 +321,16 @@ lines_fit f file m =
     let plain : All (λ d. IsPlainDefinition d × (tree_size d.tree ≤ 2 ^ 22)) f.definitions = λ i d lt.
     let size = get_or-le-sum_by (λ (d : Definition). tree_size d.tree) f.definitions i d lt in
     (record { usage = m.usages i d lt; nodes = m.trees.definitions i d lt }, omega (arith, nodes, size)) in
-    let definitions = definitions_fit c [] f.definitions (record { counts = k; range = tt }) file.definitions (recursion_from_All (λ d. IsPlainDefinition d × (tree_size d.tree ≤ 2 ^ 22)) f.definitions plain) in
+    let definitions = definitions_fit c [] f.definitions (record { counts = k; range = tt }) file.definitions
+      (recursion_from_All (λ d. IsPlainDefinition d × (tree_size d.tree ≤ 2 ^ 22)) f.definitions plain) in
     let bodies = numbered (λ b. option_map_or tree_size b 0) body_piece 0 f.bodies (λ j small i b lt.
     let size = get_or-le-sum_by (λ b. option_map_or tree_size b 0) f.bodies i b lt in
     body_fits c f.definitions j (get_or f.bodies i b) trees small (m.trees.bodies i b lt) (file.bodies.known i b lt) (omega (arith, nodes, size))) (omega (arith, file.bodies.count, k.constraints)) in
     let objectives = numbered (λ (o : Objective). tree_size o.tree) objective_piece 0 f.objectives (λ j small i o lt.
     let size = get_or-le-sum_by (λ (o : Objective). tree_size o.tree) f.objectives i o lt in
-    objective_fits c f.definitions j (get_or f.objectives i o) trees small (m.trees.objectives i o lt) (file.objectives.known i o lt) (omega (arith, nodes, size))) (omega (arith, file.objectives.count, k.objectives)) in
+    objective_fits c f.definitions j (get_or f.objectives i o) trees small (m.trees.objectives i o lt)
+        (file.objectives.known i o lt) (omega (arith, nodes, size)))
+      (omega (arith, file.objectives.count, k.objectives)) in
     let duals = guesses_fit 100 c.n_con f.dual_guesses k.constraints file.dual_guesses in
     let primals = guesses_fit 120 n f.primal_guesses k.variables file.primal_guesses in
     let sides = intervals_fit 114 c.n_con f.sides k.constraints file.side_count in

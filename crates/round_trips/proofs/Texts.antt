@@ -1,5 +1,7 @@
 -- What a text without a fault says: its header, and its pieces one after the other.
-use Rattle.std.proofs.Common.{◌≡◌, ◌∙◌, ℕ, ◌+◌, ◌<◌, ◌≤◌, ◌^◌, Bool, true, false, ℤ, List, [], ◌∷◌, ◌++◌, length, get_or, take, drop, refl, sym, ap, subst, arith, Option, Some, None, All, append_assoc, length-append}
+use Rattle.std.proofs.Common.{◌≡◌, ◌∙◌, ℕ, ◌+◌, ◌<◌, ◌≤◌, ◌^◌, Bool, true, false, ℤ, List, [], ◌∷◌, ◌++◌, length}
+use Rattle.std.proofs.Common.{get_or, take, drop, refl, sym, ap, subst, arith, Option, Some, None, All, append_assoc}
+use Rattle.std.proofs.Common.{length-append}
 use Rattle.std.specs.Prelude.{IsSome, IsTrue, option_map, filter, sum_by}
 use Rattle.std.specs.List.{list_all, list_any}
 use Rattle.std.proofs.lemmas.Bool.{ltb-true, ltb-false, eqb-true, not-false}
@@ -198,7 +200,9 @@ whole_by s h e = by (is_in_header s) refl
           nonzeros = eqb-true (term_count (said s).terms) c.nzc (not-false _ none.1.1.0);
         }
 
-pub whole_text : (text : List ℕ) → IsClean nl_rules (lines_of text) (last_line text) → IsWhole (options_in (standing (lines_of text)).header) (counts_of (standing (lines_of text))) (standing (lines_of text)).pieces (said (standing (lines_of text)))
+pub whole_text : (text : List ℕ) → IsClean nl_rules (lines_of text) (last_line text)
+  → IsWhole (options_in (standing (lines_of text)).header) (counts_of (standing (lines_of text)))
+  (standing (lines_of text)).pieces (said (standing (lines_of text)))
 whole_text text c =
     let lines = lines_of text in
     whole_by (standing lines) (all_lines IsKeptStanding lines (last_line text) (λ s n line more most h fine. step s n line h fine) start c) (text_ends nl_rules text c)

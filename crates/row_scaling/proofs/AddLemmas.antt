@@ -1,4 +1,6 @@
-use Rattle.std.proofs.Common.{◌≡◌, ◌≢◌, ℕ, zero, suc, ◌+◌, ◌<◌, ◌≤◌, ◌^◌, ◌∙◌, sym, ap, refl, arith, subst, Bool, List, [], ◌∷◌, length, drop, get_or, All, map, ap₂, cond, nat_eq, true, false, ⊎_elim, ◌++◌, append_assoc, append-nil, Option, Some, None, length-append, add-one, ◌-◌, IsTrue, IfSome}
+use Rattle.std.proofs.Common.{◌≡◌, ◌≢◌, ℕ, zero, suc, ◌+◌, ◌<◌, ◌≤◌, ◌^◌, ◌∙◌, sym, ap, refl, arith, subst, Bool, List}
+use Rattle.std.proofs.Common.{[], ◌∷◌, length, drop, get_or, All, map, ap₂, cond, nat_eq, true, false, ⊎_elim, ◌++◌}
+use Rattle.std.proofs.Common.{append_assoc, append-nil, Option, Some, None, length-append, add-one, ◌-◌, IsTrue, IfSome}
 use Rattle.std.specs.Prelude.{is_some, ◌||◌}
 use Rattle.std.specs.List.{AllPairs}
 use Rattle.std.proofs.lemmas.List.{get_or-map, length-map, map-append, drop_all, get_or_default}
@@ -16,7 +18,9 @@ use Rattle.exact_numbers.specs.Rational.{ℚ, zero_ℚ, ◌-ℚ◌, neg_ℚ}
 use Rattle.text_base.specs.Names.{IsName}
 use Rattle.mps_model.specs.declared.kinds.RowKind.{RowKind}
 use Rattle.scaled_program.specs.Program.{ScaledRow, zdef_name, nonzero, z_name}
-use Rattle.scaled_program.specs.ExportedProgram.{kind_of_row, mps_row, with_entry, entries_of, bounds_of, bound_record, column_bounds, fixed_or_both, columns_of, column_entries, or_obj_zero, two_sided, obj_name, nl_name, mps_of}
+use Rattle.scaled_program.specs.ExportedProgram.{kind_of_row, mps_row, with_entry, entries_of, bounds_of, bound_record}
+use Rattle.scaled_program.specs.ExportedProgram.{column_bounds, fixed_or_both, columns_of, column_entries, or_obj_zero}
+use Rattle.scaled_program.specs.ExportedProgram.{two_sided, obj_name, nl_name, mps_of}
 use Rattle.exact_numbers.specs.Values.{dec_value}
 use Rattle.linear_program.specs.Names.{row_name, variable_name}
 use Rattle.row_scaling.specs.Scaled.{ScaledValue, IsScaled, IsRowOver}
@@ -71,7 +75,8 @@ filled_rising n z [] some h =
     let P : TermOf → Type 0 = λ t. t.0 < n in record { within = All-cons P (0, z) [] some (All-nil P); rising = λ i j d l m. absurd (omega arith) }
 filled_rising n z (t ∷ ts) some h = h
 
-pub can_add : (old : Mps Dec) (ts us : List TermOf) (z : Dec) → us ≡ or_first (0, z) ts → 0 < length old.rows → AreRising (length old.rows) ts → entry_count old.columns + length ts < 2 ^ 24 → CanAddEntries old us
+pub can_add : (old : Mps Dec) (ts us : List TermOf) (z : Dec) → us ≡ or_first (0, z) ts → 0 < length old.rows
+  → AreRising (length old.rows) ts → entry_count old.columns + length ts < 2 ^ 24 → CanAddEntries old us
 can_add old ts us z e some h few =
     let r : AreRising (length old.rows) us = subst (AreRising (length old.rows)) (sym e) (filled_rising (length old.rows) z ts some h) in
     record {
@@ -82,7 +87,8 @@ can_add old ts us z e some h few =
 -- ---- the columns that are left
 
 -- ---- names
-pub names_apart : (letter : ℕ) (word : List ℕ) (n i k : ℕ) → (get_or word 0 0 ≡ letter → ⊥) → i < k → k ≤ n → n < 2 ^ 32 → cond (nat_eq i n) word (letter ∷ decimal i) ≢ cond (nat_eq k n) word (letter ∷ decimal k)
+pub names_apart : (letter : ℕ) (word : List ℕ) (n i k : ℕ) → (get_or word 0 0 ≡ letter → ⊥) → i < k → k ≤ n → n < 2 ^ 32
+  → cond (nat_eq i n) word (letter ∷ decimal i) ≢ cond (nat_eq k n) word (letter ∷ decimal k)
 names_apart letter word n i k other less within small e =
     let f : letter ∷ decimal i ≡ cond (nat_eq k n) word (letter ∷ decimal k) = ap (λ b. cond b word (letter ∷ decimal i)) (sym (ne_eqb i n (λ g. omega (arith, g)))) ∙ e in
     ⊎_elim
@@ -113,8 +119,10 @@ module _ (n : ℕ) (rows : Rows) (old : Mps Dec) where
     pub all : now.rows ++ map mps_row (left (name_in n) rows i) ≡ old.rows ++ map mps_row (left (name_in n) rows 0)
     pub other : (k : ℕ) → i ≤ k → k ≤ n → All (IsOtherRow (name_in n k)) now.rows
 
-  pub row_put : (now new : Mps Dec) (i : ℕ) (o : Option FactoredRow) (r : FactoredRow) (name : List ℕ) (kind : RowKind) → AreRowsLeft now i → n < 2 ^ 32 → i < length rows → o ≡ get_or rows i o → o ≡ Some r →
-      name ≡ name_in n i → kind ≡ kind_of_row (side_value r.row.side.lo) (side_value r.row.side.hi) → new ≡ record now { rows = now.rows ++ record { name = name; kind = kind } ∷ [] } → AreRowsLeft new (i + 1)
+  pub row_put : (now new : Mps Dec) (i : ℕ) (o : Option FactoredRow) (r : FactoredRow) (name : List ℕ) (kind : RowKind)
+    → AreRowsLeft now i → n < 2 ^ 32 → i < length rows → o ≡ get_or rows i o → o ≡ Some r →
+      name ≡ name_in n i → kind ≡ kind_of_row (side_value r.row.side.lo) (side_value r.row.side.hi)
+        → new ≡ record now { rows = now.rows ++ record { name = name; kind = kind } ∷ [] } → AreRowsLeft new (i + 1)
   row_put now new i o r name kind a small h is some same k e =
       let row : MpsRow = record { name = name; kind = kind } in
       let known : row ≡ mps_row (row_named (name_in n i) r.row) = ap₂ (λ n k. record { name = n; kind = k }) same k in
@@ -135,7 +143,9 @@ module _ (n : ℕ) (rows : Rows) (old : Mps Dec) where
       length old.rows + length rows < 2 ^ 21 → name ≡ name_in n i → CanAddRow now name
   can_put_row now i o r name a h short is some few same =
       let counts : length now.rows + length (left (name_in n) rows i) ≡ length old.rows + length (left (name_in n) rows 0) =
-      omega (arith, length-append now.rows (map mps_row (left (name_in n) rows i)), length-append old.rows (map mps_row (left (name_in n) rows 0)), length-map (left (name_in n) rows i) mps_row, length-map (left (name_in n) rows 0) mps_row, ap length a.all) in
+      omega (arith, length-append now.rows (map mps_row (left (name_in n) rows i)),
+          length-append old.rows (map mps_row (left (name_in n) rows 0)), length-map (left (name_in n) rows i) mps_row,
+          length-map (left (name_in n) rows 0) mps_row, ap length a.all) in
       let one : length (left (name_in n) rows i) ≡ 1 + length (left (name_in n) rows (i + 1)) = ap length (left_some (name_in n) rows i o r h is some) ∙ omega arith in
       record {
         few = omega (arith, counts, one, few, rows_short (name_in n) 0 rows);
@@ -172,17 +182,22 @@ module _ (g : ScaledRow → Option ℚ) (name : ℕ → List ℕ) (rows : Rows) 
         value =
             ap (λ es. es ++ after) b.value
             ∙ append_assoc before (with_entry p v []) after
-            ∙ ap (λ es. before ++ es) (entry_front p v after ∙ ap (λ o. with_entry p o after) same ∙ sym (entries_more g p (row_named (name i) r.row) (left name rows (i + 1))) ∙ ap (entries_of g p) (sym e))
+            ∙ ap (λ es. before ++ es) (entry_front p v after ∙ ap (λ o. with_entry p o after) same
+                ∙ sym (entries_more g p (row_named (name i) r.row) (left name rows (i + 1)))
+                ∙ ap (entries_of g p) (sym e))
             ∙ a.value;
         before = b.before;
       }
 
-  pub there_is_place : (now : List (Entry Dec)) (p i : ℕ) (o : Option FactoredRow) (r : FactoredRow) → AreEntriesLeft now p i → i < length rows → o ≡ get_or rows i o → o ≡ Some r → p < 1 + length (left name rows 0)
+  pub there_is_place : (now : List (Entry Dec)) (p i : ℕ) (o : Option FactoredRow) (r : FactoredRow)
+    → AreEntriesLeft now p i → i < length rows → o ≡ get_or rows i o → o ≡ Some r → p < 1 + length (left name rows 0)
   there_is_place now p i o r a h is some =
       let count : length (left name rows i) ≡ 1 + length (left name rows (i + 1)) = ap length (left_some name rows i o r h is some) ∙ omega arith in
       omega (arith, count, a.place)
 
-  pub entries_put : (s : ScaledValue) (now : List (Entry Dec)) (p i : ℕ) → AreEntriesLeft now p i → i ≡ length rows → rows_in name 0 rows ≡ program_rows s → map (entry_with dec_value) now ≡ map (entry_with dec_value) old ++ entries_of g 1 (program_rows s)
+  pub entries_put : (s : ScaledValue) (now : List (Entry Dec)) (p i : ℕ) → AreEntriesLeft now p i → i ≡ length rows
+    → rows_in name 0 rows ≡ program_rows s → map (entry_with dec_value) now
+    ≡ map (entry_with dec_value) old ++ entries_of g 1 (program_rows s)
   entries_put s now p i a e named =
       sym (append-nil (map (entry_with dec_value) now))
       ∙ ap (λ es. map (entry_with dec_value) now ++ es) (sym (ap (entries_of g p) (left_end name rows i e) ∙ entries_none g p))
@@ -197,7 +212,8 @@ variable_there : (n i j : ℕ) (bs : List Interval) (ks : List Kind) (t : Option
     get_or (variables_from i bs ks ++ tied_variables t) j d ≡ variable_of n (i + j) (get_or (bs ++ tied_bounds t) j no_sides) (get_or (ks ++ tied_kinds t) j Continuous)
 variable_there n i zero [] [] (Some t) d e same h = ap (λ x. record { name = cond x z_name (variable_name (i + 0)); bound = unbounded; whole = false }) (sym (eq-eqb (i + 0) n (omega (arith, e))))
 variable_there n i zero (b ∷ bs) (k ∷ ks) t d e same h =
-    ap₂ (λ x m. record { name = cond x z_name (variable_name m); bound = interval_of b; whole = is_whole_kind k }) (sym (ne_eqb (i + 0) n (λ f. omega (arith, e, f)))) (let g : i ≡ i + 0 = omega arith in g)
+    ap₂ (λ x m. record { name = cond x z_name (variable_name m); bound = interval_of b; whole = is_whole_kind k })
+      (sym (ne_eqb (i + 0) n (λ f. omega (arith, e, f)))) (let g : i ≡ i + 0 = omega arith in g)
 variable_there n i (suc j) (b ∷ bs) (k ∷ ks) t d e same h =
     variable_there n (suc i) j bs ks t d (omega (arith, e)) (omega (arith, same)) (omega (arith, h))
     ∙ ap (λ m. variable_of n m (get_or (bs ++ tied_bounds t) j no_sides) (get_or (ks ++ tied_kinds t) j Continuous)) (let g : suc i + j ≡ i + suc j = omega arith in g)
@@ -232,13 +248,19 @@ module _ (s : ScaledValue) (h : IsScaled s) where
   pub all_variables : length (program_variables s) ≡ column_count s
   all_variables = variables_count 0 s.bounds s.kinds s.tie h.kinds
 
-  pub variable_at : (j : ℕ) (d : Variable) → j < column_count s → get_or (program_variables s) j d ≡ variable_of (length s.bounds) j (get_or (column_sides s) j no_sides) (get_or (all_kinds s) j Continuous)
+  pub variable_at : (j : ℕ) (d : Variable) → j < column_count s
+    → get_or (program_variables s) j d ≡ variable_of (length s.bounds) j (get_or (column_sides s) j no_sides)
+    (get_or (all_kinds s) j Continuous)
   variable_at j d l =
       variable_there (length s.bounds) 0 j s.bounds s.kinds s.tie d (omega arith) h.kinds l
       ∙ ap (λ m. variable_of (length s.bounds) m (get_or (column_sides s) j no_sides) (get_or (all_kinds s) j Continuous)) (let e : 0 + j ≡ j = omega arith in e)
 
-  pub variable_left : (j : ℕ) → j < column_count s → left_variables s j ≡ variable_of (length s.bounds) j (get_or (column_sides s) j no_sides) (get_or (all_kinds s) j Continuous) ∷ left_variables s (j + 1)
-  variable_left j l = let v = variable_of (length s.bounds) j (get_or (column_sides s) j no_sides) (get_or (all_kinds s) j Continuous) in rest_of (program_variables s) j v (omega (arith, l, all_variables)) (sym (variable_at j v l))
+  pub variable_left : (j : ℕ) → j < column_count s → left_variables s j
+    ≡ variable_of (length s.bounds) j (get_or (column_sides s) j no_sides) (get_or (all_kinds s) j Continuous)
+    ∷ left_variables s (j + 1)
+  variable_left j l = let v = variable_of (length s.bounds) j (get_or (column_sides s) j no_sides)
+    (get_or (all_kinds s) j Continuous) in rest_of (program_variables s) j v (omega (arith, l, all_variables))
+    (sym (variable_at j v l))
 
   pub variables_end : (j : ℕ) → j ≡ column_count s → left_variables s j ≡ []
   variables_end j e = drop_all j (program_variables s) (omega (arith, e, all_variables))
@@ -269,21 +291,28 @@ module _ (side : Interval) where
 
   pub of_upper : (z u : Dec) → side.lo ≡ None → side.hi ≡ Some u → dec_value z ≡ zero_ℚ → AreBoundsOf side (Mi, z) (Some (Up, u))
   of_upper z u a b e =
-      record { records = λ j. ap (λ v. bound_record Mi j v ∷ bound_record Up j (dec_value u) ∷ []) e ∙ by_sides None (Some u) j a b; zero = λ w. e; zero_too = λ w. absurd w; apart = record { lower = refl; upper = refl } }
+      record { records = λ j. ap (λ v. bound_record Mi j v ∷ bound_record Up j (dec_value u) ∷ []) e
+          ∙ by_sides None (Some u) j a b; zero = λ w. e; zero_too = λ w. absurd w; apart =
+          record { lower = refl; upper = refl } }
 
   pub of_lower : (l z : Dec) → side.lo ≡ Some l → side.hi ≡ None → dec_value z ≡ zero_ℚ → AreBoundsOf side (Lo, l) (Some (Pl, z))
   of_lower l z a b e =
-      record { records = λ j. ap (λ v. bound_record Lo j (dec_value l) ∷ bound_record Pl j v ∷ []) e ∙ by_sides (Some l) None j a b; zero = λ w. absurd w; zero_too = λ w. e; apart = record { lower = refl; upper = refl } }
+      record { records = λ j. ap (λ v. bound_record Lo j (dec_value l) ∷ bound_record Pl j v ∷ []) e
+          ∙ by_sides (Some l) None j a b; zero = λ w. absurd w; zero_too = λ w. e; apart =
+          record { lower = refl; upper = refl } }
 
   pub of_one : (l u : Dec) → side.lo ≡ Some l → side.hi ≡ Some u → dec_value l ≡ dec_value u → AreBoundsOf side (Fx, l) None
   of_one l u a b e = record { records = λ j. sym (fixed_bounds j (dec_value l) (dec_value u) e) ∙ by_sides (Some l) (Some u) j a b; zero = λ w. absurd w; zero_too = tt; apart = tt }
 
   pub of_both : (l u : Dec) → side.lo ≡ Some l → side.hi ≡ Some u → (dec_value l ≡ dec_value u → ⊥) → AreBoundsOf side (Lo, l) (Some (Up, u))
   of_both l u a b e =
-      record { records = λ j. sym (both_bounds j (dec_value l) (dec_value u) e) ∙ by_sides (Some l) (Some u) j a b; zero = λ w. absurd w; zero_too = λ w. absurd w; apart = record { lower = refl; upper = refl } }
+      record { records = λ j. sym (both_bounds j (dec_value l) (dec_value u) e) ∙ by_sides (Some l) (Some u) j a b;
+          zero = λ w. absurd w; zero_too = λ w. absurd w; apart = record { lower = refl; upper = refl } }
 
 -- records that are added at the end
-pub bounds_put : (j : ℕ) (old now bs : List (Bound Dec)) (records : List (Bound ℚ)) → now ≡ old ++ bs → map (bound_with dec_value) bs ≡ records → All (λ b. b.column < j) old → All (λ b. b.column < j + 1) bs → AreBoundsAdded j records old now
+pub bounds_put : (j : ℕ) (old now bs : List (Bound Dec)) (records : List (Bound ℚ)) → now ≡ old ++ bs
+  → map (bound_with dec_value) bs ≡ records → All (λ b. b.column < j) old → All (λ b. b.column < j + 1) bs
+  → AreBoundsAdded j records old now
 bounds_put j old now bs records e same before new =
     let P : Bound Dec → Type 0 = λ b. b.column < j + 1 in
     record {
@@ -291,12 +320,16 @@ bounds_put j old now bs records e same before new =
       before = subst (All P) (sym e) (All-append P old bs (λ k d h. omega (arith, before k d h)) new);
     }
 
-pub one_put : (j : ℕ) (old now : List (Bound Dec)) (b : Bound Dec) (records : List (Bound ℚ)) → now ≡ old ++ b ∷ [] → b.column ≡ j → bound_with dec_value b ∷ [] ≡ records → All (λ b. b.column < j) old → AreBoundsAdded j records old now
+pub one_put : (j : ℕ) (old now : List (Bound Dec)) (b : Bound Dec) (records : List (Bound ℚ)) → now ≡ old ++ b ∷ []
+  → b.column ≡ j → bound_with dec_value b ∷ [] ≡ records → All (λ b. b.column < j) old
+  → AreBoundsAdded j records old now
 one_put j old now b records e at same before =
     let P : Bound Dec → Type 0 = λ b. b.column < j + 1 in
     bounds_put j old now (b ∷ []) records e same before (All-cons P b [] (omega (arith, at)) (All-nil P))
 
-pub two_put : (j : ℕ) (old now : List (Bound Dec)) (b c : Bound Dec) (records : List (Bound ℚ)) → now ≡ old ++ b ∷ c ∷ [] → b.column ≡ j → c.column ≡ j → bound_with dec_value b ∷ bound_with dec_value c ∷ [] ≡ records → All (λ b. b.column < j) old →
+pub two_put : (j : ℕ) (old now : List (Bound Dec)) (b c : Bound Dec) (records : List (Bound ℚ))
+  → now ≡ old ++ b ∷ c ∷ [] → b.column ≡ j → c.column ≡ j → bound_with dec_value b ∷ bound_with dec_value c ∷ []
+  ≡ records → All (λ b. b.column < j) old →
     AreBoundsAdded j records old now
 two_put j old now b c records e at and same before =
     let P : Bound Dec → Type 0 = λ b. b.column < j + 1 in
@@ -313,7 +346,8 @@ module _ (s : ScaledValue) where
   bounds_left h j b l is =
       ap (bounds_of j) (variable_left s h j l)
       ∙ bounds_more j (variable_of (length s.bounds) j (get_or (column_sides s) j no_sides) (get_or (all_kinds s) j Continuous)) (left_variables s (j + 1))
-      ∙ ap (λ b. column_bounds j (side_value b.lo) (side_value b.hi) ++ bounds_of (j + 1) (left_variables s (j + 1))) (get_or_default (column_sides s) j no_sides b (omega (arith, l, sides_count s h)) ∙ sym is)
+      ∙ ap (λ b. column_bounds j (side_value b.lo) (side_value b.hi) ++ bounds_of (j + 1) (left_variables s (j + 1)))
+        (get_or_default (column_sides s) j no_sides b (omega (arith, l, sides_count s h)) ∙ sym is)
 
   pub column_bounds_put : (h : IsScaled s) (now new : List (Bound Dec)) (j : ℕ) (b : Interval) → AreBoundsLeft now j → j < column_count s → b ≡ get_or (column_sides s) j b →
       AreBoundsAdded j (column_bounds j (side_value b.lo) (side_value b.hi)) now new → AreBoundsLeft new (j + 1)
@@ -351,7 +385,9 @@ with_rising p high (Some v) es h r = (omega arith, h, r)
 
 entries_rising : (g : ScaledRow → Option ℚ) (p high : ℕ) (rows : List ScaledRow) → p + length rows ≡ high → IsRisingFrom p high (entries_of g p rows)
 entries_rising g p high [] e = subst (IsRisingFrom p high) (sym (entries_none g p)) tt
-entries_rising g p high (r ∷ rs) e = subst (IsRisingFrom p high) (sym (entries_more g p r rs)) (with_rising p high (g r) (entries_of g (p + 1) rs) (omega (arith, e)) (entries_rising g (p + 1) high rs (omega (arith, e))))
+entries_rising g p high (r ∷ rs) e = subst (IsRisingFrom p high) (sym (entries_more g p r rs))
+  (with_rising p high (g r) (entries_of g (p + 1) rs) (omega (arith, e))
+    (entries_rising g (p + 1) high rs (omega (arith, e))))
 
 all_above : (ts : List TermOf) (low high : ℕ) → IsRisingFrom low high (map entry_value ts) → All (λ t. low ≤ t.0) ts
 all_above [] low high h k d l = absurd (omega arith)
@@ -367,7 +403,10 @@ terms_rising (t ∷ ts) low high h =
 
 pub column_rising : (s : ScaledValue) (j n : ℕ) (ts : List TermOf) → map entry_value ts ≡ entries_in_column s j → n ≡ 1 + length (program_rows s) → AreRising n ts
 column_rising s j n ts e size =
-    terms_rising ts 0 n (subst (IsRisingFrom 0 n) (sym e) (with_rising 0 n (nonzero ((program_objective s).coefficient j)) (entries_of (λ r. nonzero (r.coefficient j)) 1 (program_rows s)) (omega (arith, size)) (entries_rising (λ r. nonzero (r.coefficient j)) 1 n (program_rows s) (sym size))))
+    terms_rising ts 0 n (subst (IsRisingFrom 0 n) (sym e) (with_rising 0 n
+          (nonzero ((program_objective s).coefficient j)) (entries_of (λ r. nonzero (r.coefficient j)) 1
+            (program_rows s)) (omega (arith, size)) (entries_rising (λ r. nonzero (r.coefficient j)) 1 n
+            (program_rows s) (sym size))))
 
 -- ---- the value of a column
 values_of_entries : (ts : List TermOf) → map (entry_with dec_value) (map entry_of ts) ≡ map entry_value ts
@@ -378,7 +417,9 @@ entries_or_zero : (ts : List TermOf) (z : Dec) → dec_value z ≡ zero_ℚ → 
 entries_or_zero [] z e = ap (λ v. record { row = 0; value = v } ∷ []) e
 entries_or_zero (t ∷ ts) z e = ap (λ es. entry_value t ∷ es) (values_of_entries ts)
 
-pub columns_more : (o : Form) (rows : List ScaledRow) (j : ℕ) (v : Variable) (vs : List Variable) → columns_of o rows j (v ∷ vs) ≡ record { name = v.name; marked = v.whole; entries = column_entries o rows j } ∷ columns_of o rows (j + 1) vs
+pub columns_more : (o : Form) (rows : List ScaledRow) (j : ℕ) (v : Variable) (vs : List Variable)
+  → columns_of o rows j (v ∷ vs) ≡ record { name = v.name; marked = v.whole; entries = column_entries o rows j }
+  ∷ columns_of o rows (j + 1) vs
 unfolding columns_of
 columns_more o rows j v vs = ap (λ n. record { name = v.name; marked = v.whole; entries = column_entries o rows j } ∷ columns_of o rows n vs) (sym (add-one j))
 
@@ -401,7 +442,8 @@ module _ {V : Type 0} (items : V → List TermOf) (s : ScaledValue) (cols : List
   pub record AreColumnsLeft (old now : Mps Dec) (j : ℕ) : Type 0 where
     pub only : now ≡ record old { columns = now.columns }
     pub count : length now.columns ≡ j
-    pub value : map (column_with dec_value) now.columns ++ columns_of (program_objective s) (program_rows s) j (left_variables s j) ≡ columns_of (program_objective s) (program_rows s) 0 (program_variables s)
+    pub value : map (column_with dec_value) now.columns ++ columns_of (program_objective s) (program_rows s) j
+      (left_variables s j) ≡ columns_of (program_objective s) (program_rows s) 0 (program_variables s)
     pub few : entry_count now.columns + total_of items (drop j cols) ≤ total_of items cols + j
     pub other : (k : ℕ) → j ≤ k → k ≤ length s.bounds → All (IsOtherColumn (column_in (length s.bounds) k)) now.columns
     pub filled : All HasEntries now.columns
@@ -412,7 +454,8 @@ module _ {V : Type 0} (items : V → List TermOf) (s : ScaledValue) (cols : List
     columns_are = ap (λ (m : Mps Dec). m.columns) e
 
     pub value_put : (v : Variable) (rest : List Variable) → map entry_value (items c) ≡ entries_in_column s j → dec_value z ≡ zero_ℚ → name ≡ v.name → marked ≡ v.whole →
-        map (column_with dec_value) new.columns ++ columns_of (program_objective s) (program_rows s) (j + 1) rest ≡ map (column_with dec_value) now.columns ++ columns_of (program_objective s) (program_rows s) j (v ∷ rest)
+        map (column_with dec_value) new.columns ++ columns_of (program_objective s) (program_rows s) (j + 1) rest
+          ≡ map (column_with dec_value) now.columns ++ columns_of (program_objective s) (program_rows s) j (v ∷ rest)
     value_put v rest terms none n m =
         let after = columns_of (program_objective s) (program_rows s) (j + 1) rest in
         ap (λ cs. map (column_with dec_value) cs ++ after) columns_are
@@ -442,7 +485,8 @@ module _ {V : Type 0} (items : V → List TermOf) (s : ScaledValue) (cols : List
           (entries_filled (items c) z).1,
         )
 
-    pub column_put : (h : IsScaled s) (old : Mps Dec) (v : Variable) → AreColumnsLeft old now j → j < length cols → c ≡ get_or cols j c → map entry_value (items c) ≡ entries_in_column s j → dec_value z ≡ zero_ℚ →
+    pub column_put : (h : IsScaled s) (old : Mps Dec) (v : Variable) → AreColumnsLeft old now j → j < length cols
+      → c ≡ get_or cols j c → map entry_value (items c) ≡ entries_in_column s j → dec_value z ≡ zero_ℚ →
         left_variables s j ≡ v ∷ left_variables s (j + 1) → name ≡ column_in (length s.bounds) j → name ≡ v.name → marked ≡ v.whole → AreColumnsLeft old new (j + 1)
     column_put h old v a inside is terms none left own n m =
         let total : total_of items (drop j cols) ≡ length (items c) + total_of items (drop (j + 1) cols) =
@@ -450,13 +494,19 @@ module _ {V : Type 0} (items : V → List TermOf) (s : ScaledValue) (cols : List
         record {
           only = e ∙ ap (λ (m : Mps Dec). with_column m (column_from name marked (items c) z)) a.only ∙ ap (λ cs. record old { columns = cs }) (sym columns_are);
           count = count_put a.count;
-          value = value_put v (left_variables s (j + 1)) terms none n m ∙ ap (λ vs. map (column_with dec_value) now.columns ++ columns_of (program_objective s) (program_rows s) j vs) (sym left) ∙ a.value;
+          value = value_put v (left_variables s (j + 1)) terms none n m
+            ∙ ap (λ vs. map (column_with dec_value) now.columns
+              ++ columns_of (program_objective s) (program_rows s) j vs) (sym left) ∙ a.value;
           few = omega (arith, entry_count_put, total, a.few);
-          other = λ k l g. other_put (column_in (length s.bounds) k) (a.other k (omega arith) g) (λ f. names_apart 120 z_name (length s.bounds) j k (λ z. omega (arith, z)) (omega arith) g (omega (arith, h.few_columns)) (sym own ∙ f));
+          other = λ k l g. other_put (column_in (length s.bounds) k) (a.other k (omega arith) g)
+            (λ f. names_apart 120 z_name (length s.bounds) j k (λ z. omega (arith, z)) (omega arith) g
+              (omega (arith, h.few_columns)) (sym own ∙ f));
           filled = filled_put a.filled;
         }
 
-  pub rising_enough : (old now : Mps Dec) (j : ℕ) (c : V) → AreColumnsLeft old now j → length old.rows ≡ 1 + length (program_rows s) → map entry_value (items c) ≡ entries_in_column s j → AreRising (length now.rows) (items c)
+  pub rising_enough : (old now : Mps Dec) (j : ℕ) (c : V) → AreColumnsLeft old now j
+    → length old.rows ≡ 1 + length (program_rows s) → map entry_value (items c) ≡ entries_in_column s j
+    → AreRising (length now.rows) (items c)
   rising_enough old now j c a size terms = column_rising s j (length now.rows) (items c) terms (ap (λ (m : Mps Dec). length m.rows) a.only ∙ size)
 
   pub all_filled : (h : IsScaled s) (old now : Mps Dec) (j : ℕ) → AreColumnsLeft old now j → j ≡ column_count s → AreFilled s now.columns
@@ -464,7 +514,9 @@ module _ {V : Type 0} (items : V → List TermOf) (s : ScaledValue) (cols : List
       record {
         value =
             sym (append-nil (map (column_with dec_value) now.columns))
-            ∙ ap (λ cs. map (column_with dec_value) now.columns ++ cs) (sym (ap (columns_of (program_objective s) (program_rows s) j) (variables_end s h j e) ∙ columns_none (program_objective s) (program_rows s) j))
+            ∙ ap (λ cs. map (column_with dec_value) now.columns ++ cs)
+              (sym (ap (columns_of (program_objective s) (program_rows s) j) (variables_end s h j e)
+                  ∙ columns_none (program_objective s) (program_rows s) j))
             ∙ a.value;
         count = a.count ∙ e;
         filled = a.filled;
@@ -487,14 +539,20 @@ listed_bounded m name i (None ∷ rows) all k d h = listed_bounded m name (suc i
 listed_bounded m name i (Some r ∷ rows) all zero d h = kind_bounded (side_value r.row.side.lo) (side_value r.row.side.hi) (all 0 None (omega arith)).row.sided
 listed_bounded m name i (Some r ∷ rows) all (suc k) d h = listed_bounded m name (suc i) rows (λ j e l. all (suc j) e (omega arith)) k d (omega arith)
 
-pub rows_bounded : (s : ScaledValue) (rows : Rows) (ms : List MpsRow) (p : ℕ) → AreProgramRows s rows → ms ≡ record { name = obj_name; kind = N } ∷ map mps_row (program_rows s) → 0 < p → p < 1 + length (program_rows s) → IsBounded ms p
+pub rows_bounded : (s : ScaledValue) (rows : Rows) (ms : List MpsRow) (p : ℕ) → AreProgramRows s rows
+  → ms ≡ record { name = obj_name; kind = N } ∷ map mps_row (program_rows s) → 0 < p → p < 1 + length (program_rows s)
+  → IsBounded ms p
 rows_bounded s rows ms p h e some less =
-    let all : All (λ r. r.kind ≢ N) (map mps_row (program_rows s)) = subst (λ rs. All (λ r. r.kind ≢ N) (map mps_row rs)) h.named (listed_bounded (column_count s) (name_in (length s.rows)) 0 rows h.over) in
+    let all : All (λ r. r.kind ≢ N) (map mps_row (program_rows s)) =
+      subst (λ rs. All (λ r. r.kind ≢ N) (map mps_row rs)) h.named
+      (listed_bounded (column_count s) (name_in (length s.rows)) 0 rows h.over) in
     let place : suc (p - 1) ≡ p = omega (arith, some) in
     subst (λ rs. IsBounded rs p) (sym e)
     (subst (IsBounded (record { name = obj_name; kind = N } ∷ map mps_row (program_rows s))) place (all (p - 1) no_mps_row (omega (arith, length-map (program_rows s) mps_row, less, some))))
 
-pub complete : (s : ScaledValue) (m : Mps Dec) (columns : List (Column Dec)) → m.rows ≡ record { name = obj_name; kind = N } ∷ map mps_row (program_rows s) → m.columns ≡ columns → AreFilled s columns → IsComplete m
+pub complete : (s : ScaledValue) (m : Mps Dec) (columns : List (Column Dec))
+  → m.rows ≡ record { name = obj_name; kind = N } ∷ map mps_row (program_rows s) → m.columns ≡ columns
+  → AreFilled s columns → IsComplete m
 unfolding objective_row
 complete s m columns e same a =
     record {
@@ -503,9 +561,12 @@ complete s m columns e same a =
     }
 
 -- ---- the parts together
-pub whole_program : (s : ScaledValue) (m : Mps Dec) → m.name ≡ nl_name → m.maximise ≡ s.maximise → m.rows ≡ record { name = obj_name; kind = N } ∷ map mps_row (program_rows s) → AreFilled s m.columns →
+pub whole_program : (s : ScaledValue) (m : Mps Dec) → m.name ≡ nl_name → m.maximise ≡ s.maximise
+  → m.rows ≡ record { name = obj_name; kind = N } ∷ map mps_row (program_rows s) → AreFilled s m.columns →
     map (entry_with dec_value) m.rhs ≡ with_entry 0 (nonzero (neg_ℚ (program_objective s).constant)) (entries_of right_side_of 1 (program_rows s)) →
-    map (entry_with dec_value) m.ranges ≡ entries_of range_in 1 (program_rows s) → map (bound_with dec_value) m.bounds ≡ bounds_of 0 (program_variables s) → with_values dec_value m ≡ mps_of (scaled_as s)
+    map (entry_with dec_value) m.ranges ≡ entries_of range_in 1 (program_rows s)
+      → map (bound_with dec_value) m.bounds ≡ bounds_of 0 (program_variables s)
+      → with_values dec_value m ≡ mps_of (scaled_as s)
 unfolding with_values mps_of scaled_as
 whole_program s m name sense rows a rhs ranges bounds = λ i. record {
   name = name i;

@@ -1,5 +1,7 @@
 -- The row and the column of a tie.
-use Rattle.std.proofs.Common.{◌≡◌, ◌≢◌, ℕ, suc, ◌+◌, ◌<◌, ◌≤◌, ◌∙◌, sym, ap, ap₂, refl, arith, subst, cond, nat_eq, List, [], ◌∷◌, ◌++◌, length, get_or, take, All, IfSome, Option, Some, None, append-nil, pos, neg_ℤ, ⊎_elim, length-append}
+use Rattle.std.proofs.Common.{◌≡◌, ◌≢◌, ℕ, suc, ◌+◌, ◌<◌, ◌≤◌, ◌∙◌, sym, ap, ap₂, refl, arith, subst, cond, nat_eq}
+use Rattle.std.proofs.Common.{List, [], ◌∷◌, ◌++◌, length, get_or, take, All, IfSome, Option, Some, None, append-nil}
+use Rattle.std.proofs.Common.{pos, neg_ℤ, ⊎_elim, length-append}
 use Rattle.std.specs.List.{insert}
 use Rattle.std.proofs.Math.Seq.{take-append_seam, take-length}
 use Rattle.std.proofs.lemmas.List.{drop_all}
@@ -123,11 +125,14 @@ insert_last xs n x e = ap₂ (λ a b. a ++ x ∷ b) (ap (λ m. take m xs) e ∙ 
 taken : {A : Type 0} (n : ℕ) (xs all ys : List A) → n ≡ length xs → all ≡ xs ++ ys → take n all ≡ xs
 taken n xs all ys e same = ap₂ take e same ∙ take-append_seam xs ys
 
-module _ (p : Parts) (rows : List (Option FactoredRow)) (o : ScaledObjective) (bs : List Interval) (ks : List Kind) (constraints : p.constraints ≡ length rows) (variables : p.variables ≡ length bs) (objective : p.objective ≡ o) where
+module _ (p : Parts) (rows : List (Option FactoredRow)) (o : ScaledObjective) (bs : List Interval) (ks : List Kind)
+  (constraints : p.constraints ≡ length rows) (variables : p.variables ≡ length bs) (objective : p.objective ≡ o) where
   abbrev the_value : Option Tie → ScaledValue
   the_value t = record { rows = rows; objective = o; tie = t; maximise = p.maximise; bounds = bs; kinds = ks }
 
-  value_is : (t : Option Tie) → p.tie ≡ t → (rs : List (Option FactoredRow)) (cs : List Interval) (js : List Kind) → length ks ≡ length bs → p.rows.items ≡ rows ++ rs → p.bounds.items ≡ bs ++ cs → p.kinds.items ≡ ks ++ js → value_of p ≡ the_value t
+  value_is : (t : Option Tie) → p.tie ≡ t → (rs : List (Option FactoredRow)) (cs : List Interval) (js : List Kind)
+    → length ks ≡ length bs → p.rows.items ≡ rows ++ rs → p.bounds.items ≡ bs ++ cs → p.kinds.items ≡ ks ++ js
+    → value_of p ≡ the_value t
   value_is t tie rs cs js same by_row by_column kind_by_column =
       let r = taken p.constraints rows p.rows.items rs constraints by_row in
       let b = taken p.variables bs p.bounds.items cs variables by_column in
@@ -163,7 +168,9 @@ module _ (p : Parts) (rows : List (Option FactoredRow)) (o : ScaledObjective) (b
   plain_kept t none h tie by_row by_column kind_by_column column =
       subst (λ t. HaveValue p (the_value t)) (sym none) (no_tie_kept (subst (λ t. IsScaled (the_value t)) none h) tie by_row by_column kind_by_column column)
 
-  pub tied_kept : (t : Tie) (r : FactoredRow) (z : ScaledObjective) → IsScaled (the_value (Some t)) → p.tie ≡ Some t → IsTieRow (length bs) o t r → IsColumn (length bs) z → p.rows.items ≡ rows ++ Some r ∷ [] → p.bounds.items ≡ bs ++ no_sides ∷ [] → p.kinds.items ≡ ks ++ Continuous ∷ [] →
+  pub tied_kept : (t : Tie) (r : FactoredRow) (z : ScaledObjective) → IsScaled (the_value (Some t)) → p.tie ≡ Some t
+    → IsTieRow (length bs) o t r → IsColumn (length bs) z → p.rows.items ≡ rows ++ Some r ∷ []
+    → p.bounds.items ≡ bs ++ no_sides ∷ [] → p.kinds.items ≡ ks ++ Continuous ∷ [] →
       p.column ≡ Some z → HaveValue p (the_value (Some t))
   tied_kept t r z h tie row column by_row by_column kind_by_column alone =
       record {

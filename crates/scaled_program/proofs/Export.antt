@@ -5,7 +5,10 @@ use Rattle.exact_numbers.specs.Rational.{ℚ}
 use Rattle.linear_program.specs.Linear.{IsFeasible, IsLinear, Linear, objective_value, variable_count}
 use Rattle.mps_model.specs.Mps.{IsMpsFeasible, mps_objective}
 use Rattle.scaled_program.specs.Program.{scaled_and_tied, scaled_by}
-use Rattle.scaled_program.proofs.Meaning.{ordered, same_points as scaled_points, same_objective as scaled_objective_same, tied_objective as tied_objective_same, tied_ordered, tied_points as scaled_tied_points}
+use Rattle.scaled_program.proofs.Meaning.{ordered, same_points as scaled_points}
+use Rattle.scaled_program.proofs.Meaning.{same_objective as scaled_objective_same}
+use Rattle.scaled_program.proofs.Meaning.{tied_objective as tied_objective_same, tied_ordered}
+use Rattle.scaled_program.proofs.Meaning.{tied_points as scaled_tied_points}
 use Rattle.scaled_program.specs.ExportedProgram.{program, tied_program}
 use Rattle.scaled_program.proofs.ExportedMeaning.{feasible_same, objective_is, sense_same}
 
@@ -23,7 +26,8 @@ same_sense f factor = sense_same (scaled_by f factor)
 
 -- ---- a tied objective
 module _ (f : Linear) (factor : ℕ → ℕ) (g : ℕ) where
-  pub tied_points : (xs : List ℚ) (z : ℚ) → IsLinear f → ((i : ℕ) → 0 < factor i) → 0 < g → length xs ≡ variable_count f → IsMpsFeasible (tied_program f factor g) (xs ++ z ∷ []) ↔ (IsFeasible f xs × (z ≡ objective_value f xs))
+  pub tied_points : (xs : List ℚ) (z : ℚ) → IsLinear f → ((i : ℕ) → 0 < factor i) → 0 < g → length xs ≡ variable_count f
+    → IsMpsFeasible (tied_program f factor g) (xs ++ z ∷ []) ↔ (IsFeasible f xs × (z ≡ objective_value f xs))
   tied_points xs z linear above some count =
       let written = feasible_same (scaled_and_tied f factor g) (xs ++ z ∷ []) (tied_ordered f factor g linear above some) in
       let scaled = scaled_tied_points f factor g xs z linear above some count in

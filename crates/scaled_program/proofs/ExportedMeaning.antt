@@ -7,7 +7,9 @@ use Rattle.exact_numbers.specs.Sums.{sum_below}
 use Rattle.exact_numbers.proofs.RationalLaws.{+ℚ_comm, neg-neg, -ℚ_lem}
 use Rattle.exact_numbers.proofs.Adding.{sum_below_same}
 use Rattle.linear_program.specs.Linear.{AreOrdered, IsInside, linear_part, value_at, unbounded, no_variable}
-use Rattle.mps_model.specs.Mps.{Column, at_row, or_zero, part_of_row, row_value, row_sides, row_interval, column_at, column_interval, is_whole_column, has_whole_record, IsMpsFeasible, mps_objective, objective_row}
+use Rattle.mps_model.specs.Mps.{Column, at_row, or_zero, part_of_row, row_value, row_sides, row_interval, column_at}
+use Rattle.mps_model.specs.Mps.{column_interval, is_whole_column, has_whole_record, IsMpsFeasible, mps_objective}
+use Rattle.mps_model.specs.Mps.{objective_row}
 use Rattle.scaled_program.specs.Meaning.{HasOrderedSides, IsScaledFeasible, ScaledHolds, no_scaled_row, scaled_objective, scaled_row_value}
 use Rattle.scaled_program.specs.Program.{ScaledProgram, ScaledRow, nonzero, range_of}
 use Rattle.scaled_program.specs.ExportedProgram.{rhs_of, kind_of_row, mps_row, with_entry, entries_of, column_entries, mps_of}
@@ -19,9 +21,13 @@ module _ (s : ScaledProgram) where
   unfolding mps_of
   columns_count = columns_length s.objective s.rows 0 s.variables
 
-  the_column : (j : ℕ) → j < length s.variables → column_at (mps_of s) j ≡ record { name = (get_or s.variables j no_variable).name; marked = (get_or s.variables j no_variable).whole; entries = column_entries s.objective s.rows j }
+  the_column : (j : ℕ) → j < length s.variables → column_at (mps_of s) j
+    ≡ record { name = (get_or s.variables j no_variable).name; marked = (get_or s.variables j no_variable).whole;
+      entries = column_entries s.objective s.rows j }
   unfolding mps_of
-  the_column j h = column_there s.objective s.rows 0 j s.variables no_variable h ∙ ap (λ i. record { name = (get_or s.variables j no_variable).name; marked = (get_or s.variables j no_variable).whole; entries = column_entries s.objective s.rows i }) (omega arith)
+  the_column j h = column_there s.objective s.rows 0 j s.variables no_variable h
+    ∙ ap (λ i. record { name = (get_or s.variables j no_variable).name; marked =
+        (get_or s.variables j no_variable).whole; entries = column_entries s.objective s.rows i }) (omega arith)
 
   -- the sum of a row over the columns, by its coefficient in each
   by_columns : (xs : List ℚ) (i : ℕ) (c : ℕ → ℚ) → ((j : ℕ) (x : ℚ) → part_of_row i (column_entries s.objective s.rows j) x ≡ c j *ℚ x) →
@@ -39,15 +45,20 @@ module _ (s : ScaledProgram) where
   pub row_sum : (xs : List ℚ) (k : ℕ) → k < length s.rows → row_value (mps_of s) xs (suc k) ≡ scaled_row_value s xs k
   row_sum xs k h = by_columns xs (suc k) (get_or s.rows k no_scaled_row).coefficient (λ j x. column_row s.objective s.rows j x k no_scaled_row h)
 
-  pub row_sides_are : (k : ℕ) → k < length s.rows → AreOrdered (get_or s.rows k no_scaled_row).side.lower (get_or s.rows k no_scaled_row).side.upper → row_interval (mps_of s) (suc k) ≡ (get_or s.rows k no_scaled_row).side
+  pub row_sides_are : (k : ℕ) → k < length s.rows → AreOrdered (get_or s.rows k no_scaled_row).side.lower
+    (get_or s.rows k no_scaled_row).side.upper → row_interval (mps_of s) (suc k) ≡ (get_or s.rows k no_scaled_row).side
   unfolding mps_of
   row_sides_are k h o =
       let r = get_or s.rows k no_scaled_row in
       let g = λ (r : ScaledRow). nonzero (rhs_of r.side.lower r.side.upper) in
       let kind = ap (λ r. r.kind) (get_or-map mps_row s.rows k no_scaled_row) in
-      let rhs = ap or_zero (at_row_other (suc k) 0 (nonzero (neg_ℚ s.objective.constant)) (entries_of g 1 s.rows) (λ e. omega arith) ∙ at_row_there g s.rows (suc k) 1 k no_scaled_row (omega arith) h) ∙ nonzero_back (rhs_of r.side.lower r.side.upper) in
+      let rhs = ap or_zero (at_row_other (suc k) 0 (nonzero (neg_ℚ s.objective.constant)) (entries_of g 1 s.rows)
+          (λ e. omega arith) ∙ at_row_there g s.rows (suc k) 1 k no_scaled_row (omega arith) h)
+        ∙ nonzero_back (rhs_of r.side.lower r.side.upper) in
       let range = at_row_there (λ r. range_of r.side.lower r.side.upper) s.rows (suc k) 1 k no_scaled_row (omega arith) h in
-      ap (λ t. row_sides t (or_zero (at_row (suc k) (with_entry 0 (nonzero (neg_ℚ s.objective.constant)) (entries_of g 1 s.rows)))) (at_row (suc k) (entries_of (λ r. range_of r.side.lower r.side.upper) 1 s.rows))) kind
+      ap (λ t. row_sides t (or_zero (at_row (suc k) (with_entry 0 (nonzero (neg_ℚ s.objective.constant))
+                (entries_of g 1 s.rows)))) (at_row (suc k) (entries_of (λ r. range_of r.side.lower r.side.upper) 1
+              s.rows))) kind
       ∙ ap₂ (row_sides (kind_of_row r.side.lower r.side.upper)) rhs range
       ∙ row_sides_back r.side.lower r.side.upper o
 
@@ -55,7 +66,8 @@ module _ (s : ScaledProgram) where
   unfolding mps_of objective_row
   objective_is xs =
       let g = λ (r : ScaledRow). nonzero (rhs_of r.side.lower r.side.upper) in
-      let rhs = ap or_zero (at_row_same 0 0 (nonzero (neg_ℚ s.objective.constant)) (entries_of g 1 s.rows) refl (at_row_before g s.rows 0 1 (omega arith))) ∙ nonzero_back (neg_ℚ s.objective.constant) in
+      let rhs = ap or_zero (at_row_same 0 0 (nonzero (neg_ℚ s.objective.constant)) (entries_of g 1 s.rows) refl
+          (at_row_before g s.rows 0 1 (omega arith))) ∙ nonzero_back (neg_ℚ s.objective.constant) in
       ap₂ (λ v b. v -ℚ b) (objective_sum xs) rhs
       ∙ -ℚ_lem (linear_part s.objective.coefficient (length s.variables) xs) (neg_ℚ s.objective.constant)
       ∙ ap (λ v. linear_part s.objective.coefficient (length s.variables) xs +ℚ v) (neg-neg s.objective.constant)

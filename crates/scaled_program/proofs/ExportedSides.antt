@@ -1,5 +1,7 @@
 -- The sides that a program's rows and columns have.
-use Rattle.std.proofs.Common.{◌≡◌, ℕ, zero, suc, ◌+◌, ◌<◌, ◌∙◌, sym, ap, refl, arith, Bool, true, false, cond, nat_eq, List, [], ◌∷◌, ◌++◌, length, get_or, Option, Some, None, pos, int_lt, ◌≤ℤ◌, ◌⊎◌, ⊎_elim, ◌||◌, ◌&&◌}
+use Rattle.std.proofs.Common.{◌≡◌, ℕ, zero, suc, ◌+◌, ◌<◌, ◌∙◌, sym, ap, refl, arith, Bool, true, false, cond, nat_eq}
+use Rattle.std.proofs.Common.{List, [], ◌∷◌, ◌++◌, length, get_or, Option, Some, None, pos, int_lt, ◌≤ℤ◌, ◌⊎◌, ⊎_elim}
+use Rattle.std.proofs.Common.{◌||◌, ◌&&◌}
 use Rattle.std.proofs.lemmas.Bool.{eq-eqb, ne_eqb}
 use Rattle.exact_numbers.specs.Rational.{ℚ, zero_ℚ, ◌+ℚ◌, ◌-ℚ◌, neg_ℚ, ◌≤ℚ◌}
 use Rattle.exact_numbers.proofs.RationalLaws.{difference_above, zero_value}
@@ -35,7 +37,9 @@ row_sides_back (Some l) None h = refl
 row_sides_back (Some l) (Some u) h =
     ⊎_elim
     (λ (z : (nonzero (u -ℚ l) ≡ None) × (u -ℚ l ≡ zero_ℚ)). ap (λ o. row_sides (two_sided o) l o) z.0 ∙ ap (λ v. sides (Some l) (Some v)) (difference_zero l u z.1))
-    (λ (s : nonzero (u -ℚ l) ≡ Some (u -ℚ l)). ap (λ o. row_sides (two_sided o) l o) s ∙ ap (λ v. sides (Some l) (Some v)) (ap (λ v. l +ℚ v) (size_above (u -ℚ l) (difference_above l u h)) ∙ there_and_back l u))
+    (λ (s : nonzero (u -ℚ l) ≡ Some (u -ℚ l)). ap (λ o. row_sides (two_sided o) l o) s
+      ∙ ap (λ v. sides (Some l) (Some v)) (ap (λ v. l +ℚ v) (size_above (u -ℚ l) (difference_above l u h))
+        ∙ there_and_back l u))
     (nonzero_cases (u -ℚ l))
 
 -- ---- columns
@@ -60,7 +64,9 @@ skip_all p j (Some l) (Some u) rest e = by_range (nonzero (u -ℚ l))
     by_range (Some r) = skip p j Lo l (bound_record Up j u ∷ rest) e ∙ skip p j Up u rest e
 
 -- they set both of its own sides
-two_kept : (j : ℕ) (k n : BoundKind) (v w : ℚ) (rest : List (Bound ℚ)) → sides_set j (bound_record k j v ∷ bound_record n j w ∷ rest) ≡ first_sides (sets k v) (first_sides (sets n w) (sides_set j rest))
+two_kept : (j : ℕ) (k n : BoundKind) (v w : ℚ) (rest : List (Bound ℚ))
+  → sides_set j (bound_record k j v ∷ bound_record n j w ∷ rest)
+  ≡ first_sides (sets k v) (first_sides (sets n w) (sides_set j rest))
 two_kept j k n v w rest = keep j k v (bound_record n j w ∷ rest) ∙ ap (first_sides (sets k v)) (keep j n w rest)
 
 own_sides : (j : ℕ) (l u : Option ℚ) (rest : List (Bound ℚ)) → interval_set (sides_set j (column_bounds j l u ++ rest)) ≡ sides l u
@@ -69,7 +75,9 @@ own_sides j None (Some u) rest = ap interval_set (two_kept j Mi Up zero_ℚ u re
 own_sides j (Some l) None rest = ap interval_set (two_kept j Lo Pl l zero_ℚ rest)
 own_sides j (Some l) (Some u) rest =
     ⊎_elim
-    (λ (z : (nonzero (u -ℚ l) ≡ None) × (u -ℚ l ≡ zero_ℚ)). ap (λ o. interval_set (sides_set j (fixed_or_both j l u o ++ rest))) z.0 ∙ ap interval_set (keep j Fx l rest) ∙ ap (λ v. sides (Some l) (Some v)) (difference_zero l u z.1))
+    (λ (z : (nonzero (u -ℚ l) ≡ None) × (u -ℚ l ≡ zero_ℚ)). ap
+      (λ o. interval_set (sides_set j (fixed_or_both j l u o ++ rest))) z.0 ∙ ap interval_set (keep j Fx l rest)
+      ∙ ap (λ v. sides (Some l) (Some v)) (difference_zero l u z.1))
     (λ (s : nonzero (u -ℚ l) ≡ Some (u -ℚ l)). ap (λ o. interval_set (sides_set j (fixed_or_both j l u o ++ rest))) s ∙ ap interval_set (two_kept j Lo Up l u rest))
     (nonzero_cases (u -ℚ l))
 

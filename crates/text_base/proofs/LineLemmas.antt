@@ -1,5 +1,6 @@
 -- Each line of a text is one line, and short; and so is what is left of one line behind its front.
-use Rattle.std.proofs.Common.{◌≡◌, ◌∙◌, ℕ, zero, suc, ◌+◌, ◌-◌, ◌==◌, Bool, true, false, cond, eqb, List, [], ◌∷◌, ◌++◌, length, map, take, drop, reverse, Option, Some, None, refl, sym, ap, subst, arith}
+use Rattle.std.proofs.Common.{◌≡◌, ◌∙◌, ℕ, zero, suc, ◌+◌, ◌-◌, ◌==◌, Bool, true, false, cond, eqb, List, [], ◌∷◌, ◌++◌}
+use Rattle.std.proofs.Common.{length, map, take, drop, reverse, Option, Some, None, refl, sym, ap, subst, arith}
 use Rattle.std.specs.List.{prefix_len, suffix_len, AllByRecursion}
 use Rattle.std.proofs.lemmas.Bool.{eqb-true}
 use Rattle.std.proofs.lemmas.List.{append-nil, reverse-append, length-reverse, length-drop, length-take, take_all, take-append-drop}
@@ -38,7 +39,9 @@ EndsFree bytes = suffix_len (λ b. b == 13) bytes ≡ 0
 pub trimmed-free : (bytes : List ℕ) → EndsFree bytes → trimmed bytes ≡ bytes
 trimmed-free bytes e = ap (λ (k : ℕ). take (length bytes - k) bytes) e ∙ take_all (length bytes - 0) bytes (omega arith)
 
-none-in-front : (zs : List ℕ) (x : ℕ) (b : Bool) → eqb (prefix_len (λ b. b == 13) zs) (length zs) ≡ b → cond b (length zs + prefix_len (λ b. b == 13) (x ∷ [])) (prefix_len (λ b. b == 13) zs) ≡ 0 → prefix_len (λ b. b == 13) zs ≡ 0
+none-in-front : (zs : List ℕ) (x : ℕ) (b : Bool) → eqb (prefix_len (λ b. b == 13) zs) (length zs) ≡ b
+  → cond b (length zs + prefix_len (λ b. b == 13) (x ∷ [])) (prefix_len (λ b. b == 13) zs) ≡ 0
+  → prefix_len (λ b. b == 13) zs ≡ 0
 none-in-front zs x true e h = omega (arith, h, eqb-true (prefix_len (λ b. b == 13) zs) (length zs) e)
 none-in-front zs x false e h = h
 

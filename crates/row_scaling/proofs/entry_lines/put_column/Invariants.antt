@@ -12,7 +12,9 @@ use Rattle.row_scaling.proofs.entry_lines.put_column.Given as goal
 abbrev pub invariant-parts : goal.invariant-parts
 invariant-parts l = record {
   within : l.done ≤ length l.entries;
-  text : (s : ScaledValue) → AreNumbers s l.numbers → All (λ t. t.0 < length (all_rows s)) l.entries → l.out ++ lines_text (entry_lines value_text (all_rows s) (name_bytes l.column) (map entry_value (drop l.done l.entries)))
+  text : (s : ScaledValue) → AreNumbers s l.numbers → All (λ t. t.0 < length (all_rows s)) l.entries
+    → l.out ++ lines_text (entry_lines value_text (all_rows s) (name_bytes l.column)
+      (map entry_value (drop l.done l.entries)))
       ≡ l.initial.out ++ lines_text (entry_lines value_text (all_rows s) (name_bytes l.column) (map entry_value l.entries));
 }
 

@@ -1,4 +1,6 @@
-use Rattle.scaled_program.proofs.Names.{constraints_apart, variables_apart, constraint_not_obj, constraint_not_zdef, constraint_not_marker, obj_not_zdef, obj_not_marker, zdef_not_marker, variable_not_z}
+use Rattle.scaled_program.proofs.Names.{constraints_apart, variables_apart, constraint_not_obj, constraint_not_zdef}
+use Rattle.scaled_program.proofs.Names.{constraint_not_marker, obj_not_zdef, obj_not_marker, zdef_not_marker}
+use Rattle.scaled_program.proofs.Names.{variable_not_z}
 use Rattle.scaled_program.proofs.exported_laws.names_differ.Goals as goal
 
 pub returns-clause-constraints : goal.returns-clause-constraints

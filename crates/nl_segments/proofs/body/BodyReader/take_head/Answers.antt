@@ -42,7 +42,8 @@ returns c =
     let b = body_of c.args.self.now in
     head_step b _ c.is_some-is_open.result (texts c.args.words.now) c.args.line c.in-Ok.head c.is_some-is_open.ensures c.requires.row c.in-Ok.ensures.1 c.in-Ok.ensures.0
     (λ i. record {
-      draft = (c.in_ok-give_empty_suffix.ensures ∙ ap (λ d. begun_draft d c.in-Ok.head c.word_at-name.result.now) c.in_ok-make_room.ensures ∙ ap (begun_draft b.draft c.in-Ok.head) c.word_at-name.ensures) i;
+      draft = (c.in_ok-give_empty_suffix.ensures ∙ ap (λ d. begun_draft d c.in-Ok.head c.word_at-name.result.now)
+          c.in_ok-make_room.ensures ∙ ap (begun_draft b.draft c.in-Ok.head) c.word_at-name.ensures) i;
       current = (c.begun_current.ensures ∙ ap (λ k. begun_current k c.in-Ok.head c.args.line) (c.counts.ensures.value ∙ c.header.ensures.counts)) i;
       name = (c.in_ok-self.ensures ∙ ap (begun_name c.in-Ok.head) c.word_at-name.ensures) i;
       marks = c.clear.ensures i;

@@ -6,11 +6,14 @@ use Rattle.text_base.specs.InsideLinesFields.{IsLines}
 use Rattle.text_base.specs.declared.lines.Lines.TheInside.{Inside}
 use Rattle.text_base.proofs.WalkSteps.{no_end_front, no_end_none}
 use Rattle.text_base.proofs.lines.Lines.take_piece.Goals as goal
-use Rattle.text_base.proofs.lines.Lines.take_piece.Goals.{In-Ok, then-self, else-self, then-ends, else-ends, else-count-input_room-via-then-count-input_room+else-front-line_room, else-count-input_room-via-else-count-input_room}
+use Rattle.text_base.proofs.lines.Lines.take_piece.Goals.{In-Ok, then-self, else-self, then-ends, else-ends}
+use Rattle.text_base.proofs.lines.Lines.take_piece.Goals.{else-count-input_room-via-then-count-input_room+else-front-line_room}
+use Rattle.text_base.proofs.lines.Lines.take_piece.Goals.{else-count-input_room-via-else-count-input_room}
 
 -- the line that has grown, where no more is known than that it goes on
 grown : (c : In-Ok) → (c.if-self.self-inside.ended ≡ false) × (c.if-self.self-inside.count + vec_len c.extend_from_slice.new.self ≤ c.if-self.self-inside.total + c.front_len-front.result)
-    × (vec_len c.extend_from_slice.new.self ≤ 65536) × HasNoEnd c.extend_from_slice.new.self.items × (65536 ≤ vec_capacity c.extend_from_slice.new.self) × (c.if-self.self-inside.total + c.if-ends.count ≤ 2 ^ 31)
+    × (vec_len c.extend_from_slice.new.self ≤ 65536) × HasNoEnd c.extend_from_slice.new.self.items
+      × (65536 ≤ vec_capacity c.extend_from_slice.new.self) × (c.if-self.self-inside.total + c.if-ends.count ≤ 2 ^ 31)
 grown c =
     let before : IsLines c.if-self.self-inside = elim c.if-self.branch [
       | then-self w ↦ subst IsLines (sym w.self-inside-is) (record {
