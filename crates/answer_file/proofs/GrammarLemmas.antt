@@ -19,7 +19,7 @@ took-more s old new line number (Err Memory) h = tt
 
 -- the same for a whole reader
 pub held-more : (s : Setting) (old new : Standing) (held : Progress) (line : List ℕ) (number : ℕ)
-  (r : Result (Unit {0}) (Stop AnswerReason)) → record { setting = s; standing = old } ≡ held
-  → Takes (line_tests s old line) (after s old line) r new
+    (r : Result (Unit {0}) (Stop AnswerReason)) → record { setting = s; standing = old } ≡ held
+    → Takes (line_tests s old line) (after s old line) r new
     → OnOk r ((lines : List (List ℕ)) → number ≡ length lines + 1 → held.standing ≡ standing held.setting lines → new ≡ standing s (lines ++ line ∷ []))
 held-more s old new held line number r same h = rw (← same) (took-more s old new line number r h)

@@ -149,7 +149,11 @@ last-one lines x false e = ap (λ s. s ∷ []) (like-new lines x e)
 pub suffixes-more : (lines : List SuffixLine) (x : SuffixLine) → suffixes_of (lines ++ x ∷ []) ≡ with_suffix_line (suffixes_of lines) x
 unfolding suffixes_of
 suffixes-more lines x =
-    rw (firsts-more lines x, map-append (suffix_like (lines ++ x ∷ [])) (first_lines lines)
-        (cond (list_any (like x) lines) [] (x ∷ [])), last-one lines x (list_any (like x) lines) refl,
-        ← some-first x lines)
+    rw (
+      firsts-more lines x,
+      map-append (suffix_like (lines ++ x ∷ [])) (first_lines lines)
+          (cond (list_any (like x) lines) [] (x ∷ [])),
+      last-one lines x (list_any (like x) lines) refl,
+      ← some-first x lines,
+    )
     (sym (stepped lines x (first_lines lines) (firsts-apart lines)))

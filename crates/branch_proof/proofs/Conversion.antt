@@ -104,7 +104,7 @@ module _ (f : Linear) where
             }
 
         by : (more : List ProofTree) → [] ≡ flat_map nodes_of more
-          → ((ws : List CertificateTree) → AreSame more ws → IsWhole all (done ++ flat_map written_nodes_of ws)
+            → ((ws : List CertificateTree) → AreSame more ws → IsWhole all (done ++ flat_map written_nodes_of ws)
             (given ++ flat_map written_pairs_of ws)) → IsTreeFor f all done given
         by [] none whole = ended (whole [] tt)
         by (split j t a b ∷ more) none whole = absurd (cc)
@@ -123,8 +123,8 @@ module _ (f : Linear) where
 
     module _ (more : List ProofTree) (trees : AreTrees more) where
       at_split : (j : ℕ) (t : ℤ) (a b : ProofTree) (nodes : List ProofNode)
-        → nodes ≡ (nodes_of a ++ nodes_of b) ++ flat_map nodes_of more
-        → pairs ≡ (pairs_of a ++ pairs_of b) ++ flat_map pairs_of more → IsTreeOf f (split j t a b)
+          → nodes ≡ (nodes_of a ++ nodes_of b) ++ flat_map nodes_of more
+          → pairs ≡ (pairs_of a ++ pairs_of b) ++ flat_map pairs_of more → IsTreeOf f (split j t a b)
           → ((ws : List CertificateTree) → AreSame (split j t a b ∷ more) ws → IsWhole all (done ++ flat_map written_nodes_of ws) (given ++ flat_map written_pairs_of ws)) → AtNode (Split j t) nodes
       unfolding IsTreeOf AreTrees AreSame written_nodes_of written_pairs_of
       at_split j t a b nodes left ps fine whole =
@@ -142,8 +142,8 @@ module _ (f : Linear) where
           }
         where
           next : (own : List WrittenPair) → own ≡ [] → IsCutNumber t → (ws : List CertificateTree)
-            → AreSame (a ∷ b ∷ more) ws → IsWhole all ((done ++ SplitAt j t ∷ []) ++ flat_map written_nodes_of ws)
-            ((given ++ own) ++ flat_map written_pairs_of ws)
+              → AreSame (a ∷ b ∷ more) ws → IsWhole all ((done ++ SplitAt j t ∷ []) ++ flat_map written_nodes_of ws)
+              ((given ++ own) ++ flat_map written_pairs_of ws)
           next own none number [] h = absurd h
           next own none number (v ∷ []) h = absurd h.1
           next own none number (v ∷ w ∷ ws) h =
@@ -193,7 +193,7 @@ module _ (f : Linear) where
                         record {
                           written = is.written;
                           nodes_are = is.nodes_are ∙ ap (λ ns. done ++ (ns ++ flat_map written_nodes_of ws)) (one own)
-                            ∙ sym (append_assoc done (node_with node (length own) ∷ []) (flat_map written_nodes_of ws));
+                              ∙ sym (append_assoc done (node_with node (length own) ∷ []) (flat_map written_nodes_of ws));
                           pairs_are = is.pairs_are ∙ ap (λ qs. given ++ (qs ++ flat_map written_pairs_of ws)) (two own) ∙ sym (append_assoc given own (flat_map written_pairs_of ws));
                           same = is.same;
                         };
@@ -205,9 +205,9 @@ module _ (f : Linear) where
     at_node node nodes on = by on.more on.nodes_are on.pairs_are on.trees on.whole
       where
         by : (more : List ProofTree) → node ∷ nodes ≡ flat_map nodes_of more → pairs ≡ flat_map pairs_of more
-          → AreTrees more → ((ws : List CertificateTree) → AreSame more ws
+            → AreTrees more → ((ws : List CertificateTree) → AreSame more ws
             → IsWhole all (done ++ flat_map written_nodes_of ws) (given ++ flat_map written_pairs_of ws))
-          → AtNode node nodes
+            → AtNode node nodes
         by [] ns ps trees whole = absurd (cc)
         by (split j t a b ∷ more) ns ps trees whole =
             let is : node ≡ Split j t = cc in
@@ -221,12 +221,12 @@ module _ (f : Linear) where
             let is : node ≡ Weights (length qs) = cc in
             let left : nodes ≡ flat_map nodes_of more = cc in
             subst (λ n. AtNode n nodes) (sym is) (at_leaf more trees.1 qs nodes left ps trees.0 (weights qs)
-                (Weights (length qs)) written_weights refl (λ own. refl) (λ own. refl) (same_weights qs) whole)
+            (Weights (length qs)) written_weights refl (λ own. refl) (λ own. refl) (same_weights qs) whole)
 
 -- ---- the node at index k, once its pairs are put in order
 module _ (f : Linear) (all : ProofTree) (nodes : List ProofNode) (k : ℕ) (pairs : List Pair)
-  (done : List CertificateNode) (given : List WrittenPair) (on : OnWrite f all (drop k nodes) pairs done given)
-  (none : ProofNode) (within : k < length nodes) where
+    (done : List CertificateNode) (given : List WrittenPair) (on : OnWrite f all (drop k nodes) pairs done given)
+    (none : ProofNode) (within : k < length nodes) where
   abbrev node : ProofNode
   node = get_or nodes k none
 
@@ -244,8 +244,8 @@ module _ (f : Linear) (all : ProofTree) (nodes : List ProofNode) (k : ℕ) (pair
     own_rows m rows = subst (λ m. All (λ (p : Pair). p.0 < m) own) rows (subst (All (λ (p : Pair). p.0 < row_count f)) (sym front_here) here.within)
 
     module _ (added : List WrittenPair) (m : ℕ) (rows : row_count f ≡ m)
-      (a : AreAdded m (λ i. number_of own i zero_ℚ) given added) (count : ℕ)
-      (total : length added ≡ length given + count) (few : count ≤ length own) where
+        (a : AreAdded m (λ i. number_of own i zero_ℚ) given added) (count : ℕ)
+        (total : length added ≡ length given + count) (few : count ≤ length own) where
       counted : length a.own ≡ count
       counted = let sum = ap length a.more ∙ length-append given a.own in omega (arith, sum, total)
 
@@ -258,19 +258,19 @@ module _ (f : Linear) (all : ProofTree) (nodes : List ProofNode) (k : ℕ) (pair
       node_added x is number now pushed =
           let x_is : x ≡ node_with node (length a.own) = is ∙ ap (node_with node) (sym counted) in
           let on = here.goes_on a.own (subst (λ m. AreIndices 0 m a.own) (sym rows) a.indices)
-            (λ i. a.numbers i ∙ ap (λ ps. number_of ps i zero_ℚ) front_here) short (subst HasCutNumber x_is number) in
+          (λ i. a.numbers i ∙ ap (λ ps. number_of ps i zero_ℚ) front_here) short (subst HasCutNumber x_is number) in
           subst (λ ns. OnWrite f all (drop (k + 1) nodes) later ns added) (sym (pushed ∙ ap (λ y. done ++ y ∷ []) x_is))
           (subst (λ ps. OnWrite f all (drop (k + 1) nodes) later (done ++ node_with node (length a.own) ∷ []) ps) (sym a.more)
           (subst (λ ps. OnWrite f all (drop (k + 1) nodes) ps (done ++ node_with node (length a.own) ∷ []) (given ++ a.own)) (sym (back ∙ ap (λ m. drop m pairs) many)) on))
 
   pub one_counted : (now : List CertificateNode) (x : CertificateNode) → now ≡ done ++ x ∷ []
-    → length done + length (drop k nodes) ≡ length nodes → length now + length (drop (k + 1) nodes) ≡ length nodes
+      → length done + length (drop k nodes) ≡ length nodes → length now + length (drop (k + 1) nodes) ≡ length nodes
   one_counted now x pushed counted = let one = ap length pushed ∙ length-append done (x ∷ []) in let less = ap length next in omega (arith, counted, one, less)
 
 -- ---- before the first node, and after the last
 module _ (f : Linear) where
   pub whole_begins : (p : ProofValue) (h : IsProofOf f p) (pairs : List Pair) (done : List CertificateNode)
-    (given : List WrittenPair) → pairs ≡ p.pairs → done ≡ [] → given ≡ [] → OnWrite f h.tree p.nodes pairs done given
+      (given : List WrittenPair) → pairs ≡ p.pairs → done ≡ [] → given ≡ [] → OnWrite f h.tree p.nodes pairs done given
   whole_begins p h pairs done given are none_done none_given =
       subst (λ ns. OnWrite f h.tree ns pairs done given) h.nodes
       (subst (λ ps. OnWrite f h.tree (nodes_of h.tree) ps done given) (h.pairs ∙ sym are)
@@ -278,6 +278,6 @@ module _ (f : Linear) where
       (subst (λ qs. OnWrite f h.tree (nodes_of h.tree) (pairs_of h.tree) [] qs) (sym none_given) (write_begins f h.tree h.fine))))
 
   pub whole_ends : (all : ProofTree) (nodes : List ProofNode) (k : ℕ) (pairs : List Pair) (done : List CertificateNode)
-    (given : List WrittenPair) → OnWrite f all (drop k nodes) pairs done given → length nodes ≤ k
-    → IsTreeFor f all done given
+      (given : List WrittenPair) → OnWrite f all (drop k nodes) pairs done given → length nodes ≤ k
+      → IsTreeFor f all done given
   whole_ends all nodes k pairs done given on past = write_ends f all pairs done given (subst (λ ns. OnWrite f all ns pairs done given) (drop_all k nodes past) on)

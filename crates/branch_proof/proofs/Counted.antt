@@ -26,7 +26,7 @@ node_awaited nodes pairs subtrees left new n h none e = record {
 
 -- a pair more
 pub pair_awaited : (nodes : List ProofNode) (pairs : List Pair) (subtrees left new : ℕ) (p : Pair)
-  → AreAwaited nodes pairs subtrees left → new + 1 ≡ left → AreAwaited nodes (pairs ++ p ∷ []) subtrees new
+    → AreAwaited nodes pairs subtrees left → new + 1 ≡ left → AreAwaited nodes (pairs ++ p ∷ []) subtrees new
 pair_awaited nodes pairs subtrees left new p h some = record {
   subtrees_are = h.subtrees_are;
   left_are = (let all = h.left_are in omega (arith, length-append pairs (p ∷ []), all, some));

@@ -56,8 +56,8 @@ proof_from s text t same (Err stop) reads = tt
 -- the same for a reader
 pub proof_read : (inside held : Reading) (result : Result ProofValue (Stop (TextFault ProofReason))) → inside ≡ held
     → ((text : List ℕ) → Stands inside.stopped (proof_rules inside.read.setting)
-        (λ lines. inside.read.standing ≡ proof_standing (rows_in lines)) inside.lines text
-        → ReadsProof inside.read.setting text result)
+    (λ lines. inside.read.standing ≡ proof_standing (rows_in lines)) inside.lines text
+    → ReadsProof inside.read.setting text result)
     → IfOk result (λ p. (s : Setting) (text : List ℕ) → IsFed s held text → IsProofFor s p)
 proof_read inside held (Ok p) same reads = λ s text fed.
     let at : IsFed s inside text = subst (λ (r : Reading). IsFed s r text) (sym same) fed in

@@ -52,7 +52,7 @@ not_first words first other same e = ap (λ w. bytes_eq w other) same ∙ e
 
 -- a row of a claim, and one of a node
 claim_says : (words : TextRow) (first : List ℕ) → IsWord words first → bytes_eq first (codes "split") ≡ false
-  → bytes_eq first (codes "duals") ≡ false → bytes_eq first (codes "weights") ≡ false → whole_of first ≡ None
+    → bytes_eq first (codes "duals") ≡ false → bytes_eq first (codes "weights") ≡ false → whole_of first ≡ None
     → Says words (claim_in words) None None
 claim_says words first is a b c none = record {
   claim = refl;
@@ -61,7 +61,7 @@ claim_says words first is a b c none = record {
 }
 
 node_says : (words : TextRow) (first : List ℕ) → IsWord words first → bytes_eq first (codes "infeasible") ≡ false
-  → bytes_eq first (codes "value") ≡ false → whole_of first ≡ None → Says words None (proof_node_in words) None
+    → bytes_eq first (codes "value") ≡ false → whole_of first ≡ None → Says words None (proof_node_in words) None
 node_says words first is a b none = record {
   claim = no_claim words (not_first words first (codes "infeasible") is a) (not_first words first (codes "value") is b);
   node = refl;
@@ -135,7 +135,7 @@ pub full_same : (a b : Bool) (c d : Option Claim) (ns ms : List ProofNode) (ps q
 full_same a b c d ns ms ps qs e f g h = cc
 
 pub row_is : (st : ProofStanding) (words : TextRow) (c : Option Claim) (n : Option ProofNode) (p : Option Pair)
-  (now : ProofStanding) → Says words c n p → now.begun ≡ true → now.claim ≡ option_or st.claim c
+    (now : ProofStanding) → Says words c n p → now.begun ≡ true → now.claim ≡ option_or st.claim c
     → now.nodes ≡ st.nodes ++ option_to_list n → now.pairs ≡ st.pairs ++ option_to_list p → now ≡ with_row st words
 unfolding full
 row_is st words c n p now says b e f g =
@@ -169,28 +169,28 @@ at_first read new words r a h = rw a (takes_next (first_tests words) _ _ new r (
 
 pub at_claim : (read new : ReadSoFar) (words : TextRow) (r : Answer) → read.standing.begun ≡ true → is_none read.standing.claim ≡ true
     → Takes (claim_tests words) (moved read (with_claim read.standing (claim_in words))) r new
-      → Takes (proof_row_tests read.setting read.standing words) (moved read (with_row read.standing words)) r new
+    → Takes (proof_row_tests read.setting read.standing words) (moved read (with_row read.standing words)) r new
 unfolding proof_row_tests
 at_claim read new words r a b h = rw (a, b) (takes_next (claim_tests words) _ _ new r (λ none. ap (moved read) (claim_is read.standing words (claim_in words) (claim_row_says words none) a b)) h)
 
 pub at_pair : (read new : ReadSoFar) (words : TextRow) (r : Answer) → read.standing.begun ≡ true → is_none read.standing.claim ≡ false → nat_lt 0 (pairs_left read.standing) ≡ true
     → Takes (proof_pair_tests read.setting read.standing words)
-      (moved read (with_pair read.standing (proof_pair_in words))) r new
-      → Takes (proof_row_tests read.setting read.standing words) (moved read (with_row read.standing words)) r new
+    (moved read (with_pair read.standing (proof_pair_in words))) r new
+    → Takes (proof_row_tests read.setting read.standing words) (moved read (with_row read.standing words)) r new
 unfolding proof_row_tests proof_pair_tests proof_node_tests
 at_pair read new words r a b d h =
     rw (a, b, d) (takes_next (proof_pair_tests read.setting read.standing words) _ _ new r
-        (λ none. ap (moved read) (pair_is read.standing words (proof_pair_in words)
-            (pair_row_says read.setting read.standing words none) a)) h)
+    (λ none. ap (moved read) (pair_is read.standing words (proof_pair_in words)
+    (pair_row_says read.setting read.standing words none) a)) h)
 
 pub at_node : (read new : ReadSoFar) (words : TextRow) (r : Answer) → read.standing.begun ≡ true
-  → is_none read.standing.claim ≡ false → nat_lt 0 (pairs_left read.standing) ≡ false
-  → nat_lt 0 (subtrees_left read.standing) ≡ true
+    → is_none read.standing.claim ≡ false → nat_lt 0 (pairs_left read.standing) ≡ false
+    → nat_lt 0 (subtrees_left read.standing) ≡ true
     → Takes (proof_node_tests read.setting read.standing words)
-      (moved read (with_node read.standing (proof_node_in words))) r new
-      → Takes (proof_row_tests read.setting read.standing words) (moved read (with_row read.standing words)) r new
+    (moved read (with_node read.standing (proof_node_in words))) r new
+    → Takes (proof_row_tests read.setting read.standing words) (moved read (with_row read.standing words)) r new
 unfolding proof_row_tests proof_node_tests
 at_node read new words r a b d e h =
     rw (a, b, d, e) (takes_next (proof_node_tests read.setting read.standing words) _ _ new r
-        (λ none. ap (moved read) (node_is read.standing words (proof_node_in words)
-            (node_row_says read.setting read.standing words none) a)) h)
+    (λ none. ap (moved read) (node_is read.standing words (proof_node_in words)
+    (node_row_says read.setting read.standing words none) a)) h)

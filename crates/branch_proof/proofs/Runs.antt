@@ -125,7 +125,7 @@ claim_in_fits words c e = by (is_row (codes "infeasible") 1 words) e
     by false e = value (is_row (codes "value") 3 words) e
 
 claim_may : (s : Setting) (st : ProofStanding) (words : TextRow) (o : Option Claim) → claim_in words ≡ o
-  → Says words o None None → is_none st.claim ≡ true → is_none o ≡ false → st.begun ≡ true → Here s st words
+    → Says words o None None → is_none st.claim ≡ true → is_none o ≡ false → st.begun ≡ true → Here s st words
 claim_may s st words None e says none given b = absurd cc
 claim_may s st words (Some c) e says none given b = record { piece = claim_row c; may = (none, claim_in_fits words c e); is = says; next = sym (claim_is st words (Some c) says b none) }
 
@@ -162,7 +162,7 @@ fits_node s n out continuous = tt
 -- ---- a row
 
 node_may : (s : Setting) (st : ProofStanding) (words : TextRow) (o : Option ProofNode) → proof_node_in words ≡ o
-  → Says words None o None → st.begun ≡ true → is_some st.claim ≡ true → pairs_left st ≡ 0 → 0 < subtrees_left st
+    → Says words None o None → st.begun ≡ true → is_some st.claim ≡ true → pairs_left st ≡ 0 → 0 < subtrees_left st
     → is_node_row st.claim words ≡ true → is_none o ≡ false → is_split_out s.kinds o ≡ false
     → is_split_continuous s.kinds o ≡ false → nat_le (2 ^ 16) (length st.nodes) ≡ false → Here s st words
 node_may s st words None e says b claim none some row given out continuous few = absurd cc
@@ -175,8 +175,8 @@ node_may s st words (Some n) e says b claim none some row given out continuous f
     }
 
 pair_may : (s : Setting) (st : ProofStanding) (words : TextRow) (o : Option Pair) → Says words None None o
-  → st.begun ≡ true → is_some st.claim ≡ true → 0 < pairs_left st → is_none o ≡ false → is_pair_out s.rows o ≡ false
-  → Here s st words
+    → st.begun ≡ true → is_some st.claim ≡ true → 0 < pairs_left st → is_none o ≡ false → is_pair_out s.rows o ≡ false
+    → Here s st words
 pair_may s st words None says b claim left given out = absurd cc
 pair_may s st words (Some p) says b claim left given out =
     record { piece = pair_row p; may = (claim, left, leb-false s.rows p.0 out); is = says; next = sym (pair_is st words (Some p) says b) }
@@ -188,7 +188,7 @@ claim_here s st words b none tests =
     claim_may s st words (claim_in words) refl (claim_row_says words tests) none each.1.0 b
 
 node_here : (s : Setting) (st : ProofStanding) (words : TextRow) → st.begun ≡ true → is_some st.claim ≡ true
-  → pairs_left st ≡ 0 → 0 < subtrees_left st → first_reason (proof_node_tests s st words) ≡ None → Here s st words
+    → pairs_left st ≡ 0 → 0 < subtrees_left st → first_reason (proof_node_tests s st words) ≡ None → Here s st words
 unfolding proof_node_tests
 node_here s st words b claim none some tests =
     let each = none_each (proof_node_tests s st words) tests in
@@ -205,7 +205,7 @@ unfolding proof_row_tests proof_pair_tests proof_node_tests
 row_may s st words begun tests = claim (is_none st.claim) refl (rw begun at tests)
   where
     node : is_some st.claim ≡ true → pairs_left st ≡ 0 → (b : Bool) → nat_lt 0 (subtrees_left st) ≡ b
-      → first_reason (cond b (proof_node_tests s st words) ((true, Extra) ∷ [])) ≡ None → Here s st words
+        → first_reason (cond b (proof_node_tests s st words) ((true, Extra) ∷ [])) ≡ None → Here s st words
     node claim none true is tests = node_here s st words begun claim none (ltb-true 0 (subtrees_left st) is) tests
     node claim none false is tests = absurd cc
 
@@ -216,7 +216,7 @@ row_may s st words begun tests = claim (is_none st.claim) refl (rw begun at test
 
     claim : (b : Bool) → is_none st.claim ≡ b
         → first_reason (cond b (claim_tests words) (cond (nat_lt 0 (pairs_left st)) (proof_pair_tests s st words)
-              (cond (nat_lt 0 (subtrees_left st)) (proof_node_tests s st words) ((true, Extra) ∷ [])))) ≡ None
+        (cond (nat_lt 0 (subtrees_left st)) (proof_node_tests s st words) ((true, Extra) ∷ [])))) ≡ None
         → Here s st words
     claim true is tests = claim_here s st words begun is tests
     claim false is tests = pair (is_there st.claim is) (nat_lt 0 (pairs_left st)) refl tests
@@ -280,7 +280,7 @@ first_runs s words rows tests more =
     }
 
 begins_from : (s : Setting) (rest before : List (List ℕ)) → proof_standing (rows_in before) ≡ proof_standing []
-  → first_fault_from (proof_rules s) End before rest ≡ None → Runs s begun_only (rows_in rest)
+    → first_fault_from (proof_rules s) End before rest ≡ None → Runs s begun_only (rows_in rest)
 unfolding proof_end_tests proof_line_tests proof_row_tests rows_in
 begins_from s [] before none clean =
     let tests = none_each (proof_end_tests (proof_standing (rows_in before))) (last_clean (proof_rules s) End before clean) in
@@ -299,8 +299,8 @@ begins_from s (line ∷ rest) before none clean =
     now = proof_standing (rows_in (before ++ line ∷ []))
 
     by : (b : Bool) → first_reason (cond b [] (first_tests words)) ≡ None
-      → now ≡ cond b (proof_standing []) (with_row (proof_standing []) words)
-      → (now ≡ proof_standing [] → Runs s begun_only (rows_in rest))
+        → now ≡ cond b (proof_standing []) (with_row (proof_standing []) words)
+        → (now ≡ proof_standing [] → Runs s begun_only (rows_in rest))
         → (now.begun ≡ true → Runs s now (rows_in rest)) → Runs s begun_only (cond b [] (words ∷ []) ++ rows_in rest)
     by true tests is next run = next is
     by false tests is next run = first_runs s words (rows_in rest) tests (subst (λ (st : ProofStanding). Runs s st (rows_in rest)) is (run (ap (λ (st : ProofStanding). st.begun) is)))

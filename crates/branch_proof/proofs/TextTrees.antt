@@ -49,7 +49,7 @@ record Grows (s : Setting) (c : Claim) (nodes : List ProofNode) (subtrees left :
 -- these pieces go on from every standing after the claim
 abbrev GoOn : Setting → Claim → List Piece → Type 0
 GoOn s c ps = (nodes : List ProofNode) (pairs : List Pair) (subtrees left : ℕ) → AreAwaited nodes pairs subtrees left
-  → length nodes ≤ 2 ^ 16 → IsRun s (claimed c nodes pairs) ps → Grows s c nodes subtrees left ps
+    → length nodes ≤ 2 ^ 16 → IsRun s (claimed c nodes pairs) ps → Grows s c nodes subtrees left ps
 
 -- the counts that are awaited, by the tests
 none_left : (n m k : ℕ) → n + m ≡ k → k - m ≡ 0 → n ≡ 0
@@ -79,7 +79,7 @@ end_grows s c nodes pairs subtrees left h few run =
 -- ---- a pair
 
 pair_first : (s : Setting) (c : Claim) (p : Pair) (ps : List Piece) (nodes : List ProofNode) (subtrees left : ℕ)
-  → 0 < left → p.0 < s.rows → Grows s c nodes subtrees (left - 1) ps → Grows s c nodes subtrees left (pair_row p ∷ ps)
+    → 0 < left → p.0 < s.rows → Grows s c nodes subtrees (left - 1) ps → Grows s c nodes subtrees left (pair_row p ∷ ps)
 pair_first s c p ps nodes subtrees left some below g =
     record {
       own = p ∷ g.own;
@@ -160,8 +160,8 @@ split_grows s c nodes subtrees j t ps some fit may g (low ∷ high ∷ rest) e =
     }
 
 node_by : (s : Setting) (c : Claim) (n : ProofNode) (ps : List Piece) → GoOn s c ps
-  → (nodes : List ProofNode) (pairs : List Pair) (subtrees left : ℕ) → AreAwaited nodes pairs subtrees left → left ≡ 0
-  → 0 < subtrees
+    → (nodes : List ProofNode) (pairs : List Pair) (subtrees left : ℕ) → AreAwaited nodes pairs subtrees left → left ≡ 0
+    → 0 < subtrees
     → length nodes < 2 ^ 16 → FitsNode s n → MayStand (Some c) n → IsRun s (claimed c (nodes ++ n ∷ []) pairs) ps → Grows s c nodes subtrees 0 (node_row n ∷ ps)
 unfolding nodes_of pairs_of IsTreeFor
 node_by s c (Split j t) ps next nodes pairs subtrees left h none some few fit may run =
@@ -191,8 +191,8 @@ grows s c (pair_row p ∷ ps) = pair_grows s c p ps (grows s c ps)
 -- ---- the claim
 
 tree_ends : (s : Setting) (c : Claim) (rows : List TextRow) (ps : List Piece) (p : ProofValue)
-  → fits (claim_value c) ≡ true → filter_map claim_in rows ≡ c ∷ filter_map as_claim ps
-  → filter_map proof_node_in rows ≡ filter_map as_node ps
+    → fits (claim_value c) ≡ true → filter_map claim_in rows ≡ c ∷ filter_map as_claim ps
+    → filter_map proof_node_in rows ≡ filter_map as_node ps
     → filter_map proof_pair_in rows ≡ filter_map as_pair ps → (g : Grows s c [] 1 0 ps) → (trees : List ProofTree) → g.trees ≡ trees → IsSaid (proof_standing rows) p → IsProofFor s p
 unfolding AreTrees
 tree_ends s c rows ps p fit claims nodes pairs g [] e said = absurd (let n = g.tree_count in let m = ap (λ (l : List ProofTree). length l) e in omega (arith, n, m))

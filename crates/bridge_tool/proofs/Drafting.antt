@@ -44,8 +44,8 @@ unfolding drafted
 added seed n k lt =
     let term : Term = (k, whole_dec (drawn_row seed k).linear) in
     let empty : slice_set (each k (terms_of seed) ++ replicate (n - k) []) k
-      (get_or (each k (terms_of seed) ++ replicate (n - k) []) k [] ++ term ∷ [])
-      ≡ slice_set (each k (terms_of seed) ++ replicate (n - k) []) k (terms_of seed k)
+    (get_or (each k (terms_of seed) ++ replicate (n - k) []) k [] ++ term ∷ [])
+    ≡ slice_set (each k (terms_of seed) ++ replicate (n - k) []) k (terms_of seed k)
     = ap (λ ts. slice_set (each k (terms_of seed) ++ replicate (n - k) []) k (ts ++ term ∷ [])) (empty_place (terms_of seed) n k [] [] lt) in
     let terms = empty ∙ placed (terms_of seed) n k [] lt in
     let bodies = placed (body_of n) n k None lt in
@@ -82,8 +82,8 @@ chain_within seed n k false e =
 no_body : (n k : ℕ) → k < n → is_given (each k (body_of n) ++ replicate (n - k) None) k ≡ false
 no_body n k lt =
     let long : length (each k (body_of n) ++ replicate (n - k) None) ≡ k + (n - k) =
-      length-append (each k (body_of n)) (replicate (n - k) None)
-      ∙ ap₂ (λ a b. a + b) (length-map-range_with_len (body_of n) 0 k) (length-replicate (n - k) None) in
+    length-append (each k (body_of n)) (replicate (n - k) None)
+    ∙ ap₂ (λ a b. a + b) (length-map-range_with_len (body_of n) 0 k) (length-replicate (n - k) None) in
     let there : slice_get (each k (body_of n) ++ replicate (n - k) None) k ≡ Some None = slice_get-get_or _ k None (omega (arith, long, lt)) ∙ ap Some (empty_place (body_of n) n k None None lt) in
     ap (λ o. is_some (option_and_then (λ x. x) o)) there
 

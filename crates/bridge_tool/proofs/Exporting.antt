@@ -41,8 +41,8 @@ module _ (nl : NlValue) (k : ℕ) where
 
   -- what is accepted needs both stages and no more
   pub staged_either : (accepts : List ℕ → Type 0) → ((a b : List ℕ) → accepts a → accepts b → a ≡ b)
-    → ((bytes : List ℕ) → accepts bytes → CanBeExported nl k) → (CanBeExported nl k → (bytes : List ℕ) × accepts bytes)
-    → IsEither accepts (CannotBeExported nl k)
+      → ((bytes : List ℕ) → accepts bytes → CanBeExported nl k) → (CanBeExported nl k → (bytes : List ℕ) × accepts bytes)
+      → IsEither accepts (CannotBeExported nl k)
   staged_either accepts one needs gives = record {
     accepted = one;
     refused = one_reason nl k;
@@ -55,11 +55,11 @@ module _ (nl : NlValue) (k : ℕ) where
 
 pub export_last : (k : ℕ) → IsLast false IsNl HasTextRefusal (λ nl. ExportsAs nl k) (λ nl old new. new ≤ old + fold_steps nl k)
 export_last k = either_last nl_read (λ nl. IsExported nl k) (λ nl. CannotBeExported nl k) (λ nl. fold_steps nl k)
-  (λ nl. staged_either nl k (IsExported nl k) (one_text nl k) (λ bytes e. e.staged) (an_export nl k))
+    (λ nl. staged_either nl k (IsExported nl k) (one_text nl k) (λ bytes e. e.staged) (an_export nl k))
 
 -- what was folded, scaled and written
 pub exported_so : (nl : NlValue) (k : ℕ) (l : LinearValue) (s : ScaledValue) (bytes : List ℕ) → HasFolded nl k l
-  → HasScaled (linear_value l) s → bytes ≡ mps_text_by value_text (mps_of (scaled_as s)) → IsExported nl k bytes
+    → HasScaled (linear_value l) s → bytes ≡ mps_text_by value_text (mps_of (scaled_as s)) → IsExported nl k bytes
 exported_so nl k l s bytes folds scales written = record { program = scaled_as s; staged = staged_so nl k l folds s scales; exports = exports_so nl k l folds s scales; written = written }
 
 row_factors : (f : File) (k i : ℕ) → 0 < factor_of_row (linear_of f k) i

@@ -101,9 +101,9 @@ unfolding elements_from
 bodies_count f n i zero = refl
 bodies_count f n i (suc m) =
     sum_by-cons (size n) (owned_by f (Con i) (body_of f i))
-      (elements_from (λ i. owned_by f (Con i) (body_of f i)) (suc i) m)
-      ∙ ap₂ (λ (a b : ℕ). a + b) (same_count (owned_line (owned_by f (Con i) (body_of f i))) n)
-      (bodies_count f n (suc i) m)
+    (elements_from (λ i. owned_by f (Con i) (body_of f i)) (suc i) m)
+    ∙ ap₂ (λ (a b : ℕ). a + b) (same_count (owned_line (owned_by f (Con i) (body_of f i))) n)
+    (bodies_count f n (suc i) m)
     ∙ sym (sum_by-cons (λ r. form_count n r.body) (linear_row f i) (elements_from (linear_row f) (suc i) m))
 
 few_coefficients : (f : File) (k : ℕ) → fold_fault f k ≡ None
@@ -138,7 +138,7 @@ total_of : (f : File) (k : ℕ) → fold_fault f k ≡ None → coefficient_tota
 unfolding linear_of
 total_of f k folded =
     subst (λ (n : ℕ). sum_by (λ r. form_count n r.body) (elements_from (linear_row f) 0 f.counts.n_con)
-        + form_count n (objective_form f k) ≤ 2 ^ 23) (sym (elements_length (linear_variable f) 0 f.counts.n_var))
+    + form_count n (objective_form f k) ≤ 2 ^ 23) (sym (elements_length (linear_variable f) 0 f.counts.n_var))
     (few_coefficients f k folded)
 
 pub file_exportable : (f : File) (k : ℕ) → IsFile f → fold_fault f k ≡ None → IsExportable (linear_of f k)

@@ -87,8 +87,13 @@ none_among (g ∷ gs) j all = by (nat_lt j g.size) refl all.0 (none_among gs (j 
 
 never_binary : (n j : ℕ) → is_binary (variable_kind (counts_of n) j) ≡ false
 never_binary n j = ap is_binary (variable_kind_by_runs (counts_of n) j)
-  ∙ none_among (runs (counts_of n)) j (inl refl, (inl refl,
-      (inl refl, (inl refl, (inl refl, (inl refl, (inl refl, (inr refl, (inl refl, tt)))))))))
+    ∙ none_among (runs (counts_of n)) j (
+      inl refl,
+      (
+        inl refl,
+        (inl refl, (inl refl, (inl refl, (inl refl, (inl refl, (inr refl, (inl refl, tt))))))),
+      ),
+    )
 
 -- ---- the laws
 

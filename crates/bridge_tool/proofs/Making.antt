@@ -120,8 +120,8 @@ module _ (nl : NlValue) where
 
 -- the summary of a program of decimals
 pub of_program : (variables rows terms bytes : ℕ) (m : Mps Dec) (p : Mps ℚ) (text out : List ℕ)
-  → with_values dec_value m ≡ p → terms ≡ coefficient_count rows m → text ≡ mps_text_by value_text p
-  → bytes ≡ length text → out ≡ summary_line variables rows terms bytes → IsSummedUp variables rows p out
+    → with_values dec_value m ≡ p → terms ≡ coefficient_count rows m → text ≡ mps_text_by value_text p
+    → bytes ≡ length text → out ≡ summary_line variables rows terms bytes → IsSummedUp variables rows p out
 of_program variables rows terms bytes m p text out values counted written size line =
     line ∙ (λ i. summary_line variables rows ((counted ∙ coefficients_same rows m p values) i) ((size ∙ ap length written) i))
 
@@ -204,8 +204,8 @@ module _ (seed size : ℕ) where
       → IsWorked (make_promise seed size) old new answer
   make_worked few old new (Ok t) answer comes ends =
       wrote_worked (make_promise seed size) false old old new t.0 t.1.items answer (come old (Done t.0 t.1.items) comes)
-        (inl (holds_so t.0 t.1.items comes)) (of_yes t.0 (IsInstanceSummedUp seed size)
-          (λ e. instance_summed_up seed size few)) ends
+      (inl (holds_so t.0 t.1.items comes)) (of_yes t.0 (IsInstanceSummedUp seed size)
+      (λ e. instance_summed_up seed size few)) ends
   make_worked few old new (Err (IsFault refusal)) answer comes ends =
       rw (ends.0, ends.1) (refused_worked (make_promise seed size) false old old refusal (come old (Refused refusal.line) comes))
   make_worked few old new (Err IsMemory) answer comes ends =

@@ -64,7 +64,7 @@ module _ (n : Named) where
 
   -- it was folded, scaled and written with its names
   pub written_so : (l : LinearValue) (s : ScaledValue) (bytes : List ℕ) → HasFolded n.nl n.objective l
-    → HasScaled (linear_value l) s → IsNamedTextOf bytes (mps_of (scaled_as s)) n.rows n.columns → IsNamedExport n bytes
+      → HasScaled (linear_value l) s → IsNamedTextOf bytes (mps_of (scaled_as s)) n.rows n.columns → IsNamedExport n bytes
   written_so l s bytes folds scales t =
       record { program = scaled_as s; staged = staged_so n.nl n.objective l folds s scales; exports = exports_so n.nl n.objective l folds s scales; written = t.text }
 
@@ -74,12 +74,12 @@ abbrev pub of_lists : ℕ → NlValue → List (List ℕ) → List (List ℕ) �
 of_lists objective nl r c = record { nl = nl; objective = objective; rows = r; columns = c }
 
 pub named_last : (objective : ℕ) (nl : NlValue) (r : List (List ℕ))
-  → IsLast false (AreListed (column_counts nl.file)) (IsListRefused (column_counts nl.file) 3)
-  (λ c. NamedComesTo (of_lists objective nl r c)) (λ c old new. new ≤ old + fold_steps nl objective)
+    → IsLast false (AreListed (column_counts nl.file)) (IsListRefused (column_counts nl.file) 3)
+    (λ c. NamedComesTo (of_lists objective nl r c)) (λ c old new. new ≤ old + fold_steps nl objective)
 named_last objective nl r =
     either_last (list_read (column_counts nl.file) 3) (λ c. IsNamedExport (of_lists objective nl r c))
-      (λ c. CannotBeExported nl objective) (λ c. fold_steps nl objective)
-      (λ c. named_either (of_lists objective nl r c))
+    (λ c. CannotBeExported nl objective) (λ c. fold_steps nl objective)
+    (λ c. named_either (of_lists objective nl r c))
 
 module _ (objective : ℕ) (columns : List ℕ) (nl : NlValue) (texts : Texts) (r c : List (List ℕ)) where
   -- what is left once both lists were read
@@ -88,8 +88,8 @@ module _ (objective : ℕ) (columns : List ℕ) (nl : NlValue) (texts : Texts) (
 
   pub names_sound : IsSound after_names
   names_sound = let n = of_lists objective nl r c in sound_end (texts columns) (NamedComesTo n)
-    (λ old new. new ≤ old + fold_steps nl objective) (λ bytes. AreNamedMeant n) (Unit {0})
-    (one_of_both (IsNamedExport n) (CannotBeExported nl objective) (named_either n)) (λ m. omega arith)
+      (λ old new. new ≤ old + fold_steps nl objective) (λ bytes. AreNamedMeant n) (Unit {0})
+      (one_of_both (IsNamedExport n) (CannotBeExported nl objective) (named_either n)) (λ m. omega arith)
 
 -- ---- with names and without them
 
@@ -123,8 +123,8 @@ by_objective l p is exports (inr n) = subst (λ q. HasExportedNames (length l.ro
 
 -- what a file is exported as has names by number
 pub export_named : (f : File) (k : ℕ) (p : ScaledProgram) (rows columns : ℕ) → IsFile f
-  → IsScaledProgramOf (linear_of f k) p → rows ≡ f.counts.n_con → columns ≡ f.counts.n_var
-  → HasExportedNames rows columns (mps_of p)
+    → IsScaledProgramOf (linear_of f k) p → rows ≡ f.counts.n_con → columns ≡ f.counts.n_var
+    → HasExportedNames rows columns (mps_of p)
 export_named f k p rows columns file exports r c =
     let l = linear_of f k in
     let names = by_objective l p (linear_named f k file) exports (decimal_decided l) in
@@ -172,7 +172,7 @@ values_named m rows columns = valued (new_name row_name rows) (new_name variable
 pub one_meaning : (bytes : List ℕ) (p : Mps ℚ) (rows columns : List (List ℕ)) → IsNamedTextOf bytes p rows columns → HaveOneMeaning (named p rows columns) p
 one_meaning bytes p rows columns t =
     let same : HaveOneMeaning (with_values dec_value (named t.decimal rows columns)) (with_values dec_value t.decimal) =
-      same_meaning (new_name row_name rows) (new_name variable_name columns) t.decimal in
+    same_meaning (new_name row_name rows) (new_name variable_name columns) t.decimal in
     let of_values : HaveOneMeaning (named (with_values dec_value t.decimal) rows columns) (with_values dec_value t.decimal) =
     subst (λ (q : Mps ℚ). HaveOneMeaning q (with_values dec_value t.decimal)) (values_named t.decimal rows columns) same in
     subst (λ (q : Mps ℚ). HaveOneMeaning (named q rows columns) q) t.values of_values
@@ -208,8 +208,8 @@ named_text bytes p m given rows columns values is valid text = record {
 
 -- what was folded, scaled and written with names means what it should
 pub named_meant : (n : Named) (p : ScaledProgram) (out : List ℕ) → IsFile n.nl.file
-  → IsScaledProgramOf (linear_of n.nl.file n.objective) p → IsNamedTextOf out (mps_of p) n.rows n.columns
-  → AreNamedMeant n
+    → IsScaledProgramOf (linear_of n.nl.file n.objective) p → IsNamedTextOf out (mps_of p) n.rows n.columns
+    → AreNamedMeant n
 named_meant n p out file exports t = λ bytes e.
     let f = n.nl.file in
     let k = n.objective in
@@ -235,10 +235,10 @@ named_export_back text rows columns n read of_rows of_columns bytes e fits =
     let values : with_values dec_value m ≡ p = values_back p whole.decimal in
     let row_names : AreNames n.rows = subst AreNames (sym of_rows.said) (listed_names (row_counts f) (lines_of rows) (last_of rows) (omega (arith, counts.constraints)) of_rows.clean) in
     let column_names : AreNames n.columns = subst AreNames (sym of_columns.said)
-      (listed_names (column_counts f) (lines_of columns) (last_of columns) (omega (arith, counts.variables))
-        of_columns.clean) in
+    (listed_names (column_counts f) (lines_of columns) (last_of columns) (omega (arith, counts.variables))
+    of_columns.clean) in
     let exported = export_named f k e.program (length n.rows) (length n.columns) file e.exports
-      (listed_count (row_counts f) rows n.rows of_rows) (listed_count (column_counts f) columns n.columns of_columns) in
+    (listed_count (row_counts f) rows n.rows of_rows) (listed_count (column_counts f) columns n.columns of_columns) in
     let own = decimal_names (length n.rows) (length n.columns) m (subst (HasExportedNames (length n.rows) (length n.columns)) (sym values) exported) in
     let valid = program_named m n.rows n.columns row_names column_names own (whole_picked p whole.valid whole.decimal) in
     named_back bytes p n.rows n.columns (record { decimal = m; valid = valid; values = values; text = e.written }) fits

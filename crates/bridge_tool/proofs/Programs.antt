@@ -108,7 +108,7 @@ program_read layout = record {
     one text a b (inr h) (inr k) = one_line h.0 k.0 a b (d.said text h.0 k.0 h.1.0 k.1.0) h.1.1 k.1.1
 
     by : (text : List ℕ) (m : Mps Dec) → IsTextIn layout text m → (o : Option MpsFault) → mps_fault m ≡ o
-      → ((n : Mps Dec) × HasProgram layout text n) ⊎ ((line : List ℕ) × IsProgramRefused layout text line)
+        → ((n : Mps Dec) × HasProgram layout text n) ⊎ ((line : List ℕ) × IsProgramRefused layout text line)
     by text m says None e = inl (m, record { says = says; clean = e })
     by text m says (Some fault) e = inr (import_line fault, inr (m, (says, record { fault = fault; first = e; told = refl })))
 
@@ -132,8 +132,8 @@ module _ (layout : Layout) (file : List ℕ) (old new : Meaning) where
 
   -- its text ends the command
   pub text_ended : (answer : Answer) → ReadsFile {R = Mps Dec} itself (IsTextIn layout) (IsTextRefused layout) file old
-    new (Err answer) → ReadsFile {R = Mps Dec} itself (HasProgram layout) (IsProgramRefused layout) file old new
-    (Err answer)
+      new (Err answer) → ReadsFile {R = Mps Dec} itself (HasProgram layout) (IsProgramRefused layout) file old new
+      (Err answer)
   text_ended answer h = record { rest = h.rest; later = h.later; judged = ended_by answer h.judged }
 
   module _ (m : Mps Dec) (h : ReadsFile {R = Mps Dec} itself (IsTextIn layout) (IsTextRefused layout) file old new (Ok m)) where
@@ -150,8 +150,8 @@ module _ (layout : Layout) (file : List ℕ) (old new : Meaning) where
 
     -- its program ends it
     pub program_ended : (judged : Result LinearValue (Stop Refusal)) (answer : Answer) → GivesProgram m judged
-      → Answered judged (Err answer) → ReadsFile {R = Mps Dec} itself (HasProgram layout) (IsProgramRefused layout) file
-      old new (Err answer)
+        → Answered judged (Err answer) → ReadsFile {R = Mps Dec} itself (HasProgram layout) (IsProgramRefused layout) file
+        old new (Err answer)
     program_ended judged answer gives same = record { rest = h.rest; later = h.later; judged = ended_with judged answer gives same }
 
     -- it has a linear program
@@ -192,7 +192,7 @@ claimed Nl = record {
   states = λ text nl k (h : IsNl text nl). ap (λ f. problem_of f k) h.said.file;
   over = λ nl k. file_setting nl.file k;
   means = λ text nl k h none. file_meant nl.file k (text_file text nl h)
-    (none_mapped (named_fault nl.file) (fold_fault nl.file k)
+      (none_mapped (named_fault nl.file) (fold_fault nl.file k)
       (none_mapped (fold_line nl.places) (first_fold_fault nl.file k) none));
 }
 claimed (MpsIn layout) = record {
@@ -247,8 +247,8 @@ module _ (f : Linear) (c : CertificateValue) (h : IsCertificateOf f c) where
 
     -- so its line means what it should
     pub line_so : (outcome : Outcome) (o : ClaimOutcome) → claim_shown f c ≡ o → outcome ≡ by_linear c o None
-      → ByVerdict (is_held o) (IsClaimTrue p c.claim (given_in c) (outcome_line c.claim o))
-      (IsClaimDenied p f c outcome)
+        → ByVerdict (is_held o) (IsClaimTrue p c.claim (given_in c) (outcome_line c.claim o))
+        (IsClaimDenied p f c outcome)
     line_so outcome (holds value) shown is =
         let so : Says p.variables p.constraints (given_in c) (holds value) = subst (Says p.variables p.constraints (given_in c)) shown says_so in
         record { told = so.told; line = ap (λ (t : Option Told). option_map_or told_text t [] ++ objective_text (claim_objective c.claim) ++ codes "\n") so.is_told; true_of = so.true_of }
@@ -268,7 +268,7 @@ module _ (row : ClaimRow) (d : IsClaimed row) where
     certificate_so = certificate_for (row.linear value k) (row.setting value) (d.over value k) c (text_is_certificate (row.setting value) given c certifies).is
 
     means_so : (o : Option (List ℕ)) → row.no_linear value k ≡ o → (held : Bool) (bytes : List ℕ)
-      → Done held bytes ≡ by_linear c shown o → ByVerdict held (IsVerified row value c bytes) (IsDenied row value c)
+        → Done held bytes ≡ by_linear c shown o → ByVerdict held (IsVerified row value c bytes) (IsDenied row value c)
     means_so None none held bytes done =
         let yes : held ≡ is_held shown = cc in
         let line : bytes ≡ outcome_line c.claim shown = cc in
@@ -279,8 +279,8 @@ module _ (row : ClaimRow) (d : IsClaimed row) where
 
     -- a verdict means what it should
     pub claim_meant : (judged : Result (Bool × Vec ℕ) (Stop Refusal))
-      → Comes (λ outcome. outcome ≡ verify_outcome row value c) judged
-      → IfOk judged (λ t. ByVerdict t.0 (IsVerified row value c t.1.items) (IsDenied row value c))
+        → Comes (λ outcome. outcome ≡ verify_outcome row value c) judged
+        → IfOk judged (λ t. ByVerdict t.0 (IsVerified row value c t.1.items) (IsDenied row value c))
     claim_meant (Ok t) comes = means_so (row.no_linear value k) refl t.0 t.1.items comes
     claim_meant (Err stop) comes = tt
 
@@ -289,8 +289,8 @@ module _ (row : ClaimRow) (d : IsClaimed row) where
   plain c o (Some line) = tt
 
   pub claim_last : (value : row.Value) → IsLast true (IsCertificateText (row.setting value))
-    (IsCertificateRefused (row.setting value) 2) (λ c outcome. outcome ≡ verify_outcome row value c)
-    (λ c. row.counts value (claim_objective c.claim))
+      (IsCertificateRefused (row.setting value) 2) (λ c outcome. outcome ≡ verify_outcome row value c)
+      (λ c. row.counts value (claim_objective c.claim))
   claim_last value = record {
     read = certificate_read (row.setting value) 2;
     one = λ c. same_one (verify_outcome row value c) (plain c (claim_shown (row.linear value (claim_objective c.claim)) c) (row.no_linear value (claim_objective c.claim)));
@@ -314,8 +314,8 @@ module _ (row : ClaimRow) (d : IsClaimed row) where
         }
 
     pub claim_counted : {old new : Meaning} {m n : ℕ} {answer : Answer} (t : Option Texts)
-      → IsCounted (desk_promise true (verify_read row first certificate) t) old new m n answer
-      → IsCounted (verify_promise t row first certificate) old new m n answer
+        → IsCounted (desk_promise true (verify_read row first certificate) t) old new m n answer
+        → IsCounted (verify_promise t row first certificate) old new m n answer
     claim_counted t = meant_as true (verify_read row first certificate) (λ texts. SaysVerified row.states texts first certificate) t yes_says
 
 -- ---- what the code answers
@@ -330,11 +330,11 @@ module _ (nl : NlValue) (c : CertificateValue) (given : IsCertificateIn nl.file 
   claim_done held bytes told =
       told ∙ ap (λ (g : Linear). by_linear c (claim_shown g c) None) folds.linear
       ∙ sym (ap (λ (o : Option FoldFault). by_linear c (claim_shown (linear_of nl.file (claim_objective c.claim)) c)
-            (option_map (fold_line nl.places) (option_map (named_fault nl.file) o))) folds.fine)
+      (option_map (fold_line nl.places) (option_map (named_fault nl.file) o))) folds.fine)
 
 module _ (c : CertificateValue) (shown : ClaimOutcome) (k : ℕ) (same : k ≡ claim_objective c.claim) where
   by_number : (b : Bool) → nat_lt 0 k ≡ b → by_linear c shown (no_objective (claim_objective c.claim))
-    ≡ by_linear c shown (if b then Some (refusal 1 (codes "objective") k (codes "no such objective")) else None)
+      ≡ by_linear c shown (if b then Some (refusal 1 (codes "objective") k (codes "no such objective")) else None)
   by_number b e =
       let line : List ℕ = refusal 1 (codes "objective") k (codes "no such objective") in
       subst (λ (n : ℕ). by_linear c shown (no_objective n) ≡ by_linear c shown (if b then Some line else None)) same (ap (λ (t : Bool). by_linear c shown (if t then Some line else None)) e)
@@ -349,8 +349,8 @@ module _ (c : CertificateValue) (shown : ClaimOutcome) (k : ℕ) (same : k ≡ c
 module _ (m : Mps Dec) (l : LinearValue) (is : IsProgramOf m l) where
   -- the setting of the linear program is that of the program
   pub opened_as : (file : List ℕ) (old new : Meaning) (result : Result CertificateValue Answer)
-    → ReadsFile {R = CertificateValue} itself (IsCertificateText (program_setting l))
-    (IsCertificateRefused (program_setting l) 2) file old new result
+      → ReadsFile {R = CertificateValue} itself (IsCertificateText (program_setting l))
+      (IsCertificateRefused (program_setting l) 2) file old new result
       → ReadsFile {R = CertificateValue} itself (IsCertificateText (mps_setting m)) (IsCertificateRefused (mps_setting m) 2) file old new result
   opened_as file old new result h =
       let same : program_setting l ≡ mps_setting m = (let a = is.rows in let b = is.kinds in rw (a, b) refl) in
@@ -358,6 +358,6 @@ module _ (m : Mps Dec) (l : LinearValue) (is : IsProgramOf m l) where
 
   -- what its linear program comes to is what it does
   pub comes_as : (layout : Layout) (c : CertificateValue) (judged : Result (Bool × Vec ℕ) (Stop Refusal))
-    → Comes (λ outcome. outcome ≡ by_linear c (claim_shown (linear_value l) c) (no_objective (claim_objective c.claim)))
-    judged → Comes (λ outcome. outcome ≡ verify_outcome (mps_claim_row layout) m c) judged
+      → Comes (λ outcome. outcome ≡ by_linear c (claim_shown (linear_value l) c) (no_objective (claim_objective c.claim)))
+      judged → Comes (λ outcome. outcome ≡ verify_outcome (mps_claim_row layout) m c) judged
   comes_as layout c judged comes = subst (λ (g : Linear). Comes (λ outcome. outcome ≡ by_linear c (claim_shown g c) (no_objective (claim_objective c.claim))) judged) is.linear comes

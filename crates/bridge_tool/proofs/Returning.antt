@@ -47,8 +47,8 @@ module _ (nl : NlValue) (a : AnswerValue) where
   one_line x y (inr h) (inr k) = h.first.told ∙ ap return_line ((one-return nl.file a).one_fault h.first.fault k.first.fault h.first.first k.first.first) ∙ sym k.first.told
 
   by_return : CanBeExported nl a.objective → ((s : Sol) × IsReturn nl.file a s) ⊎
-    ((fault : ReturnFault) × HasReturnFault nl.file a fault)
-    → ((bytes : List ℕ) × IsReturned nl a bytes) ⊎ ((line : List ℕ) × IsReturnRefused nl a line)
+      ((fault : ReturnFault) × HasReturnFault nl.file a fault)
+      → ((bytes : List ℕ) × IsReturned nl a bytes) ⊎ ((line : List ℕ) × IsReturnRefused nl a line)
   by_return is (inl s) = inl (sol_text s.0, record { staged = is; sol = s.0; returned = s.1; written = refl })
   by_return is (inr w) = inr (return_line w.0, inr (record { staged = is; first = record { fault = w.0; first = w.1; told = refl } }))
 
@@ -67,8 +67,8 @@ module _ (nl : NlValue) (a : AnswerValue) (n : ℕ) (same : n ≡ a.objective) w
 
   -- the answer is one for the file, and its program is scaled so
   pub answered : (counts : Counts) (options : List ℤ) (l : LinearValue) (s : ScaledValue) → counts ≡ nl.file.counts
-    → options ≡ nl.file.options → IsAnswerFor nl.file a → HasFolded nl n l → HasScaled (linear_value l) s
-    → IsAnswered counts options s a nl.file
+      → options ≡ nl.file.options → IsAnswerFor nl.file a → HasFolded nl n l → HasScaled (linear_value l) s
+      → IsAnswered counts options s a nl.file
   answered counts options l s head first made folds scales =
       record { counts_are = head; options_are = first; answer = made; scaled = subst (λ f. IsScaledOf f s) (folded_at nl n a.objective l same folds).linear scales.scaled }
 

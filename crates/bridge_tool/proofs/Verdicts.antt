@@ -80,7 +80,7 @@ full n given (inr is) e = is
 
 module _ (nl : NlValue) (s : Sol) (fits : unfit nl s ≡ None) where
   tests : (((nl.file.counts.n_con == s.n_con) && (nl.file.counts.n_var == s.n_var)) ≡ true)
-    × (nat_lt (length s.primals) nl.file.counts.n_var ≡ false) × (nat_lt (length s.duals) nl.file.counts.n_con ≡ false)
+      × (nat_lt (length s.primals) nl.file.counts.n_var ≡ false) × (nat_lt (length s.duals) nl.file.counts.n_con ≡ false)
   tests = same_counts _ _ _ fits
 
   same : (nl.file.counts.n_con ≡ s.n_con) × (nl.file.counts.n_var ≡ s.n_var)
@@ -115,7 +115,7 @@ module _ (nl : NlValue) (s : Sol) (file : IsFile nl.file) where
 
     told_says : (v : Verdict) → shown nl s k ≡ v → VerdictSays (problem_of nl.file k) (values_of s.primals) v
     told_says v is = subst (VerdictSays (problem_of nl.file k) (values_of s.primals)) is
-      (file_verdicts nl.file k file (no_fault nl.file (fold_fault nl.file k) folds) (values_of s.primals)
+        (file_verdicts nl.file k file (no_fault nl.file (fold_fault nl.file k) folds) (values_of s.primals)
         (values_of s.duals))
 
     by_told : (v : Verdict) → shown nl s k ≡ v → Says (is_yes v)
@@ -160,12 +160,12 @@ module _ (nl : NlValue) (p : ProofValue) where
   plain_proof (Some fault) = tt
 
 pub prove_last : (nl : NlValue) → IsLast true (IsProofText (certificate_setting nl.file))
-  (IsProofRefused (certificate_setting nl.file) 2) (λ p outcome. outcome ≡ prove_outcome nl p)
-  (λ p old new. new ≤ old + fold_steps nl (claimed_objective p.claim))
+    (IsProofRefused (certificate_setting nl.file) 2) (λ p outcome. outcome ≡ prove_outcome nl p)
+    (λ p old new. new ≤ old + fold_steps nl (claimed_objective p.claim))
 prove_last nl =
     verdict_last (proof_read (certificate_setting nl.file) 2) (prove_outcome nl)
-      (λ p. fold_steps nl (claimed_objective p.claim)) (λ p. plain_proof nl p
-        (first_fold_fault nl.file (claimed_objective p.claim)))
+    (λ p. fold_steps nl (claimed_objective p.claim)) (λ p. plain_proof nl p
+    (first_fold_fault nl.file (claimed_objective p.claim)))
 
 -- ---- what the code answers
 
@@ -195,22 +195,26 @@ module _ (nl : NlValue) (p : ProofValue) (given : IsProofIn nl.file p) where
 
   -- the file folds, and the verdict is told
   pub proof_done : (l : LinearValue) (v : ProofVerdict) (held : Bool) (bytes : List ℕ) → HasFolded nl claimed l
-    → IsVerdictOn (linear_value l) p v → held ≡ is_none (fault_of v) → bytes ≡ leaf_line (fault_of v)
+      → IsVerdictOn (linear_value l) p v → held ≡ is_none (fault_of v) → bytes ≡ leaf_line (fault_of v)
       → Done held bytes ≡ prove_outcome nl p
   proof_done l v held bytes folds exact h b =
       ap₂ Done h b ∙ ap by_leaf (leaf_so l v folds exact) ∙ sym (ap (by_proof_fold nl p) (ap (option_map (named_fault nl.file)) folds.fine))
 
   -- a verdict means what it should
   proved_by : (o : Option LeafFault) (v : ProofVerdict) → fault_of v ≡ o → IsFile nl.file
-    → fold_fault nl.file claimed ≡ None → IsProved folded p.claim v → open_leaf nl p ≡ o
-    → prove_outcome nl p ≡ by_leaf o → ByVerdict (is_none o) (IsProvedOf nl p) (IsLeftOpen nl p)
+      → fold_fault nl.file claimed ≡ None → IsProved folded p.claim v → open_leaf nl p ≡ o
+      → prove_outcome nl p ≡ by_leaf o → ByVerdict (is_none o) (IsProvedOf nl p) (IsLeftOpen nl p)
   proved_by None v none file fine proved first line = proof_true nl.file claimed file fine p.claim (subst (λ (w : ProofVerdict). IsProved folded p.claim w) (yes_of v (ap is_none none)) proved)
   proved_by (Some fault) v some file fine proved first line =
-    record { fault = fault; line = line; denies = file_leaf nl.file claimed file fine (claim_value p.claim)
-      (tree_over (row_count folded) (tree_in p)) fault first }
+      record {
+        fault = fault;
+        line = line;
+        denies = file_leaf nl.file claimed file fine (claim_value p.claim)
+            (tree_over (row_count folded) (tree_in p)) fault first;
+      }
 
   pub proof_says : (l : LinearValue) (v : ProofVerdict) (held : Bool) (bytes : List ℕ) → IsFile nl.file
-    → HasFolded nl claimed l → IsVerdictOn (linear_value l) p v → IsProved (linear_value l) p.claim v
+      → HasFolded nl claimed l → IsVerdictOn (linear_value l) p v → IsProved (linear_value l) p.claim v
       → held ≡ is_none (fault_of v) → bytes ≡ leaf_line (fault_of v) → ByVerdict held (IsProvedOf nl p) (IsLeftOpen nl p)
   proof_says l v held bytes file folds exact proved h b =
       let line : prove_outcome nl p ≡ by_leaf (fault_of v) = sym (proof_done l v (is_none (fault_of v)) (leaf_line (fault_of v)) folds exact refl refl) in

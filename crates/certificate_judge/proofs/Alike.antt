@@ -103,8 +103,8 @@ module _ (t : ℚ) (fit : fits t ≡ true) (s d : ℚ) where
       ∙ sym (ap (option_and_then (with_side zero_ℚ)) (fitting_known t fit))
 
   by_sign : (max : Bool) (z : ℤ) → option_and_then (with_side (neg_ℚ t))
-    (option_and_then fitting (needed_side max z (at_most zero_ℚ)))
-    ≡ option_and_then (with_side zero_ℚ) (option_and_then fitting (needed_side max z (at_most t)))
+      (option_and_then fitting (needed_side max z (at_most zero_ℚ)))
+      ≡ option_and_then (with_side zero_ℚ) (option_and_then fitting (needed_side max z (at_most t)))
   by_sign false (negsuc n) = upper
   by_sign true (pos n) = upper
   by_sign max z = refl

@@ -90,12 +90,12 @@ module _ (f : Linear) where
 
   sides_are_bounds : (lo hi : List (Option Dec)) → AreLowerSoFar lo (variable_count f) → AreUpperSoFar hi (variable_count f) → bounds_in lo hi ≡ bounds_of f
   sides_are_bounds lo hi a b = fun_ext (λ j. ⊎_elim (λ (l : j < variable_count f). ap₂
-        (λ u v. record { lower = u; upper = v }) (a.values j l) (b.values j l)) (past lo hi a b j)
+      (λ u v. record { lower = u; upper = v }) (a.values j l) (b.values j l)) (past lo hi a b j)
       (cases_lt j (variable_count f)))
 
   module _ (p : Path) (n : ℕ) (all : n ≡ variable_count f) (lower : AreLowerSoFar p.lo.items n)
-    (upper : AreUpperSoFar p.hi.items n) (no_rows : p.added.items ≡ []) (no_lemmas : p.lemmas.items ≡ [])
-    (no_steps : p.steps.items ≡ []) where
+      (upper : AreUpperSoFar p.hi.items n) (no_rows : p.added.items ≡ []) (no_lemmas : p.lemmas.items ≡ [])
+      (no_steps : p.steps.items ≡ []) where
     pub path_begins : IsPath (variable_count f) p
     path_begins =
         record {

@@ -48,28 +48,28 @@ module _ (f : Linear) (c : CertificateValue) (h : IsCertificateOf f c) where
 -- ---- by claim
 module _ (f : Linear) (n m : ℕ) where
   pub optimal_is : (k : ℕ) (g : Given) (o : OutcomeWords) (has : HasTree g.tree)
-    → ((tree : CertificateTree) → g.tree ≡ Some tree → o ≡ with_proof f (tree_over m tree)
+      → ((tree : CertificateTree) → g.tree ≡ Some tree → o ≡ with_proof f (tree_over m tree)
       (judged f (spread n g.point))) → o ≡ outcome f (certificate_over n m (Optimal k) g)
   unfolding outcome
   optimal_is k g o has h = given_tree (λ t. o ≡ outcome f (certificate_over n m (Optimal k) (record g { tree = t }))) g.tree has h
 
   pub near_is : (k : ℕ) (v : Number) (g : Given) (o : OutcomeWords) (has : HasTree g.tree)
-    → ((tree : CertificateTree) → g.tree ≡ Some tree → o ≡ with_leaves
+      → ((tree : CertificateTree) → g.tree ≡ Some tree → o ≡ with_leaves
       (proof_fault f (number_value v) (tree_over m tree)) (judged f (spread n g.point)))
-    → o ≡ outcome f (certificate_over n m (Within k v) g)
+      → o ≡ outcome f (certificate_over n m (Within k v) g)
   unfolding outcome
   near_is k v g o has h = given_tree (λ t. o ≡ outcome f (certificate_over n m (Within k v) (record g { tree = t }))) g.tree has h
 
   pub bound_is : (k : ℕ) (v : Number) (g : Given) (o : OutcomeWords) (has : HasTree g.tree)
-    → ((tree : CertificateTree) → g.tree ≡ Some tree → o ≡ unless_leaf
+      → ((tree : CertificateTree) → g.tree ≡ Some tree → o ≡ unless_leaf
       (proof_fault f (number_value v) (tree_over m tree)) (Some (number_value v)))
-    → o ≡ outcome f (certificate_over n m (Bound k v) g)
+      → o ≡ outcome f (certificate_over n m (Bound k v) g)
   unfolding outcome
   bound_is k v g o has h = given_tree (λ t. o ≡ outcome f (certificate_over n m (Bound k v) (record g { tree = t }))) g.tree has h
 
   pub infeasible_is : (g : Given) (o : OutcomeWords) (has : HasTree g.tree)
-    → ((tree : CertificateTree) → g.tree ≡ Some tree → o ≡ unless_leaf (proof_fault f zero_ℚ (tree_over m tree)) None)
-    → o ≡ outcome f (certificate_over n m Infeasible g)
+      → ((tree : CertificateTree) → g.tree ≡ Some tree → o ≡ unless_leaf (proof_fault f zero_ℚ (tree_over m tree)) None)
+      → o ≡ outcome f (certificate_over n m Infeasible g)
   unfolding outcome
   infeasible_is g o has h = given_tree (λ t. o ≡ outcome f (certificate_over n m Infeasible (record g { tree = t }))) g.tree has h
 

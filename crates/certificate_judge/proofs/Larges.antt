@@ -57,8 +57,8 @@ module _ (x s : ℚ) (negative : Bool) (fit : fits x ≡ true) (sign : IsTrue ne
 
 -- ---- sides that do not fit and are large
 module _ (d : Dec) (x : ℚ) (negative large_here : Bool) (side : Option Dec) (is : side ≡ Some d) (fit : fits x ≡ true)
-  (sign : IsTrue negative ↔ (dec_value d <ℚ zero_ℚ)) (here : large_here ≡ true)
-  (test : large_here ≡ is_large (dec_value d)) where
+    (sign : IsTrue negative ↔ (dec_value d <ℚ zero_ℚ)) (here : large_here ≡ true)
+    (test : large_here ≡ is_large (dec_value d)) where
   can : can_compare (side_value side) ≡ true
   can = ap (λ o. can_compare (side_value o)) is ∙ or_right (fits (dec_value d)) (is_large (dec_value d)) (sym test ∙ here)
 
@@ -125,7 +125,7 @@ large_is d false wide w = by d.e refl
     by (pos k) is = absurd (let e : false ≡ true = w.1 ((whole_is _ _ (decimal_is d.m d.e)).1 (whole_above d.m d.e (subst (λ x. pos 0 ≤ℤ x) (sym is) (omega (arith, ints))))) in cc)
     by (negsuc k) is =
         let value : HasValue (dec_value d) (d.m *ℤ pos (10 ^ 0)) (10 ^ suc k) =
-          subst (λ x. HasValue (decimal_value d.m x) (d.m *ℤ pos (10 ^ 0)) (10 ^ suc k)) (sym is)
-          (decimal_value_lem d.m (negsuc k)) in
+        subst (λ x. HasValue (decimal_value d.m x) (d.m *ℤ pos (10 ^ 0)) (10 ^ suc k)) (sym is)
+        (decimal_value_lem d.m (negsuc k)) in
         let size : unsigned_abs (d.m *ℤ pos (10 ^ 0)) ≡ unsigned_abs d.m = unsigned_abs-mul d.m (pos 1) ∙ mul-one (unsigned_abs d.m) in
         sym (part_not_large (dec_value d) (d.m *ℤ pos (10 ^ 0)) (10 ^ suc k) value (subst (λ n. n < 2 ^ 127) (sym size) d.spelled.mantissa))

@@ -67,8 +67,8 @@ module _ (c : Program) (v : ℚ) (turns : List Turn) (path : Path) (at : IsAt (w
 
     -- with another goal of the rows that are held
     moved : (g f : Linear) → AreAlike g f → g.objective ≡ f.objective → g.maximise ≡ f.maximise
-      → dual_bound g (bounds_in lo hi) (spread (row_count held.rows.same) ps)
-      ≡ dual_bound f here.box (spread (row_count here.program) ps)
+        → dual_bound g (bounds_in lo hi) (spread (row_count held.rows.same) ps)
+        ≡ dual_bound f here.box (spread (row_count here.program) ps)
     moved g f alike objective maximise =
         ap₂ (dual_bound g) (ap₂ bounds_in lo_is hi_is ∙ held.box) (ap (λ n. spread n ps) held.rows.alike.rows)
         ∙ same_bound g f alike objective maximise here.box (spread (row_count here.program) ps)
@@ -98,7 +98,7 @@ module _ (c : Program) (v : ℚ) (turns : List Turn) (path : Path) (at : IsAt (w
         let of = record held.rows.same { objective = o; maximise = c.maximise } in
         q of (over_goal c rows held.rows.same o c.maximise rows_held refl refl)
         ∙ moved (asked Zero of) (asked Zero here.program) (goals_alike held.rows.same here.program
-            (asked Zero of).objective (asked Zero here.program).objective (asked Zero of).maximise
-            (asked Zero here.program).maximise held.rows.alike) refl refl
+        (asked Zero of).objective (asked Zero here.program).objective (asked Zero of).maximise
+        (asked Zero here.program).maximise held.rows.alike) refl refl
 
 pub ruleset senses = (own_sense, own_value, maximise_same)

@@ -49,9 +49,9 @@ numbers_are from n (p ∷ ps) h j =
 
 -- whole numbers are their own numerators
 whole_by : (p : Pair) (ps : List Pair) (j : ℕ) → IsWhole (number_value p.1)
-  → sum_at (number_form ps) j ≡ whole (factor_of (whole_form ps) j) → (b : Bool)
-  → (if b then number_value p.1 else sum_at (number_form ps) j)
-  ≡ whole (if b then (number_value p.1).top else factor_of (whole_form ps) j)
+    → sum_at (number_form ps) j ≡ whole (factor_of (whole_form ps) j) → (b : Bool)
+    → (if b then number_value p.1 else sum_at (number_form ps) j)
+    ≡ whole (if b then (number_value p.1).top else factor_of (whole_form ps) j)
 whole_by p ps j h rest true = whole_is (number_value p.1) h
 whole_by p ps j h rest false = rest
 
@@ -61,8 +61,8 @@ wholes_are [] w j = refl
 wholes_are (p ∷ ps) w j = whole_by p ps j (w 0 p (omega arith)) (wholes_are ps (λ k d l. w (suc k) d (omega arith)) j) (j == p.0)
 
 pub plane_sum : (ps : List Pair) → All (λ (p : Pair). IsWhole (number_value p.1)) ps → (body : Body)
-  → frac_value body.constant ≡ zero_ℚ → coef_in body.terms ≡ sum_at (number_form ps)
-  → form_of body ≡ plane_form (whole_form ps)
+    → frac_value body.constant ≡ zero_ℚ → coef_in body.terms ≡ sum_at (number_form ps)
+    → form_of body ≡ plane_form (whole_form ps)
 unfolding AreWholes
 plane_sum ps w body constant sum =
     ap₂ (λ (a : ℚ) (g : ℕ → ℚ). record { constant = a; coefficient = g }) constant

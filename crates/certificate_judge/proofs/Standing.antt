@@ -119,7 +119,7 @@ module _ (f : Linear) (v : ℚ) (tree : CertificateTree) (nodes : List Certifica
                 at = subst (λ ps. IsAt base (to_first (lemma (number_form ps) (number_value t)) ∷ s.turns) new) lemma_own (h base s.turns s.at);
                 on = subst (λ ps. OnWalk (variable_count f) base answer (drop (i + 1) nodes) ps
                     (to_first (lemma (number_form lemma_here.own) (number_value t)) ∷ s.turns) k) (sym lemma_later)
-                  lemma_here.on;
+                    lemma_here.on;
               }
 
         -- a leaf
@@ -140,7 +140,7 @@ module _ (f : Linear) (v : ℚ) (tree : CertificateTree) (nodes : List Certifica
             pub leaf_stops : (g : Fault) → o ≡ Some g → Some (leaf_fault_of k g) ≡ answer
             leaf_stops g is_some = sym (leaf_here.stops (leaf_fault_of k g)
                 (leaf_tested (variable_count f) base answer rest s.turns k goal leaf_here.own own o leaf_own tested
-                  ∙ ap (option_map (leaf_fault_of k)) is_some))
+                ∙ ap (option_map (leaf_fault_of k)) is_some))
 
             pub after_leaf : o ≡ None → (new : Path) → IsAt base (next_turns s.turns) new → Stands (i + 1) later (k + 1) new
             after_leaf is_none new at =

@@ -34,7 +34,7 @@ none_left n m e h = by m (subst (λ k. k ≤ 0) e h)
 
 -- where no test holds, both come to the same
 pub takes_next : {R A : Type 0} (tests : List (Bool × R)) (next other new : A) (r : Result (Unit {0}) (Stop R))
-  → (first_reason tests ≡ None → next ≡ other) → Takes tests next r new → Takes tests other r new
+    → (first_reason tests ≡ None → next ≡ other) → Takes tests next r new → Takes tests other r new
 takes_next tests next other new (Ok u) same h = (h.0, h.1 ∙ same h.0)
 takes_next tests next other new (Err (Fault reason)) same h = h
 takes_next tests next other new (Err Memory) same h = tt

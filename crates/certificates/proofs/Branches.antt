@@ -37,8 +37,8 @@ weights_close f box k ys h xs ok = by (dual_bound (without_objective f) box ys) 
 
 -- duals that close bound the objective by the stated value
 duals_close : (f : Linear) (box : Box) (v : ℚ) (k : ℕ) (ys : List ℚ)
-  → duals_check f.maximise v k (dual_bound f box ys) ≡ None → (xs : List ℚ) → IsRelaxedIn f box xs
-  → IsAsGood f.maximise v (objective_value f xs)
+    → duals_check f.maximise v k (dual_bound f box ys) ≡ None → (xs : List ℚ) → IsRelaxedIn f box xs
+    → IsAsGood f.maximise v (objective_value f xs)
 duals_close f box v k ys h xs ok = by (dual_bound f box ys) refl h
   where
     good_yes : (max : Bool) (a b : ℚ) → is_as_good max a b ≡ true → IsAsGood max a b
@@ -76,7 +76,7 @@ module _ (xs : List ℚ) where
   -- a point is in one of the two parts
   part_met : (p : Part) (cut : Cut) (k : ℕ) (below above : BranchTree) → IsFeasibleIn p xs → IsCutWhole p.program cut × AreSplitsWhole p.program below × AreSplitsWhole p.program above
       → option_or (branch_fault (first_part cut p) k below) (branch_fault (second_part cut p) (k + leaves below) above)
-        ≡ None → Closes (first_part cut p) k below → Closes (second_part cut p) (k + leaves below) above
+      ≡ None → Closes (first_part cut p) k below → Closes (second_part cut p) (k + leaves below) above
       → IsMet xs (first_part cut p) below ⊎ IsMet xs (second_part cut p) above
   part_met p cut k below above ok fine h one other =
       let both = option_or-none (branch_fault (first_part cut p) k below) (branch_fault (second_part cut p) (k + leaves below) above) h in

@@ -64,8 +64,8 @@ module _ (f : Linear) (xs : List ℚ) where
   relaxed_or_broken = by (all_or_one IsMet (λ i. inside_or_not _ _) (row_count f)) (all_or_one IsBetween (λ j. inside_or_not _ _) (variable_count f))
     where
       by : ((i : ℕ) → i < row_count f → IsMet i) ⊎ ((i : ℕ) × (i < row_count f) × (¬ IsMet i))
-        → ((j : ℕ) → j < variable_count f → IsBetween j) ⊎ ((j : ℕ) × (j < variable_count f) × (¬ IsBetween j))
-        → IsRelaxedProgram f xs ⊎ IsProgramBroken
+          → ((j : ℕ) → j < variable_count f → IsBetween j) ⊎ ((j : ℕ) × (j < variable_count f) × (¬ IsBetween j))
+          → IsRelaxedProgram f xs ⊎ IsProgramBroken
       by (inr row) b = inr (inl (row.0, record { within = row.1; broken = row.2 }))
       by (inl rows) (inr bound) = inr (inr (bound.0, record { within = bound.1; broken = bound.2 }))
       by (inl rows) (inl bounds) = inl (record { rows = all_rows f (RowHolds (variable_count f) xs) rows; bounds = bounds })

@@ -118,8 +118,8 @@ ray_has p c at None = tt
 ray_has p c at (Some g) = at
 
 judged_has : (p : Linear) (c : Certificate) (xs : List ℚ) (after : Judged → ClaimOutcome)
-  → ((g : Cause) → after (judged_refused g) ≡ fails g) → HasPoint c
-  → ((v : ℚ) → OutcomeHas p c (after (judged_valued v))) → OutcomeHas p c (after (judged p xs))
+    → ((g : Cause) → after (judged_refused g) ≡ fails g) → HasPoint c
+    → ((v : ℚ) → OutcomeHas p c (after (judged_valued v))) → OutcomeHas p c (after (judged p xs))
 judged_has p c xs after none at some = by (judged p xs) (judged_kind p xs)
   where
     by : (j : Judged) → JudgedKind j → OutcomeHas p c (after j)

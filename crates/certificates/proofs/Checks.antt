@@ -54,7 +54,7 @@ less_product_some s a v r h =
 
 -- what each step of a run keeps, its value keeps to the sum of the steps
 pub run_by : (R : ℚ → ℚ → Type 0) → ((x : ℚ) → R x x) → ((x y z : ℚ) → R x y → R y z → R x z)
-  → ((x y k : ℚ) → R x y → R (x +ℚ k) (y +ℚ k)) → (step : ℚ → ℕ → Option ℚ) (f : ℕ → ℚ) (start : ℚ) (n : ℕ) (r : ℚ)
+    → ((x y k : ℚ) → R x y → R (x +ℚ k) (y +ℚ k)) → (step : ℚ → ℕ → Option ℚ) (f : ℕ → ℚ) (start : ℚ) (n : ℕ) (r : ℚ)
     → ((s t : ℚ) (k : ℕ) → k < n → step s k ≡ Some t → R t (s +ℚ f k)) → run step start n ≡ Some r → R r (start +ℚ sum_below f n)
 unfolding run sum_below
 run_by R same trans more step f start zero r each h = let e : start ≡ r = cc in subst (R r) (sym e ∙ sym (+ℚ_zero start)) (same r)
@@ -64,8 +64,8 @@ run_by R same trans more step f start (suc n) r each h =
     trans r (w.0 +ℚ f n) _ (each w.0 r n (omega arith) w.2) (subst (R (w.0 +ℚ f n)) (+ℚ_assoc start (sum_below f n) (f n)) (more w.0 (start +ℚ sum_below f n) (f n) before))
 
 pub run_some : (step : ℚ → ℕ → Option ℚ) (f : ℕ → ℚ) (start : ℚ) (n : ℕ) (r : ℚ)
-  → ((s t : ℚ) (k : ℕ) → k < n → step s k ≡ Some t → t ≡ s +ℚ f k) → run step start n ≡ Some r
-  → r ≡ start +ℚ sum_below f n
+    → ((s t : ℚ) (k : ℕ) → k < n → step s k ≡ Some t → t ≡ s +ℚ f k) → run step start n ≡ Some r
+    → r ≡ start +ℚ sum_below f n
 run_some = run_by (λ x y. x ≡ y) (λ x. refl) (λ x y z p q. p ∙ q) (λ x y k e. ap (λ z. z +ℚ k) e)
 
 pub at_most_yes : (x y : ℚ) → is_at_most x y ≡ true → x ≤ℚ y

@@ -25,8 +25,8 @@ use Rattle.certificates.proofs.Given.{is_certificate}
 
 -- ---- certificates
 claim_by : (p : Problem) (n m : ℕ) (claim : Claim) (g : Given) (tree : Option CertificateTree) → g.tree ≡ tree
-  → IsAskedFor claim g → (o : Option ℚ) → IsShown p (certificate_over n m claim (record g { tree = tree })) o
-  → IsToldTrue p (spread n g.point) (told_claim claim o)
+    → IsAskedFor claim g → (o : Option ℚ) → IsShown p (certificate_over n m claim (record g { tree = tree })) o
+    → IsToldTrue p (spread n g.point) (told_claim claim o)
 claim_by p n m (Optimal k) g None e asked o h = absurd (subst HasTree e asked.1)
 claim_by p n m (Optimal k) g (Some tree) e asked o h = h
 claim_by p n m (Within k b) g None e asked o h = absurd (subst HasTree e asked.1)
@@ -47,28 +47,28 @@ module _ (f : Linear) (p : Problem) (means : Means f p) where
   says : (claim : Claim) (g : Given) → IsAskedFor claim g → IsOver g → (o : ClaimOutcome) → claim_outcome f claim g ≡ o → OutcomeSays p f (certificate_over (variable_count f) (row_count f) claim g) o
   says claim g asked fine o e =
       subst (OutcomeSays p f (certificate_over (variable_count f) (row_count f) claim g)) e
-        (outcomes f p means (certificate_over (variable_count f) (row_count f) claim g)
-          (is_certificate f claim g asked fine))
+      (outcomes f p means (certificate_over (variable_count f) (row_count f) claim g)
+      (is_certificate f claim g asked fine))
 
   -- of what is given for a claim
   pub given_true : (claim : Claim) (g : Given) → IsAskedFor claim g → IsOver g → (o : Option ℚ)
-    → claim_outcome f claim g ≡ holds o → IsToldTrue p (spread (variable_count f) g.point) (told_claim claim o)
+      → claim_outcome f claim g ≡ holds o → IsToldTrue p (spread (variable_count f) g.point) (told_claim claim o)
   given_true claim g asked fine o e = claim_by p (variable_count f) (row_count f) claim g g.tree refl asked o (says claim g asked fine (holds o) e)
 
   pub given_denied : (claim : Claim) (g : Given) → IsAskedFor claim g → IsOver g → (cause : Cause)
-    → claim_outcome f claim g ≡ fails cause → Denies p f (certificate_over (variable_count f) (row_count f) claim g)
-    cause
+      → claim_outcome f claim g ≡ fails cause → Denies p f (certificate_over (variable_count f) (row_count f) claim g)
+      cause
   given_denied claim g asked fine cause e = says claim g asked fine (fails cause) e
 
   -- of a certificate
   pub told_true : (c : CertificateValue) (h : IsCertificateOf f c) (o : Option ℚ)
-    → claim_outcome f c.claim h.given ≡ holds o → IsToldTrue p (spread (variable_count f) h.given.point)
-    (told_claim c.claim o)
+      → claim_outcome f c.claim h.given ≡ holds o → IsToldTrue p (spread (variable_count f) h.given.point)
+      (told_claim c.claim o)
   told_true c h = given_true c.claim h.given h.asked h.fine
 
   pub told_denied : (c : CertificateValue) (h : IsCertificateOf f c) (cause : Cause)
-    → claim_outcome f c.claim h.given ≡ fails cause → Denies p f
-    (certificate_over (variable_count f) (row_count f) c.claim h.given) cause
+      → claim_outcome f c.claim h.given ≡ fails cause → Denies p f
+      (certificate_over (variable_count f) (row_count f) c.claim h.given) cause
   told_denied c h = given_denied c.claim h.given h.asked h.fine
 
   -- ---- proofs by branches

@@ -86,7 +86,7 @@ module _ (p : Problem) where
     says : (v : ℚ) → GapSays p (leaf_at goal (asked q v) tree (n - k)) b
 
   in_first : (goal : Goal) (q : Part) (cut : Cut) (below above : BranchTree) (k n : ℕ) (b : ℚ)
-    → IsLeafGap (goal_of_first cut goal) (first_part cut q) below k n b → IsLeafGap goal q (split cut below above) k n b
+      → IsLeafGap (goal_of_first cut goal) (first_part cut q) below k n b → IsLeafGap goal q (split cut below above) k n b
   unfolding leaf_at leaves
   in_first goal q cut below above k n b h =
       let few : n - k < leaves below = omega (arith, h.from, h.to) in
@@ -95,13 +95,13 @@ module _ (p : Problem) where
         to = omega (arith, h.to);
         says = λ v.
             subst (λ (t : Bool). GapSays p (if t then leaf_at (goal_of_first cut goal) (first_part cut (asked q v))
-                  below (n - k) else leaf_at goal (second_part cut (asked q v)) above (n - k - leaves below)) b)
-              (sym (lt-ltb (n - k) (leaves below) few))
+            below (n - k) else leaf_at goal (second_part cut (asked q v)) above (n - k - leaves below)) b)
+            (sym (lt-ltb (n - k) (leaves below) few))
             (first_asked cut q (λ (r : Part). GapSays p (leaf_at (goal_of_first cut goal) r below (n - k)) b) h.says v);
       }
 
   in_second : (goal : Goal) (q : Part) (cut : Cut) (below above : BranchTree) (k n : ℕ) (b : ℚ)
-    → IsLeafGap goal (second_part cut q) above (k + leaves below) n b → IsLeafGap goal q (split cut below above) k n b
+      → IsLeafGap goal (second_part cut q) above (k + leaves below) n b → IsLeafGap goal q (split cut below above) k n b
   unfolding leaf_at leaves
   in_second goal q cut below above k n b h =
       let many : leaves below ≤ n - k = omega (arith, h.from) in
@@ -111,11 +111,11 @@ module _ (p : Problem) where
         to = omega (arith, h.to);
         says = λ v.
             subst (λ (t : Bool). GapSays p (if t then leaf_at (goal_of_first cut goal) (first_part cut (asked q v))
-                  below (n - k) else leaf_at goal (second_part cut (asked q v)) above (n - k - leaves below)) b)
-              (sym (le-ltb (n - k) (leaves below) many))
+            below (n - k) else leaf_at goal (second_part cut (asked q v)) above (n - k - leaves below)) b)
+            (sym (le-ltb (n - k) (leaves below) many))
             (subst (λ m. GapSays p (leaf_at goal (second_part cut (asked q v)) above m) b) same
-              (second_asked cut q (λ (r : Part). GapSays p (leaf_at goal r above (n - (k + leaves below))) b) h.says
-                v));
+            (second_asked cut q (λ (r : Part). GapSays p (leaf_at goal r above (n - (k + leaves below))) b) h.says
+            v));
       }
 
   at_duals : (goal : Goal) (q : Part) (ys : List ℚ) (k n : ℕ) (b : ℚ) → k ≡ n → ((xs : List ℚ) → IsRelaxedIn q.program q.box xs → IsGoalReached p goal b xs) → IsLeafGap goal q (duals ys) k n b
@@ -127,12 +127,12 @@ module _ (p : Problem) where
   at_weights goal q ys k n b here h = record { from = omega (arith, here); to = omega (arith, here); says = λ v. h }
 
   at_split : (goal : Goal) (q : Part) (cut : Cut) (below above : BranchTree) (k n : ℕ) (b : ℚ)
-    → (branch_fault (first_part cut q) k below ≡ Some (open_gap n b)
+      → (branch_fault (first_part cut q) k below ≡ Some (open_gap n b)
       → IsLeafGap (goal_of_first cut goal) (first_part cut q) below k n b)
       → (branch_fault (second_part cut q) (k + leaves below) above ≡ Some (open_gap n b) → IsLeafGap goal (second_part cut q) above (k + leaves below) n b)
       → (o : Option LeafFault) → branch_fault (first_part cut q) k below ≡ o
-        → option_or o (branch_fault (second_part cut q) (k + leaves below) above) ≡ Some (open_gap n b)
-        → IsLeafGap goal q (split cut below above) k n b
+      → option_or o (branch_fault (second_part cut q) (k + leaves below) above) ≡ Some (open_gap n b)
+      → IsLeafGap goal q (split cut below above) k n b
   at_split goal q cut below above k n b one other None is e = in_second goal q cut below above k n b (other e)
   at_split goal q cut below above k n b one other (Some g) is e = in_first goal q cut below above k n b (one (is ∙ e))
 
@@ -140,8 +140,8 @@ module _ (p : Problem) where
   unfolding branch_fault
   leaf_gap (split cut below above) goal q of k n b e =
       at_split goal q cut below above k n b (leaf_gap below (goal_of_first cut goal) (first_part cut q)
-          (goal_in_first cut goal q of) k n b) (leaf_gap above goal (second_part cut q) (goal_in_second cut goal q of)
-          (k + leaves below) n b)
+      (goal_in_first cut goal q of) k n b) (leaf_gap above goal (second_part cut q) (goal_in_second cut goal q of)
+      (k + leaves below) n b)
       (branch_fault (first_part cut q) k below) refl e
   leaf_gap (duals ys) goal q of k n b e =
       let at = duals_gap q.program.maximise q.value k n b (dual_bound q.program q.box ys) e in
@@ -152,9 +152,15 @@ module _ (p : Problem) where
 
   -- the goal of the whole tree is the objective of a problem that the program means
   goal_of_whole : (q : Part) → Means q.program p → IsGoalOf objective q
-  goal_of_whole q means = record { variables = means.variables; reached =
-      λ b xs good. (objective_value q.program xs, means.value xs,
-        subst (λ m. IsAsGood m b (objective_value q.program xs)) (sym means.sense) good) }
+  goal_of_whole q means = record {
+    variables = means.variables;
+    reached =
+        λ b xs good. (
+          objective_value q.program xs,
+          means.value xs,
+          subst (λ m. IsAsGood m b (objective_value q.program xs)) (sym means.sense) good,
+        );
+  }
 
   pub leaf_denies : (q : Part) → Means q.program p → (v : ℚ) (tree : BranchTree) (g : LeafFault) → branch_fault q 0 tree ≡ Some g → LeafDenies p (asked q v) tree g
   leaf_denies q means v tree (row_side n i) e = tt

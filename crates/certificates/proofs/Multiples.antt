@@ -33,9 +33,11 @@ common_is_multiple d zero j l = absurd (omega arith)
 common_is_multiple d (suc n) j l =
     ⊎_elim
     (λ (a : j < n).
-    let w = common_is_multiple d n j a in
-    (w.0 * (d n).bottom, ap (λ m. m * (d n).bottom) w.1 ∙ mul_assoc w.0 (d j).bottom (d n).bottom
-      ∙ ap (λ m. w.0 * m) (mul_comm (d j).bottom (d n).bottom) ∙ sym (mul_assoc w.0 (d n).bottom (d j).bottom)))
+    let w = common_is_multiple d n j a in (
+      w.0 * (d n).bottom,
+      ap (λ m. m * (d n).bottom) w.1 ∙ mul_assoc w.0 (d j).bottom (d n).bottom
+          ∙ ap (λ m. w.0 * m) (mul_comm (d j).bottom (d n).bottom) ∙ sym (mul_assoc w.0 (d n).bottom (d j).bottom),
+    ))
     (λ (b : n ≤ j). let e : n ≡ j = omega arith in (common_multiple d n, ap (λ k. common_multiple d n * (d k).bottom) e))
     (cases_lt j n)
 
@@ -86,8 +88,8 @@ above_any g d m positive some =
     let n : ℕ = unsigned_abs d.top in
     let t = positive_top g positive in
     let above : whole (pos n) <ℚ whole (pos (suc n * m) *ℤ pos (suc t.0)) =
-      value_lt (whole_value (pos n)) (whole_value (pos (suc n * m) *ℤ pos (suc t.0)))
-      (let k = beyond n m t.0 some in omega (arith, ints)) in (
+    value_lt (whole_value (pos n)) (whole_value (pos (suc n * m) *ℤ pos (suc t.0)))
+    (let k = beyond n m t.0 some in omega (arith, ints)) in (
       suc n * g.bottom,
       subst (λ z. d <ℚ z) (sym (times_is g (suc n) g.bottom m refl))
           (subst (λ z. d <ℚ whole (pos (suc n * m) *ℤ z)) (sym t.1) (≤ℚ-<ℚ_trans d (whole (pos n)) _ (below_size d) above)),

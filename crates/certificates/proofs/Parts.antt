@@ -90,7 +90,7 @@ module _ (f : Linear) (xs : List ℚ) (whole_ones : (j : ℕ) → j < variable_c
 
 -- one row more
 pub with_row_holds : (f : Linear) (box : Box) (form : Form) (side : Interval) (xs : List ℚ) → IsRelaxedIn f box xs
-  → IsInside side (form_value form (variable_count f) xs) → IsRelaxedIn (with_added_row f form side) box xs
+    → IsInside side (form_value form (variable_count f) xs) → IsRelaxedIn (with_added_row f form side) box xs
 with_row_holds f box form side xs ok h =
     record {
       rows = All-push (RowHolds (variable_count f) xs) f.rows (added_row form side) ok.rows h;

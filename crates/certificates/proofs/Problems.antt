@@ -143,8 +143,12 @@ module _ (f : Linear) (p : Problem) (means : Means f p) where
   shown_of_problem (infeasible tree) (Some v) h w = absurd w
   shown_of_problem (infeasible tree) None h w = record { told = told_infeasible; is_told = refl; true_of = infeasible_of f p means (λ xs ok. h xs ((means.feasible xs).0 ok)) }
   shown_of_problem (unbounded xs ds) (Some v) h w = absurd w
-  shown_of_problem (unbounded xs ds) None h w = record { told = told_unbounded; is_told = refl; true_of = λ v. let b =
-      h v in let better = beaten_of v b.0 b.1 b.2 in (b.0, objective_value f b.0, better.0, better.1) }
+  shown_of_problem (unbounded xs ds) None h w = record {
+    told = told_unbounded;
+    is_told = refl;
+    true_of = λ v. let b =
+        h v in let better = beaten_of v b.0 b.1 b.2 in (b.0, objective_value f b.0, better.0, better.1);
+  }
 
   fault_at : (xs : List ℚ) (g : Fault) → FaultSaysProgram f xs g → IsPointFault g → PointDenies p xs g
   fault_at xs (row_broken i) h w = fault_of_problem xs (row_broken i) h

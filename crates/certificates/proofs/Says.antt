@@ -104,8 +104,8 @@ module _ (f : Linear) (xs : List ℚ) where
   says ys = by (early_fault f (value_at xs) (value_at ys)) (run_form (variable_count f) f.objective (value_at xs)) (bound_total f (bounds_of f) (value_at ys)) refl refl refl
     where
       within : (v b : ℚ) → early_fault f (value_at xs) (value_at ys) ≡ None
-        → run_form (variable_count f) f.objective (value_at xs) ≡ Some v
-        → bound_total f (bounds_of f) (value_at ys) ≡ Some b → IsWithinGap f xs v b
+          → run_form (variable_count f) f.objective (value_at xs) ≡ Some v
+          → bound_total f (bounds_of f) (value_at ys) ≡ Some b → IsWithinGap f xs v b
       within v b e h k =
           record {
             relaxed = relaxed_at f xs (option_or-none (point_fault f (value_at xs)) (dual_fault f (bounds_of f) (value_at ys)) e).0;
@@ -118,8 +118,8 @@ module _ (f : Linear) (xs : List ℚ) where
       compared v b false e w = w
 
       by : (g : Option Fault) (o q : Option ℚ) → early_fault f (value_at xs) (value_at ys) ≡ g
-        → run_form (variable_count f) f.objective (value_at xs) ≡ o → bound_total f (bounds_of f) (value_at ys) ≡ q
-        → VerdictSays f xs (last_of g o q)
+          → run_form (variable_count f) f.objective (value_at xs) ≡ o → bound_total f (bounds_of f) (value_at ys) ≡ q
+          → VerdictSays f xs (last_of g o q)
       by (Some v) o q e h k = rw e at (early_says ys)
       by None None q e h k = relaxed_at f xs (option_or-none (point_fault f (value_at xs)) (dual_fault f (bounds_of f) (value_at ys)) e).0
       by None (Some v) None e h k = relaxed_at f xs (option_or-none (point_fault f (value_at xs)) (dual_fault f (bounds_of f) (value_at ys)) e).0

@@ -100,8 +100,8 @@ module _ (f : Linear) (xs : List ℚ) where
   judged_says = by (given_fault f (value_at xs)) (whole_fault f (value_at xs)) (run_form (variable_count f) f.objective (value_at xs)) refl refl refl
     where
       by : (g : Option Fault) (w : Option ℕ) (o : Option ℚ) → given_fault f (value_at xs) ≡ g
-        → whole_fault f (value_at xs) ≡ w → run_form (variable_count f) f.objective (value_at xs) ≡ o
-        → JudgedSays (judged_by g w o)
+          → whole_fault f (value_at xs) ≡ w → run_form (variable_count f) f.objective (value_at xs) ≡ o
+          → JudgedSays (judged_by g w o)
       by (Some g) w o a b c = rw a at given_says
       by None (Some j) o a b c = (given_relaxed f xs a, rw b at not_whole_says)
       by None None None a b c = given_feasible f xs a b
@@ -109,8 +109,8 @@ module _ (f : Linear) (xs : List ℚ) where
 
   -- what follows on the point, of each value that it may have
   at_judged : (after : Judged → ClaimOutcome) (P : ClaimOutcome → Type 0)
-    → ((d : Cause) → PointSays f xs d → P (after (refused d))) → ((v : ℚ) → IsSolution f xs v → P (after (valued v)))
-    → P (after (judged f xs))
+      → ((d : Cause) → PointSays f xs d → P (after (refused d))) → ((v : ℚ) → IsSolution f xs v → P (after (valued v)))
+      → P (after (judged f xs))
   at_judged after P none some = by (judged f xs) judged_says
     where
       by : (r : Judged) → JudgedSays r → P (after r)

@@ -21,7 +21,7 @@ use Rattle.certificates.proofs.Good.{good_refl, good_trans, good_sum, needed_tur
 
 -- a step that passes over 0
 pub skipped : (R : ℚ → ℚ → Type 0) → ((x : ℚ) → R x x) → (a s t f : ℚ) (o : Option ℚ) → (a ≡ zero_ℚ → f ≡ zero_ℚ)
-  → (o ≡ Some t → R t (s +ℚ f)) → (if is_zero a then Some s else o) ≡ Some t → R t (s +ℚ f)
+    → (o ≡ Some t → R t (s +ℚ f)) → (if is_zero a then Some s else o) ≡ Some t → R t (s +ℚ f)
 skipped R same a s t f o none some h = by (is_zero a) refl h
   where
     by : (b : Bool) → is_zero a ≡ b → (if b then Some s else o) ≡ Some t → R t (s +ℚ f)
@@ -45,7 +45,7 @@ ring_zero : (y a : ℚ) → a ≡ zero_ℚ → neg_ℚ (y *ℚ a) ≡ zero_ℚ
 ring_zero y a z = ap (λ b. neg_ℚ (y *ℚ b)) z ∙ ring (y ∷ []) (opp (v 0 ⊗ num (pos 0))) (num (pos 0)) refl
 
 pub cost_some : (f : Linear) (y : Numbers) (j : ℕ) (d : ℚ) → reduced_cost f y j ≡ Some d
-  → d ≡ f.objective.coefficient j +ℚ neg_ℚ (sum_below (λ i. y i *ℚ (row_at f i).body.coefficient j) (row_count f))
+    → d ≡ f.objective.coefficient j +ℚ neg_ℚ (sum_below (λ i. y i *ℚ (row_at f i).body.coefficient j) (row_count f))
 unfolding reduced_cost
 cost_some f y j d h =
     run_some (cost_step f y j) (λ i. neg_ℚ (y i *ℚ (row_at f i).body.coefficient j)) (f.objective.coefficient j) (row_count f) d each h
@@ -145,13 +145,13 @@ module _ (f : Linear) (box : Box) (y : Numbers) (xs : List ℚ) (within : IsInBo
       ∙ sum_below_swap_below (λ i j. y i *ℚ ((row_at f i).body.coefficient j *ℚ value_at xs j)) (row_count f) (variable_count f)
       ∙ sum_below_same _ (λ j. column j *ℚ value_at xs j) (variable_count f)
       (λ j l. sum_below_same _ (λ i. value_at xs j *ℚ (y i *ℚ (row_at f i).body.coefficient j)) (row_count f)
-        (λ i k. ring (y i ∷ (row_at f i).body.coefficient j ∷ value_at xs j ∷ []) (v 0 ⊗ (v 1 ⊗ v 2))
-          (v 2 ⊗ (v 0 ⊗ v 1)) refl)
+      (λ i k. ring (y i ∷ (row_at f i).body.coefficient j ∷ value_at xs j ∷ []) (v 0 ⊗ (v 1 ⊗ v 2))
+      (v 2 ⊗ (v 0 ⊗ v 1)) refl)
       ∙ sum_below-*ℚ (value_at xs j) (λ i. y i *ℚ (row_at f i).body.coefficient j) (row_count f) ∙ *ℚ_comm (value_at xs j) (column j))
 
   together : f.objective.constant +ℚ sum_below (λ i. y i *ℚ (at_row i -ℚ (row_at f i).body.constant)) (row_count f)
-    +ℚ sum_below (λ j. (f.objective.coefficient j +ℚ neg_ℚ (column j)) *ℚ value_at xs j) (variable_count f)
-    ≡ objective_value f xs
+      +ℚ sum_below (λ j. (f.objective.coefficient j +ℚ neg_ℚ (column j)) *ℚ value_at xs j) (variable_count f)
+      ≡ objective_value f xs
   unfolding linear_part
   together =
       ap (λ z. f.objective.constant +ℚ z +ℚ sum_below (λ j. (f.objective.coefficient j +ℚ neg_ℚ (column j)) *ℚ value_at xs j) (variable_count f)) rows_are_columns
@@ -172,8 +172,8 @@ module _ (f : Linear) (box : Box) (y : Numbers) (xs : List ℚ) (within : IsInBo
       run_some (row_part f y) (λ i. lack i +ℚ y i *ℚ (at_row i -ℚ (row_at f i).body.constant)) f.objective.constant (row_count f) w.0 row_lacks w.1
       ∙ ap (λ z. f.objective.constant +ℚ z) (sum_below-+ℚ lack (λ i. y i *ℚ (at_row i -ℚ (row_at f i).body.constant)) (row_count f)) in
       let good = run_by (IsAsGood f.maximise) (good_refl f.maximise) (good_trans f.maximise) (good_more f.maximise)
-        (cost_part f box y) (λ j. (f.objective.coefficient j +ℚ neg_ℚ (column j)) *ℚ value_at xs j) w.0
-        (variable_count f) b cost_good w.2 in
+      (cost_part f box y) (λ j. (f.objective.coefficient j +ℚ neg_ℚ (column j)) *ℚ value_at xs j) w.0
+      (variable_count f) b cost_good w.2 in
       subst (IsAsGood f.maximise b)
       (ap (λ z. z +ℚ costs) rows
       ∙ ring (f.objective.constant ∷ sum_below lack (row_count f) ∷ bodies ∷ costs ∷ []) ((v 0 ⊕ (v 1 ⊕ v 2)) ⊕ v 3) (((v 0 ⊕ v 2) ⊕ v 3) ⊕ v 1) refl
@@ -202,7 +202,7 @@ weak f box ys b h xs ok = total_good f box (value_at ys) xs ok.bounds (λ i l. o
 
 -- the objective 0, minimised: what the rows lack
 pub lagrangian : (f : Linear) (box : Box) (ys : List ℚ) (b : ℚ) → dual_bound (without_objective f) box ys ≡ bound b
-  → (xs : List ℚ) → IsInBox f box xs → b ≤ℚ sum_below (weighted_lack false f (value_at ys) xs) (row_count f)
+    → (xs : List ℚ) → IsInBox f box xs → b ≤ℚ sum_below (weighted_lack false f (value_at ys) xs) (row_count f)
 unfolding linear_part
 lagrangian f box ys b h xs within =
     subst (λ z. b ≤ℚ z)

@@ -72,8 +72,8 @@ scaled_fits k x =
 side_fits : (k : ℕ) (constant s : ℚ) → IsDecided (SideFits k constant s)
 side_fits k constant s =
     by_same (IsTrue (fits s) × (IsTrue (sum_fits s (neg_ℚ constant)) × ScaledFits k (s -ℚ constant)))
-      (SideFits k constant s) (λ h. record { side = h.0; less = h.1.0; scaled = h.1.1 })
-      (λ h. (h.side, (h.less, h.scaled)))
+    (SideFits k constant s) (λ h. record { side = h.0; less = h.1.0; scaled = h.1.1 })
+    (λ h. (h.side, (h.less, h.scaled)))
     (both _ _ (is_true (fits s)) (both _ _ (is_true (sum_fits s (neg_ℚ constant))) (scaled_fits k (s -ℚ constant))))
 
 range_fits : (l u : ℚ) → IsDecided (RangeFits l u)
@@ -93,16 +93,16 @@ if_both P d (Some l) (Some u) = if_side (λ r. P l u) (λ r. d l u) (nonzero (u 
 row_fits : (n : ℕ) (r : Row) (k : ℕ) → IsDecided (RowFits n r k)
 row_fits n r k =
     by_same ((k < 2 ^ 127) × (All (ScaledFits k) (coefficients_below r.body.coefficient n)
-          × (IfSide (SideFits k r.body.constant) r.side.lower
-            × (IfSide (SideFits k r.body.constant) r.side.upper
-              × IfBoth RangeFits (scaled_side (whole (pos k)) r.body.constant r.side.lower)
-              (scaled_side (whole (pos k)) r.body.constant r.side.upper))))) (RowFits n r k)
+    × (IfSide (SideFits k r.body.constant) r.side.lower
+    × (IfSide (SideFits k r.body.constant) r.side.upper
+    × IfBoth RangeFits (scaled_side (whole (pos k)) r.body.constant r.side.lower)
+    (scaled_side (whole (pos k)) r.body.constant r.side.upper))))) (RowFits n r k)
     (λ h. record { factor = h.0; coefficients = h.1.0; lower = h.1.1.0; upper = h.1.1.1.0; range = h.1.1.1.1 })
     (λ h. (h.factor, (h.coefficients, (h.lower, (h.upper, h.range)))))
     (both _ _ (below k (2 ^ 127)) (both _ _ (all (ScaledFits k) (scaled_fits k)
-          (coefficients_below r.body.coefficient n)) (both _ _
-          (if_side (SideFits k r.body.constant) (side_fits k r.body.constant) r.side.lower)
-          (both _ _ (if_side (SideFits k r.body.constant) (side_fits k r.body.constant) r.side.upper)
+    (coefficients_below r.body.coefficient n)) (both _ _
+    (if_side (SideFits k r.body.constant) (side_fits k r.body.constant) r.side.lower)
+    (both _ _ (if_side (SideFits k r.body.constant) (side_fits k r.body.constant) r.side.upper)
     (if_both RangeFits range_fits (scaled_side (whole (pos k)) r.body.constant r.side.lower) (scaled_side (whole (pos k)) r.body.constant r.side.upper))))))
 
 where_exported : (b : Bool) (P : Type 0) → IsDecided P → IsDecided (IsTrue b → P)
@@ -144,8 +144,8 @@ decimal_decided f = all FitsDec dec (objective_numbers (variable_count f) f.obje
 objective_fits : (f : Linear) → IsDecided (ObjectiveFits f)
 objective_fits f =
     by_same ((factor_of_objective f < 2 ^ 127) × All (ScaledFits (factor_of_objective f))
-        (objective_numbers (variable_count f) f.objective)) (ObjectiveFits f)
-      (λ h. record { factor = h.0; parts = h.1 }) (λ h. (h.factor, h.parts))
+    (objective_numbers (variable_count f) f.objective)) (ObjectiveFits f)
+    (λ h. record { factor = h.0; parts = h.1 }) (λ h. (h.factor, h.parts))
     (both _ _ (below (factor_of_objective f) (2 ^ 127)) (all (ScaledFits (factor_of_objective f)) (scaled_fits (factor_of_objective f)) (objective_numbers (variable_count f) f.objective)))
 
 by_fits : (f : Linear) → ((i : ℕ) → ExportFits f i) → IsDecided (IsDecimal f) → IsDecided (ObjectiveFits f) → HasNoScaleFault f ⊎ ((fault : ScaleFault) × HasScaleFault f fault)

@@ -144,7 +144,7 @@ owners_placed f (w ∷ os) before x h few e = by (owner_fault n total w) refl e 
     total = before + coefficient_count n (owned_line w)
 
     by : (r : Option FileFault) → owner_fault n total w ≡ r → option_or r (owners_fault n total os) ≡ Some x
-      → (total ≤ most_coefficients → owners_fault n total os ≡ Some x → IsPlaced f x) → IsPlaced f x
+        → (total ≤ most_coefficients → owners_fault n total os ≡ Some x → IsPlaced f x) → IsPlaced f x
     by None q e rest = rest (few_after w.owner (option_map (at_place w.owner) (expression_fault w.known n w.expression)) total q) e
     by (Some y) q e rest =
         subst (IsPlaced f) (same_Some y x e)

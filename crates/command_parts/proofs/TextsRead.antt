@@ -100,13 +100,13 @@ pub proof_read : (s : CertificateSetting) (file : ℕ) → AreRead (IsProofText 
 proof_read s file =
     read_so (IsProofText s) (HasProofFault s) (fault_line proof_reason_text file)
     (λ text. (one_proof s text).one_value) (λ text a b h claimed. ap (fault_line proof_reason_text file)
-        ((one_proof s text).one_fault a b h claimed)) (λ text. (one_proof s text).some)
-      (λ text. (one_proof s text).not_both)
+    ((one_proof s text).one_fault a b h claimed)) (λ text. (one_proof s text).some)
+    (λ text. (one_proof s text).not_both)
 
 -- each text says one certificate, or is refused with one line
 pub certificate_read : (s : CertificateSetting) (file : ℕ) → AreRead (IsCertificateText s) (IsCertificateRefused s file)
 certificate_read s file =
     read_so (IsCertificateText s) (HasCertificateFault s) (fault_line certificate_reason_text file)
     (λ text. (one_certificate s text).one_value) (λ text a b h k. ap (fault_line certificate_reason_text file)
-        ((one_certificate s text).one_fault a b h k)) (λ text. (one_certificate s text).some)
-      (λ text. (one_certificate s text).not_both)
+    ((one_certificate s text).one_fault a b h k)) (λ text. (one_certificate s text).some)
+    (λ text. (one_certificate s text).not_both)

@@ -86,8 +86,8 @@ same_wants : (x : FileSuffix) (kind : ℕ) → differs (Some x) kind ≡ false �
 same_wants x kind e = ap (λ k. k == 0) (eqb-true ((x.kind / 4) % 2) ((kind / 4) % 2) (not-false _ e))
 
 one_fine : (s : Setting) (x : FileSuffix) (line : SuffixLine) → IsFine s x → IsFineLine s line
-  → is_suffix_of line.kind line.name x ≡ true → differs (Some x) line.kind ≡ false
-  → has_place x.values line.place ≡ false → IsFine s (with_line x line)
+    → is_suffix_of line.kind line.name x ≡ true → differs (Some x) line.kind ≡ false
+    → has_place x.values line.place ≡ false → IsFine s (with_line x line)
 one_fine s x line h l same alike fresh =
     let objects = (and_parts (has_same_objects x.kind line.kind) (bytes_eq x.name line.name) same).0 in
     let limit = same_limit s x.kind line.kind objects in
@@ -111,22 +111,22 @@ new_fine s line l = record {
 }
 
 line_fine : (s : Setting) (xs : List FileSuffix) (line : SuffixLine) → AllByRecursion (IsFine s) xs → IsFineLine s line
-  → differs (suffix_named xs line.kind line.name) line.kind ≡ false
-  → is_given_in (suffix_named xs line.kind line.name) (Some (Place line.place)) ≡ false
+    → differs (suffix_named xs line.kind line.name) line.kind ≡ false
+    → is_given_in (suffix_named xs line.kind line.name) (Some (Place line.place)) ≡ false
     → AllByRecursion (IsFine s) (with_suffix_line xs line)
 line_fine s [] line all l alike fresh = (new_fine s line l, tt)
 line_fine s (x ∷ xs) line all l alike fresh =
     by (is_suffix_of line.kind line.name x) refl (line_fine s xs line all.1 l)
-      (sym (ap (λ o. differs o line.kind) found) ∙ alike) (sym (ap (λ o. is_given_in o (Some (Place line.place))) found)
-        ∙ fresh)
+    (sym (ap (λ o. differs o line.kind) found) ∙ alike) (sym (ap (λ o. is_given_in o (Some (Place line.place))) found)
+    ∙ fresh)
   where
     found : suffix_named (x ∷ xs) line.kind line.name ≡ cond (is_suffix_of line.kind line.name x) (Some x) (suffix_named xs line.kind line.name)
     found = named-cons x xs line.kind line.name
 
     by : (b : Bool) → is_suffix_of line.kind line.name x ≡ b
         → (differs (suffix_named xs line.kind line.name) line.kind ≡ false
-            → is_given_in (suffix_named xs line.kind line.name) (Some (Place line.place)) ≡ false
-            → AllByRecursion (IsFine s) (with_suffix_line xs line))
+        → is_given_in (suffix_named xs line.kind line.name) (Some (Place line.place)) ≡ false
+        → AllByRecursion (IsFine s) (with_suffix_line xs line))
         → differs (cond b (Some x) (suffix_named xs line.kind line.name)) line.kind ≡ false → is_given_in (cond b (Some x) (suffix_named xs line.kind line.name)) (Some (Place line.place)) ≡ false
         → AllByRecursion (IsFine s) (cond b (with_line x line ∷ xs) (x ∷ with_suffix_line xs line))
     by true same later a f = (one_fine s x line all.0 l same a f, all.1)
@@ -269,8 +269,13 @@ message_said st line one e h =
     let short : length (message_in line) ≤ 65536 = omega (arith, length-drop 8 (without_blanks line), blanks_length line, one.short) in
     record {
       each = all_push IsSaidLine st.message (message_in line) h.each
-        (record { line_of_text = record { one = one_line-drop 8 (without_blanks line) (one_line-blanks line one.one);
-              short = short }; other = tests.0 });
+          (record {
+            line_of_text = record {
+              one = one_line-drop 8 (without_blanks line) (one_line-blanks line one.one);
+              short = short;
+            };
+            other = tests.0;
+          });
       few = omega (arith, room, length-append st.message (message_in line ∷ []));
     }
 
@@ -290,12 +295,12 @@ taken_kept s suffixes line h t =
 
 -- where a line says no entry, nothing changes
 said_kept : {A : Type 0} (s : Setting) (st : Standing) (entry : A → Entry) (o : Option A) → Kept s st
-  → ((x : A) → o ≡ Some x → Kept s (with_entry st (entry x))) → Kept s (with_said st (option_map entry o))
+    → ((x : A) → o ≡ Some x → Kept s (with_entry st (entry x))) → Kept s (with_said st (option_map entry o))
 said_kept s st entry None h step = h
 said_kept s st entry (Some x) h step = step x refl
 
 placed_kept : (s : Setting) (st : Standing) (entry : ℕ → Dec → Entry) (target : Option Target) (value : Option Dec)
-  → Kept s st → ((i : ℕ) (v : Dec) → target ≡ Some (Place i) → value ≡ Some v → Kept s (with_entry st (entry i v)))
+    → Kept s st → ((i : ℕ) (v : Dec) → target ≡ Some (Place i) → value ≡ Some v → Kept s (with_entry st (entry i v)))
     → Kept s (with_said st (at_place entry target value))
 placed_kept s st entry None value h step = h
 placed_kept s st entry (Some Tied) value h step = h
@@ -303,15 +308,19 @@ placed_kept s st entry (Some (Place i)) None h step = h
 placed_kept s st entry (Some (Place i)) (Some v) h step = step i v refl refl
 
 kind_kept : (s : Setting) (st : Standing) (words : List (List ℕ)) (kind : Option ℕ) → kind_in words ≡ kind
-  → is_name (word_at words 2) ≡ true → first_reason (kind_tests s st.suffixes words kind) ≡ None → Kept s st
-  → Kept s (with_said st (suffix_in s words kind))
+    → is_name (word_at words 2) ≡ true → first_reason (kind_tests s st.suffixes words kind) ≡ None → Kept s st
+    → Kept s (with_said st (suffix_in s words kind))
 kind_kept s st words None same named e h = h
 kind_kept s st words (Some kind) same named e h =
     placed_kept s st (suffix_entry kind (word_at words 2)) (object_target s (objects_of kind) (word_at words 3)) (dec_of (word_at words 4)) h (λ i v at is.
     let taken = object_taken s st.suffixes kind (word_at words 2) (word_at words 3) i v (number_small 8 (word_at words 1) kind same) named at (rw (at, is) at e) in
-    record { status = h.status; objective = h.objective; message = h.message; suffixes =
-        taken_kept s st.suffixes (record { kind = kind; name = word_at words 2; place = i; value = v }) h.suffixes taken
-        })
+    record {
+      status = h.status;
+      objective = h.objective;
+      message = h.message;
+      suffixes =
+          taken_kept s st.suffixes (record { kind = kind; name = word_at words 2; place = i; value = v }) h.suffixes taken;
+    })
 
 suffix_kept : (s : Setting) (st : Standing) (words : List (List ℕ)) → first_reason (suffix_tests s st.suffixes words) ≡ None → Kept s st → Kept s (with_said st (suffix_in s words (kind_in words)))
 unfolding suffix_tests
@@ -322,8 +331,8 @@ suffix_kept s st words e h =
     kind_kept s st words (kind_in words) refl (not-false (is_name (word_at words 2)) name.0) name.1 h
 
 entry_kept : (s : Setting) (st : Standing) (line : List ℕ) (words : List (List ℕ)) (k : Option Keyword)
-  → IsTextLine line → first_reason (tests_by s st line words k) ≡ None → Kept s st
-  → Kept s (with_said st (entry_by s line words k))
+    → IsTextLine line → first_reason (tests_by s st line words k) ≡ None → Kept s st
+    → Kept s (with_said st (entry_by s line words k))
 entry_kept s st line words None one e h = h
 entry_kept s st line words (Some Status) one e h = said_kept s st StatusIs (status_in words) h (λ n is.
     record { status = first_small st.status n h.status (omega (arith, number_small 1000 (word_at words 1) n is)); objective = h.objective; message = h.message; suffixes = h.suffixes })
@@ -336,7 +345,7 @@ entry_kept s st line words (Some Row) one e h = placed_kept s st RowValue (row_t
 entry_kept s st line words (Some Suffix) one e h = suffix_kept s st words e h
 
 chosen_kept : (s : Setting) (st : Standing) (line : List ℕ) (none begun : Bool) → IsTextLine line
-  → first_reason (cond none [] (cond begun (row_tests s st line) (first_tests (row_of line)))) ≡ None → Kept s st
+    → first_reason (cond none [] (cond begun (row_tests s st line) (first_tests (row_of line)))) ≡ None → Kept s st
     → Kept s (cond none st (cond begun (with_said st (entry_in s line)) (record st { begun = true })))
 unfolding row_tests entry_in
 chosen_kept s st line true begun one e h = h
@@ -348,9 +357,13 @@ unfolding line_tests after
 line_kept s st line one e h = chosen_kept s st line (eqb (length (row_of line)) 0) st.begun one e h
 
 nothing_kept : (s : Setting) → Kept s (standing s [])
-nothing_kept s = subst (Kept s) (sym (standing_none s)) (record
-    { status = tt; objective = tt; message = record { each = tt; few = omega arith }; suffixes =
-      record { fine = tt; few = omega arith; few_values = omega arith } })
+nothing_kept s = subst (Kept s) (sym (standing_none s)) (record {
+  status = tt;
+  objective = tt;
+  message = record { each = tt; few = omega arith };
+  suffixes =
+      record { fine = tt; few = omega arith; few_values = omega arith };
+})
 
 -- ---- all lines
 

@@ -38,14 +38,14 @@ same-sign f a s h = ap (λ b. sign_by (a.min_sign && b)) (stable s.maximise (max
 -- ---- factors
 
 exported-by : (f : Linear) (s : ScaledValue) (i : ℕ) (g : ℤ) (b : Bool) → is_exported (row_at f i) ≡ b → IsScaledOf f s
-  → factor_at s i ≡ Some g → IsTrue (is_exported (row_at f i)) × (g ≡ pos (factor_of_row f i))
+    → factor_at s i ≡ Some g → IsTrue (is_exported (row_at f i)) × (g ≡ pos (factor_of_row f i))
 exported-by f s i g true e h is = (e, let same = sym is ∙ h.factors.exported i e in cc)
 exported-by f s i g false e h is = absurd (let none = h.factors.others i (both_ways _ e) in cc)
 
 -- ---- one dual
 
 by-value : (value : Option Dec) (factor : Option ℤ) (sign : ℤ) (d w : Dec) (g : ℤ) → DualBy value factor sign (Some d)
-  → value ≡ Some w → factor ≡ Some g → IsInReach w (sign *ℤ g) × (dec_value d ≡ dec_value w *ℚ whole (sign *ℤ g))
+    → value ≡ Some w → factor ≡ Some g → IsInReach w (sign *ℤ g) × (dec_value d ≡ dec_value w *ℚ whole (sign *ℤ g))
 by-value value factor sign d w g h e is = rw (e, is) at h
 
 by-other : (value : Option Dec) (factor : Option ℤ) (sign : ℤ) (d : Dec) → DualBy value factor sign (Some d) → factor ≡ None → dec_value d ≡ zero_ℚ
@@ -70,7 +70,7 @@ by-none None (Some g) sign h = absurd h
 by-none (Some w) (Some g) sign h = record { w = w; g = g; given = refl; has = refl; wide = h }
 
 pub dual-at : (f : File) (a : AnswerValue) (s : ScaledValue) (i : ℕ) (value : Option Dec) (factor : Option ℤ) (d : Dec)
-  → IsScaledOf (linear_for f a) s → value ≡ get_or a.rows i None → factor ≡ factor_at s i
+    → IsScaledOf (linear_for f a) s → value ≡ get_or a.rows i None → factor ≡ factor_at s i
     → DualBy value factor (sign_by (a.min_sign && s.maximise)) (Some d) → IsDualAt f a i d
 dual-at f a s i value factor d h v g by =
     let l = linear_for f a in
@@ -96,15 +96,15 @@ pub record AreFirst (a : AnswerValue) (s : ScaledValue) (duals : List Dec) (n : 
   pub reach : (f : File) → IsScaledOf (linear_for f a) s → (k : ℕ) → k < n → Reaches f a k
 
 pub each-push : {A : Type 0} (P : ℕ → A → Type 0) (xs : List A) (y : A)
-  → ((i : ℕ) (x : A) → slice_get xs i ≡ Some x → P i x) → P (length xs) y → (i : ℕ) (x : A)
-  → slice_get (xs ++ y ∷ []) i ≡ Some x → P i x
+    → ((i : ℕ) (x : A) → slice_get xs i ≡ Some x → P i x) → P (length xs) y → (i : ℕ) (x : A)
+    → slice_get (xs ++ y ∷ []) i ≡ Some x → P i x
 each-push P [] y all last zero x e = let same : y ≡ x = cc in subst (P 0) same last
 each-push P [] y all last (suc i) x e = absurd (cc)
 each-push P (z ∷ xs) y all last zero x e = all 0 x e
 each-push P (z ∷ xs) y all last (suc i) x e = each-push (λ k. P (suc k)) xs y (λ k. all (suc k)) last i x e
 
 pub first-more : (a : AnswerValue) (s : ScaledValue) (duals next : List Dec) (n : ℕ) (value : Option Dec)
-  (factor : Option ℤ) (d : Dec) → AreFirst a s duals n → value ≡ get_or a.rows n None → factor ≡ factor_at s n
+    (factor : Option ℤ) (d : Dec) → AreFirst a s duals n → value ≡ get_or a.rows n None → factor ≡ factor_at s n
     → DualBy value factor (sign_by (a.min_sign && s.maximise)) (Some d) → next ≡ duals ++ d ∷ [] → AreFirst a s next (n + 1)
 first-more a s duals next n value factor d h v g by pushed =
     subst (λ (ds : List Dec). AreFirst a s ds (n + 1)) (sym pushed)

@@ -47,8 +47,8 @@ module _ (f : File) (a : AnswerValue) (duals : List Dec) (file : IsFile f) (fold
 
   times : (i : ℕ) (d w : Dec) (xs : List ℚ) (x : ℚ) → slice_get duals i ≡ Some d → IsTrue (is_exported (row_at (linear_for f a) i)) → get_or a.rows i None ≡ Some w
       → dual_of (whole (sign_of f a)) (dec_value w) (factor_of_row (linear_for f a) i)
-        *ℚ (form_value (row_at (linear_for f a) i).body (variable_count (linear_for f a)) xs
-          -ℚ form_value (row_at (linear_for f a) i).body (variable_count (linear_for f a)) []) ≡ x
+      *ℚ (form_value (row_at (linear_for f a) i).body (variable_count (linear_for f a)) xs
+      -ℚ form_value (row_at (linear_for f a) i).body (variable_count (linear_for f a)) []) ≡ x
       → IsDualTimes (dec_value d) (body_value f i xs) (body_value f i []) x
   times i d w xs x at e given law =
       let v = form_value (row_at (linear_for f a) i).body (variable_count (linear_for f a)) in
@@ -64,6 +64,6 @@ module _ (f : File) (a : AnswerValue) (duals : List Dec) (file : IsFile f) (fold
     plain = λ i d w xs at e given. times i d w xs _ at e given (law_of_return (linear_for f a) (factor_of_row (linear_for f a)) (whole (sign_of f a)) (dec_value w) i xs (in_program i d at) e);
     tied = λ i d w xs z count at e given. times i d w xs _ at e given
         (law_of_return_tied (linear_for f a) (factor_of_row (linear_for f a)) (factor_of_objective (linear_for f a))
-          (whole (sign_of f a)) (dec_value w) i xs z (linear_lem f a.objective (file_formed f file a.objective))
-          (count ∙ sym (count_lem f a.objective)) (in_program i d at) e);
+        (whole (sign_of f a)) (dec_value w) i xs z (linear_lem f a.objective (file_formed f file a.objective))
+        (count ∙ sym (count_lem f a.objective)) (in_program i d at) e);
   }

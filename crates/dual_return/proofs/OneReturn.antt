@@ -64,7 +64,7 @@ row_case : (f : File) (a : AnswerValue) (i : ℕ) → IsOther f a i ⊎ (IsTrue 
 row_case f a i = by (is_exported (row_at (linear_for f a) i)) refl (get_or a.rows i None) refl
   where
     by : (b : Bool) → is_exported (row_at (linear_for f a) i) ≡ b → (o : Option Dec) → get_or a.rows i None ≡ o
-      → IsOther f a i ⊎ (IsTrue (is_exported (row_at (linear_for f a) i)) × (w : Dec) × (get_or a.rows i None ≡ Some w))
+        → IsOther f a i ⊎ (IsTrue (is_exported (row_at (linear_for f a) i)) × (w : Dec) × (get_or a.rows i None ≡ Some w))
     by false e o g = inl (inl (both_ways _ e))
     by true e None g = inl (inr g)
     by true e (Some w) g = inr (e, w, g)
@@ -138,15 +138,23 @@ one_duals : (b : Bool) (f : File) (a : AnswerValue) (xs ys : List Dec) → AreDu
 one_duals false f a xs ys p q = p ∙ sym q
 one_duals true f a xs ys p q =
     ext_get_or zero_dec xs ys (p.count ∙ sym q.count) (λ i h. one_dual f a i _ _
-        (p.each i _ (slice_get-get_or xs i zero_dec h)) (q.each i _
-          (slice_get-get_or ys i zero_dec (omega (arith, h, p.count, q.count)))))
+    (p.each i _ (slice_get-get_or xs i zero_dec h)) (q.each i _
+    (slice_get-get_or ys i zero_dec (omega (arith, h, p.count, q.count)))))
 
 -- ---- all of it
 
 returned : (f : File) (a : AnswerValue) (duals : List Dec) → AreDualsIf (list_any is_some a.rows) f a duals → (s : Sol) × IsReturn f a s
 returned f a duals h = (
-  record { message = a.message; options = f.options; n_con = f.counts.n_con; duals = duals; n_var = f.counts.n_var;
-      primals = given a.columns; objno = objno_of a; suffixes = map suffix_for a.suffixes },
+  record {
+    message = a.message;
+    options = f.options;
+    n_con = f.counts.n_con;
+    duals = duals;
+    n_var = f.counts.n_var;
+    primals = given a.columns;
+    objno = objno_of a;
+    suffixes = map suffix_for a.suffixes;
+  },
   record { message = refl; options = refl; constraints = refl; duals = h; variables = refl; primals = refl; objno = refl; suffixes = refl },
 )
 

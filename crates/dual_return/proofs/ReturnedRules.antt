@@ -83,14 +83,14 @@ suffix_writable s k x small h = by (is_for_objectives x.kind) refl
     }
 
     by : (b : Bool) → is_for_objectives x.kind ≡ b → IsWritableSuffix s.columns (length s.exported)
-      (suffix_for (cond b (record { kind = x.kind; name = x.name; values = map (λ t. (k, t.1)) x.values }) x))
+        (suffix_for (cond b (record { kind = x.kind; name = x.name; values = map (λ t. (k, t.1)) x.values }) x))
     by true e =
         let limits = objective_limit s.columns (length s.exported) x.kind e in
         made (map (λ t. (k, t.1)) x.values) (rw limits.0 (one_value (wants_whole x.kind) k x.values small (rw limits.1 at h.values)))
     by false e = made x.values (rw (other_count s.columns (length s.exported) (objects_of x.kind) (for_others x.kind e)) h.values)
 
 pub suffixes_writable : (s : Setting) (k : ℕ) (xs : List FileSuffix) → k < 256 → AllByRecursion (IsFine s) xs
-  → AllByRecursion (IsWritableSuffix s.columns (length s.exported)) (map suffix_for (map (with_objective k) xs))
+    → AllByRecursion (IsWritableSuffix s.columns (length s.exported)) (map suffix_for (map (with_objective k) xs))
 suffixes_writable s k [] small all = tt
 suffixes_writable s k (x ∷ xs) small all = (suffix_writable s k x small all.0, suffixes_writable s k xs small all.1)
 
@@ -103,9 +103,14 @@ no_table k x = refl
 pub values_counted : (k : ℕ) (xs : List FileSuffix) → sum_by (λ x. length x.values) (map suffix_for (map (with_objective k) xs)) ≡ value_count xs
 values_counted k [] = refl
 values_counted k (x ∷ xs) =
-    omega (arith, sum_by-cons (λ (y : SolSuffix). length y.values) (suffix_for (with_objective k x))
-        (map suffix_for (map (with_objective k) xs)), sum_by-cons (λ (y : FileSuffix). length y.values) x xs,
-        same_count k x, values_counted k xs)
+    omega (
+      arith,
+      sum_by-cons (λ (y : SolSuffix). length y.values) (suffix_for (with_objective k x))
+          (map suffix_for (map (with_objective k) xs)),
+      sum_by-cons (λ (y : FileSuffix). length y.values) x xs,
+      same_count k x,
+      values_counted k xs,
+    )
 
 pub no_tables : (k : ℕ) (xs : List FileSuffix) → sum_by (λ x. length x.table) (map suffix_for (map (with_objective k) xs)) ≡ 0
 no_tables k [] = refl
@@ -139,7 +144,7 @@ exported_count : (naming : Naming) (f : File) → IsFile f → length (setting_b
 exported_count naming f file = length-map f.sides _ ∙ file.side_count
 
 pub returned_rules : (f : File) (a : AnswerValue) (sol : Sol) → IsFile f → list_all has_31_bits f.options ≡ true
-  → has_objective f a.objective ≡ true → IsAnswerFor f a → IsReturn f a sol → KeepsRules sol
+    → has_objective f a.objective ≡ true → IsAnswerFor f a → IsReturn f a sol → KeepsRules sol
 returned_rules f a sol file bits objective for r =
     let naming = for.0 in
     let text = for.1 in

@@ -20,14 +20,14 @@ use Rattle.exact_checks.proofs.Transposed.{columns_same, columns_terms}
 
 -- the terms of a copied objective
 pub objective_within : (l : LinearValue) (objective : Body) (bounds : ℕ) → IsLinear l → IsCopy l.objective objective
-  → AreAscending 0 objective.terms → bounds ≡ length l.bounds → AreTerms 0 bounds objective.terms
+    → AreAscending 0 objective.terms → bounds ≡ length l.bounds → AreTerms 0 bounds objective.terms
 objective_within l objective bounds folded copy up e =
     subst (λ n. AreTerms 0 n objective.terms) (sym e)
     (are_terms 0 (length l.bounds) objective.terms up (subst (AreBelow (length l.bounds)) (sym copy.terms) folded.objective))
 
 module _ (l : LinearValue) (folded : IsLinear l) (rows : List Row) (objective : Body) (lower upper : List (Option Dec))
-  (copies : AreRowsOf l.bodies l.sides rows) (within : AreWithin (length l.bounds) rows)
-  (copy : IsCopy l.objective objective)
+    (copies : AreRowsOf l.bodies l.sides rows) (within : AreWithin (length l.bounds) rows)
+    (copy : IsCopy l.objective objective)
     (up : AreAscending 0 objective.terms) (lows : lower ≡ map (λ b. b.lo) l.bounds) (highs : upper ≡ map (λ b. b.hi) l.bounds) where
   lower_count : length lower ≡ length l.bounds
   lower_count = ap length lows ∙ length-map l.bounds (λ b. b.lo)
@@ -67,8 +67,8 @@ module _ (l : LinearValue) (folded : IsLinear l) (rows : List Row) (objective : 
       }
 
 pub columns_are : (n : ℕ) (rows : List Row) (columns : List (Vec Term)) (costs : List Frac) (objective : Body)
-  → AreSound n rows objective → AreColumnsOf n rows columns → AreCostsOf n objective.terms costs
-  → AreTransposed rows columns costs objective
+    → AreSound n rows objective → AreColumnsOf n rows columns → AreCostsOf n objective.terms costs
+    → AreTransposed rows columns costs objective
 columns_are n rows columns costs objective sound by_column priced =
     record {
       columns_terms = columns_terms n rows columns sound.rows_terms by_column;

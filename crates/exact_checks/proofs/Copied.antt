@@ -56,16 +56,16 @@ within_more n (p ∷ rows) r h fine (suc k) q e = within_more n rows r (λ m x f
 
 -- the terms of one row more
 pub row_within : (n : ℕ) (bodies : List Form) (rows new : List Row) (i : ℕ) (b : Form) (r : Row) → AreWithin n rows
-  → All (IsFormOver n) bodies → i < length bodies → b ≡ get_or bodies i b → IsCopy b r.body
-  → AreAscending 0 r.body.terms → new ≡ rows ++ r ∷ [] → AreWithin n new
+    → All (IsFormOver n) bodies → i < length bodies → b ≡ get_or bodies i b → IsCopy b r.body
+    → AreAscending 0 r.body.terms → new ≡ rows ++ r ∷ [] → AreWithin n new
 row_within n bodies rows new i b r so over l is copy up pushed = subst (AreWithin n) (sym pushed) (within_more n rows r so fine)
   where
     fine : AreTerms 0 n r.body.terms
     fine = are_terms 0 n r.body.terms up (subst (AreBelow n) (sym copy.terms) (subst (λ (f : Form). AreBelow n (form_terms f)) (sym is) (over i b l)))
 
 pub row_copied : (bodies : List Form) (sides : List Interval) (rows new : List Row) (i : ℕ) (b : Form) (s : Interval)
-  (r : Row) → AreRowsSoFar bodies sides rows i → i < length bodies → b ≡ get_or bodies i b → i < length sides
-  → s ≡ get_or sides i s →
+    (r : Row) → AreRowsSoFar bodies sides rows i → i < length bodies → b ≡ get_or bodies i b → i < length sides
+    → s ≡ get_or sides i s →
     IsCopy b r.body → r.side ≡ s → new ≡ rows ++ r ∷ [] → AreRowsSoFar bodies sides new (i + 1)
 row_copied bodies sides rows new i b s r so l is m at copy side pushed more all =
     subst (AreRowsOf bodies sides) (sym (ap (λ rs. rs ++ more) pushed ∙ append_assoc rows (r ∷ []) more))
@@ -93,8 +93,8 @@ next_body bodies rest more i b left some =
 
 -- no body is left
 pub rows_at_end : (bodies rest : List Form) (sides : List Interval) (rows : List Row)
-  → AreRowsSoFar bodies sides rows (length rows) → rest ≡ drop (length rows) bodies → length rest ≡ 0
-  → AreRowsOf bodies sides rows
+    → AreRowsSoFar bodies sides rows (length rows) → rest ≡ drop (length rows) bodies → length rest ≡ 0
+    → AreRowsOf bodies sides rows
 rows_at_end bodies rest sides rows so left none = rows_copied bodies sides rows (length rows) so (omega (arith, length-drop (length rows) bodies, ap length left, none))
 
 pub rows_count : (bodies : List Form) (sides : List Interval) (rows : List Row) → AreRowsOf bodies sides rows → length rows ≡ length bodies
@@ -106,8 +106,8 @@ rows_count (b ∷ bs) (s ∷ ss) (r ∷ rs) h = ap suc (rows_count bs ss rs h.2)
 
 -- ---- the rows of the program
 row_is : (all : List Row) (i : ℕ) (b : Form) (r : Row) (s : Interval) → IsCopy b r.body → r.side ≡ s
-  → slice_get all i ≡ Some r → record { name = row_name i; body = folded_form b; side = interval_of s }
-  ≡ program_row all i
+    → slice_get all i ≡ Some r → record { name = row_name i; body = folded_form b; side = interval_of s }
+    ≡ program_row all i
 unfolding body_in side_in
 row_is all i b r s copy side at =
     ap₂ (λ x y. record { name = row_name i; body = x; side = y })
@@ -115,9 +115,9 @@ row_is all i b r s copy side at =
     (sym (ap (λ o. option_map_or (λ (r : Row). interval_of r.side) o unbounded) at ∙ ap interval_of side))
 
 pub rows_are : (n : ℕ) (all : List Row) (i : ℕ) (bodies : List Form) (sides : List Interval) (rows : List Row)
-  → All (IsFormOver n) bodies → AreRowsOf bodies sides rows
-  → ((k : ℕ) (r : Row) → slice_get rows k ≡ Some r → slice_get all (i + k) ≡ Some r)
-  → elements_from (program_row all) i (length rows) ≡ rows_from i bodies sides
+    → All (IsFormOver n) bodies → AreRowsOf bodies sides rows
+    → ((k : ℕ) (r : Row) → slice_get rows k ≡ Some r → slice_get all (i + k) ≡ Some r)
+    → elements_from (program_row all) i (length rows) ≡ rows_from i bodies sides
 unfolding elements_from
 rows_are n all i [] sides [] over h at = refl
 rows_are n all i [] sides (r ∷ rs) over h at = absurd h
@@ -132,8 +132,8 @@ rows_are n all i (b ∷ bs) (s ∷ ss) (r ∷ rs) over h at =
 
 -- ---- its variables
 variable_is : (lo hi : List (Option Dec)) (kinds : List Kind) (j : ℕ) (b : Interval) (k : Kind)
-  → slice_get lo j ≡ Some b.lo → slice_get hi j ≡ Some b.hi → slice_get kinds j ≡ Some k
-  → record { name = variable_name j; bound = interval_of b; whole = is_whole_kind k } ≡ program_variable lo hi kinds j
+    → slice_get lo j ≡ Some b.lo → slice_get hi j ≡ Some b.hi → slice_get kinds j ≡ Some k
+    → record { name = variable_name j; bound = interval_of b; whole = is_whole_kind k } ≡ program_variable lo hi kinds j
 unfolding side_listed
 variable_is lo hi kinds j b k l h q =
     ap₂ (λ x y. record { name = variable_name j; bound = x; whole = y })
@@ -143,8 +143,8 @@ variable_is lo hi kinds j b k l h q =
 module _ (lo hi : List (Option Dec)) (all : List Kind) where
   variables_from_are : (j : ℕ) (bounds : List Interval) (kinds : List Kind) → length kinds ≡ length bounds →
       ((k : ℕ) (b : Interval) → slice_get bounds k ≡ Some b
-          → (slice_get lo (j + k) ≡ Some b.lo) × (slice_get hi (j + k) ≡ Some b.hi))
-        → ((k : ℕ) (q : Kind) → slice_get kinds k ≡ Some q → slice_get all (j + k) ≡ Some q) →
+      → (slice_get lo (j + k) ≡ Some b.lo) × (slice_get hi (j + k) ≡ Some b.hi))
+      → ((k : ℕ) (q : Kind) → slice_get kinds k ≡ Some q → slice_get all (j + k) ≡ Some q) →
       elements_from (program_variable lo hi all) j (length bounds) ≡ variables_from j bounds kinds
   unfolding elements_from
   variables_from_are j [] kinds e sides at = refl
@@ -159,8 +159,8 @@ module _ (lo hi : List (Option Dec)) (all : List Kind) where
       (λ k r h. let next : suc j + k ≡ j + suc k = omega arith in ap (slice_get all) next ∙ at (suc k) r h))
 
 pub variables_are : (bounds : List Interval) (kinds : List Kind) → length kinds ≡ length bounds
-  → elements_from (program_variable (map (λ b. b.lo) bounds) (map (λ b. b.hi) bounds) kinds) 0 (length bounds)
-  ≡ variables_from 0 bounds kinds
+    → elements_from (program_variable (map (λ b. b.lo) bounds) (map (λ b. b.hi) bounds) kinds) 0 (length bounds)
+    ≡ variables_from 0 bounds kinds
 variables_are bounds kinds e =
     let lo = map (λ (b : Interval). b.lo) bounds in
     let hi = map (λ (b : Interval). b.hi) bounds in

@@ -46,9 +46,9 @@ pub short_is_short : (l : ShortFraction) → IsShort (short_value l)
 short_is_short l = short_over l.num l.den l.size l.small
 
 pub less_found : (r : Option ShortFraction) (s w f p : ShortFraction) (old weight : Option ℚ) (a : ℚ)
-  → old ≡ Some (short_value s) → weight ≡ Some (short_value w) → short_value f ≡ a
-  → short_value p ≡ short_value w *ℚ short_value f → IfSome r (λ l. short_value l ≡ short_value s -ℚ short_value p)
-  → IfSome r (λ l. Some (short_value l) ≡ less_part weight a old)
+    → old ≡ Some (short_value s) → weight ≡ Some (short_value w) → short_value f ≡ a
+    → short_value p ≡ short_value w *ℚ short_value f → IfSome r (λ l. short_value l ≡ short_value s -ℚ short_value p)
+    → IfSome r (λ l. Some (short_value l) ≡ less_part weight a old)
 less_found None s w f p old weight a x y z q h = tt
 less_found (Some l) s w f p old weight a x y z q h =
     ap Some h
@@ -76,7 +76,7 @@ plus_is_less s d v =
 
 -- the sum with a product, in short parts
 pub short_plus : (r : Option ShortFraction) (s f v n p : ShortFraction) → short_value n ≡ neg_ℚ (short_value f)
-  → short_value p ≡ short_value n *ℚ short_value v → IfSome r (λ l. short_value l ≡ short_value s -ℚ short_value p)
+    → short_value p ≡ short_value n *ℚ short_value v → IfSome r (λ l. short_value l ≡ short_value s -ℚ short_value p)
     → IfSome r (λ l. plus_product (short_value s) (short_value f) (short_value v) ≡ Some (short_value l))
 short_plus None s f v n p x y h = tt
 short_plus (Some l) s f v n p x y h =
@@ -89,8 +89,8 @@ not_equal d n e = n (ap Some e)
 
 -- the part of a cost that is not 0
 part_of : (max : Bool) (i : Interval) (s d : ℚ) (o : Option ℚ) → Some d ≢ Some zero_ℚ
-  → o ≡ option_and_then fitting (needed_side max d.top i) → cost_part_of max i s d
-  ≡ option_and_then (λ x. plus_product s d x) o
+    → o ≡ option_and_then fitting (needed_side max d.top i) → cost_part_of max i s d
+    ≡ option_and_then (λ x. plus_product s d x) o
 part_of max i s d o n e =
     ap (λ b. if b then Some s else option_and_then (λ x. plus_product s d x) (option_and_then fitting (needed_side max d.top i))) (not-is_zero d (not_equal d n))
     ∙ sym (ap (option_and_then (λ x. plus_product s d x)) e)
@@ -161,7 +161,7 @@ value_without_fault max i j (Some d) h = (d, refl)
 
 -- a sum to which nothing is added
 pub part_unchanged : (max : Bool) (i : Interval) (j : ℕ) (sum : RunningSum) (cost : Option ℚ)
-  → None ≡ cost_check max i j cost → ((s d : ℚ) → fits s ≡ true → cost ≡ Some d → cost_part_of max i s d ≡ Some s)
+    → None ≡ cost_check max i j cost → ((s d : ℚ) → fits s ≡ true → cost ≡ Some d → cost_part_of max i s d ≡ Some s)
     → sum_value sum ≡ option_and_then (λ s. option_and_then (cost_part_of max i s) cost) (sum_value sum)
 part_unchanged max i j sum cost none h = let v = value_without_fault max i j cost none in by (sum_value sum) refl v.0 v.1
   where

@@ -36,10 +36,10 @@ cost_fault_kind max i j (Some d) v h = if_fault (has_needed max d i) (bound_side
 
 -- ---- the bound
 bound_by_reduced : (f : Linear) (box : Box) (ys : List ℚ) → first_fault (side_fault f (value_at ys)) (row_count f)
-  ≡ None → dual_bound f box ys ≡ bound_by f box (value_at ys) (λ j. reduced_cost f (value_at ys) j) (variable_count f)
+    ≡ None → dual_bound f box ys ≡ bound_by f box (value_at ys) (λ j. reduced_cost f (value_at ys) j) (variable_count f)
 unfolding dual_bound dual_fault cost_fault bound_total
 bound_by_reduced f box ys none = ap (λ o. bound_or_fault (option_or o
-      (first_fault (λ j. cost_check f.maximise (box j) j (reduced_cost f (value_at ys) j)) (variable_count f)))
+    (first_fault (λ j. cost_check f.maximise (box j) j (reduced_cost f (value_at ys) j)) (variable_count f)))
     (bound_total f box (value_at ys))) none
 
 pub by_parts : (f : Linear) (box : Box) (y : Numbers) (costs : ℕ → Option ℚ) (n : ℕ) (max : Bool) (constant : ℚ) (start : Option ℚ) (v : Answer) → f.maximise ≡ max → f.objective.constant ≡ constant
@@ -51,8 +51,8 @@ unfolding dual_bound dual_fault
 side_lacks f box ys g e = ap (λ o. bound_or_fault (option_or o (first_fault (cost_fault f box (value_at ys)) (variable_count f))) (bound_total f box (value_at ys))) e
 
 pub bound_is : (c : Program) (planes : List Row) (f : Linear) (held : HasRows c planes f) (max : Bool) (constant : ℚ)
-  (terms : List Term) (goal : IsGoal max constant terms f) (box : Box) (ps : List Pair) (start costs : ℕ → Option ℚ)
-  (n : ℕ) (v : Answer)
+    (terms : List Term) (goal : IsGoal max constant terms f) (box : Box) (ps : List Pair) (start costs : ℕ → Option ℚ)
+    (n : ℕ) (v : Answer)
     → AreIndices 0 (length c.rows.items + length planes) ps
     → None ≡ first_fault (side_fault f (value_at (spread (row_count f) ps))) (row_count f)
     → ((j : ℕ) → start j ≡ Some (coef_in terms j))

@@ -89,8 +89,8 @@ module _ (step : ℚ → ℕ → ℚ → Option ℚ) (good : ℚ → Type 0) (at
   good_step i v (Some t) g s e = at_zero.kept t s i v (g t refl) e
 
   pub paired : (from n : ℕ) (ps : List Pair) → AreIndices from n ps → from ≤ n
-    → ((i : ℕ) → from ≤ i → i < n → y i ≡ number_of ps i zero_ℚ) → IsGood (reached from)
-    → reached n ≡ run_pairs step (reached from) ps
+      → ((i : ℕ) → from ≤ i → i < n → y i ≡ number_of ps i zero_ℚ) → IsGood (reached from)
+      → reached n ≡ run_pairs step (reached from) ps
   unfolding AreIndices number_of
   paired from n [] ok l same g = stays from n l same g
   paired from n (p ∷ ps) ok l same g =
@@ -124,13 +124,13 @@ module _ {V : Type 0} (act : ℕ → ℚ → Option V) (still : (i : ℕ) → ac
       ⊎_elim
       (λ (a : from < suc to).
       ap (option_or (first_fault fault_of to)) (ap (act to) (h to (omega arith) (omega arith)) ∙ still to)
-        ∙ or_none (first_fault fault_of to) ∙ none_between from to (omega arith) (λ i p q. h i p (omega arith)))
+      ∙ or_none (first_fault fault_of to) ∙ none_between from to (omega arith) (λ i p q. h i p (omega arith)))
       (λ (b : suc to ≤ from). let same : suc to ≡ from = omega arith in ap (first_fault fault_of) same)
       (cases_lt from (suc to))
 
   first_paired : (from n : ℕ) (ps : List Pair) → AreIndices from n ps → from ≤ n
-    → ((i : ℕ) → from ≤ i → i < n → y i ≡ number_of ps i zero_ℚ)
-    → first_fault fault_of n ≡ option_or (first_fault fault_of from) (first_in act ps)
+      → ((i : ℕ) → from ≤ i → i < n → y i ≡ number_of ps i zero_ℚ)
+      → first_fault fault_of n ≡ option_or (first_fault fault_of from) (first_in act ps)
   unfolding AreIndices number_of first_fault
   first_paired from n [] ok l same = none_between from n l same ∙ sym (or_none (first_fault fault_of from))
   first_paired from n (p ∷ ps) ok l same =

@@ -35,7 +35,7 @@ append_cases (z ∷ xs) ys zero x h = inl h
 append_cases (z ∷ xs) ys (suc i) x h = append_cases xs ys i x h
 
 pub terms_of_row : (c : Program) (planes : List Row) (i : ℕ) (r : Row) → AreWithin (length c.lower.items) planes
-  → slice_get (c.rows.items ++ planes) i ≡ Some r → AreTerms 0 (length c.lower.items) r.body.terms
+    → slice_get (c.rows.items ++ planes) i ≡ Some r → AreTerms 0 (length c.lower.items) r.body.terms
 terms_of_row c planes i r fine at =
     ⊎_elim
     (λ (a : slice_get c.rows.items i ≡ Some r). c.sound.rows_terms i r a)
@@ -133,8 +133,8 @@ module _ (c : Program) (planes : List Row) (max : Bool) (ps : List Pair) where
 
       module _ (r : Row) (at : slice_get (c.rows.items ++ planes) p.0 ≡ Some r) (b : Bool) (e : b ≡ has_needed max (number_value p.1) (interval_of r.side)) where
         side_first : (f : Linear) → HasRows c planes f → f.maximise ≡ max
-          → first_fault (side_fault f (value_at (spread (row_count f) ps))) (row_count f)
-          ≡ option_or (if b then None else Some (row_side_missing p.0)) (first_in (side_act f) (drop (k + 1) ps))
+            → first_fault (side_fault f (value_at (spread (row_count f) ps))) (row_count f)
+            ≡ option_or (if b then None else Some (row_side_missing p.0)) (first_in (side_act f) (drop (k + 1) ps))
         side_first f held sense =
             on.rest f held sense
             ∙ ap (first_in (side_act f)) (rest_of ps k p l is)

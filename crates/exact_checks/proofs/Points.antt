@@ -57,7 +57,7 @@ column_begins cost ts xs ok =
     (way_begins (acting taking (point_of xs)) (length xs) (coef_in ts) cost ts ok (λ j l. refl))
 
 module _ (act : ℚ → ℚ → ℚ → Option ℚ) (answer : Option ℚ) (terms items : List Term) (xs : List Dec)
-  (same : items ≡ terms) (k : ℕ) (s : ℚ) (on : OnTheWay (acting act (point_of xs)) (length xs) answer terms k s) where
+    (same : items ≡ terms) (k : ℕ) (s : ℚ) (on : OnTheWay (acting act (point_of xs)) (length xs) answer terms k s) where
   pub terms_end : length items ≤ k → Some s ≡ answer
   terms_end l = sym (way_ends _ _ _ _ k s on (subst (λ ts. length ts ≤ k) same l))
 

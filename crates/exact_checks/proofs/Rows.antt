@@ -104,7 +104,7 @@ pub side_read : (xs : List (Option Dec)) (j : ℕ) (o : Option Dec) → j < leng
 side_read xs j o l e = sym (side_at_index xs j o (slice_get-get_or xs j o l ∙ ap Some (sym e)))
 
 pub bounds_read : (lo hi : List (Option Dec)) (j : ℕ) (a b : Option Dec) → j < length lo → a ≡ get_or lo j a
-  → j < length hi → b ≡ get_or hi j b → interval_of (record { lo = a; hi = b }) ≡ bounds_in lo hi j
+    → j < length hi → b ≡ get_or hi j b → interval_of (record { lo = a; hi = b }) ≡ bounds_in lo hi j
 bounds_read lo hi j a b l e k f = ap₂ (λ v w. record { lower = v; upper = w }) (side_read lo j a l e) (side_read hi j b k f)
 
 -- ---- the rows at a point
@@ -113,7 +113,7 @@ module _ (c : Program) (xs : List Dec) (len : length xs ≡ length c.lower.items
   row_terms = subst (λ n. AreTerms 0 n r.body.terms) (sym len) (c.sound.rows_terms i r at)
 
   pub row_fault_is : (o : Option ℚ) (f : Option Cause) → o ≡ run_form (length xs) (form_of r.body) (point_of xs)
-    → f ≡ row_check i (interval_of r.side) o → f ≡ row_fault (program_value c) (point_of xs) i
+      → f ≡ row_check i (interval_of r.side) o → f ≡ row_fault (program_value c) (point_of xs) i
   unfolding row_fault
   row_fault_is o f e h =
       h
@@ -122,8 +122,8 @@ module _ (c : Program) (xs : List Dec) (len : length xs ≡ length c.lower.items
 
 module _ (c : Program) (xs : List Dec) (len : length xs ≡ length c.lower.items) (j : ℕ) (d : Dec) (l : j < length xs) (is : d ≡ get_or xs j d) where
   pub bound_fault_is : (i : Interval) (b : Bool) → i ≡ bounds_in c.lower.items c.upper.items j
-    → b ≡ is_inside (dec_value d) i → (if b then None else Some (bound_broken j))
-    ≡ bound_fault (program_value c) (point_of xs) j
+      → b ≡ is_inside (dec_value d) i → (if b then None else Some (bound_broken j))
+      ≡ bound_fault (program_value c) (point_of xs) j
   unfolding bound_fault
   bound_fault_is i b h e =
       ap (λ t. if t then None else Some (bound_broken j))
@@ -131,8 +131,8 @@ module _ (c : Program) (xs : List Dec) (len : length xs ≡ length c.lower.items
 
 -- ---- the duals
 module _ (c : Program) (goal : Goal) (max : Bool) (same_sense : max ≡ (asked goal (program_value c)).maximise)
-  (ys : List Dec) (i : ℕ) (r : Row) (at : slice_get c.rows.items i ≡ Some r) (d : Dec) (l : i < length ys)
-  (is : d ≡ get_or ys i d) where
+    (ys : List Dec) (i : ℕ) (r : Row) (at : slice_get c.rows.items i ≡ Some r) (d : Dec) (l : i < length ys)
+    (is : d ≡ get_or ys i d) where
   pub side_fault_is : (b : Bool) → b ≡ has_needed max (dec_value d) (interval_of r.side) → (if b then None else Some (row_side_missing i)) ≡ side_fault (asked goal (program_value c)) (point_of ys) i
   side_fault_is b e =
       ap (λ t. if t then None else Some (row_side_missing i))
@@ -155,7 +155,7 @@ run_same : (f g : ℚ → ℕ → Option ℚ) (start : ℚ) (n : ℕ) → ((s : 
 unfolding run
 run_same f g start zero h = refl
 run_same f g start (suc n) h = and_then_alike (λ s. f s n) (λ s. g s n) (run f start n) (λ s. h s n (omega arith))
-  ∙ ap (option_and_then (λ s. g s n)) (run_same f g start n (λ s i l. h s i (omega arith)))
+    ∙ ap (option_and_then (λ s. g s n)) (run_same f g start n (λ s i l. h s i (omega arith)))
 
 -- the coefficient of a variable in the goal
 cost_is : (c : Columns) (goal : Goal) (j : ℕ) (v : Frac) → slice_get c.costs.items j ≡ Some v → goal_cost goal v ≡ (goal_form goal (form_of c.program.objective)).coefficient j
@@ -184,7 +184,7 @@ module _ (c : Columns) (goal : Goal) (ys : List Dec) (len : length ys ≡ length
     column_cost_is =
         run_same (column_step k.items (values_of ys)) (cost_step (asked goal (program_of c)) (point_of ys) j) start (length (values_of ys))
         (λ s i l. ap (λ a. if is_zero a then Some s else option_and_then (λ v. less_product s v a)
-            (fitting (point_of ys i))) (coefficient_is c i j k at (subst (λ n. i < n) (count_of_values ys ∙ len) l)))
+        (fitting (point_of ys i))) (coefficient_is c i j k at (subst (λ n. i < n) (count_of_values ys ∙ len) l)))
         ∙ ap₂ (λ a n. run (cost_step (asked goal (program_of c)) (point_of ys) j) a n) cost_start (count_of_values ys ∙ len ∙ sym (rows_counted c.program))
 
 -- ---- the bounds against the reduced costs

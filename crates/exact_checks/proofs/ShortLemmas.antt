@@ -102,13 +102,13 @@ zero_over = over_parts zero_ℚ
 
 -- a number that is short fits
 pub reduced_is : (r : Option Frac) (p : ℤ) (q : ℕ) (z d : ℤ) → z ≡ p → d ≡ pos q → unsigned_abs p ≤ 2 ^ 63 → 0 < q
-  → q < 2 ^ 63 → IsQuotientOf (d ≡ pos 0) r (quotient z d) → value_found r ≡ Some (over p q)
+    → q < 2 ^ 63 → IsQuotientOf (d ≡ pos 0) r (quotient z d) → value_found r ≡ Some (over p q)
 reduced_is r p q z d e f small above less h = by r (subst (λ k. IsQuotientOf (k ≡ pos 0) r (quotient p k)) f (subst (λ k. IsQuotientOf (d ≡ pos 0) r (quotient k d)) e h))
   where
     by : (r : Option Frac) → IsQuotientOf (pos q ≡ pos 0) r (over p q) → value_found r ≡ Some (over p q)
     by None h = absurd (⊎_elim (λ (z : pos q ≡ pos 0). (let none : q ≡ 0 = omega (arith, ints, z) in
-            omega (arith, above))) (λ (n : fits (over p q) ≡ false).
-          (let both : true ≡ false = sym (short_fits (over p q) (short_over p q small less)) ∙ n in cc)) h)
+        omega (arith, above))) (λ (n : fits (over p q) ≡ false).
+        (let both : true ≡ false = sym (short_fits (over p q) (short_over p q small less)) ∙ n in cc)) h)
     by (Some f) h = ap Some h.2
 
 pub factor_small : (a b n : ℕ) → 0 < a → a * b < n → b < n

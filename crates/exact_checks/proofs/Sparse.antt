@@ -56,8 +56,8 @@ module _ (step : ℚ → ℕ → ℚ → Option ℚ) (g : ℕ → ℚ) (start : 
       ap (run (dense step g) start) e ∙ skip from (to - from) (λ j a b. h j a (omega arith))
 
   pub sparse : (from n : ℕ) (ts : List Term) → AreTerms from n ts → from ≤ n
-    → ((j : ℕ) → from ≤ j → j < n → g j ≡ coef_in ts j) → run (dense step g) start n
-    ≡ run_terms step (run (dense step g) start from) ts
+      → ((j : ℕ) → from ≤ j → j < n → g j ≡ coef_in ts j) → run (dense step g) start n
+      ≡ run_terms step (run (dense step g) start from) ts
   unfolding run AreTerms
   sparse from n [] ok l same = skip_to from n l same
   sparse from n (t ∷ ts) ok l same =

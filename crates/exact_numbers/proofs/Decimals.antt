@@ -128,8 +128,8 @@ only_signed b s n z e whole odd fits =
 
 pub zero_same : (b : Bool) (n : ℕ) (e : ℤ) → n ≡ 0 → SameValue (scaled (pos 0) (pos 0)) (scaled (signed b n) e)
 zero_same b n e z = subst (λ m. SameValue (scaled (pos 0) (pos 0)) (scaled m e)) (sym (ap (signed b) z ∙ none b))
-  (same_scaled_in (pos 0) (pos 0) (pos 0) e (from_parts (pos 0) (pos 0) _ _ (zero-mul _ ∙ sym (zero-mul _))
-      (zero-mul _ ∙ sym (zero-mul _))))
+    (same_scaled_in (pos 0) (pos 0) (pos 0) e (from_parts (pos 0) (pos 0) _ _ (zero-mul _ ∙ sym (zero-mul _))
+    (zero-mul _ ∙ sym (zero-mul _))))
   where
     none : (b : Bool) → signed b 0 ≡ pos 0
     none true = refl
@@ -148,7 +148,7 @@ one_more n e s =
       rest = s.rest;
       zeros = s.zeros + 1;
       whole = strip_more n n 0 (sym (mul-one n)) e ∙ ap (λ x. x * 10 ^ 1) s.whole ∙ mul_assoc s.rest (10 ^ s.zeros) 10
-        ∙ ap (λ x. s.rest * x) (sym (pow-suc 10 s.zeros) ∙ ap (λ k. 10 ^ k) (omega arith));
+          ∙ ap (λ x. s.rest * x) (sym (pow-suc 10 s.zeros) ∙ ap (λ k. 10 ^ k) (omega arith));
       odd = s.odd;
     }
 
@@ -177,8 +177,11 @@ module _ (b : Bool) (n k l : ℕ) (x y : ℤ) (small : n < 10 ^ k) (few : k < 2 
   capped_far : 0 < n → (x ≡ y) ⊎ ((HasDec (scaled (signed b n) (x -ℤ pos l)) → ⊥) × (HasDec (scaled (signed b n) (y -ℤ pos l)) → ⊥))
   capped_far some =
       ⊎_elim inl
-      (λ far. inr (far_out b n k l x some small few short (⊎_elim (λ h. let e = c.above h in inl (omega (arith, ints)))
-            (λ h. let e = c.below h in inr (omega (arith, ints))) far), far_out b n k l y some small few short far))
+      (λ far. inr (
+        far_out b n k l x some small few short (⊎_elim (λ h. let e = c.above h in inl (omega (arith, ints)))
+            (λ h. let e = c.below h in inr (omega (arith, ints))) far),
+        far_out b n k l y some small few short far,
+      ))
       c.exact
 
   pub capped_some : (m e : ℤ) → IsDec m e → SameValue (scaled m e) (scaled (signed b n) (x -ℤ pos l)) → SameValue (scaled m e) (scaled (signed b n) (y -ℤ pos l))
@@ -187,7 +190,7 @@ module _ (b : Bool) (n k l : ℕ) (x y : ℤ) (small : n < 10 ^ k) (few : k < 2 
       (λ some. ⊎_elim (λ h. subst (λ z. SameValue (scaled m e) (scaled (signed b n) (z -ℤ pos l))) h same) (λ h. absurd (h.0 (record { m = m; e = e; dec = dec; same = same }))) (capped_far some))
       (λ z. let none : n ≡ 0 = omega arith in
       SameValue-trans (scaled-bottom (pos 0) (pos 0)) (SameValue-trans (scaled-bottom (signed b n) (x -ℤ pos l)) same
-          (SameValue-sym (zero_same b n (x -ℤ pos l) none))) (zero_same b n (y -ℤ pos l) none))
+      (SameValue-sym (zero_same b n (x -ℤ pos l) none))) (zero_same b n (y -ℤ pos l) none))
       (cases_lt 0 n)
 
   pub capped_none : (HasDec (scaled (signed b n) (x -ℤ pos l)) → ⊥) → HasDec (scaled (signed b n) (y -ℤ pos l)) → ⊥

@@ -131,8 +131,8 @@ pub record IsCeiling (x z : ℚ) : Type 0 where
 
 neg-<ℚ : (x y : ℚ) → x <ℚ y → neg_ℚ y <ℚ neg_ℚ x
 neg-<ℚ x y h = ⊎_elim (λ (l : neg_ℚ x ≤ℚ neg_ℚ y). absurd (not_both y x
-      (subst₂ (λ a b. a ≤ℚ b) (neg-neg y) (neg-neg x) (neg-≤ℚ (neg_ℚ x) (neg_ℚ y) l)) h))
-  (λ (l : neg_ℚ y <ℚ neg_ℚ x). l) (le_or_lt (neg_ℚ x) (neg_ℚ y))
+    (subst₂ (λ a b. a ≤ℚ b) (neg-neg y) (neg-neg x) (neg-≤ℚ (neg_ℚ x) (neg_ℚ y) l)) h))
+    (λ (l : neg_ℚ y <ℚ neg_ℚ x). l) (le_or_lt (neg_ℚ x) (neg_ℚ y))
 
 neg_whole : (z : ℚ) → IsWhole z → IsWhole (neg_ℚ z)
 neg_whole z h = let r = whole_of z h in subst IsWhole (sym (ap neg_ℚ r.1 ∙ whole-neg r.0)) (IsWhole-whole (neg_ℤ r.0))

@@ -40,7 +40,7 @@ stripped n z size some small =
       e = pos s.zeros;
       dec = is_dec negative (signed negative s.rest) (pos s.zeros) s.rest refl s.odd rest_le (omega (arith, ints)) (omega (arith, ints));
       same = same_dec_value (signed negative s.rest) (pos s.zeros) (decimal_value (signed negative n) (pos 0)) _
-        (decimal_is (signed negative n) (pos 0)) (signed_moved negative s.rest n s.zeros (pos 0) (pos s.zeros) s.whole
+          (decimal_is (signed negative n) (pos 0)) (signed_moved negative s.rest n s.zeros (pos 0) (pos s.zeros) s.whole
           (omega (arith, ints)))
           ∙ ap (λ y. decimal_value y (pos 0)) self ∙ decimal_whole z;
     }

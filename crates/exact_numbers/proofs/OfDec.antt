@@ -36,8 +36,8 @@ pub coprime_two : (n : ℕ) → n % 2 ≢ 0 → AreCoprime n 2
 coprime_two n odd d p q =
     let small = le_of_dvd (lit< tt) q in
     ⊎_elim (λ one. one) (λ other. ⊎_elim (λ z. absurd (let e : 2 ≡ 0 = eq-zero_of_zero-dvd (subst (λ x. x ∣ 2) z q) in
-            omega (arith, e))) (λ two. absurd (odd (mod-eq-zero_of_dvd 2 (subst (λ x. x ∣ n) two p)))) other)
-      (cases d small)
+    omega (arith, e))) (λ two. absurd (odd (mod-eq-zero_of_dvd 2 (subst (λ x. x ∣ n) two p)))) other)
+    (cases d small)
   where
     cases : (d : ℕ) → d ≤ 2 → (d ≡ 1) ⊎ ((d ≡ 0) ⊎ (d ≡ 2))
     cases zero h = inr (inl refl)
@@ -165,7 +165,7 @@ some_left n r f k l two h live small e = ⊎_elim (λ p. p) none (cases_lt 0 l)
         absurd (omega (arith, whole, le-mul_of_pos_right (f ^ k) some, mul_comm r (f ^ k)))
 
 pub cofactor_of : (n t c i j : ℕ) → 0 < n → n < 2 ^ 127 → i ≤ 127 → j ≤ 127 → n ≡ t * 2 ^ (127 - i)
-  → t ≡ c * 5 ^ (127 - j) → (0 < i → t % 2 ≢ 0) → (0 < j → c % 5 ≢ 0) → IsCofactor n c × (0 < c) × (c ≤ n)
+    → t ≡ c * 5 ^ (127 - j) → (0 < i → t % 2 ≢ 0) → (0 < j → c % 5 ≢ 0) → IsCofactor n c × (0 < c) × (c ≤ n)
 cofactor_of n t c i j live small hi hj whole part twos fives =
     ((divides, coprime-mul c 2 5 even five, greatest), above, below)
   where

@@ -85,8 +85,8 @@ front_of (b ∷ text) (suc n) len some within is = by (nat_eq b 43 || nat_eq b 4
 -- ---- without an exponent
 
 bare_of : (word whole fraction : List ℕ) (s : Bool) (size places : ℕ) → Cut word whole fraction []
-  → begins_minus word ≡ s → AllDigits 10 whole → AllDigits 10 fraction → 0 < length whole
-  → digits_value 10 (whole ++ fraction) ≡ size → length fraction ≡ places → IsBare word s size places
+    → begins_minus word ≡ s → AllDigits 10 whole → AllDigits 10 fraction → 0 < length whole
+    → digits_value 10 (whole ++ fraction) ≡ size → length fraction ≡ places → IsBare word s size places
 bare_of word whole fraction s size places c sign d df some number deep = record {
   is = (reading word whole fraction [] s _ _ c sign d df some tt refl).is;
   bare = c.exponent_is;
@@ -97,7 +97,7 @@ bare_of word whole fraction s size places c sign d df some number deep = record 
 
 -- digits alone
 pub plain_digits : (text body : List ℕ) (s : Bool) (n size len : ℕ) → body ≡ after_sign text → s ≡ begins_minus text
-  → n ≢ 0 → n ≤ length body → n ≤ 18 → AllDigits 10 (take n body) → size ≡ digits_value_after 10 0 (take n body)
+    → n ≢ 0 → n ≤ length body → n ≤ 18 → AllDigits 10 (take n body) → size ≡ digits_value_after 10 0 (take n body)
     → len ≡ length text - length body + n → IsPlain text s size 0 len
 plain_digits text body s n size len e minus more within few d value is =
     let f = front_of text n len (omega (arith, more)) (subst (λ xs. n ≤ length xs) e within) (is ∙ ap (λ xs. length text - length xs + n) e) in
@@ -122,8 +122,8 @@ cut_front body n k within =
 
 -- digits with a point behind the first n of them
 pub plain_point : (text body fraction : List ℕ) (s : Bool) (n k front size len : ℕ) → body ≡ after_sign text
-  → s ≡ begins_minus text → n ≢ 0 → n < length body → get_or body n 0 ≡ 46 → fraction ≡ drop (n + 1) body
-  → k ≤ length fraction
+    → s ≡ begins_minus text → n ≢ 0 → n < length body → get_or body n 0 ≡ 46 → fraction ≡ drop (n + 1) body
+    → k ≤ length fraction
     → n ≤ 18 → k ≤ 18 - n → AllDigits 10 (take n body) → front ≡ digits_value_after 10 0 (take n body) → AllDigits 10 (take k fraction) → size ≡ digits_value_after 10 front (take k fraction)
     → len ≡ length text - length body + n + 1 + k → IsPlain text s size k len
 plain_point text body fraction s n k front size len e minus more within point behind fits few few_more d value df next is =
@@ -153,8 +153,8 @@ three_digits xs n size within few d value =
     omega (arith, value, small, pow-le-pow_right {n = 10} (lit< tt) (subst (λ k. k ≤ 3) (sym long) few))
 
 pub power_of : (text body : List ℕ) (s : Bool) (n size len : ℕ) (power : ℤ) → body ≡ after_sign text
-  → s ≡ begins_minus text → n ≢ 0 → n ≤ length body → n ≤ 3 → AllDigits 10 (take n body)
-  → size ≡ digits_value_after 10 0 (take n body)
+    → s ≡ begins_minus text → n ≢ 0 → n ≤ length body → n ≤ 3 → AllDigits 10 (take n body)
+    → size ≡ digits_value_after 10 0 (take n body)
     → power ≡ signed s size → len ≡ length text - length body + n → IsPower text power len
 power_of text body s n size len power e minus more within few d value sign is =
     let f = front_of text n len (omega (arith, more)) (subst (λ xs. n ≤ length xs) e within) (is ∙ ap (λ xs. length text - length xs + n) e) in
@@ -176,13 +176,13 @@ unmarked-append (x ∷ xs) y ys h e k = (h.0, unmarked-append xs y ys h.1 e k)
 
 -- the value of a number with an exponent
 pub marked_front : (text rest : List ℕ) (s : Bool) (size places n k len : ℕ) (power : ℤ) (d : Dec)
-  → IsPlain text s size places n → n < length text → is_mark (get_or text n 0) ≡ true → rest ≡ drop (n + 1) text
-  → IsPower rest power k
+    → IsPlain text s size places n → n < length text → is_mark (get_or text n 0) ≡ true → rest ≡ drop (n + 1) text
+    → IsPower rest power k
     → len ≡ n + 1 + k → dec_value d ≡ decimal_value (signed s size) (power -ℤ pos places) → IsFrontDec text d len
 marked_front text rest s size places n k len power d p within mark behind x is same =
     let whole : take len text ≡ take n text ++ get_or text n 0 ∷ take k rest =
-      ap (λ i. take i text) is ∙ cut_front text n k within ∙ ap (λ xs. take n text ++ get_or text n 0 ∷ take k xs)
-      (sym behind) in
+    ap (λ i. take i text) is ∙ cut_front text n k within ∙ ap (λ xs. take n text ++ get_or text n 0 ∷ take k xs)
+    (sym behind) in
     let r = marked (take n text) s size places (get_or text n 0) (take k rest) p.bare mark x.is in
     record {
       within = omega (arith, is, x.within, ap length behind, length-drop (n + 1) text, within);
@@ -200,7 +200,7 @@ front_word : (text : List ℕ) (d : Dec) (len : ℕ) → IsFrontDec text d len �
 front_word text d len f = (f.within, f.some, f.few, dec_of-some (take len text) d f.is f.value, f.unmarked)
 
 pub front_words : (text : List ℕ) (result : Option FrontDec) → IfSome result (λ f. IsFrontDec text f.value f.len)
-  → IfSome result (λ f. (f.len ≤ length text) × (0 < f.len) × (f.len ≤ 40) × (dec_of (take f.len text) ≡ Some f.value)
+    → IfSome result (λ f. (f.len ≤ length text) × (0 < f.len) × (f.len ≤ 40) × (dec_of (take f.len text) ≡ Some f.value)
     × IsUnmarked (take f.len text))
 front_words text None h = tt
 front_words text (Some f) h = front_word text f.value f.len h

@@ -121,8 +121,8 @@ turned_back x (negsuc n) b h some =
     subst (λ z. x *ℚ over z (suc n) ≡ one_ℚ) (sym (with_sign_below n b))
     (same_value (product_value h (over_value (neg_ℤ (pos b)) (suc n) (omega arith))) (whole_value (pos 1))
     (ap (λ z. z *ℤ pos 1) (neg-*ℤ (pos (suc n)) (neg_ℤ (pos b))
-        ∙ ap neg_ℤ (*ℤ_comm (pos (suc n)) (neg_ℤ (pos b)) ∙ neg-*ℤ (pos b) (pos (suc n)))
-        ∙ neg_ℤ-neg_ℤ (pos (b * suc n))) ∙ ap pos (omega arith)))
+    ∙ ap neg_ℤ (*ℤ_comm (pos (suc n)) (neg_ℤ (pos b)) ∙ neg-*ℤ (pos b) (pos (suc n)))
+    ∙ neg_ℤ-neg_ℤ (pos (b * suc n))) ∙ ap pos (omega arith)))
 
 pub *ℚ-inverse : (x : ℚ) → x ≢ zero_ℚ → x *ℚ inverse_of x ≡ one_ℚ
 unfolding inverse_of

@@ -132,9 +132,9 @@ pub record IsReading (text : List ℕ) (m e : ℤ) : Type 0 where
   pub value : text_value text ≡ decimal_value m e
 
 pub reading_of : (text whole fraction exponent : List ℕ) (s : Bool) (m e : ℤ) → Cut text whole fraction exponent
-  → begins_minus text ≡ s → AllDigits 10 whole → AllDigits 10 fraction → 0 < length whole + length fraction
-  → IsExponent exponent → decimal_value (signed s (digits_value 10 (whole ++ fraction)))
-  (exponent_value exponent -ℤ pos (length fraction)) ≡ decimal_value m e → IsReading text m e
+    → begins_minus text ≡ s → AllDigits 10 whole → AllDigits 10 fraction → 0 < length whole + length fraction
+    → IsExponent exponent → decimal_value (signed s (digits_value 10 (whole ++ fraction)))
+    (exponent_value exponent -ℤ pos (length fraction)) ≡ decimal_value m e → IsReading text m e
 reading_of text whole fraction exponent s m e c sign dw df some de value =
     record {
       is = record {
@@ -151,9 +151,9 @@ reading_of text whole fraction exponent s m e c sign dw df some de value =
     }
 
 pub reading : (text whole fraction exponent : List ℕ) (s : Bool) (m e : ℤ) → Cut text whole fraction exponent
-  → begins_minus text ≡ s → AllDigits 10 whole → AllDigits 10 fraction → 0 < length whole → IsExponent exponent
-  → decimal_value (signed s (digits_value 10 (whole ++ fraction))) (exponent_value exponent -ℤ pos (length fraction))
-  ≡ decimal_value m e → IsReading text m e
+    → begins_minus text ≡ s → AllDigits 10 whole → AllDigits 10 fraction → 0 < length whole → IsExponent exponent
+    → decimal_value (signed s (digits_value 10 (whole ++ fraction))) (exponent_value exponent -ℤ pos (length fraction))
+    ≡ decimal_value m e → IsReading text m e
 reading text whole fraction exponent s m e c sign dw df some de value = reading_of text whole fraction exponent s m e c sign dw df (omega arith) de value
 
 -- ---- an exponent behind a number without one
@@ -174,7 +174,7 @@ after_sign-append b text more = by (nat_eq b 43 || nat_eq b 45)
     by false = refl
 
 pub marked : (text : List ℕ) (s : Bool) (size places y : ℕ) (ys : List ℕ) → IsBare text s size places → is_mark y ≡ true
-  → IsExponent (y ∷ ys) → IsReading (text ++ y ∷ ys) (signed s size) (exponent_value (y ∷ ys) -ℤ pos places)
+    → IsExponent (y ∷ ys) → IsReading (text ++ y ∷ ys) (signed s size) (exponent_value (y ∷ ys) -ℤ pos places)
 marked [] s size places y ys bare mark de = absurd (omega (arith, bare.is.some))
 marked (b ∷ bs) s size places y ys bare mark de =
     let text = b ∷ bs in
@@ -203,7 +203,7 @@ zeros-digits k = by k
 -- zeros in front do not count
 zeros-front : (k : ℕ) (xs : List ℕ) → digits_value 10 (zeros k ++ xs) ≡ digits_value 10 xs
 zeros-front k xs = after-append 0 (zeros k) xs ∙ ap (λ n. digits_value_after 10 n xs)
-  (after_zeros 0 (zeros k) (λ j l. get_or-replicate k j 48 0 (omega (arith, zeros-length k)))
+    (after_zeros 0 (zeros k) (λ j l. get_or-replicate k j 48 0 (omega (arith, zeros-length k)))
     ∙ zero-mul (10 ^ length (zeros k)))
 
 zeros-behind : (k : ℕ) (xs : List ℕ) → digits_value 10 (xs ++ zeros k) ≡ digits_value 10 xs * 10 ^ k

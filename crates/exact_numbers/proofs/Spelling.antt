@@ -81,9 +81,12 @@ decimal_of-decimal m e dec = ⊎_elim zero_case other (cases_eq (unsigned_abs m 
         let both = dec.shortest z in
         let top : unsigned_abs (decimal_value m e).top ≡ 0 = ap unsigned_abs (top_zero _ ((dec_zero m e).0 both.0)) in
         let none : Decimal = record { mantissa = pos 0; exponent = pos 0 } in
-        ap (λ b. cond b none (record { mantissa = mantissa_at (decimal_value m e)
-                (exponent_below (decimal_value m e) 800 (pos 400)); exponent =
-                exponent_below (decimal_value m e) 800 (pos 400) })) (eq-eqb _ _ top)
+        ap (λ b. cond b none (record {
+          mantissa = mantissa_at (decimal_value m e)
+              (exponent_below (decimal_value m e) 800 (pos 400));
+          exponent =
+              exponent_below (decimal_value m e) 800 (pos 400);
+        })) (eq-eqb _ _ top)
         ∙ ap₂ (λ a b. record { mantissa = a; exponent = b }) (sym both.0) (sym both.1)
 
     other : unsigned_abs m % 10 ≢ 0 → decimal_of (decimal_value m e) ≡ record { mantissa = m; exponent = e }
@@ -125,8 +128,8 @@ unfolding decimal_of
 value_of_spelling x = by (nat_eq (unsigned_abs x.top) 0) refl
   where
     by : (b : Bool) → nat_eq (unsigned_abs x.top) 0 ≡ b → let d =
-      cond b none (spelled_by x (exponent_below x 800 (pos 400))) in
-      is_multiple x d.exponent ≡ true → decimal_value d.mantissa d.exponent ≡ x
+        cond b none (spelled_by x (exponent_below x 800 (pos 400))) in
+        is_multiple x d.exponent ≡ true → decimal_value d.mantissa d.exponent ≡ x
     by true e h = zero_decimal (pos 0) ∙ sym (zero_top x (same_in x.top (pos 0) (omega (arith, abs_is x.top, eqb-true _ _ e))))
     by false e h = spelled_value x (exponent_below x 800 (pos 400)) h
 

@@ -48,8 +48,8 @@ module _ (n : ℤ) (d i j p : ℕ) (frac : IsFrac n d) (whole : d ≡ 2 ^ i * 5 
   pub raised : unsigned_abs n * 2 ^ (p - i) * 5 ^ (p - j) * d ≡ unsigned_abs n * 10 ^ p
   raised =
       let tens : 2 ^ (p - i) * 2 ^ i * (5 ^ (p - j) * 5 ^ j) ≡ 10 ^ p =
-        sym (mul-pow 2 5 p ∙ ap₂ (λ x y. x * y) (ap (λ k. 2 ^ k) (omega (arith, a)) ∙ pow-add 2 (p - i) i)
-          (ap (λ k. 5 ^ k) (omega (arith, b)) ∙ pow-add 5 (p - j) j)) in
+      sym (mul-pow 2 5 p ∙ ap₂ (λ x y. x * y) (ap (λ k. 2 ^ k) (omega (arith, a)) ∙ pow-add 2 (p - i) i)
+      (ap (λ k. 5 ^ k) (omega (arith, b)) ∙ pow-add 5 (p - j) j)) in
       ap (λ x. unsigned_abs n * 2 ^ (p - i) * 5 ^ (p - j) * x) whole ∙ moved (unsigned_abs n) (2 ^ (p - i)) (5 ^ (p - j)) (2 ^ i) (5 ^ j) ∙ ap (λ x. unsigned_abs n * x) tens
     where
       moved : (s x y u v : ℕ) → s * x * y * (u * v) ≡ s * (x * u * (y * v))

@@ -84,7 +84,7 @@ sum_value {x} {y} {p} {r} {q} h k =
     }
   where
     crossed : (x y : ℚ) (p r : ℤ) (q : ℕ) → x.top *ℤ pos q ≡ p *ℤ pos x.bottom → y.top *ℤ pos q ≡ r *ℤ pos y.bottom
-      → (x.top *ℤ pos y.bottom +ℤ y.top *ℤ pos x.bottom) *ℤ pos q ≡ (p +ℤ r) *ℤ pos (x.bottom * y.bottom)
+        → (x.top *ℤ pos y.bottom +ℤ y.top *ℤ pos x.bottom) *ℤ pos q ≡ (p +ℤ r) *ℤ pos (x.bottom * y.bottom)
     crossed x y p r q e f =
         *ℤ-+ℤ (x.top *ℤ pos y.bottom) (y.top *ℤ pos x.bottom) (pos q)
         ∙ ap₂ ◌+ℤ◌
@@ -137,8 +137,10 @@ module _ {x y : ℚ} {p r : ℤ} {q : ℕ} (h : HasValue x p q) (k : HasValue y 
       (subst₂ (λ a b. a <ℤ b) (left_side x y p q h.equal) (right_side x y r q k.equal) (times_lt _ _ q h.above m.crosswise))
 
   pub value_lt : p <ℤ r → x <ℚ y
-  value_lt m = record { crosswise = times_lt_cancel _ _ q (subst₂ (λ a b. a <ℤ b) (sym (left_side x y p q h.equal))
-        (sym (right_side x y r q k.equal)) (times_lt _ _ (x.bottom * y.bottom) (mul-pos x.above y.above) m)) }
+  value_lt m = record {
+    crosswise = times_lt_cancel _ _ q (subst₂ (λ a b. a <ℤ b) (sym (left_side x y p q h.equal))
+        (sym (right_side x y r q k.equal)) (times_lt _ _ (x.bottom * y.bottom) (mul-pos x.above y.above) m));
+  }
 
 -- two, and three, numbers over one denominator
 pub record Together (x y : ℚ) : Type 0 where

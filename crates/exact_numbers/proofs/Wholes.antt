@@ -27,8 +27,8 @@ sum_of_ones n k x y =
     record {
       only = λ f. subst (λ z. unsigned_abs z < 2 ^ 127) same (w.only f).3;
       fits = λ h. w.fits (lit< tt) (subst (λ z. unsigned_abs z < 2 ^ 127) (sym (*ℤ-one n)) x.size)
-        (subst (λ z. unsigned_abs z < 2 ^ 127) (sym (*ℤ-one k)) y.size)
-        (subst (λ z. unsigned_abs z < 2 ^ 127) (sym same) h);
+          (subst (λ z. unsigned_abs z < 2 ^ 127) (sym (*ℤ-one k)) y.size)
+          (subst (λ z. unsigned_abs z < 2 ^ 127) (sym same) h);
       same = subst (λ z. SameValue (pair z 1) (sum_of (pair n 1) (pair k 1))) same w.same;
     }
 

@@ -62,7 +62,7 @@ unfolding wide_of
 wide_of-small word z = by (are_digits (without_leading_sign word) && is_small (unsigned_abs (signed_digits_value 10 word))) refl
   where
     by : (t : Bool) → (are_digits (without_leading_sign word) && is_small (unsigned_abs (signed_digits_value 10 word)))
-      ≡ t → Some z ≡ cond t (Some (signed_digits_value 10 word)) None → unsigned_abs z < 2 ^ 127
+        ≡ t → Some z ≡ cond t (Some (signed_digits_value 10 word)) None → unsigned_abs z < 2 ^ 127
     by true e same =
         let is : signed_digits_value 10 word ≡ z = cc in
         subst (λ y. unsigned_abs y < 2 ^ 127) is (ltb-true _ _ (second_of_both _ _ e))

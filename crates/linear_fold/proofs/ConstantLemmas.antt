@@ -105,7 +105,7 @@ pub power_next : (x : ℚ) (n : ℕ) → power_of x (n + 1) ≡ x *ℚ power_of 
 power_next x n = ap (power_of x) (omega arith) ∙ power_of-suc x n
 
 product_parts : (x y : ℚ) → AreCoprime (unsigned_abs x.top * unsigned_abs y.top) (x.bottom * y.bottom)
-  → (unsigned_abs (x *ℚ y).top ≡ unsigned_abs x.top * unsigned_abs y.top) × ((x *ℚ y).bottom ≡ x.bottom * y.bottom)
+    → (unsigned_abs (x *ℚ y).top ≡ unsigned_abs x.top * unsigned_abs y.top) × ((x *ℚ y).bottom ≡ x.bottom * y.bottom)
 unfolding ◌*ℚ◌
 product_parts x y h =
     let sizes = unsigned_abs-mul x.top y.top in
@@ -123,9 +123,9 @@ power_parts x (suc n) =
     let first : AreCoprime a (b * b ^ n) = coprime-mul a b (b ^ n) x.lowest (coprime-pow a b n x.lowest) in
     let second : AreCoprime (b * b ^ n) (a * a ^ n) = coprime-mul (b * b ^ n) a (a ^ n) (coprime-swap a (b * b ^ n) first) (coprime-pow (b * b ^ n) a n (coprime-swap a (b * b ^ n) first)) in
     let whole_parts = product_parts x (power_of x n) (subst
-        (λ u. AreCoprime (unsigned_abs x.top * u) (x.bottom * (power_of x n).bottom)) (sym r.0)
-        (subst (λ v. AreCoprime (unsigned_abs x.top * unsigned_abs x.top ^ n) (x.bottom * v)) (sym r.1)
-          (coprime-swap (b * b ^ n) (a * a ^ n) second))) in
+    (λ u. AreCoprime (unsigned_abs x.top * u) (x.bottom * (power_of x n).bottom)) (sym r.0)
+    (subst (λ v. AreCoprime (unsigned_abs x.top * unsigned_abs x.top ^ n) (x.bottom * v)) (sym r.1)
+    (coprime-swap (b * b ^ n) (a * a ^ n) second))) in
     (whole_parts.0 ∙ ap (λ u. a * u) r.0 ∙ sym (pow-succ' a n), whole_parts.1 ∙ ap (λ v. b * v) r.1 ∙ sym (pow-succ' b n))
 
 shrink : (a p m : ℕ) → 0 < a → a * p < m → p < m
@@ -181,13 +181,13 @@ floor_under x y h e =
 
 -- ---- what constants come to
 pub made_of : (n : ℕ) (c : OpClass) (ls : List Line) (v : ℚ) → are_constant n ls ≡ true
-  → applied (rule_of c) (constants_of ls) ≡ Some v → ((if are_constant n ls then None else Some Nonlinear) ≡ None)
-  × (constant_line v ≡ constants_line c ls) × Unit {0}
+    → applied (rule_of c) (constants_of ls) ≡ Some v → ((if are_constant n ls then None else Some Nonlinear) ≡ None)
+    × (constant_line v ≡ constants_line c ls) × Unit {0}
 made_of n c ls v e f = (ap (λ b. if b then None else Some Nonlinear) e, ap (λ o. constant_line (or_zero o)) (sym f), tt)
 
 pub best_made : (b : Bool) (n : ℕ) (ls : List Line) (v : ℚ) → are_constant n ls ≡ true
-  → applied (rule_of (best_class b)) (constants_of ls) ≡ Some v
-  → (operator_fault n (best_class b) ls ≡ None) × (constant_line v ≡ operator_line n (best_class b) ls) × Unit {0}
+    → applied (rule_of (best_class b)) (constants_of ls) ≡ Some v
+    → (operator_fault n (best_class b) ls ≡ None) × (constant_line v ≡ operator_line n (best_class b) ls) × Unit {0}
 best_made true n ls v e f = made_of n Least ls v e f
 best_made false n ls v e f = made_of n Greatest ls v e f
 
@@ -196,8 +196,8 @@ best_varies true n ls e = ap (λ b. if b then None else Some Nonlinear) e
 best_varies false n ls e = ap (λ b. if b then None else Some Nonlinear) e
 
 pub one_made : (n : ℕ) (c : OpClass) (l : Line) (v : ℚ) → true ≡ is_constant n l
-  → Some v ≡ applied (rule_of c) (l.constant ∷ []) → ((if are_constant n (l ∷ []) then None else Some Nonlinear) ≡ None)
-  × (constant_line v ≡ constants_line c (l ∷ [])) × Unit {0}
+    → Some v ≡ applied (rule_of c) (l.constant ∷ []) → ((if are_constant n (l ∷ []) then None else Some Nonlinear) ≡ None)
+    × (constant_line v ≡ constants_line c (l ∷ [])) × Unit {0}
 one_made n c l v e f = made_of n c (l ∷ []) v (and_from _ _ (sym e) refl) (sym f)
 
 -- ---- the least of many, or the greatest
@@ -243,8 +243,8 @@ module _ (b : Bool) (first cur new : ℚ) (x : PartialForm) (left rest all : Lis
       }
 
 pub best_found : (b : Bool) (first : ℚ) (v : Frac) (x : PartialForm) (left fs all : List PartialForm) → left ≡ []
-  → all ≡ x ∷ fs → first ≡ (part_line x).constant → Choosing b first (frac_value v) left all → (n : ℕ)
-  → AreOperands n all → IsValueOf n (best_class b) all (Some v)
+    → all ≡ x ∷ fs → first ≡ (part_line x).constant → Choosing b first (frac_value v) left all → (n : ℕ)
+    → AreOperands n all → IsValueOf n (best_class b) all (Some v)
 best_found b first v x left fs all none is start h n z =
     let k = (part_line x).constant in
     let ks = constants_of (map part_line fs) in
@@ -253,7 +253,7 @@ best_found b first v x left fs all none is start h n z =
     subst (λ a. IsValueOf n (best_class b) a (Some v)) (sym is) (sym (o.tests n (subst (AreOperands n) is z)).0, best_value b k ks ∙ ap Some (sym value))
 
 pub first_varies : (n : ℕ) (x : PartialForm) (fs all : List PartialForm) → all ≡ x ∷ fs → AreOperands n all
-  → ((m : ℕ) → IsOperand m x → is_constant m (part_line x) ≡ false) → are_constant n (map part_line all) ≡ false
+    → ((m : ℕ) → IsOperand m x → is_constant m (part_line x) ≡ false) → are_constant n (map part_line all) ≡ false
 first_varies n x fs all is z t =
     ap (λ a. are_constant n (map part_line a)) is ∙ ap (λ b. b && are_constant n (map part_line fs)) (t n (subst (AreOperands n) is z).0)
 
@@ -281,8 +281,8 @@ module _ (n : ℕ) (a b : Line) (ca : is_constant n a ≡ true) (cb : is_constan
       fault_first _ _ _ both ∙ ap (power_fault a.constant) (ap exponent_of (sym e) ∙ g) ∙ ap too_wide_unless (ap (λ z. fits (power_of z k)) (sym d) ∙ w)
 
   pub power_made : (x y v : ℚ) (k : ℕ) → x ≡ a.constant → y ≡ b.constant → exponent_of y ≡ Some k
-    → fits (power_of x k) ≡ true → v ≡ power_of x k → (operator_fault n Power (a ∷ b ∷ []) ≡ None)
-    × (constant_line v ≡ operator_line n Power (a ∷ b ∷ [])) × Unit {0}
+      → fits (power_of x k) ≡ true → v ≡ power_of x k → (operator_fault n Power (a ∷ b ∷ []) ≡ None)
+      × (constant_line v ≡ operator_line n Power (a ∷ b ∷ [])) × Unit {0}
   power_made x y v k d e g w is = (
     fault_first _ _ _ both ∙ ap (power_fault a.constant) (ap exponent_of (sym e) ∙ g) ∙ ap too_wide_unless (ap (λ z. fits (power_of z k)) (sym d) ∙ w),
     ap constant_line (is ∙ ap (λ z. power_of z k) d) ∙ ap (λ o. constant_line (or_zero o)) (ap (option_map (power_of a.constant)) (sym g ∙ ap exponent_of e)),

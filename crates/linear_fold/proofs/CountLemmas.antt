@@ -63,8 +63,8 @@ list_count n c low [] a b = count_zero n (line_of_terms c []) (λ j h. refl)
 list_count n c low (t ∷ ts) a b =
     let there : coef_in (t ∷ ts) t.0 ≡ frac_value t.1 = ap value_or_zero (found_same t ts t.0 refl) in
     count_more n (line_of_terms c (t ∷ ts)) (line_of_terms c ts) t.0 b.0 (λ z. a.1 (sym there ∙ z))
-      (ap value_or_zero (found_before (suc t.0) ts t.0 a.2 (omega arith)))
-      (λ j e. ap value_or_zero (found_apart t ts j e))
+    (ap value_or_zero (found_before (suc t.0) ts t.0 a.2 (omega arith)))
+    (λ j e. ap value_or_zero (found_apart t ts j e))
     ∙ ap suc (list_count n c (suc t.0) ts a.2 b.1)
 
 -- ---- forms

@@ -100,8 +100,8 @@ nothing_listed a i (t ∷ ts) f z =
     let same : a ≡ line_with a t.variable t.factor = same_line a (line_with a t.variable t.factor) refl (nothing_added a.coef t.variable t.factor z.0) in
     let rest = nothing_listed a (i + 1) ts f z.1 in
     let fine : fits t.factor && sum_fits (a.coef t.variable) t.factor ≡ true =
-      and_from _ _ (ap fits z.0 ∙ fits_zero) (ap (sum_fits (a.coef t.variable)) z.0
-        ∙ sum_fits_zero (a.coef t.variable) (f t.variable)) in (
+    and_from _ _ (ap fits z.0 ∙ fits_zero) (ap (sum_fits (a.coef t.variable)) z.0
+    ∙ sum_fits_zero (a.coef t.variable) (f t.variable)) in (
       ap (λ b. option_or (fault_at i (too_wide_unless b)) (terms_fault (line_with a t.variable t.factor) (i + 1) ts)) fine ∙ ap (λ l. terms_fault l (i + 1) ts) (sym same) ∙ rest.0,
       rest.1 ∙ ap (λ l. line_with_terms l ts) same,
     )
@@ -176,8 +176,8 @@ module _ (known : Point → Known) (n : ℕ) (tree : Tree) (form : Form) (folded
       (ap (λ f. option_or f None) folded.0, terms_added n known (record { tree = tree; terms = [] }) (form_line form) tt folded.1)
 
   pub some_terms : (ts : List LinearTerm) (first : ℕ) (e : Entry) → IsWithin n form → tree_size tree ≡ first
-    → AreTermsBelow n ts → ComesToTerms (form_line form) first ts e
-    → IsExpressionFolded known n (record { tree = tree; terms = ts }) e
+      → AreTermsBelow n ts → ComesToTerms (form_line form) first ts e
+      → IsExpressionFolded known n (record { tree = tree; terms = ts }) e
   some_terms ts first (Linear g) within size below h =
       let line = is_line_of n (λ at. tree_given (known at) tree at) form within folded.1 in (
         ap₂ option_or folded.0 (ap₂ (λ l i. terms_fault l i ts) (sym line) size ∙ h.0),
@@ -211,8 +211,8 @@ first_none None rest e = refl
 first_none (Some x) rest e = cc
 
 pub fault_past : (a new : Line) (i : ℕ) (t : LinearTerm) (ts : List LinearTerm)
-  → (terms_fault a i (t ∷ []) ≡ None) × (new ≡ line_with_terms a (t ∷ []))
-  → terms_fault a i (t ∷ ts) ≡ terms_fault new (i + 1) ts
+    → (terms_fault a i (t ∷ []) ≡ None) × (new ≡ line_with_terms a (t ∷ []))
+    → terms_fault a i (t ∷ ts) ≡ terms_fault new (i + 1) ts
 fault_past a new i t ts h =
     first_none (fault_at i (too_wide_unless (fits t.factor && sum_fits (a.coef t.variable) t.factor))) (terms_fault (line_with a t.variable t.factor) (i + 1) ts) h.0
     ∙ ap (λ m. terms_fault m (i + 1) ts) (sym h.1)

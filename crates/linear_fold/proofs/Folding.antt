@@ -125,7 +125,7 @@ operator_zero n c ls h z = absurd (omega arith)
 
 -- ---- an operator
 pub operator_within : (n : ℕ) (c : OpClass) (ps : List PartialForm) (p : PartialForm) → Takes (rule_of c) (length ps)
-  → AreOperands n ps → part_line p ≡ operator_line n c (lines_of_parts ps) → IsSound n p → IsOperand n p
+    → AreOperands n ps → part_line p ≡ operator_line n c (lines_of_parts ps) → IsSound n p → IsOperand n p
 operator_within n c ps p count w e sound =
     record {
       sound = sound;
@@ -133,13 +133,13 @@ operator_within n c ps p count w e sound =
     }
 
 module _ (known : Point → Known) (n i : ℕ) (c : OpClass) (ts : Trees) (ps : List PartialForm)
-  (whole_one : first_broken ps ≡ None) (count : Takes (rule_of c) (length ps)) (within : AreOperands n ps)
-  (operands : AreOperandsOf known n (i + 1) ts ps) where
+    (whole_one : first_broken ps ≡ None) (count : Takes (rule_of c) (length ps)) (within : AreOperands n ps)
+    (operands : AreOperandsOf known n (i + 1) ts ps) where
   fault_here : (r : Option Reason) → operator_fault n c (lines_of_parts ps) ≡ r → tree_fault known n i (operator c ts) ≡ fault_at i r
   fault_here r h =
       ap₂ option_or (sym operands.fault ∙ whole_one) (ap (λ ls. fault_at i (operator_fault n c ls))
-          (sym (lines_are known n ts (lines_of_parts ps) (lines_zero n ps within) (operands.lines whole_one)))
-          ∙ ap (fault_at i) h)
+      (sym (lines_are known n ts (lines_of_parts ps) (lines_zero n ps within) (operands.lines whole_one)))
+      ∙ ap (fault_at i) h)
 
   operator_lined : (l : Line) → operator_fault n c (lines_of_parts ps) ≡ None → l ≡ operator_line n c (lines_of_parts ps) → IsLined known n i (operator c ts) l
   operator_lined l clean line =
@@ -160,8 +160,8 @@ module _ (known : Point → Known) (n i : ℕ) (c : OpClass) (ts : Trees) (ps : 
   operator_folded p clean line sound = operator_lined (part_line p) clean line
 
 pub faulty_operands : (known : Point → Known) (n i : ℕ) (c : OpClass) (ts : Trees) (ps : List PartialForm)
-  → AreOperandsOf known n (i + 1) ts ps → (x : Fault) → first_broken ps ≡ Some x
-  → tree_fault known n i (operator c ts) ≡ Some x
+    → AreOperandsOf known n (i + 1) ts ps → (x : Fault) → first_broken ps ≡ Some x
+    → tree_fault known n i (operator c ts) ≡ Some x
 faulty_operands known n i c ts ps operands x e = ap (λ o. option_or o (fault_at i (operator_fault n c (trees_lines known ts)))) (sym operands.fault ∙ e)
 
 pub operand_within : (n : ℕ) (p : PartialForm) → IsOperand n p → IsPartWithin n p
@@ -203,9 +203,9 @@ top_first stack new x e = ap reverse e ∙ reverse-append new (x ∷ [])
 -- ---- the operands of an operator
 module _ (known : Point → Known) (n : ℕ) where
   clean_first : (i k : ℕ) (t : Tree) (l : Line) (ts : List Tree) (ps : List PartialForm) → IsLined known n i t l
-    → AreOperandsOf known n (i + tree_size t) (first_trees k ts) ps
-    → (first_broken ps ≡ trees_fault known n i (first_trees (suc k) (t ∷ ts)))
-    × (first_broken ps ≡ None → AreLinesOf known n (first_trees (suc k) (t ∷ ts)) (l ∷ lines_of_parts ps))
+      → AreOperandsOf known n (i + tree_size t) (first_trees k ts) ps
+      → (first_broken ps ≡ trees_fault known n i (first_trees (suc k) (t ∷ ts)))
+      × (first_broken ps ≡ None → AreLinesOf known n (first_trees (suc k) (t ∷ ts)) (l ∷ lines_of_parts ps))
   clean_first i k t l ts ps f r = (
     r.fault ∙ ap (λ o. option_or o (trees_fault known n (i + tree_size t) (first_trees k ts))) (sym f.0),
     λ e. (f.1, r.lines e),
@@ -225,7 +225,7 @@ module _ (known : Point → Known) (n : ℕ) where
       record { fault = r.0; lines = r.1 }
 
   pub rest_are : (i k : ℕ) (ts : List Tree) (ps : List PartialForm) → k ≤ length ps → ArePartsFolded known n i ts ps
-    → ArePartsFolded known n (i + trees_size (first_trees k ts)) (drop k ts) (drop k ps)
+      → ArePartsFolded known n (i + trees_size (first_trees k ts)) (drop k ts) (drop k ps)
   rest_are i zero ts ps h f = subst (λ j. ArePartsFolded known n j ts ps) (omega arith) f
   rest_are i (suc k) ts [] h f = absurd (omega arith)
   rest_are i (suc k) [] (p ∷ ps) h f = absurd f
@@ -234,10 +234,10 @@ module _ (known : Point → Known) (n : ℕ) where
 
 -- an operator's part in place of its operands'
 pub operator_step : (known : Point → Known) (n place : ℕ) (o : ℕ) (k : ℕ) (trees : List Tree)
-  (ps rest operands : List PartialForm) (p : PartialForm) → k ≤ length ps → operands ≡ take k ps → rest ≡ drop k ps
-  → ((ts : Trees) → AreOperandsOf known n (place + 1) ts operands
+    (ps rest operands : List PartialForm) (p : PartialForm) → k ≤ length ps → operands ≡ take k ps → rest ≡ drop k ps
+    → ((ts : Trees) → AreOperandsOf known n (place + 1) ts operands
     → IsPartFolded known n place (operator (class_of o) ts) p) → ArePartsFolded known n (place + 1) trees ps
-  → ArePartsFolded known n place (with_node (Op o k) trees) (p ∷ rest)
+    → ArePartsFolded known n place (with_node (Op o k) trees) (p ∷ rest)
 operator_step known n place o k trees ps rest operands p room are is_rest h folded =
     let ts = first_trees k trees in (
       h ts (subst (AreOperandsOf known n (place + 1) ts) (sym are) (operands_are known n (place + 1) k trees ps room folded)),
@@ -245,8 +245,8 @@ operator_step known n place o k trees ps rest operands p room are is_rest h fold
     )
 
 pub operator_size : (o : ℕ) (k : ℕ) (trees : List Tree) (stack new : List PartialForm) → k ≤ length stack
-  → length trees ≡ length stack → reverse new ≡ drop k (reverse stack)
-  → length (with_node (Op o k) trees) ≡ 1 + length new
+    → length trees ≡ length stack → reverse new ≡ drop k (reverse stack)
+    → length (with_node (Op o k) trees) ≡ 1 + length new
 operator_size o k trees stack new room same rest =
     let fewer : length (reverse new) ≡ length (drop k (reverse stack)) = ap length rest in
     omega (arith, fewer, length-reverse new, length-reverse stack, length-drop k (reverse stack), length-drop k trees)
@@ -279,9 +279,9 @@ module _ (n : ℕ) (slots : List (Option Form)) where
   finds_at nodes rest p x f h e = finds_head x rest (subst AreNodesFormed e (formed_drop p nodes f)) (subst (AreNodesWithin n slots) e (within_drop p nodes h)).0
 
 pub top_folded : (known : Point → Known) (n place : ℕ) (nodes : List Node) (tree : Tree) (stack new : List PartialForm)
-  (p : PartialForm) → place ≡ 0 → trees_of nodes ≡ tree ∷ []
-  → ArePartsFolded known n place (trees_of (drop place nodes)) (reverse stack) → stack ≡ new ++ p ∷ []
-  → IsPartFolded known n 0 tree p
+    (p : PartialForm) → place ≡ 0 → trees_of nodes ≡ tree ∷ []
+    → ArePartsFolded known n place (trees_of (drop place nodes)) (reverse stack) → stack ≡ new ++ p ∷ []
+    → IsPartFolded known n 0 tree p
 top_folded known n place nodes tree stack new p is one folded top =
     let a : ArePartsFolded known n 0 (trees_of nodes) (reverse stack) = subst (λ q. ArePartsFolded known n q (trees_of (drop q nodes)) (reverse stack)) is folded in
     let b : ArePartsFolded known n 0 (tree ∷ []) (p ∷ reverse new) = subst₂ (ArePartsFolded known n 0) one (top_first stack new p top) a in
@@ -308,8 +308,8 @@ entry_steps w from to k new old a b =
 
 -- one node more, of those before place p
 pub tree_steps : (w total p start from to old new : ℕ) → 0 < p → p ≤ total
-  → from + 2 * w * old ≤ start + 2 * w * (total - p) → to + 2 * w * new ≤ from + 2 * w * old
-  → to + 2 * w * (new + 1) ≤ start + 2 * w * (total - (p - 1))
+    → from + 2 * w * old ≤ start + 2 * w * (total - p) → to + 2 * w * new ≤ from + 2 * w * old
+    → to + 2 * w * (new + 1) ≤ start + 2 * w * (total - (p - 1))
 tree_steps w total p start from to old new some within a b =
     let one : total - (p - 1) ≡ total - p + 1 = omega arith in
     subst (λ k. to + 2 * w * (new + 1) ≤ start + 2 * w * k) (sym one)

@@ -123,8 +123,8 @@ module _ (known : Point → Known) (n i j : ℕ) (d : Dec) (fit : fits (dec_valu
   product_first : IsLined known n i (operator Product first_trees_here) (multiple_line j (dec_value d))
   product_first =
       let operands : AreOperandsOf known n (i + 1) first_trees_here number_first =
-        operands_are known n (i + 1) 2 (number d.m d.e ∷ variable j ∷ []) number_first (omega arith)
-        (number_here (i + 1), (variable_here (i + 1 + 1), tt)) in
+      operands_are known n (i + 1) 2 (number d.m d.e ∷ variable j ∷ []) number_first (omega arith)
+      (number_here (i + 1), (variable_here (i + 1 + 1), tt)) in
       let within : AreOperands n number_first = (number_within n (frac_of d), (multiple_within n j one_frac low, tt)) in
       let clean : operator_fault n Product (lines_of_parts number_first) ≡ None = fault_first _ _ _ constant_here ∙ ap too_wide_unless fine in
       let line : multiple_line j (frac_value (frac_of d)) ≡ operator_line n Product (lines_of_parts number_first) = product_line ∙ sym (chosen_first _ _ _ constant_here) in
@@ -134,8 +134,8 @@ module _ (known : Point → Known) (n i j : ℕ) (d : Dec) (fit : fits (dec_valu
   product_last : IsLined known n i (operator Product last_trees_here) (multiple_line j (dec_value d))
   product_last =
       let operands : AreOperandsOf known n (i + 1) last_trees_here number_last =
-        operands_are known n (i + 1) 2 (variable j ∷ number d.m d.e ∷ []) number_last (omega arith)
-        (variable_here (i + 1), (number_here (i + 1 + 1), tt)) in
+      operands_are known n (i + 1) 2 (variable j ∷ number d.m d.e ∷ []) number_last (omega arith)
+      (variable_here (i + 1), (number_here (i + 1 + 1), tt)) in
       let within : AreOperands n number_last = (multiple_within n j one_frac low, (number_within n (frac_of d), tt)) in
       let clean : operator_fault n Product (lines_of_parts number_last) ≡ None = fault_second _ _ _ some_here ∙ fault_first _ _ _ constant_here ∙ ap too_wide_unless fine in
       let line : multiple_line j (frac_value (frac_of d)) ≡ operator_line n Product (lines_of_parts number_last) = product_line ∙ sym (chosen_second _ _ _ some_here) in
@@ -163,7 +163,7 @@ number_leaf ns p x d h e is =
     }
 
 pub variable_leaf : (ns : List Node) (p : ℕ) (x : Node) (j : ℕ) (d : Dec) → dec_value d ≡ one_ℚ → p < length ns
-  → x ≡ get_or ns p x → x ≡ Var j → IsLeafAt ns p (record { variable = Some j; factor = d; size = 1 })
+    → x ≡ get_or ns p x → x ≡ Var j → IsLeafAt ns p (record { variable = Some j; factor = d; size = 1 })
 variable_leaf ns p x j d one h e is =
     record {
       tree = variable j;
@@ -188,7 +188,7 @@ module _ (ns : List Node) (p : ℕ) (within : p + 3 ≤ length ns) where
         within = within;
         lined = λ known n i fit low. subst (λ c. IsLined known n i
             (operator c (more (number d.m d.e) (more (variable j) none))) (multiple_line j (dec_value d)))
-          (sym product_class) (product_first known n i j d fit low);
+            (sym product_class) (product_first known n i j d fit low);
       })
   factors_at (Var j) (Num d) l here e =
       subst (IsLeafAt ns p) (ap (λ o. unwrap_or o (factors_leaf j d)) e)
@@ -199,7 +199,7 @@ module _ (ns : List Node) (p : ℕ) (within : p + 3 ≤ length ns) where
         within = within;
         lined = λ known n i fit low. subst (λ c. IsLined known n i
             (operator c (more (variable j) (more (number d.m d.e) none))) (multiple_line j (dec_value d)))
-          (sym product_class) (product_last known n i j d fit low);
+            (sym product_class) (product_last known n i j d fit low);
       })
   factors_at (Num d) (Num e) l here h = cc
   factors_at (Num d) (Defined i) l here h = cc
@@ -211,7 +211,7 @@ module _ (ns : List Node) (p : ℕ) (within : p + 3 ≤ length ns) where
   factors_at (Op o k) b l here h = cc
 
   pub product_leaf : (x a b : Node) (o k : ℕ) (l : Leaf) → x ≡ get_or ns p x → x ≡ Op o k → o ≡ 2 → k ≡ 2
-    → a ≡ get_or ns (p + 1) a → b ≡ get_or ns (p + 2) b → factors_in a b ≡ Some l → IsLeafAt ns p l
+      → a ≡ get_or ns (p + 1) a → b ≡ get_or ns (p + 2) b → factors_in a b ≡ Some l → IsLeafAt ns p l
   product_leaf x a b o k l at is two pair first second e =
       let head : x ≡ Op 2 2 = is ∙ ap₂ (λ m q. Op m q) two pair in
       let m : p + 1 + 1 ≡ p + 2 = omega arith in
@@ -236,8 +236,8 @@ multiple_here ns p l m at is =
 
 -- a fraction times a variable divided by a number
 module _ (known : Point → Known) (n i : ℕ) (t : Tree) (m : Multiple) (d : Dec) (g f : Frac) (is : IsInverse d g)
-  (value : frac_value f ≡ frac_value m.factor *ℚ frac_value g) (low : m.variable < n)
-  (lined : (p : ℕ) → IsLined known n p t (multiple_line m.variable (frac_value m.factor))) where
+    (value : frac_value f ≡ frac_value m.factor *ℚ frac_value g) (low : m.variable < n)
+    (lined : (p : ℕ) → IsLined known n p t (multiple_line m.variable (frac_value m.factor))) where
   quotient_value : frac_value f ≡ inverse_of (frac_value (frac_of d)) *ℚ frac_value m.factor
   quotient_value = value ∙ *ℚ_comm (frac_value m.factor) (frac_value g) ∙ ap (λ x. x *ℚ frac_value m.factor) (is.value ∙ ap inverse_of (sym (frac_of-value d is.divisor)))
 
@@ -249,8 +249,8 @@ module _ (known : Point → Known) (n i : ℕ) (t : Tree) (m : Multiple) (d : De
       let ps : List PartialForm = Variable j m.factor ∷ Number (frac_of d) ∷ [] in
       let ts : Trees = more t (more (number d.m d.e) none) in
       let second : IsLined known n (i + 1 + tree_size t) (number d.m d.e) (constant_line y) =
-        subst (λ z. IsLined known n (i + 1 + tree_size t) (number d.m d.e) (constant_line z))
-        (sym (frac_of-value d is.divisor)) (number_lined known n (i + 1 + tree_size t) d is.divisor) in
+      subst (λ z. IsLined known n (i + 1 + tree_size t) (number d.m d.e) (constant_line z))
+      (sym (frac_of-value d is.divisor)) (number_lined known n (i + 1 + tree_size t) d is.divisor) in
       let operands : AreOperandsOf known n (i + 1) ts ps = operands_are known n (i + 1) 2 (t ∷ number d.m d.e ∷ []) ps (omega arith) (lined (i + 1), (second, tt)) in
       let within : AreOperands n ps = (multiple_within n j m.factor low, (number_within n (frac_of d), tt)) in
       let some : is_zero y ≡ false = nonzero_test y false (λ z. absurd (is.some (sym (frac_of-value d is.divisor) ∙ z))) refl in
@@ -266,9 +266,9 @@ quotient_class = refl
 
 -- the quotient of a multiple at the next place
 pub quotient_multiple : (ns : List Node) (p : ℕ) (m : Multiple) (d : Dec) (g f : Frac)
-  → drop p ns ≡ Op 3 2 ∷ drop (p + 1) ns → IsMultipleAt ns (p + 1) m → IsNumberAt ns (p + 1 + m.size) d → IsInverse d g
-  → frac_value f ≡ frac_value m.factor *ℚ frac_value g → IsMultipleAt ns p
-  (record { variable = m.variable; factor = f; size = m.size + 2 })
+    → drop p ns ≡ Op 3 2 ∷ drop (p + 1) ns → IsMultipleAt ns (p + 1) m → IsNumberAt ns (p + 1 + m.size) d → IsInverse d g
+    → frac_value f ≡ frac_value m.factor *ℚ frac_value g → IsMultipleAt ns p
+    (record { variable = m.variable; factor = f; size = m.size + 2 })
 quotient_multiple ns p m d g f here at last is value =
     let t = at.tree in
     let end : p + 1 + m.size + 1 ≡ p + (m.size + 2) = omega arith in
@@ -285,8 +285,8 @@ quotient_multiple ns p m d g f here at last is value =
 
 -- the quotient of a variable by a number, which are the next two nodes
 pub variable_quotient_is : (ns : List Node) (p : ℕ) (a b : Node) (m : Multiple) → p + 3 ≤ length ns
-  → drop p ns ≡ Op 3 2 ∷ drop (p + 1) ns → a ≡ get_or ns (p + 1) a → b ≡ get_or ns (p + 2) b → IsVariableOver a b m
-  → IsMultipleAt ns p m
+    → drop p ns ≡ Op 3 2 ∷ drop (p + 1) ns → a ≡ get_or ns (p + 1) a → b ≡ get_or ns (p + 2) b → IsVariableOver a b m
+    → IsMultipleAt ns p m
 variable_quotient_is ns p (Var j) (Num d) m within here first second is =
     let dividend : Multiple = record { variable = j; factor = one_frac; size = 1 } in
     let end : p + 2 ≡ p + 1 + 1 = omega arith in
@@ -309,8 +309,8 @@ list_at ns x o k some at is list = record { some = omega arith; first = node_her
 
 -- ---- one leaf more
 decimals_more : (n v : ℕ) (ds : List DecimalTerm) (d : DecimalTerm) → n ≤ v → AreDecimals n ds
-  → AreBelow v (fraction_terms ds) → v ≤ d.0 → dec_value d.1 ≢ zero_ℚ → fits (dec_value d.1) ≡ true
-  → AreDecimals n (ds ++ d ∷ [])
+    → AreBelow v (fraction_terms ds) → v ≤ d.0 → dec_value d.1 ≢ zero_ℚ → fits (dec_value d.1) ≡ true
+    → AreDecimals n (ds ++ d ∷ [])
 decimals_more n v [] d low a b up live fit = (omega arith, live, fit, tt)
 decimals_more n v (x ∷ ds) d low a b up live fit = (a.0, a.1, a.2, decimals_more (suc x.0) v ds d b.0 a.3 b.1 up live fit)
 
@@ -369,8 +369,8 @@ module _ (n : ℕ) (old : LeafSum) (held : AreLeaves n old) (j : ℕ) (d : Dec) 
       }
 
 pub number_added : (n : ℕ) (old new : LeafSum) (d : Dec) (f : Frac) → AreLeaves n old → old.number ≡ None
-  → fits (dec_value d) ≡ true → frac_value f ≡ dec_value d → new.terms ≡ old.terms → new.number ≡ Some f
-  → new.least ≡ old.least → AddsLeaf n old None d new
+    → fits (dec_value d) ≡ true → frac_value f ≡ dec_value d → new.terms ≡ old.terms → new.number ≡ Some f
+    → new.least ≡ old.least → AddsLeaf n old None d new
 number_added n old new d f held free fit is terms_are number_is least_is =
     record {
       leaves =
@@ -401,21 +401,21 @@ nothing_more known n i l = record { clean = refl; lines = tt; fit = refl; sum = 
 
 -- a leaf before trees
 one_more : (known : Point → Known) (n i : ℕ) (t : Tree) (ts : Trees) (a b l leaf : Line) → IsLined known n i t leaf
-  → IsZeroFrom n leaf → sums_fit n a leaf ≡ true → b ≡ line_sum a leaf → SumsUpTo known n (i + tree_size t) ts b l
-  → SumsUpTo known n i (more t ts) a l
+    → IsZeroFrom n leaf → sums_fit n a leaf ≡ true → b ≡ line_sum a leaf → SumsUpTo known n (i + tree_size t) ts b l
+    → SumsUpTo known n i (more t ts) a l
 one_more known n i t ts a b l leaf lined zero_from fit line rest =
     let same : leaf ≡ tree_line known t = is_line_by n (λ at. tree_given (known at) t at) leaf zero_from lined.1 in
     record {
       clean = ap (λ o. option_or o (trees_fault known n (i + tree_size t) ts)) lined.0 ∙ rest.clean;
       lines = (same_values n (λ at. tree_given (known at) t at) (tree_line known t) leaf (sym same) lined.1, rest.lines);
       fit = subst (λ m. sums_fit n a m && running_sums_fit n (line_sum a m) (trees_lines known ts) ≡ true) same
-        (and_from _ _ fit (ap (λ m. running_sums_fit n m (trees_lines known ts)) (sym line) ∙ rest.fit));
+          (and_from _ _ fit (ap (λ m. running_sums_fit n m (trees_lines known ts)) (sym line) ∙ rest.fit));
       sum = subst (λ m. running_line (line_sum a m) (trees_lines known ts) ≡ l) same (ap (λ m. running_line m (trees_lines known ts)) (sym line) ∙ rest.sum);
     }
 
 -- a sum of trees that begins at 0
 pub sum_folded : (known : Point → Known) (n : ℕ) (ts : Trees) (l : Line) (form : Form) → 1 ≤ count_of ts
-  → SumsUpTo known n 1 ts zero_line l → form_line form ≡ l → IsFolded known n 0 (operator SumOfAll ts) (Whole form)
+    → SumsUpTo known n 1 ts zero_line l → form_line form ≡ l → IsFolded known n 0 (operator SumOfAll ts) (Whole form)
 sum_folded known n none l form some s is = absurd (omega arith)
 sum_folded known n (more t ts) l form some s is =
     let first = tree_line known t in
@@ -436,15 +436,15 @@ list_class = refl
 
 -- the leaf at a place before trees of the nodes after it
 pub leaf_more : (known : Point → Known) (n : ℕ) (ns : List Node) (place m count : ℕ) (leaf : Leaf) (old new : LeafSum)
-  (l : Line) → IsLeafAt ns place leaf → AddsLeaf n old leaf.variable leaf.factor new → count ≡ suc m
-  → SumsUpTo known n (place + leaf.size) (first_trees m (trees_of (drop (place + leaf.size) ns))) (leaves_line new) l
-  → SumsUpTo known n place (first_trees count (trees_of (drop place ns))) (leaves_line old) l
+    (l : Line) → IsLeafAt ns place leaf → AddsLeaf n old leaf.variable leaf.factor new → count ≡ suc m
+    → SumsUpTo known n (place + leaf.size) (first_trees m (trees_of (drop (place + leaf.size) ns))) (leaves_line new) l
+    → SumsUpTo known n place (first_trees count (trees_of (drop place ns))) (leaves_line old) l
 leaf_more known n ns place m count leaf old new l at adds e rest =
     let left = trees_of (drop (place + leaf.size) ns) in
     subst₂ (λ k ts. SumsUpTo known n place (first_trees k ts) (leaves_line old) l) (sym e) (sym at.trees)
     (one_more known n place at.tree (first_trees m left) (leaves_line old) (leaves_line new) l
-      (leaf_line leaf.variable (dec_value leaf.factor)) (at.lined known n place adds.fine adds.inside)
-      (leaf_zero_from n leaf.variable (dec_value leaf.factor) adds.inside) adds.fit adds.line
+    (leaf_line leaf.variable (dec_value leaf.factor)) (at.lined known n place adds.fine adds.inside)
+    (leaf_zero_from n leaf.variable (dec_value leaf.factor) adds.inside) adds.fit adds.line
     (subst (λ s. SumsUpTo known n (place + s) (first_trees m left) (leaves_line new) l) (sym at.size) rest))
 
 -- no leaf is left
@@ -453,16 +453,16 @@ leaves_end known n place left ts l e = subst (λ k. SumsUpTo known n place (firs
 
 -- the multiple at a place before trees of the nodes after it
 pub multiple_more : (known : Point → Known) (n : ℕ) (ns : List Node) (place least k count : ℕ) (m : Multiple)
-  (old new : List Term) (l : Line) → IsMultipleAt ns place m → AreBelow least old → Appends n least old m new
-  → count ≡ suc k → SumsUpTo known n (place + m.size) (first_trees k (trees_of (drop (place + m.size) ns)))
-  (parts_line zero_ℚ new) l → SumsUpTo known n place (first_trees count (trees_of (drop place ns)))
-  (parts_line zero_ℚ old) l
+    (old new : List Term) (l : Line) → IsMultipleAt ns place m → AreBelow least old → Appends n least old m new
+    → count ≡ suc k → SumsUpTo known n (place + m.size) (first_trees k (trees_of (drop (place + m.size) ns)))
+    (parts_line zero_ℚ new) l → SumsUpTo known n place (first_trees count (trees_of (drop place ns)))
+    (parts_line zero_ℚ old) l
 multiple_more known n ns place least k count m old new l at below adds e rest =
     let left = trees_of (drop (place + m.size) ns) in
     subst₂ (λ c ts. SumsUpTo known n place (first_trees c ts) (parts_line zero_ℚ old) l) (sym e) (sym at.trees)
     (one_more known n place at.tree (first_trees k left) (parts_line zero_ℚ old) (parts_line zero_ℚ new) l
-      (multiple_line m.variable (frac_value m.factor)) (at.lined known n place adds.inside)
-      (multiple_zero_from n m.variable (frac_value m.factor) adds.inside)
+    (multiple_line m.variable (frac_value m.factor)) (at.lined known n place adds.inside)
+    (multiple_zero_from n m.variable (frac_value m.factor) adds.inside)
     (term_fits old least m.variable m.factor below adds.up n zero_ℚ fits_zero)
     (ap (parts_line zero_ℚ) adds.terms ∙ term_line old least m.variable m.factor below adds.up zero_ℚ)
     (subst (λ s. SumsUpTo known n (place + s) (first_trees k left) (parts_line zero_ℚ new) l) (sym at.size) rest))
@@ -479,8 +479,8 @@ terms_more n least m old new held adds =
 
 -- ---- the form
 list_folded : (known : Point → Known) (n : ℕ) (ns : List Node) (k : ℕ) (l : Line) (form : Form) (t : Tree)
-  → IsTreeFormed t → IsListOf ns k → trees_of ns ≡ t ∷ [] → SumsUpTo known n 1 (first_trees k (trees_of (drop 1 ns)))
-  zero_line l → form_line form ≡ l → IsFolded known n 0 t (Whole form)
+    → IsTreeFormed t → IsListOf ns k → trees_of ns ≡ t ∷ [] → SumsUpTo known n 1 (first_trees k (trees_of (drop 1 ns)))
+    zero_line l → form_line form ≡ l → IsFolded known n 0 t (Whole form)
 list_folded known n ns k l form t formed list one s is =
     let ts = first_trees k (trees_of (drop 1 ns)) in
     let same : operator (class_of 54) ts ≡ t = sym (ap (λ xs. first_of_trees (trees_of xs)) list.first) ∙ ap first_of_trees one in
@@ -488,9 +488,9 @@ list_folded known n ns k l form t formed list one s is =
     subst (λ u. IsFolded known n 0 u (Whole form)) (ap (λ c. operator c ts) (sym list_class) ∙ same) (sum_folded known n ts l form some s is)
 
 pub form_of_terms : (n least : ℕ) (ns : List Node) (k : ℕ) (c : ℚ) (ts : List Term) (form : Form) → IsListOf ns k
-  → least ≤ n → AreBelow least ts → ((known : Point → Known)
+    → least ≤ n → AreBelow least ts → ((known : Point → Known)
     → SumsUpTo known n 1 (first_trees k (trees_of (drop 1 ns))) zero_line (parts_line c ts))
-  → form_line form ≡ parts_line c ts → IsFormOf n ns form
+    → form_line form ≡ parts_line c ts → IsFormOf n ns form
 form_of_terms n least ns k c ts form list few below sums line =
     record {
       folded = λ known t formed one. list_folded known n ns k (parts_line c ts) form t formed list one (sums known) line;

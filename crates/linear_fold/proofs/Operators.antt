@@ -66,8 +66,8 @@ pub multiple_term : (k : Frac) (j : ℕ) (c : ℚ) → c ≡ zero_ℚ → (recor
 multiple_term k j c e =
     same_line (record { constant = c; coef = coef_in ((j, k) ∷ []) }) (multiple_line j (frac_value k)) e
     (adds_at (λ i. zero_ℚ) (coef_in ((j, k) ∷ [])) j (frac_value k)
-      (ap value_or_zero (found_same (j, k) [] j refl) ∙ sym (zero-+ℚ (frac_value k)))
-      (λ i n. ap value_or_zero (found_apart (j, k) [] i n)))
+    (ap value_or_zero (found_same (j, k) [] j refl) ∙ sym (zero-+ℚ (frac_value k)))
+    (λ i n. ap value_or_zero (found_apart (j, k) [] i n)))
 
 -- ---- k times a number, and k times a multiple
 module _ (n : ℕ) (k x : ℚ) where
@@ -227,7 +227,7 @@ module _ (a b : Line) (k : ℚ) (kb : Line) (is : line_scaled k b ≡ kb) (small
         sum = both.0;
         products = parts.coefs;
         sums = each_below (λ i. sum_fits (a.coef i) (k *ℚ b.coef i)) n both.1
-          (λ j g. ap₂ (λ x y. sum_fits x (k *ℚ y)) (za j g) (zb j g) ∙ ap (sum_fits zero_ℚ) (*ℚ_zero k)
+            (λ j g. ap₂ (λ x y. sum_fits x (k *ℚ y)) (za j g) (zb j g) ∙ ap (sum_fits zero_ℚ) (*ℚ_zero k)
             ∙ sum_fits_zero zero_ℚ fits_zero);
       }))
 
@@ -279,7 +279,7 @@ pub quotient_zero : (n : ℕ) (a b : Line) → is_constant n b ≡ true → is_z
 quotient_zero n a b t z = fault_first _ _ _ t ∙ fault_first _ _ _ z
 
 pub quotient_comes : (n : ℕ) (a b : Line) (o : Outcome) (k : ℚ) → k ≡ inverse_of b.constant → is_constant n b ≡ true
-  → is_zero b.constant ≡ false → ComesTo n (products_fit n k a) (line_scaled k a) o → Operates n Quotient (a ∷ b ∷ []) o
+    → is_zero b.constant ≡ false → ComesTo n (products_fit n k a) (line_scaled k a) o → Operates n Quotient (a ∷ b ∷ []) o
 quotient_comes n a b (Made f) k is t z h = (
   fault_first _ _ _ t ∙ fault_second _ _ _ z ∙ ap too_wide_unless (ap (λ x. products_fit n x a) (sym is) ∙ h.0),
   h.1 ∙ ap (λ x. line_scaled x a) is,

@@ -134,12 +134,12 @@ no_fault a i (t ∷ ts) fit few new =
 
 -- ---- what terms come to in order
 pub kept_more : (ts : List DecimalTerm) (i : ℕ) (t : DecimalTerm) (all : Type 0) → drop i ts ≡ t ∷ drop (i + 1) ts
-  → fits (dec_value t.1) ≡ true → (All Fits (drop i ts) → all) → All Fits (drop (i + 1) ts) → all
+    → fits (dec_value t.1) ≡ true → (All Fits (drop i ts) → all) → All Fits (drop (i + 1) ts) → all
 kept_more ts i t all at fine h rest = h (subst (All Fits) (sym at) (All-cons Fits t (drop (i + 1) ts) fine rest))
 
 pub in_order : (a : Line) (i : ℕ) (ts ordered : List DecimalTerm) (e : Entry) → All Fits ts → IsPermutation ts ordered
-  → AreStrictlyAscending 0 (linear_terms ordered) → ((j : ℕ) → a.coef j ≡ zero_ℚ)
-  → ComesToTerms a i (linear_terms ordered) e → ComesToTerms a i (linear_terms ts) e
+    → AreStrictlyAscending 0 (linear_terms ordered) → ((j : ℕ) → a.coef j ≡ zero_ℚ)
+    → ComesToTerms a i (linear_terms ordered) e → ComesToTerms a i (linear_terms ts) e
 in_order a i ts ordered (Linear form) fit moved up new h = (
   no_fault a i ts fit (λ j. omega (arith, sum_by-IsPermutation (once j) ts ordered moved, (ascending_once 0 j ordered up).0)) (λ j some. new j),
   h.1 ∙ same_terms a ts ordered moved,

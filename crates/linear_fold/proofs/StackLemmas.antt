@@ -104,7 +104,7 @@ parts_set (r ∷ ps) (suc k) p q h e s = (same_part r, parts_set ps k p q (omega
 
 -- one of a stack's parts is closed
 pub one_closed : (stack new : List PartialForm) (k : ℕ) (p q : PartialForm) → k < length stack → p ≡ get_or stack k p
-  → new ≡ set stack k q → IsSamePart p q → AreSameParts (reverse stack) (reverse new)
+    → new ≡ set stack k q → IsSamePart p q → AreSameParts (reverse stack) (reverse new)
 one_closed stack new k p q h e is s = parts_reverse stack new (subst (AreSameParts stack) (sym is) (parts_set stack k p q h e s))
 
 within_append : (n : ℕ) (ps qs : List PartialForm) → ArePartsWithin n (ps ++ qs) → ArePartsWithin n ps × ArePartsWithin n qs

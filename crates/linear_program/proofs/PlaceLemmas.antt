@@ -48,7 +48,7 @@ module _ (ps : List Frac) (i : ℕ) (x : Frac) (within : i < length ps) where
             ⊎_elim (λ (e : j ≡ i). subst (Contains (touched ++ i ∷ [])) (sym e) (Contains-append_right touched (i ∷ []) i (0, omega arith, refl)))
             (λ (apart : j ≢ i). Contains-append_left touched (i ∷ []) j (m.among j (λ z. n (place_set_other ps i x j apart ∙ z)))) (cases_eq j i);
         there = λ j c. (let h = ⊎_elim (m.there j) (λ (o : Contains (i ∷ []) j). subst (λ q. q < length ps)
-              (sym (one_only i j o)) within) (Contains-append_cases touched (i ∷ []) j c) in
+            (sym (one_only i j o)) within) (Contains-append_cases touched (i ∷ []) j c) in
             omega (arith, length-set ps i x));
         few = (let h = m.few in omega (arith, length-set ps i x));
       }

@@ -64,12 +64,12 @@ same_terms n [] (y ∷ ys) a b h = absurd (b.1 (sym (coef_there y ys) ∙ sym (h
 same_terms n (x ∷ xs) [] a b h = absurd (a.1 (sym (coef_there x xs) ∙ h x.0))
 same_terms n (x ∷ xs) (y ∷ ys) a b h =
     let first_apart : (s t : Term) (ss ts : List Term) → AreAscending n (s ∷ ss) → AreAscending n (t ∷ ts)
-      → coef_in (s ∷ ss) s.0 ≡ coef_in (t ∷ ts) s.0 → s.0 < t.0 → ⊥ =
-      λ s t ss ts u v e l. u.1 (sym (coef_there s ss) ∙ e ∙ ap value_or_zero
-        (found_before t.0 (t ∷ ts) s.0 (omega arith, v.1, v.2) l)) in
+    → coef_in (s ∷ ss) s.0 ≡ coef_in (t ∷ ts) s.0 → s.0 < t.0 → ⊥ =
+    λ s t ss ts u v e l. u.1 (sym (coef_there s ss) ∙ e ∙ ap value_or_zero
+    (found_before t.0 (t ∷ ts) s.0 (omega arith, v.1, v.2) l)) in
     let key : x.0 ≡ y.0 = ⊎_elim (λ (l : x.0 < y.0). absurd (first_apart x y xs ys a b (h x.0) l))
-      (λ (g : y.0 ≤ x.0). ⊎_elim (λ (l : y.0 < x.0). absurd (first_apart y x ys xs b a (sym (h y.0)) l))
-        (λ (m : x.0 ≤ y.0). omega arith) (cases_lt y.0 x.0)) (cases_lt x.0 y.0) in
+    (λ (g : y.0 ≤ x.0). ⊎_elim (λ (l : y.0 < x.0). absurd (first_apart y x ys xs b a (sym (h y.0)) l))
+    (λ (m : x.0 ≤ y.0). omega arith) (cases_lt y.0 x.0)) (cases_lt x.0 y.0) in
     let value : x.1 ≡ y.1 = same_frac x.1 y.1 (sym (coef_there x xs) ∙ h x.0 ∙ ap (coef_in (y ∷ ys)) key ∙ coef_there y ys) in
     let rest = same_terms (suc x.0) xs ys a.2 (subst (λ k. AreAscending (suc k) ys) (sym key) b.2)
     (λ j.

@@ -66,8 +66,8 @@ wide_coef n k (t ∷ ts) up w =
 
 module _ (a : Line) (k : ℚ) (ts : List Term) (is : (j : ℕ) → a.coef j ≡ coef_in ts j) where
   pub products_are : (c : ℚ) (ps : List Term) → fits (k *ℚ a.constant) ≡ true → c ≡ k *ℚ a.constant
-    → AreProducts k ts ps → ((n : ℕ) → products_fit n k a ≡ true)
-    × ((record { constant = c; coef = coef_in ps }) ≡ line_scaled k a)
+      → AreProducts k ts ps → ((n : ℕ) → products_fit n k a ≡ true)
+      × ((record { constant = c; coef = coef_in ps }) ≡ line_scaled k a)
   products_are c ps fine e p = (
     λ n. and_from _ _ fine (all_below-intro (λ j. fits (k *ℚ a.coef j)) n (λ j h. ap (λ x. fits (k *ℚ x)) (is j) ∙ (product_coef k ts ps j p).1)),
     same_line (record { constant = c; coef = coef_in ps }) (line_scaled k a) e (λ j. (product_coef k ts ps j p).0 ∙ ap (λ x. k *ℚ x) (sym (is j))),
@@ -90,8 +90,8 @@ module _ (a : Line) (k : ℚ) (ts : List Term) (is : (j : ℕ) → a.coef j ≡ 
 -- ---- the loop
 module _ (k : ℚ) (all left rest : List Term) (t : Term) (at : left ≡ t ∷ rest) where
   pub one_product : (out now : List Term) (p : Frac) → now ≡ out ++ (t.0, p) ∷ [] → fits (k *ℚ frac_value t.1) ≡ true
-    → frac_value p ≡ k *ℚ frac_value t.1 → ((ps : List Term) → AreProducts k left ps → AreProducts k all (out ++ ps))
-    → (ps : List Term) → AreProducts k rest ps → AreProducts k all (now ++ ps)
+      → frac_value p ≡ k *ℚ frac_value t.1 → ((ps : List Term) → AreProducts k left ps → AreProducts k all (out ++ ps))
+      → (ps : List Term) → AreProducts k rest ps → AreProducts k all (now ++ ps)
   one_product out now p e fine is made ps a =
       subst (AreProducts k all) (sym (append_assoc out ((t.0, p) ∷ []) ps) ∙ ap (λ xs. xs ++ ps) (sym e))
       (made ((t.0, p) ∷ ps) (subst (λ xs. AreProducts k xs ((t.0, p) ∷ ps)) (sym at) (refl, fine, is, a)))

@@ -67,9 +67,9 @@ module _ (es : List (ℕ × Dec)) (k : ℕ) (t : ℕ × Dec) (lt : k < length es
 
   -- the count with one entry more, of what the rows are
   pub count_step : (what : RowUse → Bool) (uses : List RowUse) (u : RowUse) (z : Bool) (before after : ℕ)
-    → t.0 < length uses → u ≡ get_or uses t.0 Unused → z ≡ is_zero_dec t.1 → after ≡ before + one_if (what u && not z)
-    → after + hits (λ i. what (get_or uses i Unused)) (map entry_of (drop (k + 1) es))
-    ≡ before + hits (λ i. what (get_or uses i Unused)) (map entry_of (drop k es))
+      → t.0 < length uses → u ≡ get_or uses t.0 Unused → z ≡ is_zero_dec t.1 → after ≡ before + one_if (what u && not z)
+      → after + hits (λ i. what (get_or uses i Unused)) (map entry_of (drop (k + 1) es))
+      ≡ before + hits (λ i. what (get_or uses i Unused)) (map entry_of (drop k es))
   count_step what uses u z before after within read none h =
       omega (arith, h, hit_step (λ i. what (get_or uses i Unused)), ap₂ (λ v y. one_if (what v && not y)) read none)
 
@@ -88,8 +88,8 @@ still_only a b c e f = f ∙ ap (λ (x : Draft). record x { terms = c.terms; slo
 
 -- ---- rows
 pub use_is : (rows : List MpsRow) (i : ℕ) (b o : Bool) (n : ℕ) (u : RowUse)
-  → u ≡ cond b (Constraint n) (cond o Objective Unused) → b ≡ is_constraint rows i → n ≡ rank rows i
-  → o ≡ nat_eq i (objective_row rows) → u ≡ use_of rows i
+    → u ≡ cond b (Constraint n) (cond o Objective Unused) → b ≡ is_constraint rows i → n ≡ rank rows i
+    → o ≡ nat_eq i (objective_row rows) → u ≡ use_of rows i
 use_is rows i b o n u h e g f = h ∙ (λ p. cond (e p) (Constraint (g p)) (cond (f p) Objective Unused))
 
 -- ---- kinds
@@ -150,12 +150,12 @@ module _ (m : Mps Dec) where
   large_places e = ap (λ b. b || nat_lt (2 ^ 22) (term_count (constraint_terms m) + length (objective_terms m))) e
 
   pub large_terms : nat_lt (2 ^ 20) (length (constraints m.rows)) || nat_lt (2 ^ 20) (length m.columns) ≡ false
-    → 2 ^ 22 < term_count (constraint_terms m) + length (objective_terms m) → is_too_large m ≡ true
+      → 2 ^ 22 < term_count (constraint_terms m) + length (objective_terms m) → is_too_large m ≡ true
   unfolding is_too_large
   large_terms e h = ap₂ (λ a b. a || b) e (lt-ltb (2 ^ 22) (term_count (constraint_terms m) + length (objective_terms m)) h)
 
   pub not_large : nat_lt (2 ^ 20) (length (constraints m.rows)) || nat_lt (2 ^ 20) (length m.columns) ≡ false
-    → term_count (constraint_terms m) + length (objective_terms m) ≤ 2 ^ 22 → is_too_large m ≡ false
+      → term_count (constraint_terms m) + length (objective_terms m) ≤ 2 ^ 22 → is_too_large m ≡ false
   unfolding is_too_large
   not_large e h = ap₂ (λ a b. a || b) e (le-ltb (2 ^ 22) (term_count (constraint_terms m) + length (objective_terms m)) h)
 
@@ -183,7 +183,7 @@ module _ (m : Mps Dec) where
     both_few : (nat_lt (2 ^ 20) (length (constraints m.rows)) ≡ false) × (nat_lt (2 ^ 20) (length m.columns) ≡ false)
     unfolding is_too_large
     both_few = or_parts (nat_lt (2 ^ 20) (length (constraints m.rows))) (nat_lt (2 ^ 20) (length m.columns))
-      (or_parts (nat_lt (2 ^ 20) (length (constraints m.rows)) || nat_lt (2 ^ 20) (length m.columns)) _ clean_large).0
+        (or_parts (nat_lt (2 ^ 20) (length (constraints m.rows)) || nat_lt (2 ^ 20) (length m.columns)) _ clean_large).0
 
     pub few_constraints : length (constraints m.rows) ≤ 2 ^ 20
     few_constraints = ltb-false (2 ^ 20) (length (constraints m.rows)) both_few.0
@@ -232,8 +232,8 @@ module _ (m : Mps Dec) (p : Parts) (are : ArePartsOf m p) where
   sides_count = ap length are.sides ∙ length-map (constraints m.rows) (λ i. sides_from (row_interval (values_of m) i))
 
   pub counts_are : counts_with (length m.columns) (length p.sides.items) (count_by (side_test false) p.sides.items)
-    (count_by (side_test true) p.sides.items) p.variables.binary p.variables.integer p.count.constraints
-    p.count.objective ≡ import_counts m
+      (count_by (side_test true) p.sides.items) p.variables.binary p.variables.integer p.count.constraints
+      p.count.objective ≡ import_counts m
   unfolding import_counts
   counts_are = λ q. counts_with (length m.columns) (sides_count q) (counted_sides false q) (counted_sides true q) (are.binary q) (are.integer q) (are.terms q) (are.slopes q)
 
@@ -245,10 +245,10 @@ module _ (m : Mps Dec) (p : Parts) (are : ArePartsOf m p) where
       p.variables.integer p.count.constraints p.count.objective) ≡ true
   header_there =
       header_fits (length m.columns) (length p.sides.items) (count_by (side_test false) p.sides.items)
-        (count_by (side_test true) p.sides.items) p.variables.binary p.variables.integer p.count.constraints
-        p.count.objective
+      (count_by (side_test true) p.sides.items) p.variables.binary p.variables.integer p.count.constraints
+      p.count.objective
       (few_columns m are.clean) sides_few (omega (arith, sides_few, count_by-le-length (side_test false) p.sides.items))
-        (omega (arith, sides_few, count_by-le-length (side_test true) p.sides.items)) whole_few
+      (omega (arith, sides_few, count_by-le-length (side_test true) p.sides.items)) whole_few
       (omega (arith, are.terms, are.slopes, few_terms m (clean_large m are.clean)))
     where
       sides_few : length p.sides.items ≤ 2 ^ 20

@@ -7,7 +7,7 @@ use Rattle.text_base.proofs.NamePlaces.{place_none, bytes_differ}
 use Rattle.mps_model.specs.Names.{AreNames, is_reserved}
 
 pub names_more : (names : List (List ℕ)) (name : List ℕ) → AreNames names → place_of names name ≡ None
-  → length names + 1 < 2 ^ 32 → IsName name → is_reserved name ≡ false → AreNames (names ++ name ∷ [])
+    → length names + 1 < 2 ^ 32 → IsName name → is_reserved name ≡ false → AreNames (names ++ name ∷ [])
 names_more names name a new room named free =
     let others = place_none names name new in
     record {

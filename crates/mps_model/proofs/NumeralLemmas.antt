@@ -75,8 +75,8 @@ index_of letter n k text few h e =
 pub no_index : (letter n : ℕ) (text : List ℕ) → ((j : ℕ) → j < n → letter ∷ decimal j ≢ text) → index_named (λ j. letter ∷ decimal j) n text ≡ None
 unfolding index_named
 no_index letter n text none = place_none (λ j. bytes_eq (letter ∷ decimal j) text) n 0
-  (λ j less. bytes_other (letter ∷ decimal (0 + j)) text (λ same. none j less
-      (ap (λ i. letter ∷ decimal i) (omega arith) ∙ same)))
+    (λ j less. bytes_other (letter ∷ decimal (0 + j)) text (λ same. none j less
+    (ap (λ i. letter ∷ decimal i) (omega arith) ∙ same)))
 
 pub one_zero : (ds : List ℕ) → length ds ≤ 1 → get_or ds 0 0 ≡ 48 → length ds ≡ 1
 one_zero [] short first = absurd (omega (arith, first))

@@ -116,7 +116,7 @@ module _ (m : Mps Dec) (ts : List (List DecimalTerm)) (are : ts ≡ listed (row_
       }
 
 pub row_test : (rows read : List MpsRow) (i : ℕ) (row : MpsRow) (kind : RowKind) (b : Bool) → i < length read
-  → read ≡ rows → row ≡ get_or read i row → kind ≡ row.kind → b ≡ is_bounded_kind kind → b ≡ is_constraint rows i
+    → read ≡ rows → row ≡ get_or read i row → kind ≡ row.kind → b ≡ is_bounded_kind kind → b ≡ is_constraint rows i
 row_test rows read i row kind b lt e is k h = h ∙ ap is_bounded_kind (k ∙ ap (λ (r : MpsRow). r.kind) (is ∙ get_or_default read i row no_mps_row lt)) ∙ ap (λ rs. is_constraint rs i) e
 
 -- the loop over the rows, with one row more
@@ -125,8 +125,8 @@ module _ (m : Mps Dec) (i next : ℕ) (step : i + 1 ≡ next) (fs new : List For
   IsNext n = AreBodiesOf (row_terms m) (places (is_constraint m.rows) n) new × (places (is_body_wide m) n ≡ [])
 
   pub next_body : (f : Form) (k : ℚ) (own : List DecimalTerm) (b w : Bool) → b ≡ is_constraint m.rows i → b ≡ true
-    → own ≡ row_terms m i → w ≡ has_wide_term own → w ≡ false → k ≡ zero_ℚ → IsFormOf k own f → new ≡ fs ++ f ∷ []
-    → IsNext next
+      → own ≡ row_terms m i → w ≡ has_wide_term own → w ≡ false → k ≡ zero_ℚ → IsFormOf k own f → new ≡ fs ++ f ∷ []
+      → IsNext next
   next_body f k own b w t yes_here o h e z form n =
       let here : is_constraint m.rows i ≡ true = sym t ∙ yes_here in
       let fit : has_wide_term (row_terms m i) ≡ false = ap has_wide_term (sym o) ∙ sym h ∙ e in
@@ -147,8 +147,8 @@ module _ (m : Mps Dec) (i next : ℕ) (step : i + 1 ≡ next) (fs new : List For
       )
 
 pub first_body : (m : Mps Dec) (i : ℕ) (own : List DecimalTerm) (b w : Bool) → i < length m.rows
-  → places (is_body_wide m) i ≡ [] → b ≡ is_constraint m.rows i → b ≡ true → own ≡ row_terms m i → w ≡ has_wide_term own
-  → w ≡ true → first_wide_body m ≡ Some i
+    → places (is_body_wide m) i ≡ [] → b ≡ is_constraint m.rows i → b ≡ true → own ≡ row_terms m i → w ≡ has_wide_term own
+    → w ≡ true → first_wide_body m ≡ Some i
 first_body m i own b w lt none t here o h wide = first_here (is_body_wide m) (length m.rows) i lt none (ap₂ ◌&&◌ (sym t ∙ here) (ap has_wide_term (sym o) ∙ sym h ∙ wide))
 
 pub bodies_end : (m : Mps Dec) (i : ℕ) (fs : List Form) → i ≡ length m.rows → AreBodiesOf (row_terms m) (places (is_constraint m.rows) i) fs → AreBodiesOf (row_terms m) (constraints m.rows) fs
@@ -167,6 +167,6 @@ module _ (m : Mps Dec) (place : ℕ) (rhs : Dec) (at : place ≡ objective_row m
         ∙ ap (λ p. has_wide_term (row_terms m p)) (sym at) ∙ ap has_wide_term (sym o) ∙ sym h
 
   pub objective_form_is : (f : Form) (k s : ℚ) (own : List DecimalTerm) → own ≡ row_terms m place → s ≡ dec_value rhs
-    → k ≡ neg_ℚ s → IsFormOf k own f → IsFormOf (neg_ℚ (rhs_at (values_of m) (objective_row m.rows)))
-    (row_terms m (objective_row m.rows)) f
+      → k ≡ neg_ℚ s → IsFormOf k own f → IsFormOf (neg_ℚ (rhs_at (values_of m) (objective_row m.rows)))
+      (row_terms m (objective_row m.rows)) f
   objective_form_is f k s own o e n form = subst₂ (λ c us. IsFormOf c us f) (n ∙ ap neg_ℚ (e ∙ value)) (o ∙ ap (row_terms m) at) form

@@ -72,7 +72,7 @@ module _ (m : Mps ℚ) where
   linear_lem =
       record {
         ordered = all_rows (λ r. AreOrdered r.side.lower r.side.upper)
-          (λ k i. as_ordered (row_interval m i).lower (row_interval m i).upper
+            (λ k i. as_ordered (row_interval m i).lower (row_interval m i).upper
             (row_rising (get_or m.rows i no_mps_row).kind (rhs_at m i) (at_row i m.ranges))) 0 (constraints m.rows);
         within = all_rows (λ r. (j : ℕ) → length (elements_from (linear_variable m) 0 width) ≤ j
             → r.body.coefficient j ≡ zero_ℚ) (λ k i j h. past_columns m i j
@@ -87,8 +87,8 @@ module _ (m : Mps ℚ) where
     part_lem : (i : ℕ) → linear_part (coefficient_at m i) width xs ≡ row_value m xs i
     unfolding linear_part row_value
     part_lem i = sum_below_same (λ j. coefficient_at m i j *ℚ value_at xs j)
-      (λ j. part_of_row i (column_at m j).entries (value_at xs j)) width
-      (λ j lt. part_times i (column_at m j).entries (value_at xs j))
+        (λ j. part_of_row i (column_at m j).entries (value_at xs j)) width
+        (λ j lt. part_times i (column_at m j).entries (value_at xs j))
 
     pub body_lem : (i n : ℕ) → n ≡ width → form_value (row_form m i) n xs ≡ row_value m xs i
     body_lem i n e = zero-+ℚ (linear_part (coefficient_at m i) n xs) ∙ ap (λ n. linear_part (coefficient_at m i) n xs) e ∙ part_lem i
@@ -108,14 +108,14 @@ module _ (m : Mps ℚ) where
     rows_hold : (n k : ℕ) (is : List ℕ) → n ≡ width → All Holds is → All (RowHolds n xs) (linear_rows m k is)
     rows_hold n k [] e h = All-nil (RowHolds n xs)
     rows_hold n k (i ∷ is) e h = All-cons (RowHolds n xs) (linear_row m k i) (linear_rows m (suc k) is)
-      (subst (IsInside (row_interval m i)) (sym (body_lem i n e)) (All-head Holds i is h))
-      (rows_hold n (suc k) is e (All-tail Holds i is h))
+        (subst (IsInside (row_interval m i)) (sym (body_lem i n e)) (All-head Holds i is h))
+        (rows_hold n (suc k) is e (All-tail Holds i is h))
 
     hold_rows : (n k : ℕ) (is : List ℕ) → n ≡ width → All (RowHolds n xs) (linear_rows m k is) → All Holds is
     hold_rows n k [] e h = All-nil Holds
     hold_rows n k (i ∷ is) e h = All-cons Holds i is (subst (IsInside (row_interval m i)) (body_lem i n e)
         (All-head (RowHolds n xs) (linear_row m k i) (linear_rows m (suc k) is) h))
-      (hold_rows n (suc k) is e (All-tail (RowHolds n xs) (linear_row m k i) (linear_rows m (suc k) is) h))
+        (hold_rows n (suc k) is e (All-tail (RowHolds n xs) (linear_row m k i) (linear_rows m (suc k) is) h))
 
     constraints_hold : IsMpsFeasible m xs → All Holds (constraints m.rows)
     unfolding constraints

@@ -71,7 +71,7 @@ row_rising E b (Some r) =
     Rises : Bool → Type 0
     Rises n = IsRising (cond {A = Interval} n (record { lower = Some (b +ℚ r); upper = Some b })
         (record { lower = Some b; upper = Some (b +ℚ r) })).lower
-      (cond {A = Interval} n (record { lower = Some (b +ℚ r); upper = Some b })
+        (cond {A = Interval} n (record { lower = Some (b +ℚ r); upper = Some b })
         (record { lower = Some b; upper = Some (b +ℚ r) })).upper
 
 pub row_ordered : (m : Mps Dec) (i : ℕ) → is_row_wide m i ≡ false → IsOrdered (sides_from (row_interval (values_of m) i))
@@ -81,8 +81,8 @@ row_ordered m i clean =
     let b = rhs_at (values_of m) i in
     let range = at_row i (values_of m).ranges in
     ordered_by (sides_from (row_sides kind b range)) (subst (λ (s : Interval). IsRising s.lower s.upper)
-        (sym (sides_back (row_sides kind b range) (row_fits kind b range (rhs_fits i m.rhs) clean)))
-        (row_rising kind b range))
+    (sym (sides_back (row_sides kind b range) (row_fits kind b range (rhs_fits i m.rhs) clean)))
+    (row_rising kind b range))
 
 -- ---- columns
 column_rising : (l u : Option ℚ) → both_sides is_gt l u ≡ false → IsRising l u
@@ -91,8 +91,8 @@ column_rising (Some l) None e = tt
 column_rising (Some l) (Some u) e = by (order_of l u) (int_ranks (l.top *ℤ pos u.bottom) (u.top *ℤ pos l.bottom)) e
   where
     by : (o : Ordering) → MatchOrdering o ((l.top *ℤ pos u.bottom) <ℤ (u.top *ℤ pos l.bottom))
-      ((l.top *ℤ pos u.bottom) ≡ (u.top *ℤ pos l.bottom)) ((u.top *ℤ pos l.bottom) <ℤ (l.top *ℤ pos u.bottom))
-      → is_gt o ≡ false → l ≤ℚ u
+        ((l.top *ℤ pos u.bottom) ≡ (u.top *ℤ pos l.bottom)) ((u.top *ℤ pos l.bottom) <ℤ (l.top *ℤ pos u.bottom))
+        → is_gt o ≡ false → l ≤ℚ u
     by Less h f = record { crosswise = omega (arith, ints, h) }
     by Equal h f = record { crosswise = omega (arith, ints, h) }
     by Greater h f = let r = f in cc

@@ -46,8 +46,8 @@ module _ (P : ℕ → Type 0) where
         ⊎_elim
         (λ (below : j < n). at_places n (All_left (places test n) (one_where (test n) n) h) j below e)
         (λ (above : n ≤ j). let same : j ≡ n = omega (arith, above, lt) in
-          subst P (sym same) (one_All (test n) n (subst (λ k. test k ≡ true) same e)
-            (All_right (places test n) (one_where (test n) n) h)))
+        subst P (sym same) (one_All (test n) n (subst (λ k. test k ≡ true) same e)
+        (All_right (places test n) (one_where (test n) n) h)))
         (cases_lt j n)
 
 none_first : (xs : List ℕ) → first xs ≡ None → All (λ j. ⊥) xs
@@ -113,11 +113,11 @@ module _ (w z : ℕ → Bool) where
   parts_sum g zero = ap (λ v. zero_ℚ +ℚ v) (+ℚ_zero zero_ℚ) ∙ +ℚ_zero zero_ℚ
   parts_sum g (suc n) =
       ap₂ ◌+ℚ◌ (sum_over-append g (first_part n) (one_where (not (w n)) n))
-        (ap₂ ◌+ℚ◌ (sum_over-append g (second_part n) (one_where (w n && z n) n))
-          (sum_over-append g (third_part n) (one_where (w n && not (z n)) n)))
+      (ap₂ ◌+ℚ◌ (sum_over-append g (second_part n) (one_where (w n && z n) n))
+      (sum_over-append g (third_part n) (one_where (w n && not (z n)) n)))
       ∙ swap_three (sum_over g (first_part n)) (sum_over g (one_where (not (w n)) n)) (sum_over g (second_part n))
-        (sum_over g (one_where (w n && z n) n)) (sum_over g (third_part n))
-        (sum_over g (one_where (w n && not (z n)) n))
+      (sum_over g (one_where (w n && z n) n)) (sum_over g (third_part n))
+      (sum_over g (one_where (w n && not (z n)) n))
       ∙ ap₂ ◌+ℚ◌ (parts_sum g n) (sum_of_three g (w n) (z n) n)
 
   abbrev pub parted : ℕ → List ℕ

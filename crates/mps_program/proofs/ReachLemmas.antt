@@ -21,16 +21,16 @@ reach_is : (kind : RowKind) (b w : ℚ) → fits b ≡ true → fits w ≡ true 
 reach_is kind b w p q s = λ i. p i && q i && s i && fits_dec (b +ℚ range_step kind w)
 
 as_decimal : (r : Option Dec) (kind : RowKind) (b w z : ℚ) → is_in_reach kind b w ≡ fits_dec (b +ℚ range_step kind w)
-  → z ≡ b +ℚ range_step kind w → MatchOption r (FitsDec z → ⊥) (λ d. dec_value d ≡ z)
-  → MatchOption r (is_in_reach kind b w ≡ false) (λ d. (is_in_reach kind b w ≡ true)
+    → z ≡ b +ℚ range_step kind w → MatchOption r (FitsDec z → ⊥) (λ d. dec_value d ≡ z)
+    → MatchOption r (is_in_reach kind b w ≡ false) (λ d. (is_in_reach kind b w ≡ true)
     × (dec_value d ≡ b +ℚ range_step kind w))
 as_decimal None kind b w z e same h = e ∙ false_from_ne_true (fits_dec (b +ℚ range_step kind w)) (λ t. h (subst FitsDec (sym same) (fits_dec_out (b +ℚ range_step kind w) t)))
 as_decimal (Some d) kind b w z e same h = (e ∙ fits_dec_in (b +ℚ range_step kind w) (subst FitsDec (h ∙ same) (dec_fits d)), h ∙ same)
 
 pub reached : (r : Option Dec) (kind : RowKind) (b w side width step sum : ℚ) → ((fits b ≡ true) × (side ≡ b))
-  → ((fits w ≡ true) × (width ≡ w)) → step ≡ range_step kind width
-  → ((sum_fits side step ≡ true) × (sum ≡ side +ℚ step)) → MatchOption r (FitsDec sum → ⊥) (λ d. dec_value d ≡ sum)
-  → MatchOption r (is_in_reach kind b w ≡ false) (λ d. (is_in_reach kind b w ≡ true)
+    → ((fits w ≡ true) × (width ≡ w)) → step ≡ range_step kind width
+    → ((sum_fits side step ≡ true) × (sum ≡ side +ℚ step)) → MatchOption r (FitsDec sum → ⊥) (λ d. dec_value d ≡ sum)
+    → MatchOption r (is_in_reach kind b w ≡ false) (λ d. (is_in_reach kind b w ≡ true)
     × (dec_value d ≡ b +ℚ range_step kind w))
 reached r kind b w side width step sum p q s t h =
     let same_step = s ∙ ap (range_step kind) q.1 in

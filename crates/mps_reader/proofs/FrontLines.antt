@@ -112,21 +112,21 @@ line_goes k h new line ws some is_data_line row last t =
     let s = h.standing in
     let tests : first_reason (line_tests s (is_data line) (row_of line)) ≡ None =
     ap (λ b. first_reason (line_tests s b (row_of line))) is_data_line
-      ∙ ap (λ (w : List (List ℕ)). first_reason (data_tests s w)) row
-      ∙ subst (λ o. first_reason (data_tests_in s ws o) ≡ None) (sym last) t.0 in
+    ∙ ap (λ (w : List (List ℕ)). first_reason (data_tests s w)) row
+    ∙ subst (λ o. first_reason (data_tests_in s ws o) ≡ None) (sym last) t.0 in
     let next : after_words s (is_data line) (row_of line) ≡ new.standing =
     ap (λ b. after_words s b (row_of line)) is_data_line ∙ ap (λ (w : List (List ℕ)). after_words s true w) row ∙ ap (after_data_in s ws) last ∙ sym t.1 in
     (judged s line some ∙ tests, sym (taken_after s line some ∙ next))
 
 next_sound : (k : Keyword) (h g new : Held) (text rest : List ℕ) (e : IsNext k h g text rest) → IsSound h → new ≡ g
-  → IsKept new → TakesSoundly (data_tests_in h.standing e.words (Some k)) (after_data_in h.standing e.words (Some k))
-  (Ok tt) new
+    → IsKept new → TakesSoundly (data_tests_in h.standing e.words (Some k)) (after_data_in h.standing e.words (Some k))
+    (Ok tt) new
 next_sound k h g new text rest e s is kept = taken_in k k h (held_after k h e.words) new e.words (Ok tt) refl (e.none, is ∙ e.is) kept (λ none. done_in k h e.words s e.current none)
 
 -- the next line is taken
 pub next_taken : (k : Keyword) (h g new : Held) (text rest : List ℕ) (len : ℕ) → IsNext k h g text rest → IsSound h
-  → new ≡ g → IsKept new → len ≡ length text - length rest → TakesLines h text (record { len = len; lines = 1 }) new
-  × IsSound new
+    → new ≡ g → IsKept new → len ≡ length text - length rest → TakesLines h text (record { len = len; lines = 1 }) new
+    × IsSound new
 next_taken k h g new text rest len e s is kept size_is =
     let l = line k h g text rest e in
     let p = plain k h g text rest e in
@@ -164,15 +164,18 @@ none_there : (k : Keyword) (h : Held) (row : ℕ) → MayPair k h → row < leng
 none_there k h row may within unmarked = sym ((may.kept.marks k may.current may.pairs).marked row within) ∙ unmarked
 
 can_give : (k : Keyword) (h : Held) (row : ℕ) → MayPair k h → row < length (program h).rows
-  → get_or h.marks row false ≡ false → is_full k (program h) ≡ false → is_refused_row k (program h) row ≡ false
-  → CanGive k (program h) row
+    → get_or h.marks row false ≡ false → is_full k (program h) ≡ false → is_refused_row k (program h) row ≡ false
+    → CanGive k (program h) row
 can_give Columns h row may within unmarked full bounded =
     let m : Mps Dec = program h in
     record { some = may.some refl; within = within; few = below (entry_count m.columns) (2 ^ 24) full; new = others (last_entries m.columns) row (none_there Columns h row may within unmarked) }
 can_give Rhs h row may within unmarked full bounded = record { within = within; new = others (program h).rhs row (none_there Rhs h row may within unmarked) }
-can_give Ranges h row may within unmarked full bounded = record
-  { within = within; bounded = not_free (program h).rows row bounded; new =
-    others (program h).ranges row (none_there Ranges h row may within unmarked) }
+can_give Ranges h row may within unmarked full bounded = record {
+  within = within;
+  bounded = not_free (program h).rows row bounded;
+  new =
+      others (program h).ranges row (none_there Ranges h row may within unmarked);
+}
 can_give k h row may within unmarked full bounded = absurd may.pairs
 
 -- the row of this name may have a pair more, whatever number it is
@@ -183,7 +186,7 @@ pub record MayGive (k : Keyword) (m : Mps Dec) (name : List ℕ) (row : ℕ) : T
   pub entry : (word : List ℕ) (value : Dec) → dec_of word ≡ Some value → entry_in m name word ≡ Some (record { row = row; value = value })
 
 pub may_give : (k : Keyword) (h : Held) (name : List ℕ) (row : ℕ) → MayPair k h → place_of h.rows name ≡ Some row
-  → IsFreeRow k h row → bytes_eq name marker_word ≡ false → MayGive k (program h) name row
+    → IsFreeRow k h row → bytes_eq name marker_word ≡ false → MayGive k (program h) name row
 unfolding pair_tests entry_in
 may_give k h name row may at free other =
     let m : Mps Dec = program h in
@@ -203,8 +206,8 @@ some_more (Some x) P Q f h = f x h
 
 -- a line of the last column
 pub of_column : (h : Held) (columns : List (List ℕ)) (text more rest : List ℕ) → IsKept h → columns ≡ h.columns
-  → h.standing.draft.current ≡ true → text ≡ last_name columns ++ more → more ≡ 32 ∷ rest → IsName (last_name columns)
-  → IsAfterHead Columns h text rest
+    → h.standing.draft.current ≡ true → text ≡ last_name columns ++ more → more ≡ 32 ∷ rest → IsName (last_name columns)
+    → IsAfterHead Columns h text rest
 of_column h columns text more rest kept held current parts second named =
     let name : List ℕ = last_name columns in
     let same : last_name (column_names (program h)) ≡ name = ap last_name (sym (held ∙ kept.columns)) in
@@ -272,7 +275,7 @@ side_taken k h set row word place value named held may says =
     let fine : first_reason (set_tests h.standing.set set) ≡ None = rw (good_set set named, first_set h.standing.set set held) refl in
     takes_after (set_tests h.standing.set set) ts (with_held_sides k h (set ∷ ps)) new (Ok tt) fine
     (takes_as ts ts (with_held_pairs k h ps) (with_held_sides k h (set ∷ ps)) (Ok tt) new refl
-      (ap (λ g. with_held_pairs k g ps) (sym (same_set h set held))) (pair_taken k h row word place value may says))
+    (ap (λ g. with_held_pairs k g ps) (sym (same_set h set held))) (pair_taken k h row word place value may says))
 
 pair_says : (k : Keyword) (h : Held) (head row word : List ℕ) (place : ℕ) (value : Dec) → HasPairs k → IsName head → IsHeadWord k h head → MayGive k (program h) row place → dec_of word ≡ Some value
     → Takes (data_tests_in h.standing (head ∷ row ∷ word ∷ []) (Some k)) (held_after k h (head ∷ row ∷ word ∷ [])) (Ok tt) (given k h place value)
@@ -282,7 +285,7 @@ pair_says Ranges h head row word place value pairs named is may says = side_take
 pair_says k h head row word place value pairs named is may says = absurd pairs
 
 pub next_is_pair : (k : Keyword) (h : Held) (text line behind rest : List ℕ) (row : ℕ) (value : Dec) → MayPair k h
-  → text ≡ 32 ∷ line → IsAfterHead k h line behind → IsRowPair h.rows behind row value rest → IsFreeRow k h row
+    → text ≡ 32 ∷ line → IsAfterHead k h line behind → IsRowPair h.rows behind row value rest → IsFreeRow k h row
     → IsNext k h (given k h row value) text rest
 next_is_pair k h text line behind rest row value may first o p free =
     let n = p.pair.of_number in
@@ -292,9 +295,12 @@ next_is_pair k h text line behind rest row value may first o p free =
       words = o.name ∷ p.name ∷ n.word ∷ [];
       some = omega arith;
       few = omega arith;
-      line = record { parts = first ∙ ap (λ bs. 32 ∷ bs) (o.parts
-            ∙ ap (λ bs. o.name ++ 32 ∷ bs) (p.pair.parts ∙ ap (λ bs. p.name ++ 32 ∷ bs) n.parts)); each =
-          (o.is_name, (p.pair.is_name, (n.is_word, tt))) };
+      line = record {
+        parts = first ∙ ap (λ bs. 32 ∷ bs) (o.parts
+            ∙ ap (λ bs. o.name ++ 32 ∷ bs) (p.pair.parts ∙ ap (λ bs. p.name ++ 32 ∷ bs) n.parts));
+        each =
+            (o.is_name, (p.pair.is_name, (n.is_word, tt)));
+      };
       current = may.current;
       none = t.0;
       is = t.1;
@@ -321,8 +327,8 @@ record SaysRecord (h : Held) (ws : List (List ℕ)) (kind : BoundKind) (j : ℕ)
   pub few : length ws ≤ 12
 
 record_says : (h : Held) (kind : BoundKind) (kw set name : List ℕ) (more : List (List ℕ)) (j : ℕ) (d : Dec)
-  → bound_kind_of kw ≡ Some kind → is_bad_set set ≡ false → is_second_set h.standing.set set ≡ false
-  → SaysBound kind more d → place_of (column_names (program h)) name ≡ Some j
+    → bound_kind_of kw ≡ Some kind → is_bad_set set ≡ false → is_second_set h.standing.set set ≡ false
+    → SaysBound kind more d → place_of (column_names (program h)) name ≡ Some j
     → sets_again (program h).bounds kind j ≡ false → SaysRecord h (kw ∷ set ∷ name ∷ more) kind j d
 unfolding bound_tests bound_in
 record_says h kind kw set name [] j d is good first says place free =
@@ -353,9 +359,12 @@ module _ (h : Held) (kind : BoundKind) (text behind rest left : List ℕ) (j : �
           words = record_words;
           some = omega arith;
           few = said.few;
-          line = record { parts = kt.parts ∙ ap (λ bs. 32 ∷ kt.word ++ 32 ∷ bs)
-              (st.parts ∙ ap (λ bs. st.name ++ 32 ∷ bs) p.bound.parts); each =
-              (kt.is_word, (st.is_name, (p.bound.is_name, p.bound.each))) };
+          line = record {
+            parts = kt.parts ∙ ap (λ bs. 32 ∷ kt.word ++ 32 ∷ bs)
+                (st.parts ∙ ap (λ bs. st.name ++ 32 ∷ bs) p.bound.parts);
+            each =
+                (kt.is_word, (st.is_name, (p.bound.is_name, p.bound.each)));
+          };
           current = last;
           none = said.none;
           is = ap (λ g. with_bound g (record { kind = kind; column = j; value = d })) (sym (same_set h st.name st.head)) ∙ said.is;
@@ -374,8 +383,8 @@ goes_joined s m t [] ys g k = subst (λ x. GoesOn x ys t) g k
 goes_joined s m t (x ∷ xs) ys g k = (g.0, goes_joined (after s x) m t xs ys g.1 k)
 
 pub goes_on : (old mid new : Held) (piece rest : List ℕ) (f g : Front) → TakesLines old piece f mid
-  → rest ≡ drop f.len piece → TakesLines mid rest g new → TakesLines old piece
-  (record { len = f.len + g.len; lines = f.lines + g.lines }) new
+    → rest ≡ drop f.len piece → TakesLines mid rest g new → TakesLines old piece
+    (record { len = f.len + g.len; lines = f.lines + g.lines }) new
 goes_on old mid new piece rest f g h is k = record {
   lines = h.lines ++ k.lines;
   is = front_joined piece f g h.lines k.lines h.is (subst (λ bs. IsFront bs g k.lines) is k.is);
@@ -383,7 +392,7 @@ goes_on old mid new piece rest f g h is k = record {
 }
 
 goes_standing : (before lines : List (List ℕ)) (t : Standing) → GoesOn (standing before) lines t
-  → (t ≡ standing (before ++ lines)) × (IsClean mps_rules before Open → IsClean mps_rules (before ++ lines) Open)
+    → (t ≡ standing (before ++ lines)) × (IsClean mps_rules before Open → IsClean mps_rules (before ++ lines) Open)
 goes_standing before [] t g = (g ∙ ap standing (sym (append-nil before)), λ c. subst (λ ls. IsClean mps_rules ls Open) (sym (append-nil before)) c)
 goes_standing before (line ∷ lines) t g =
     let more = goes_standing (before ++ line ∷ []) lines t (subst (λ s. GoesOn s lines t) (sym (standing-more before line)) g.1) in

@@ -77,8 +77,8 @@ bytes_back (suc n) (b ∷ bytes) few h =
     let size : length front ≤ n = omega (arith, few, length-take-le (length bytes) (b ∷ bytes) (omega arith)) in
     let back : last_bytes n (bytes_code front) ≡ front = bytes_back n front size (All-take (λ (c : ℕ). c < 256) (length bytes) (b ∷ bytes) h) in
     ap (last_bytes (suc n)) code ∙ more_bytes n (bytes_code front) last (some_code front)
-      (All-get_or (λ (c : ℕ). c < 256) (b ∷ bytes) (length bytes) 0 within h)
-      ∙ ap (λ (cs : List ℕ). cs ++ last ∷ []) back ∙ sym (by_end b bytes)
+    (All-get_or (λ (c : ℕ). c < 256) (b ∷ bytes) (length bytes) 0 within h)
+    ∙ ap (λ (cs : List ℕ). cs ++ last ∷ []) back ∙ sym (by_end b bytes)
 
 pub few_bytes : (n code : ℕ) → length (last_bytes n code) ≤ n
 unfolding last_bytes
@@ -92,8 +92,8 @@ few_bytes (suc n) code =
 
 -- the last byte is written before those behind it
 pub byte_written : (bytes : List ℕ) (place left : ℕ) → 0 < place → place ≤ length bytes → 255 < left
-  → last_bytes (place - 1) (left / 256) ++ drop (place - 1) (set bytes (place - 1) (left % 256))
-  ≡ last_bytes place left ++ drop place bytes
+    → last_bytes (place - 1) (left / 256) ++ drop (place - 1) (set bytes (place - 1) (left % 256))
+    ≡ last_bytes place left ++ drop place bytes
 unfolding last_bytes
 byte_written bytes zero left some within more = absurd (omega (arith, some))
 byte_written bytes (suc n) left some within more =
@@ -170,7 +170,7 @@ last_named (n ∷ o ∷ names) h some = last_named (o ∷ names) (All-tail (λ n
 
 -- a name whose code stands at a place has that place
 pub place_by_code : (names : List (List ℕ)) (codes name : List ℕ) (p : ℕ) → HaveCodes names codes → AreBytes name
-  → p < length codes → get_or codes p 0 ≡ code_of name → 0 < code_of name → place_of names name ≡ Some p
+    → p < length codes → get_or codes p 0 ≡ code_of name → 0 < code_of name → place_of names name ≡ Some p
 place_by_code names codes name p h bytes within e some =
     let lt : p < length names = subst (λ (n : ℕ). p < n) (ap length h.coded ∙ length-map names code_of) within in
     let code : code_of (get_or names p []) ≡ code_of name =
@@ -179,7 +179,7 @@ place_by_code names codes name p h bytes within e some =
     sym (ap (place_of names) same) ∙ place_at names p [] h.apart lt
 
 pub one_more_code : (names : List (List ℕ)) (codes name : List ℕ) → HaveCodes names codes → AreBytes name → IsName name
-  → place_of names name ≡ None → length names < 2 ^ 21 → HaveCodes (names ++ name ∷ []) (codes ++ code_of name ∷ [])
+    → place_of names name ≡ None → length names < 2 ^ 21 → HaveCodes (names ++ name ∷ []) (codes ++ code_of name ∷ [])
 one_more_code names codes name h bytes named new room = record {
   few = omega (arith, room, length-append names (name ∷ []));
   bytes = All-push AreBytes names name h.bytes bytes;
@@ -213,8 +213,8 @@ new_behind codes i apart lt = by (place_of (map name_of (take i codes)) (name_of
         let below : j < i = omega (arith, at.within, length-map (take i codes) name_of, length-take-le i codes (omega (arith, lt))) in
         let within : i < length (map name_of codes) = omega (arith, lt, length-map codes name_of) in
         let here : get_or (map name_of (take i codes)) j [] ≡ get_or (map name_of codes) j [] =
-          ap (λ (ns : List (List ℕ)). get_or ns j []) (sym (take-map name_of i codes))
-          ∙ get_or-take i (map name_of codes) j [] below in
+        ap (λ (ns : List (List ℕ)). get_or ns j []) (sym (take-map name_of i codes))
+        ∙ get_or-take i (map name_of codes) j [] below in
         absurd (apart j i [] below within (sym here ∙ sym at.same ∙ sym (get_or-map name_of codes i 0 [] lt)))
 
 -- each code is that of its name
@@ -225,9 +225,9 @@ code_at codes p h lt =
 
 -- what a search for a code finds
 pub found_place : (codes name : List ℕ) (code : ℕ) (r : Option ℕ) → code ≡ code_of name
-  → HaveCodes (map name_of codes) codes → AreBytes name → IfSome r (λ p. p < length codes)
-  → IfSome r (λ p. get_or codes p 0 ≡ code) → (r ≡ None → All (λ c. c ≢ code) codes)
-  → r ≡ place_of (map name_of codes) name
+    → HaveCodes (map name_of codes) codes → AreBytes name → IfSome r (λ p. p < length codes)
+    → IfSome r (λ p. get_or codes p 0 ≡ code) → (r ≡ None → All (λ c. c ≢ code) codes)
+    → r ≡ place_of (map name_of codes) name
 found_place codes name code None is h bytes within found absent = sym (no_place (map name_of codes) codes name h (subst (λ (n : ℕ). All (λ c. c ≢ n) codes) is (absent refl)))
 found_place codes name code (Some p) is h bytes within found absent =
     let same : get_or codes p 0 ≡ code_of name = found ∙ is in
@@ -281,7 +281,7 @@ code_pushed codes code h =
     rw absent refl
 
 pub pushed_short : (short behind codes more : List ℕ) (code : ℕ) → short ++ behind ≡ codes → length behind ≡ 0
-  → All (λ c. c ≢ code) codes → more ≡ insert_key nat_eq short code → more ++ behind ≡ codes ++ code ∷ []
+    → All (λ c. c ≢ code) codes → more ≡ insert_key nat_eq short code → more ++ behind ≡ codes ++ code ∷ []
 pushed_short short [] codes more code same none h is =
     let all : short ≡ codes = sym (append-nil short) ∙ same in
     append-nil more ∙ is ∙ ap (λ (cs : List ℕ). insert_key nat_eq cs code) all ∙ code_pushed codes code h
@@ -289,7 +289,7 @@ pushed_short short (c ∷ behind) codes more code same none h is = absurd (omega
 
 -- a short name that is new has a new code
 pub fresh_code : (names : List (List ℕ)) (codes name : List ℕ) (code : ℕ) → HaveCodes names codes → code ≡ code_of name
-  → AreBytes name → place_of names name ≡ None → 0 < code → All (λ c. c ≢ code) codes
+    → AreBytes name → place_of names name ≡ None → 0 < code → All (λ c. c ≢ code) codes
 fresh_code names codes name code h is bytes new some = λ k d lt same.
     let within : k < length names = omega (arith, lt, ap length h.coded, length-map names code_of) in
     let own : code_of (get_or names k []) ≡ code_of name =

@@ -22,7 +22,7 @@ unmarked_bytes [] all = refl
 unmarked_bytes (b ∷ word) all = let high : 35 < b = all.0 in rw (le-leb 33 b (omega (arith, high))) (unmarked_bytes word all.1)
 
 pub number_text : (text : List ℕ) (n : ℕ) (d : Dec) → n < length text → get_or text n 0 ≡ 10 → 0 < n → n ≤ 40
-  → dec_of (take n text) ≡ Some d → IsUnmarked (take n text) → IsNumberText text d (drop (n + 1) text)
+    → dec_of (take n text) ≡ Some d → IsUnmarked (take n text) → IsNumberText text d (drop (n + 1) text)
 number_text text n d within ends some few says unmarked =
     let taken : length (take n text) ≡ n = omega (arith, within, length-take n text) in
     record {

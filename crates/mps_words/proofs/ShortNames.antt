@@ -93,8 +93,8 @@ head_parts text head size h long is few =
 
 -- the name that a head begins with
 pub short_name : (text rest : List ℕ) (head size end code : ℕ) → AreBytes text → 8 ≤ length text
-  → head ≡ value (take 8 text) → size ≤ 7 → head / 2 ^ (56 - 8 * size) % 256 ≡ end → rest ≡ drop (size + 1) text
-  → code ≡ (1 * 2 ^ (8 * size)) % 2 ^ 64 + head / 2 ^ (56 - 8 * size) / 256 → IsShort text end code rest
+    → head ≡ value (take 8 text) → size ≤ 7 → head / 2 ^ (56 - 8 * size) % 256 ≡ end → rest ≡ drop (size + 1) text
+    → code ≡ (1 * 2 ^ (8 * size)) % 2 ^ 64 + head / 2 ^ (56 - 8 * size) / 256 → IsShort text end code rest
 short_name text rest head size end code h long is few last after own =
     let parts = head_parts text head size h long is few in
     let within : size < length text = omega (arith, few, long) in
@@ -122,8 +122,8 @@ short_back text rest end code h s =
 
 -- a short name whose code stands at a place is found there
 pub short_found : (names : List (List ℕ)) (codes text rest : List ℕ) (end code place : ℕ) → HaveCodes names codes
-  → AreBytes text → IsShort text end code rest → place < length codes → get_or codes place 0 ≡ code
-  → IsFound names text end place rest
+    → AreBytes text → IsShort text end code rest → place < length codes → get_or codes place 0 ≡ code
+    → IsFound names text end place rest
 short_found names codes text rest end code place h bytes s within here =
     let own = front_bytes text s.name (end ∷ rest) bytes s.parts in
     let at : place_of names s.name ≡ Some place = place_by_code names codes s.name place h own within (here ∙ s.own) (code_above text rest end code s) in
@@ -137,7 +137,7 @@ short_found names codes text rest end code place h bytes s within here =
     }
 
 pub last_word : {A : Type 0} (o : Option A) (now : A → List ℕ) (text last : List ℕ) (code : ℕ) → AreBytes text
-  → name_of code ≡ last → IfSome o (λ rest. IsShort text 32 code (now rest))
-  → IfSome o (λ rest. text ≡ last ++ 32 ∷ now rest)
+    → name_of code ≡ last → IfSome o (λ rest. IsShort text 32 code (now rest))
+    → IfSome o (λ rest. text ≡ last ++ 32 ∷ now rest)
 last_word None now text last code h is s = tt
 last_word (Some rest) now text last code h is s = short_back text (now rest) 32 code h s ∙ ap (λ (name : List ℕ). name ++ 32 ∷ now rest) is

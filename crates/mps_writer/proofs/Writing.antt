@@ -40,8 +40,8 @@ row_found rows names name i same found =
     record { within = inside; named = sym (get_or_from_slice_get (map (λ (r : MpsRow). r.name) rows) i name [] at) ∙ get_or-map (λ (r : MpsRow). r.name) rows i no_mps_row [] inside }
 
 pub found_short : (rows : List MpsRow) (names : List (List ℕ)) (name : List ℕ) (i : ℕ)
-  → All (λ (r : MpsRow). IsName r.name) rows → names ≡ map (λ (r : MpsRow). r.name) rows → Some name ≡ slice_get names i
-  → length name ≤ 255
+    → All (λ (r : MpsRow). IsName r.name) rows → names ≡ map (λ (r : MpsRow). r.name) rows → Some name ≡ slice_get names i
+    → length name ≤ 255
 found_short rows names name i all same found =
     let is = row_found rows names name i same found in
     subst (λ n. length n ≤ 255) (sym is.named) (all i no_mps_row is.within).most
@@ -63,8 +63,8 @@ entry_written rows names word row ts i t out0 out1 out2 h is same found first se
 
 -- a section's word, and after it its lines
 pub section_written : (word : List ℕ) (lines : List WordLine) (out0 out1 out2 : List ℕ)
-  → out1 ≡ out0 ++ line_text (word ∷ []) → out2 ≡ out1 ++ lines_text lines
-  → out2 ≡ out0 ++ lines_text (section word ∷ lines)
+    → out1 ≡ out0 ++ line_text (word ∷ []) → out2 ≡ out1 ++ lines_text lines
+    → out2 ≡ out0 ++ lines_text (section word ∷ lines)
 section_written word lines out0 out1 out2 first second =
     lines_after out0 out1 out2 (section word ∷ []) lines (first ∙ ap (λ x. out0 ++ x) (sym (append-nil (line_text (section word))))) second
 

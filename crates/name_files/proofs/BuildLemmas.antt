@@ -72,8 +72,8 @@ can_add_range es i e m a lt is same =
     }
 
 pub can_add_bound : (bs : List (Bound Dec)) (i : ℕ) (b : Bound Dec) (m : Mps Dec)
-  → AreBounds dec_value (length m.columns) bs → i < length bs → b ≡ get_or bs i b → m.bounds ≡ take i bs
-  → CanAddBound m b.kind b.column b.value
+    → AreBounds dec_value (length m.columns) bs → i < length bs → b ≡ get_or bs i b → m.bounds ≡ take i bs
+    → CanAddBound m b.kind b.column b.value
 can_add_bound bs i b m a lt is same =
     record {
       within = subst (λ (b : Bound Dec). b.column < length m.columns) (sym is) (a.within i b lt);
@@ -127,8 +127,8 @@ row_put f xs i r lt is name kind called same old m new first second =
 
 module _ (f : List ℕ → List ℕ) (xs : List (Column Dec)) (i : ℕ) (x : Column Dec) (lt : i < length xs) (is : x ≡ get_or xs i x) (name : List ℕ) (called : name ≡ f x.name) where
   pub can_put_column : (n : ℕ) (m : Mps Dec) → AreColumns n (map (named_column f) xs) → length m.rows ≡ n
-    → m.columns ≡ map (named_column f) (take i xs) → AreColumns (length m.rows)
-    (m.columns ++ record x { name = name } ∷ [])
+      → m.columns ≡ map (named_column f) (take i xs) → AreColumns (length m.rows)
+      (m.columns ++ record x { name = name } ∷ [])
   can_put_column n m a rows same =
       let more : take (i + 1) (map (named_column f) xs) ≡ m.columns ++ record x { name = name } ∷ [] =
       take-map (named_column f) (i + 1) xs ∙ sym (one_more (named_column f) xs i x lt is)

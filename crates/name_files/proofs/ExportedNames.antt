@@ -26,8 +26,8 @@ module _ (P : List ℕ → Type 0) where
   rows_named (r ∷ rows) all (suc k) d lt = rows_named rows all.1 k d (omega arith)
 
   columns_named : (objective : Form) (rows : List ScaledRow) (j : ℕ) (variables : List Variable)
-    → AllByRecursion (λ (v : Variable). P v.name) variables
-    → All P (map (λ (c : Column ℚ). c.name) (columns_of objective rows j variables))
+      → AllByRecursion (λ (v : Variable). P v.name) variables
+      → All P (map (λ (c : Column ℚ). c.name) (columns_of objective rows j variables))
   unfolding columns_of
   columns_named objective rows j [] all k d lt = absurd (omega arith)
   columns_named objective rows j (v ∷ variables) all zero d lt = all.0

@@ -51,10 +51,13 @@ one_word [] e = absurd cc
 one_word (word ∷ words) e = refl
 
 pub standing-more : (c : Counts) (lines : List (List ℕ)) (line : List ℕ) → (length (words_of line) == 0) ≡ false
-  → standing c (lines ++ line ∷ []) ≡ with_name c (standing c lines) (word_at (words_of line) 0)
-standing-more c lines line e = rw (names_more lines line, one_word (words_of line) e,
-    length-append (names_of lines) (word_at (words_of line) 0 ∷ []),
-    take_more c.used (names_of lines) (word_at (words_of line) 0)) refl
+    → standing c (lines ++ line ∷ []) ≡ with_name c (standing c lines) (word_at (words_of line) 0)
+standing-more c lines line e = rw (
+  names_more lines line,
+  one_word (words_of line) e,
+  length-append (names_of lines) (word_at (words_of line) 0 ∷ []),
+  take_more c.used (names_of lines) (word_at (words_of line) 0),
+) refl
 
 none_taken : (words : List (List ℕ)) → (length words == 0) ≡ true → take 1 words ++ [] ≡ []
 none_taken [] e = refl
@@ -68,13 +71,13 @@ unfolding line_reason
 left_out c s line e = rw e refl
 
 judged : (c : Counts) (s : Standing) (line : List ℕ) (row : List (List ℕ)) → (length (words_of line) == 0) ≡ false
-  → row ≡ row_of line → line_reason c s (words_of line) ≡ first_reason (name_tests c s row)
+    → row ≡ row_of line → line_reason c s (words_of line) ≡ first_reason (name_tests c s row)
 unfolding line_reason
 judged c s line row e is = rw e (sym (ap (λ ws. first_reason (name_tests c s ws)) is ∙ tests_of_row c s (words_of line)))
 
 -- what taking a line that has words says
 pub line_done : (c d : Counts) (old new : Standing) (line : List ℕ) (row : List (List ℕ)) (n : ℕ)
-  (r : Result (Unit {0}) (Stop NameReason)) → (length (words_of line) == 0) ≡ false → row ≡ row_of line → d ≡ c
+    (r : Result (Unit {0}) (Stop NameReason)) → (length (words_of line) == 0) ≡ false → row ≡ row_of line → d ≡ c
     → Takes (name_tests c old row) (with_name c old (word_at row 0)) r new
     → OnOk r ((lines : List (List ℕ)) → n ≡ length lines + 1 → old ≡ standing c lines → new ≡ standing d (lines ++ line ∷ []))
     × OnOk r ((lines : List (List ℕ)) → n ≡ length lines + 1 → old ≡ standing c lines → line_reason c (standing c lines) (words_of line) ≡ None)

@@ -44,7 +44,7 @@ with_more c s words room are fine =
 
 -- one line more
 step : (c : Counts) (before : List (List ℕ)) (line : List ℕ) → c.used < 2 ^ 32 → AreNames (standing c before).names
-  → line_reason c (standing c before) (words_of line) ≡ None → AreNames (standing c (before ++ line ∷ [])).names
+    → line_reason c (standing c before) (words_of line) ≡ None → AreNames (standing c (before ++ line ∷ [])).names
 unfolding line_reason
 step c before line room are fine = by (length (words_of line) == 0) refl fine
   where
@@ -56,10 +56,15 @@ step c before line room are fine = by (length (words_of line) == 0) refl fine
 no_names : (c : Counts) → AreNames (standing c []).names
 unfolding names_of
 no_names c = subst AreNames (sym (take_all c.used [] (omega arith)))
-  (record { few = omega arith; named = All-nil IsName; apart = λ i j d lt within. absurd (omega arith); free =
-      All-nil (λ n. is_reserved n ≡ false) })
+    (record {
+      few = omega arith;
+      named = All-nil IsName;
+      apart = λ i j d lt within. absurd (omega arith);
+      free =
+          All-nil (λ n. is_reserved n ≡ false);
+    })
 
 -- lines that have no fault list names
 pub listed_names : (c : Counts) (lines : List (List ℕ)) (last : Last) → c.used < 2 ^ 32 → IsClean (name_rules c) lines last → AreNames (used_names c lines)
 listed_names c lines last room clean = clean_keeps (name_rules c) (λ ls. AreNames (standing c ls).names) last lines
-  (λ before rest line is fine are. step c before line room are fine) (no_names c) clean
+    (λ before rest line is fine are. step c before line room are fine) (no_names c) clean

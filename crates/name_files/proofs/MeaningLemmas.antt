@@ -62,7 +62,7 @@ feasible : (m n : Mps ℚ) (xs : List ℚ) → LookAlike m n → IsMpsFeasible m
 feasible m n xs s f =
     record {
       rows = λ i lt. subst (λ (v : ℚ). IsInside (row_interval n i) v) (s.value xs i)
-        (subst (λ (t : Interval). IsInside t (row_value m xs i)) (s.interval i)
+          (subst (λ (t : Interval). IsInside t (row_value m xs i)) (s.interval i)
           (f.rows i (subst (λ (k : ℕ). i < k) (sym s.rows) lt)));
       bounds = λ j lt. subst (λ (t : Interval). IsInside t (value_at xs j)) (s.bounds j) (f.bounds j (subst (λ (k : ℕ). j < k) (sym s.columns) lt));
       whole = λ j lt is. f.whole j (subst (λ (k : ℕ). j < k) (sym s.columns) lt) (subst (λ (b : Bool). IsTrue b) (sym (s.whole j)) is);
@@ -76,7 +76,7 @@ unfolding with_names row_value
 value_kept row column m xs i =
     ap (sum_below (λ j. part_of_row i (get_or (map (named_column column) m.columns) j no_column).entries (value_at xs j))) (length-map m.columns (named_column column))
     ∙ sum_below_same (λ j. part_of_row i (get_or (map (named_column column) m.columns) j no_column).entries
-        (value_at xs j)) (λ j. part_of_row i (column_at m j).entries (value_at xs j)) (length m.columns)
+    (value_at xs j)) (λ j. part_of_row i (column_at m j).entries (value_at xs j)) (length m.columns)
     (λ j lt. ap (λ (es : List (Entry ℚ)). part_of_row i es (value_at xs j)) (entries_kept column m.columns j))
 
 look_alike : (row column : Naming) (m : Mps ℚ) → LookAlike (with_names row column m) m

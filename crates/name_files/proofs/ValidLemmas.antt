@@ -94,7 +94,7 @@ rows_named names rows are exported a =
     record {
       few = omega (arith, a.few, length-map rows f);
       named = All-map (λ (r : MpsRow). IsName r.name) f rows
-        (λ i d lt. new_is_name row_name names are (get_or rows i d).name (a.named i d lt)
+          (λ i d lt. new_is_name row_name names are (get_or rows i d).name (a.named i d lt)
           (short 99 (length names) exported.few (get_or rows i d).name (exports i d lt)));
       apart = pairs_mapped (λ (r s : MpsRow). r.name ≢ s.name) f rows (λ i j d lt within. new_apart row_name names are (get_or rows i d).name (get_or rows j d).name (a.apart i j d lt within));
       no_marker = All-map (IsOtherRow marker_word) f rows (λ i d lt. new_is_no_marker row_name names are (get_or rows i d).name);
@@ -107,8 +107,8 @@ entries_kept f (c ∷ columns) =
     sum_by-cons count (named_column f c) (map (named_column f) columns) ∙ ap (λ (n : ℕ). length c.entries + n) (entries_kept f columns) ∙ sym (sum_by-cons count c columns)
 
 columns_named : (names : List (List ℕ)) (n : ℕ) (columns : List (Column Dec)) → AreNames names
-  → AreExportedNames variable_name (length names) (map (λ c. c.name) columns) → AreColumns n columns
-  → AreColumns n (named_columns names columns)
+    → AreExportedNames variable_name (length names) (map (λ c. c.name) columns) → AreColumns n columns
+    → AreColumns n (named_columns names columns)
 columns_named names n columns are exported a =
     let exports = all_unmapped (IsExportedName variable_name (length names)) (λ (c : Column Dec). c.name) columns exported.each in
     let f = named_column {V = Dec} (new_name variable_name names) in
@@ -116,10 +116,10 @@ columns_named names n columns are exported a =
       few = omega (arith, a.few, length-map columns f);
       few_entries = omega (arith, a.few_entries, entries_kept (new_name variable_name names) columns);
       named = All-map (λ (c : Column Dec). IsName c.name) f columns
-        (λ i d lt. new_is_name variable_name names are (get_or columns i d).name (a.named i d lt)
+          (λ i d lt. new_is_name variable_name names are (get_or columns i d).name (a.named i d lt)
           (short 120 (length names) exported.few (get_or columns i d).name (exports i d lt)));
       apart = pairs_mapped (λ (c e : Column Dec). c.name ≢ e.name) f columns
-        (λ i j d lt within. new_apart variable_name names are (get_or columns i d).name (get_or columns j d).name
+          (λ i j d lt within. new_apart variable_name names are (get_or columns i d).name (get_or columns j d).name
           (a.apart i j d lt within));
       entries = All-map (λ (c : Column Dec). AreEntries n c.entries) f columns a.entries;
     }

@@ -102,8 +102,8 @@ line-of lines n some lt clean =
     let same : n + 1 - 1 ≡ n = omega arith in
     let now : header_line_fault (take n lines) (get_or lines n []) ≡ number_line_fault (length (take n lines) + 1) (counts_in (take n lines ++ get_or lines n [] ∷ [])) (get_or lines n []) =
     ap (λ t. cond t (first_reason (first_line_tests (get_or lines n [])))
-        (number_line_fault (length (take n lines) + 1) (counts_in (take n lines ++ get_or lines n [] ∷ []))
-          (get_or lines n []))) (ne_eqb (length (take n lines)) 0 (omega (arith, size, some))) in
+    (number_line_fault (length (take n lines) + 1) (counts_in (take n lines ++ get_or lines n [] ∷ []))
+    (get_or lines n []))) (ne_eqb (length (take n lines)) 0 (omega (arith, size, some))) in
     ap (λ i. number_line_fault (n + 1) (counts_in (take (n + 1) lines)) (get_or lines i [])) same
     ∙ ap (λ l. number_line_fault (n + 1) (counts_in l) (get_or lines n [])) (take_more lines n [] within)
     ∙ ap (λ k. number_line_fault (k + 1) (counts_in (take n lines ++ get_or lines n [] ∷ [])) (get_or lines n [])) (sym size)
@@ -128,9 +128,9 @@ unfolding field_tests
 is-zero row required n clean = not-false (n == 0) (none_head (not (n == 0)) RefusedCount ((nat_lt (limit_of_row row) n, TooLarge) ∷ []) clean).0
 
 is-within : (row limit : ℕ) (required : Bool) (n : ℕ) → limit_of
-  (Some (record { row = row; required = required; zero = false })) ≡ limit
-  → first_reason (field_tests (Some (record { row = row; required = required; zero = false })) n) ≡ None
-  → nat_le n limit ≡ true
+    (Some (record { row = row; required = required; zero = false })) ≡ limit
+    → first_reason (field_tests (Some (record { row = row; required = required; zero = false })) n) ≡ None
+    → nat_le n limit ≡ true
 unfolding field_tests
 is-within row limit required n same clean =
     let few : nat_lt (limit_of_row row) n ≡ false = (none_head (nat_lt (limit_of_row row) n) TooLarge [] clean).0 in
@@ -165,8 +165,8 @@ unfolding whole_of
 small-word word = by (are_digits word && nat_lt (digits_value 10 word) (2 ^ 31)) refl
   where
     by : (t : Bool) → (are_digits word && nat_lt (digits_value 10 word) (2 ^ 31)) ≡ t
-      → unwrap_or (cond (are_digits word && nat_lt (digits_value 10 word) (2 ^ 31)) (Some (digits_value 10 word)) None)
-      0 < 2 ^ 31
+        → unwrap_or (cond (are_digits word && nat_lt (digits_value 10 word) (2 ^ 31)) (Some (digits_value 10 word)) None)
+        0 < 2 ^ 31
     by true e = subst (λ (t : Bool). unwrap_or (cond t (Some (digits_value 10 word)) None) 0 < 2 ^ 31) (sym e) (ltb-true (digits_value 10 word) (2 ^ 31) (second_of_both _ _ e))
     by false e = subst (λ (t : Bool). unwrap_or (cond t (Some (digits_value 10 word)) None) 0 < 2 ^ 31) (sym e) (omega arith)
 
@@ -234,8 +234,8 @@ first-options ws clean =
     let last : List (Bool × HeadFault) = (not has, Options) ∷ [] in
     options-from (options_of ws) (unwrap_or (option_count ws) 0) _
     (not-false has (none_head (not has) Options [] (none_head (is_none (option_count ws)) BadFirstLine last
-          (none_head (begins_with 98 (word_at ws 0)) BinaryFile ((is_none (option_count ws), BadFirstLine) ∷ last)
-            clean).1).1).0)
+    (none_head (begins_with 98 (word_at ws 0)) BinaryFile ((is_none (option_count ws), BadFirstLine) ∷ last)
+    clean).1).1).0)
 
 first-fault : (lines : Lines) → header_line_fault (take 0 lines) (get_or lines 0 []) ≡ first_reason (first_line_tests (get_or lines 0 []))
 unfolding header_line_fault
@@ -254,7 +254,7 @@ pub header-rule : (lines : List (List (List ℕ))) → AreNineClean lines → is
 unfolding is_header
 header-rule lines clean =
     header-by _ _ _ _ _ _ (are_definitions_within (counts_in lines)) (options-are lines clean) (numbers-are lines)
-      (no-refused lines clean) (sizes-within lines clean) (shared-within lines clean) (whole-within lines clean)
+    (no-refused lines clean) (sizes-within lines clean) (shared-within lines clean) (whole-within lines clean)
 
 pub last_rule-kept : (counts : Counts) → are_definitions_within counts ≡ true → last_rule 10 counts ≡ None
 unfolding last_rule

@@ -14,7 +14,7 @@ use Rattle.nl_header.proofs.ReaderLemmas.{put_in-row, put_in-more, counts_from-i
 use Rattle.nl_header.proofs.HeaderLaw.{nine_clean, header-rule, last_rule-kept, last_rule-broken, last_rule-before}
 
 numbers-more : (s : Taken) (before : List (List (List ℕ))) (ws row : List (List ℕ)) → row ≡ take 12 ws
-  → IsReading s before → put_in header_rows (s.lines + 1) row s.numbers ≡ numbers_in (before ++ ws ∷ [])
+    → IsReading s before → put_in header_rows (s.lines + 1) row s.numbers ≡ numbers_in (before ++ ws ∷ [])
 numbers-more s before ws row is reading =
     put_in-row (s.lines + 1) ws row s.numbers is
     ∙ ap (λ n. put_in header_rows (n + 1) ws s.numbers) reading.count
@@ -22,7 +22,7 @@ numbers-more s before ws row is reading =
     ∙ put_in-more before ws
 
 fault-later : (s : Taken) (before : List (List (List ℕ))) (ws : List (List ℕ)) → (s.lines ≡ 0 → ⊥) → IsReading s before
-  → header_line_fault before ws ≡ number_line_fault (s.lines + 1) (counts_in (before ++ ws ∷ [])) ws
+    → header_line_fault before ws ≡ number_line_fault (s.lines + 1) (counts_in (before ++ ws ∷ [])) ws
 unfolding header_line_fault
 fault-later s before ws some reading =
     ap (λ t. cond t (first_reason (first_line_tests ws)) (number_line_fault (length before + 1) (counts_in (before ++ ws ∷ [])) ws))
@@ -30,8 +30,8 @@ fault-later s before ws some reading =
     ∙ ap (λ n. number_line_fault (n + 1) (counts_in (before ++ ws ∷ [])) ws) (sym reading.count)
 
 pub number-err : (s : Taken) (before : List (List (List ℕ))) (ws row : List (List ℕ)) (f : HeadFault) → row ≡ take 12 ws
-  → (s.lines ≡ 0 → ⊥) → IsReading s before → number_line_fault (s.lines + 1)
-  (counts_from (put_in header_rows (s.lines + 1) row s.numbers)) ws ≡ Some f → header_line_fault before ws ≡ Some f
+    → (s.lines ≡ 0 → ⊥) → IsReading s before → number_line_fault (s.lines + 1)
+    (counts_from (put_in header_rows (s.lines + 1) row s.numbers)) ws ≡ Some f → header_line_fault before ws ≡ Some f
 number-err s before ws row f is some reading fault =
     fault-later s before ws some reading
     ∙ ap (λ c. number_line_fault (s.lines + 1) c ws) (sym (counts_from-in (before ++ ws ∷ [])) ∙ ap counts_from (sym (numbers-more s before ws row is reading)))
@@ -53,9 +53,9 @@ record IsTaken (before : List (List (List ℕ))) (ws : List (List ℕ)) (s mid :
   clean : AreClean before
 
 taken : (s mid : Taken) (before : List (List (List ℕ))) (ws row : List (List ℕ)) (counts : Counts) → row ≡ take 12 ws
-  → (s.lines ≡ 0 → ⊥) → IsReading s before → mid ≡ record s { numbers = put_in header_rows (s.lines + 1) row s.numbers }
-  → counts ≡ counts_from mid.numbers → number_line_fault (s.lines + 1) counts ws ≡ last_rule (s.lines + 1) counts
-  → IsTaken before ws s mid counts
+    → (s.lines ≡ 0 → ⊥) → IsReading s before → mid ≡ record s { numbers = put_in header_rows (s.lines + 1) row s.numbers }
+    → counts ≡ counts_from mid.numbers → number_line_fault (s.lines + 1) counts ws ≡ last_rule (s.lines + 1) counts
+    → IsTaken before ws s mid counts
 taken s mid before ws row counts is some reading step are fault =
     let begun : 0 < length before = positive (length before) (λ e. some (reading.count ∙ e)) in
     let numbers_are : mid.numbers ≡ numbers_in (before ++ ws ∷ []) = ap (λ m. m.numbers) step ∙ numbers-more s before ws row is reading in
@@ -78,8 +78,8 @@ rules-true : (b : Bool) → IsTrue b → b ≡ true
 rules-true b t = t
 
 closes : (before : List (List (List ℕ))) (ws : List (List ℕ)) (s mid new : Taken) (counts : Counts)
-  (result : Result (Option Header) HeadFault) → IsTaken before ws s mid counts → Closes mid counts result new
-  → Takes before ws result new
+    (result : Result (Option Header) HeadFault) → IsTaken before ws s mid counts → Closes mid counts result new
+    → Takes before ws result new
 closes before ws s mid new counts (Ok None) is closed =
     let line : length before + 1 < 10 = omega (arith, is.lines, closed.0) in
     let this : header_line_fault before ws ≡ None = is.fault ∙ last_rule-before (length before + 1) counts line in
@@ -100,8 +100,8 @@ closes before ws s mid new counts (Ok (Some header)) is closed =
     let ruled : is_header header.options header.counts ≡ true = rules-true _ header.ruled in
     let within : are_definitions_within (counts_in (before ++ ws ∷ [])) ≡ true =
     sym (header-rule (before ++ ws ∷ []) (nine_clean before ws nine is.clean))
-      ∙ ap (λ o. is_header o (counts_in (before ++ ws ∷ []))) (sym options_are)
-      ∙ ap (is_header header.options) (sym counts_are) ∙ ruled in
+    ∙ ap (λ o. is_header o (counts_in (before ++ ws ∷ []))) (sym options_are)
+    ∙ ap (is_header header.options) (sym counts_are) ∙ ruled in
     record {
       clean = is.fault ∙ ap (λ n. last_rule (n + 1) counts) nine ∙ ap (last_rule 10) is.counts_are ∙ last_rule-kept _ within;
       says = record {
@@ -115,14 +115,14 @@ closes before ws s mid new counts (Err fault) is closed =
     let nine : length before ≡ 9 = sym is.lines ∙ closed.0 in
     let broken : are_definitions_within (counts_in (before ++ ws ∷ [])) ≡ false =
     sym (header-rule (before ++ ws ∷ []) (nine_clean before ws nine is.clean))
-      ∙ ap (λ o. is_header o (counts_in (before ++ ws ∷ []))) (sym is.options)
-      ∙ ap (is_header mid.options) (sym is.counts_are) ∙ closed.2 in
+    ∙ ap (λ o. is_header o (counts_in (before ++ ws ∷ []))) (sym is.options)
+    ∙ ap (is_header mid.options) (sym is.counts_are) ∙ closed.2 in
     is.fault ∙ ap (λ n. last_rule (n + 1) counts) nine ∙ ap (last_rule 10) is.counts_are ∙ last_rule-broken _ broken ∙ ap Some (sym closed.1)
 
 pub number-ok : (s mid new : Taken) (before : List (List (List ℕ))) (ws row : List (List ℕ)) (counts : Counts)
-  (result : Result (Option Header) HeadFault) → row ≡ take 12 ws → (s.lines ≡ 0 → ⊥) → IsReading s before
-  → mid ≡ record s { numbers = put_in header_rows (s.lines + 1) row s.numbers } → counts ≡ counts_from mid.numbers
-  → number_line_fault (s.lines + 1) counts ws ≡ last_rule (s.lines + 1) counts → Closes mid counts result new
-  → Takes before ws result new
+    (result : Result (Option Header) HeadFault) → row ≡ take 12 ws → (s.lines ≡ 0 → ⊥) → IsReading s before
+    → mid ≡ record s { numbers = put_in header_rows (s.lines + 1) row s.numbers } → counts ≡ counts_from mid.numbers
+    → number_line_fault (s.lines + 1) counts ws ≡ last_rule (s.lines + 1) counts → Closes mid counts result new
+    → Takes before ws result new
 number-ok s mid new before ws row counts result is some reading step are fault closed =
-  closes before ws s mid new counts result (taken s mid before ws row counts is some reading step are fault) closed
+    closes before ws s mid new counts result (taken s mid before ws row counts is some reading step are fault) closed

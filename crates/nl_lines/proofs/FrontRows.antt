@@ -20,7 +20,7 @@ use Rattle.text_base.proofs.FrontLemmas.{front_one}
 -- ---- a word before a byte
 
 pub word_before : (byte : ℕ) (text : List ℕ) (n : ℕ) (says : List ℕ → Type 0) → n < length text → get_or text n 0 ≡ byte
-  → 0 < n → n ≤ 40 → IsUnmarked (take n text) → says (take n text) → IsWordBefore 40 byte text (n + 1) says
+    → 0 < n → n ≤ 40 → IsUnmarked (take n text) → says (take n text) → IsWordBefore 40 byte text (n + 1) says
 word_before byte text n says within is some few unmarked holds =
     let size : length (take n text) ≡ n = omega (arith, within, length-take n text) in
     record {
@@ -43,7 +43,7 @@ left_is most byte text rest len says w is =
 
 -- a letter in front of it
 pub lettered : (most byte letter : ℕ) (rest : List ℕ) (len : ℕ) (says whole_says : List ℕ → Type 0) → 35 < letter
-  → IsWordBefore most byte rest len says → ((word : List ℕ) → says word → whole_says (letter ∷ word))
+    → IsWordBefore most byte rest len says → ((word : List ℕ) → says word → whole_says (letter ∷ word))
     → IsWordBefore (most + 1) byte (letter ∷ rest) (len + 1) whole_says
 lettered most byte letter rest len says whole_says above w then = record {
   word = letter ∷ w.word;
@@ -106,8 +106,8 @@ line_of_more words (b ∷ word) line some all h = record {
 -- ---- the line
 
 pub alone : (most : ℕ) (text : List ℕ) (len : ℕ) (word_says : List ℕ → Type 0) (says : List (List ℕ) → Type 0)
-  → most ≤ 41 → IsWordBefore most 10 text len word_says → ((word : List ℕ) → word_says word → says (word ∷ []))
-  → IsFrontRow text len says
+    → most ≤ 41 → IsWordBefore most 10 text len word_says → ((word : List ℕ) → word_says word → says (word ∷ []))
+    → IsFrontRow text len says
 alone most text len word_says says bound w then = record {
   words = w.word ∷ [];
   line = w.word;
@@ -120,8 +120,8 @@ alone most text len word_says says bound w then = record {
 }
 
 pub in_front : (most : ℕ) (text rest : List ℕ) (n m : ℕ) (word_says : List ℕ → Type 0)
-  (rest_says says : List (List ℕ) → Type 0) → most ≤ 41 → IsWordBefore most 32 text n word_says → rest ≡ drop n text
-  → IsFrontRow rest m rest_says
+    (rest_says says : List (List ℕ) → Type 0) → most ≤ 41 → IsWordBefore most 32 text n word_says → rest ≡ drop n text
+    → IsFrontRow rest m rest_says
     → ((word : List ℕ) (words : List (List ℕ)) → word_says word → rest_says words → says (word ∷ words)) → IsFrontRow text (n + m) says
 in_front most text rest n m word_says rest_says says bound w is r then = record {
   words = w.word ∷ r.words;
@@ -164,13 +164,13 @@ two_first (a ∷ b ∷ rest) first second some p q = ap₂ (λ x y. x ∷ y ∷ 
 
 -- a letter and a number
 pub letter_row : {V : Type 0} (read : List ℕ → Option V) (v : V) (rest : List ℕ) (len letter : ℕ)
-  (says : List (List ℕ) → Type 0) → 35 < letter → ((words : List (List ℕ)) → says words → length words ≤ 12)
+    (says : List (List ℕ) → Type 0) → 35 < letter → ((words : List (List ℕ)) → says words → length words ≤ 12)
     → IsWordBefore 40 10 rest len (λ word. read word ≡ Some v) → ((word : List ℕ) → read word ≡ Some v → says ((letter ∷ word) ∷ [])) → IsFirstRow (letter ∷ rest) (len + 1) says
 letter_row read v rest len letter says above few w then =
     first_row (letter ∷ rest) (len + 1) says few
     (alone 41 (letter ∷ rest) (len + 1) (λ word. says (word ∷ [])) says (omega arith)
-      (lettered 40 10 letter rest len (λ word. read word ≡ Some v) (λ word. says (word ∷ [])) above w then)
-      (λ word holds. holds))
+    (lettered 40 10 letter rest len (λ word. read word ≡ Some v) (λ word. says (word ∷ [])) above w then)
+    (λ word holds. holds))
 
 -- one word, which is a number
 record IsOneWhole (n : ℕ) (words : List (List ℕ)) : Type 0 where
@@ -180,11 +180,11 @@ record IsOneWhole (n : ℕ) (words : List (List ℕ)) : Type 0 where
 
 -- a letter and two numbers
 pub letters_row : (rest left : List ℕ) (n m i k letter : ℕ) (says : List (List ℕ) → Type 0) → 35 < letter
-  → ((words : List (List ℕ)) → says words → length words ≤ 12)
-  → IsWordBefore 40 32 rest n (λ word. whole_of word ≡ Some i) → left ≡ drop n rest
+    → ((words : List (List ℕ)) → says words → length words ≤ 12)
+    → IsWordBefore 40 32 rest n (λ word. whole_of word ≡ Some i) → left ≡ drop n rest
     → IsWordBefore 40 10 left m (λ word. whole_of word ≡ Some k)
-      → ((first second : List ℕ) → whole_of first ≡ Some i → whole_of second ≡ Some k
-        → says ((letter ∷ first) ∷ second ∷ [])) → IsFirstRow (letter ∷ rest) (n + m + 1) says
+    → ((first second : List ℕ) → whole_of first ≡ Some i → whole_of second ≡ Some k
+    → says ((letter ∷ first) ∷ second ∷ [])) → IsFirstRow (letter ∷ rest) (n + m + 1) says
 letters_row rest left n m i k letter says above few w is v then =
     let sum : n + 1 + m ≡ n + m + 1 = omega arith in
     let more : left ≡ drop (n + 1) (letter ∷ rest) = is ∙ ap (λ (j : ℕ). drop j (letter ∷ rest)) (let one : suc n ≡ n + 1 = omega arith in one) in
@@ -192,7 +192,7 @@ letters_row rest left n m i k letter says above few w is v then =
     (first_row (letter ∷ rest) (n + 1 + m) says few
     (in_front 41 (letter ∷ rest) left (n + 1) m (λ word. (second : List ℕ) → whole_of second ≡ Some k → says (word ∷ second ∷ [])) (IsOneWhole k) says (omega arith)
     (lettered 40 32 letter rest n (λ word. whole_of word ≡ Some i)
-        (λ word. (second : List ℕ) → whole_of second ≡ Some k → says (word ∷ second ∷ [])) above w
-        (λ word e second f. then word second e f)) more
+    (λ word. (second : List ℕ) → whole_of second ≡ Some k → says (word ∷ second ∷ [])) above w
+    (λ word e second f. then word second e f)) more
     (alone 40 left m (λ word. whole_of word ≡ Some k) (IsOneWhole k) (omega arith) v (λ word e. record { word = word; is = refl; says = e }))
     (λ word words holds one. subst (λ ws. says (word ∷ ws)) (sym one.is) (holds one.word one.says))))

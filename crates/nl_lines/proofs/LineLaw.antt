@@ -66,7 +66,7 @@ pub record AllLined (P : ℕ → Type 0) (both : Bool) {A : Type 0} (tree : Opti
   pub each : (j : ℕ) → IsLined P both (tree (get_or xs j None)) (get_or rows j []) (get_or os j no_lines)
 
 pub with_tree_at : {A : Type 0} (P : ℕ → Type 0) (both : Bool) (tree : Option A → Option Tree) (xs : List (Option A))
-  (rows : List (List Term)) (os : List OwnerLines) (i : ℕ) (x : Option A) (f : OwnerLines → OwnerLines) → i < length os
+    (rows : List (List Term)) (os : List OwnerLines) (i : ℕ) (x : Option A) (f : OwnerLines → OwnerLines) → i < length os
     → ((ts : List Term) (o : OwnerLines) → IsLined P both (tree (get_or xs i None)) ts o → IsLined P both (tree x) ts (f o))
     → AllLined P both tree xs rows os → AllLined P both tree (slice_set xs i x) rows (changed f os i)
 with_tree_at P both tree xs rows os i x f lt step h =
@@ -84,8 +84,8 @@ with_tree_at P both tree xs rows os i x f lt step h =
     by j false e = rw (get_or-set_other xs i j x None (eqb-false j i e), get_or-set_other os i j (f (get_or os i no_lines)) no_lines (eqb-false j i e)) (h.each j)
 
 pub with_row_at : {A : Type 0} (P : ℕ → Type 0) (both : Bool) (tree : Option A → Option Tree) (xs : List (Option A))
-  (rows : List (List Term)) (os : List OwnerLines) (i : ℕ) (ts : List Term) (f : OwnerLines → OwnerLines)
-  → i < length os
+    (rows : List (List Term)) (os : List OwnerLines) (i : ℕ) (ts : List Term) (f : OwnerLines → OwnerLines)
+    → i < length os
     → ((t : Option Tree) (o : OwnerLines) → IsLined P both t (get_or rows i []) o → IsLined P both t ts (f o))
     → AllLined P both tree xs rows os → AllLined P both tree xs (slice_set rows i ts) (changed f os i)
 with_row_at P both tree xs rows os i ts f lt step h =
@@ -111,7 +111,7 @@ AreDefs P (d ∷ ds) [] = ⊥
 AreDefs P (d ∷ ds) (o ∷ os) = IsLined P true (Some d.tree) d.terms o × AreDefs P ds os
 
 pub defs_push : (P : ℕ → Type 0) (ds : List Definition) (os : List OwnerLines) (d : Definition) (o : OwnerLines)
-  → AreDefs P ds os → IsLined P true (Some d.tree) d.terms o → AreDefs P (ds ++ d ∷ []) (os ++ o ∷ [])
+    → AreDefs P ds os → IsLined P true (Some d.tree) d.terms o → AreDefs P (ds ++ d ∷ []) (os ++ o ∷ [])
 defs_push P [] [] d o h new = (new, tt)
 defs_push P [] (p ∷ os) d o h new = absurd h
 defs_push P (e ∷ ds) [] d o h new = absurd h
@@ -123,7 +123,7 @@ there : (P : ℕ → Type 0) (xs : List ℕ) (i : ℕ) → All P xs → i < leng
 there P xs i h lt = rw (slice_get-get_or xs i 0 lt) (h i 0 lt)
 
 pub node_there : (P : ℕ → Type 0) (both : Bool) (tree : Option Tree) (ts : List Term) (o : OwnerLines) (i : ℕ)
-  → IsLined P both tree ts o → i < option_map_or tree_size tree 0 → IsSomeAnd (slice_get o.nodes i) P
+    → IsLined P both tree ts o → i < option_map_or tree_size tree 0 → IsSomeAnd (slice_get o.nodes i) P
 node_there P both tree ts o i h lt = there P o.nodes i h.lines.nodes (omega (arith, lt, h.nodes))
 
 pub term_there : (P : ℕ → Type 0) (both : Bool) (tree : Option Tree) (ts : List Term) (o : OwnerLines) (i : ℕ) → IsLined P both tree ts o → i < length ts → IsSomeAnd (slice_get o.terms i) P

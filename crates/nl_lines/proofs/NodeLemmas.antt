@@ -62,8 +62,8 @@ index_known c d i h = by (nat_lt i c.n_var) refl
         rw e (not-false (is_defined d.definitions i) (rw above at h))
 
 variable_known : (c : Counts) (d : Draft) (o : Option ℕ) (node : Node)
-  → option_map (variable_node c.n_var) o ≡ Some node → first_reason (variable_tests c d o) ≡ None
-  → IsNodeKnown c.n_var d.definitions node
+    → option_map (variable_node c.n_var) o ≡ Some node → first_reason (variable_tests c d o) ≡ None
+    → IsNodeKnown c.n_var d.definitions node
 variable_known c d None node e t = absurd cc
 variable_known c d (Some i) node e t =
     subst (IsNodeKnown c.n_var d.definitions) (ap (λ o. unwrap_or o node) e) (index_known c d i (by (nat_lt i (c.n_var + defined_count c)) (is_undefined c d i) refl t))
@@ -88,8 +88,8 @@ leaf_known c d words node e t =
   where
     by : (n s v o : Bool) → leaf c words n s v o ≡ Some node
         → first_reason (if n then number_tests (dec_of (leaf_text words)) else
-            (if v then variable_tests c d (own_number words) else
-              (if o then opcode_tests (own_number words) else number_tests (dec_of_signed (leaf_text words))))) ≡ None
+        (if v then variable_tests c d (own_number words) else
+        (if o then opcode_tests (own_number words) else number_tests (dec_of_signed (leaf_text words))))) ≡ None
         → IsNodeKnown c.n_var d.definitions node
     by true s v o e t = number_known c.n_var d.definitions (dec_of (leaf_text words)) node e
     by false true v o e t = number_known c.n_var d.definitions (dec_of_signed (leaf_text words)) node e
@@ -98,7 +98,7 @@ leaf_known c d words node e t =
     by false false false false e t = absurd cc
 
 pub node_known : (c : Counts) (d : Draft) (words : List (List ℕ)) (node : Node) → node_in c.n_var words ≡ Some node
-  → first_reason (node_form_tests c d words) ≡ None → IsNodeKnown c.n_var d.definitions node
+    → first_reason (node_form_tests c d words) ≡ None → IsNodeKnown c.n_var d.definitions node
 unfolding node_form_tests
 node_known c d words node e t =
     leaf_known c d words node e

@@ -17,7 +17,7 @@ fits-64 (pos n) e = record { sfits = let small = ltb-true n (2 ^ 31) e in omega 
 fits-64 (negsuc n) e = record { sfits = let small = ltb-true n (2 ^ 31) e in omega arith }
 
 pub dec_of_signed-some : (text : List ℕ) (r : Option ℤ) (z : ℤ) (d : Dec) → r ≡ signed_of text → r ≡ Some z
-  → dec_value d ≡ whole (to_z w64 (of_z w64 (to_z w32 (of_z w32 z)))) → dec_of_signed text ≡ Some d
+    → dec_value d ≡ whole (to_z w64 (of_z w64 (to_z w32 (of_z w32 z)))) → dec_of_signed text ≡ Some d
 unfolding dec_of_signed
 dec_of_signed-some text r z d e is same =
     let read : signed_of text ≡ Some z = sym e ∙ is in

@@ -31,7 +31,7 @@ abbrev last_tests : Bool → Bool → Tests
 last_tests repeated full = (repeated, RepeatedIndex) ∷ (full, TooLarge) ∷ []
 
 module _ (c : Counts) (head : Head) (marks : List Bool) (full : Bool) (words : List (List ℕ)) (limit : ℕ) (whole : Bool)
-  (limit_is : limit ≡ index_limit c head) (whole_is : whole ≡ wants_whole_values head) where
+    (limit_is : limit ≡ index_limit c head) (whole_is : whole ≡ wants_whole_values head) where
   abbrev form : Tests
   form = pair_form_tests limit whole words
 
@@ -89,7 +89,7 @@ pair_found limit whole words e =
     by i (Some d) q f = record { term = (i.index, d); says = rw (i.is, q) refl; below = i.below }
 
 same_mark : (c : Counts) (marks : List Bool) (p : Piece) (i : ℕ) → IsMarked c marks p → i < index_limit c p.head
-  → (holds_once p.head && has_index (piece_pairs p) i) ≡ (holds_once p.head && get_or marks i false)
+    → (holds_once p.head && has_index (piece_pairs p) i) ≡ (holds_once p.head && get_or marks i false)
 same_mark c marks p i h lt = by (holds_once p.head) refl
   where
     by : (b : Bool) → holds_once p.head ≡ b → (holds_once p.head && has_index (piece_pairs p) i) ≡ (holds_once p.head && get_or marks i false)

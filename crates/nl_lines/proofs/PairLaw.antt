@@ -111,7 +111,7 @@ total_first p pieces = by (is_linear p.head) refl
     by false e = rw e (omega arith)
 
 fold_count : (f : Draft → ℕ) → ((d : Draft) (p : Piece) (h : Head) → f (said_by d p h) ≤ f d + linear_in p h)
-  → (pieces : List Piece) (d : Draft) → f (fold with_piece d pieces) ≤ f d + pair_total is_linear pieces
+    → (pieces : List Piece) (d : Draft) → f (fold with_piece d pieces) ≤ f d + pair_total is_linear pieces
 fold_count f step [] d = omega arith
 fold_count f step (p ∷ pieces) d = omega (arith, fold_count f step pieces (with_piece d p), step d p p.head, total_first p pieces)
 

@@ -96,7 +96,10 @@ first_row text rest n m i d within space behind ends lf few few_more some whole 
     record {
       line = line;
       first = front_one text line more ((n + m) + 2) parts (omega (arith, line_size))
-        (record { one = one_line-pair front word index word_some word_unmarked; short =
-            omega (arith, line_size, few, few_more) });
+          (record {
+            one = one_line-pair front word index word_some word_unmarked;
+            short =
+                omega (arith, line_size, few, few_more);
+          });
       pair = subst (λ ws. IsPairRow ws (i, d)) (sym (ap (take 12) words)) (two_words front word i d whole dec);
     }

@@ -112,7 +112,7 @@ at_run (x ∷ xs) zero d r tail h is = append_assoc (lines_in x) (run_lines xs) 
 at_run (x ∷ xs) (suc i) d r tail h is = at_run xs i d r tail (omega (arith, h)) is
 
 pub found_in : (xs : List LineRun) (i : ℕ) (d r : LineRun) (tail : List ℕ) (left line : ℕ) (o : Option ℕ)
-  → i < length xs → r ≡ get_or xs i d → ((rest : List ℕ) → slice_get (lines_in r ++ rest) left ≡ Some line)
+    → i < length xs → r ≡ get_or xs i d → ((rest : List ℕ) → slice_get (lines_in r ++ rest) left ≡ Some line)
     → slice_get (run_lines (drop i xs) ++ tail) left ≡ o → Some line ≡ o
 found_in xs i d r tail left line o h is at same = sym (at (run_lines (drop (suc i) xs) ++ tail)) ∙ sym (ap (λ ys. slice_get ys left) (at_run xs i d r tail h is)) ∙ same
 
@@ -135,15 +135,15 @@ nothing_there (x ∷ xs) i e = absurd cc
 
 -- in the first run
 pub first_found : (r last : LineRun) (more : List LineRun) (place line : ℕ)
-  → ((rest : List ℕ) → slice_get (lines_in r ++ rest) place ≡ Some line)
-  → Some line ≡ slice_get (run_lines (r ∷ more) ++ lines_in last) place
+    → ((rest : List ℕ) → slice_get (lines_in r ++ rest) place ≡ Some line)
+    → Some line ≡ slice_get (run_lines (r ∷ more) ++ lines_in last) place
 unfolding run_lines
 first_found r last more place line found = sym (ap (λ xs. slice_get xs place) (append_assoc (lines_in r) (run_lines more) (lines_in last)) ∙ found (run_lines more ++ lines_in last))
 
 -- behind it
 pub first_passed : (r last : LineRun) (more : List LineRun) (place left : ℕ) (line : Option ℕ)
-  → ((rest : List ℕ) → slice_get (lines_in r ++ rest) place ≡ slice_get rest left)
-  → line ≡ slice_get (run_lines more ++ lines_in last) left
+    → ((rest : List ℕ) → slice_get (lines_in r ++ rest) place ≡ slice_get rest left)
+    → line ≡ slice_get (run_lines more ++ lines_in last) left
     → line ≡ slice_get (run_lines (r ∷ more) ++ lines_in last) place
 unfolding run_lines
 first_passed r last more place left line passed is = is ∙ sym (ap (λ xs. slice_get xs place) (append_assoc (lines_in r) (run_lines more) (lines_in last)) ∙ passed (run_lines more ++ lines_in last))

@@ -31,8 +31,8 @@ mutual
   same_tree n ds a b at same (operator c ts) w = ap (option_and_then (applied (rule_of c))) (same_trees n ds a b at same ts w)
 
   same_trees : (n : ℕ) (ds : List Definition) (a b : Known) (at : Point)
-    → ((j : ℕ) → is_defined ds j ≡ true → a j ≡ b j) → (ts : Trees) → AreTreesWithin n ds ts
-    → trees_given a ts at ≡ trees_given b ts at
+      → ((j : ℕ) → is_defined ds j ≡ true → a j ≡ b j) → (ts : Trees) → AreTreesWithin n ds ts
+      → trees_given a ts at ≡ trees_given b ts at
   same_trees n ds a b at same none w = refl
   same_trees n ds a b at same (more t ts) w = ap₂ (λ v vs. option_and_then (λ x. option_map (λ xs. x ∷ xs) vs) v) (same_tree n ds a b at same t w.0) (same_trees n ds a b at same ts w.1)
 
@@ -51,8 +51,8 @@ mutual
 
 -- ---- later definitions keep the values of those before
 kept_value : (known : Known) (i j : ℕ) (ds : List Definition) (d : Definition) (at : Point)
-  → is_defined ds d.index ≡ false → is_defined ds j ≡ true →
-  (if j == d.index then expression_given known (definition_of d).expression at else known j) ≡ known j
+    → is_defined ds d.index ≡ false → is_defined ds j ≡ true →
+    (if j == d.index then expression_given known (definition_of d).expression at else known j) ≡ known j
 kept_value known i j ds d at fresh e = by (j == d.index) refl
   where
     by : (b : Bool) → j == d.index ≡ b → (if b then expression_given known (definition_of d).expression at else known j) ≡ known j
@@ -60,8 +60,8 @@ kept_value known i j ds d at fresh e = by (j == d.index) refl
     by false same = refl
 
 later_keep : (n k : ℕ) (before ds : List Definition) → AreDefinitions n k before ds
-  → (known : Point → Known) (at : Point) (j : ℕ) → is_defined before j ≡ true
-  → fold with_definition known (map definition_of ds) at j ≡ known at j
+    → (known : Point → Known) (at : Point) (j : ℕ) → is_defined before j ≡ true
+    → fold with_definition known (map definition_of ds) at j ≡ known at j
 later_keep n k before [] h known at j e = refl
 later_keep n k before (d ∷ ds) h known at j e =
     later_keep n k (before ++ d ∷ []) ds h.1 (with_definition known (definition_of d)) at j
@@ -69,9 +69,9 @@ later_keep n k before (d ∷ ds) h known at j e =
     ∙ kept_value (known at) d.index j before d at h.0.fresh e
 
 values_kept : (n k : ℕ) (before ds : List Definition) → AreDefinitions n k before ds
-  → (known : Point → Known) (at : Point) (i : ℕ) (d : Meant) → slice_get (map definition_of ds) i ≡ Some d → (u : Tree)
-  → IsPart u d.expression.tree → tree_given (fold with_definition known (take i (map definition_of ds)) at) u at
-  ≡ tree_given (fold with_definition known (map definition_of ds) at) u at
+    → (known : Point → Known) (at : Point) (i : ℕ) (d : Meant) → slice_get (map definition_of ds) i ≡ Some d → (u : Tree)
+    → IsPart u d.expression.tree → tree_given (fold with_definition known (take i (map definition_of ds)) at) u at
+    ≡ tree_given (fold with_definition known (map definition_of ds) at) u at
 values_kept n k before [] h known at i d e u p = cc
 values_kept n k before (x ∷ ds) h known at zero d e u p =
     let same : definition_of x ≡ d = ap (λ o. option_map_or (λ y. y) o (definition_of x)) e in

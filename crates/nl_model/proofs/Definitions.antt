@@ -101,8 +101,8 @@ kept-define d marks count x place k fine at =
         objectives = record {
           count = k.draft.objectives.count;
           known = All-weaker (λ o. IfSome o (λ y. IsTreeKnown n d.definitions y.tree))
-            (λ o. IfSome o (λ y. IsTreeKnown n (d.definitions ++ x ∷ []) y.tree)) (objective_more n d.definitions x)
-            d.objectives k.draft.objectives.known;
+              (λ o. IfSome o (λ y. IsTreeKnown n (d.definitions ++ x ∷ []) y.tree)) (objective_more n d.definitions x)
+              d.objectives k.draft.objectives.known;
         };
         terms = k.draft.terms;
         side_count = k.draft.side_count;

@@ -52,7 +52,7 @@ module _ (f : File) (k : ℕ) where
     relaxed_to r =
         record {
           rows = rows_all (RowHolds (variable_count (linear_of f k)) xs)
-            (λ i h. counted (λ n. IsInside (side_of f i) (form_value (body_form f i) n xs))
+              (λ i h. counted (λ n. IsInside (side_of f i) (form_value (body_form f i) n xs))
               (subst (HasValueInside (side_of f i)) (lines.bodies i h xs) (r.bodies i h)));
           bounds = λ j h. let below = uncounted (λ n. j < n) h in subst (λ v. IsInside v.bound (value_at xs j)) (sym (variable_lem j below)) (r.bounds j below);
         }
@@ -61,7 +61,7 @@ module _ (f : File) (k : ℕ) where
     relaxed_from r =
         record {
           bodies = λ i h. subst (HasValueInside (side_of f i)) (sym (lines.bodies i h xs))
-            (uncounted (λ n. IsInside (side_of f i) (form_value (body_form f i) n xs))
+              (uncounted (λ n. IsInside (side_of f i) (form_value (body_form f i) n xs))
               (all_rows (RowHolds (variable_count (linear_of f k)) xs) r.rows i h));
           bounds = λ j h. subst (λ v. IsInside v.bound (value_at xs j)) (variable_lem j h) (r.bounds j (counted (λ n. j < n) h));
         }
@@ -92,6 +92,6 @@ module _ (f : File) (k : ℕ) where
       record {
         ordered = rows_all (λ r. AreOrdered r.side.lower r.side.upper) formed.ordered;
         within = rows_all (λ r. (j : ℕ) → variable_count (linear_of f k) ≤ j → r.body.coefficient j ≡ zero_ℚ)
-          (λ i h j g. no_coefficient_beyond f.counts.n_var (definitions_of f) formed.definitions (body_of f i)
+            (λ i h j g. no_coefficient_beyond f.counts.n_var (definitions_of f) formed.definitions (body_of f i)
             (formed.bodies i h) j (uncounted (λ n. n ≤ j) g));
       }

@@ -40,16 +40,16 @@ rest_clean n count o os e = (count + coefficient_count n (owned_line o), (option
 
 -- definitions without a fault, of which each may use those before it
 definitions_clean : (n : ℕ) (known : Point → Known) (ds : List Definition)
-  → ((i : ℕ) → i < length ds → expression_fault (fold with_definition known (take i ds)) n
+    → ((i : ℕ) → i < length ds → expression_fault (fold with_definition known (take i ds)) n
     (get_or ds i no_definition).expression ≡ None) → definitions_fault known n ds ≡ None
 definitions_clean n known [] each = refl
 definitions_clean n known (d ∷ ds) each =
     ap (λ x. option_or x (definitions_fault (with_definition known d) n ds)) (each 0 (omega arith)) ∙ definitions_clean n (with_definition known d) ds (λ i h. each (suc i) (omega arith))
 
 owned_clean : (n : ℕ) (g : ℕ → Owned) (i m : ℕ) (os : List Owned) (count : ℕ)
-  → owners_fault n count (elements_from g i m ++ os) ≡ None
-  → ((j : ℕ) → j < m → expression_fault (g (i + j)).known n (g (i + j)).expression ≡ None) × (c : ℕ)
-  × (owners_fault n c os ≡ None)
+    → owners_fault n count (elements_from g i m ++ os) ≡ None
+    → ((j : ℕ) → j < m → expression_fault (g (i + j)).known n (g (i + j)).expression ≡ None) × (c : ℕ)
+    × (owners_fault n c os ≡ None)
 unfolding elements_from
 owned_clean n g i zero os count e = (λ j h. absurd (omega arith), count, e)
 owned_clean n g i (suc m) os count e =
@@ -60,8 +60,8 @@ owned_clean n g i (suc m) os count e =
     (each first r.0, r.1, r.2)
   where
     each : expression_fault (g i).known n (g i).expression ≡ None
-      → ((j : ℕ) → j < m → expression_fault (g (suc i + j)).known n (g (suc i + j)).expression ≡ None) → (j : ℕ)
-      → j < suc m → expression_fault (g (i + j)).known n (g (i + j)).expression ≡ None
+        → ((j : ℕ) → j < m → expression_fault (g (suc i + j)).known n (g (suc i + j)).expression ≡ None) → (j : ℕ)
+        → j < suc m → expression_fault (g (i + j)).known n (g (i + j)).expression ≡ None
     each first rest zero h = subst (λ k. expression_fault (g k).known n (g k).expression ≡ None) (omega arith) first
     each first rest (suc j) h = subst (λ k. expression_fault (g k).known n (g k).expression ≡ None) (omega arith) (rest j (omega arith))
 
@@ -71,8 +71,8 @@ with_objective false r k e = cc
 
 -- an expression without a fault, over defined variables without one, has the values of its line
 clean_line : (n : ℕ) (ds : List Definition) → AreDefined n [] ds → definitions_fault (λ at i. None) n ds ≡ None
-  → (x : Expression) → IsExpressionFormed n (indices_of ds) x → expression_fault (known_values ds) n x ≡ None
-  → HasValues n (expression_value ds x) (expression_line ds x)
+    → (x : Expression) → IsExpressionFormed n (indices_of ds) x → expression_fault (known_values ds) n x ≡ None
+    → HasValues n (expression_value ds x) (expression_line ds x)
 clean_line n ds above clean x formed fault =
     line_by_lem n (expression_value ds x) (line_with_terms (tree_line (known_values ds) x.tree) x.terms)
     (expression_linear n (known_values ds) (indices_of ds) (known_linear n ds above clean) x formed fault)
@@ -105,9 +105,9 @@ module _ (f : File) (k : ℕ) (formed : IsFormedFile f k) (clean : fold_fault f 
       let free = is_clean f k clean in
       record {
         bodies = λ i h xs. clean_line n ds formed.definitions free.definitions (body_of f i) (formed.bodies i h)
-          (free.bodies i h) (value_at xs) ∙ ap Some (form_value_lem n (expression_line ds (body_of f i)) xs);
+            (free.bodies i h) (value_at xs) ∙ ap Some (form_value_lem n (expression_line ds (body_of f i)) xs);
         objective = λ xs. clean_line n ds formed.definitions free.definitions (objective_of f k) formed.objective
-          free.objective (value_at xs) ∙ ap Some (form_value_lem n (expression_line ds (objective_of f k)) xs);
+            free.objective (value_at xs) ∙ ap Some (form_value_lem n (expression_line ds (objective_of f k)) xs);
       }
 
   known_lines : AreLinear f.counts.n_var (known_values (definitions_of f)) (indices_of (definitions_of f))
@@ -119,12 +119,12 @@ module _ (f : File) (k : ℕ) (formed : IsFormedFile f k) (clean : fold_fault f 
 
   -- each part of a tree is linear
   pub definition_parts_are_linear : (i : ℕ) (d : Definition) → slice_get (definitions_of f) i ≡ Some d → (u : Tree)
-    → IsPart u d.expression.tree → IsLinearTree f.counts.n_var (take i (definitions_of f)) u
+      → IsPart u d.expression.tree → IsLinearTree f.counts.n_var (take i (definitions_of f)) u
   definition_parts_are_linear = definition_parts f.counts.n_var (λ at i. None) [] (none_linear f.counts.n_var) (definitions_of f) formed.definitions (is_clean f k clean).definitions
 
   expression_parts : (x : Expression) → IsExpressionFormed f.counts.n_var (indices_of (definitions_of f)) x
-    → expression_fault (known_values (definitions_of f)) f.counts.n_var x ≡ None → (u : Tree) → IsPart u x.tree
-    → IsLinearTree f.counts.n_var (definitions_of f) u
+      → expression_fault (known_values (definitions_of f)) f.counts.n_var x ≡ None → (u : Tree) → IsPart u x.tree
+      → IsLinearTree f.counts.n_var (definitions_of f) u
   expression_parts x within free = part_linear f.counts.n_var (known_values (definitions_of f)) (indices_of (definitions_of f)) known_lines 0 x.tree within.tree (option_or-none _ _ free).0
 
   pub body_parts_are_linear : (i : ℕ) → i < f.counts.n_con → (u : Tree) → IsPart u (body_of f i).tree → IsLinearTree f.counts.n_var (definitions_of f) u

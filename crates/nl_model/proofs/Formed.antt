@@ -38,7 +38,7 @@ terms_formed n [] h = tt
 terms_formed n (t ∷ ts) h = (All-head (λ s. s.0 < n) t ts h, terms_formed n ts (All-tail (λ s. s.0 < n) t ts h))
 
 formed_by : (n : ℕ) (ds : List Definition) (is : List ℕ) → AreAmong ds is → (t : Tree) (ts : List Term)
-  → IsTreeKnown n ds t → AreBelow n ts → IsExpressionFormed n is (record { tree = t; terms = linear_terms ts })
+    → IsTreeKnown n ds t → AreBelow n ts → IsExpressionFormed n is (record { tree = t; terms = linear_terms ts })
 formed_by n ds is among t ts h below = record { tree = tree_formed n ds is among t h.formed h.within; terms = terms_formed n ts below }
 
 -- ---- definitions
@@ -46,7 +46,7 @@ one_more : (ds : List Definition) (is : List ℕ) → AreAmong ds is → (d : De
 one_more ds is among d i h =
     ⊎_elim (λ (e : is_defined ds i ≡ true). inr (among i e))
     (λ (e : is_defined (d ∷ []) i ≡ true). ⊎_elim (λ (g : d.index == i ≡ true). inl (sym (eqb-true d.index i g)))
-      (λ (g : false ≡ true). absurd (let clash : false ≡ true = g in cc)) (or_cases (d.index == i) false e))
+    (λ (g : false ≡ true). absurd (let clash : false ≡ true = g in cc)) (or_cases (d.index == i) false e))
     (or_cases (is_defined ds i) (is_defined (d ∷ []) i) (sym (list_any-append (λ x. x.index == i) ds (d ∷ [])) ∙ h))
 
 definitions_formed : (n k : ℕ) (known : List Definition) (is : List ℕ) → AreAmong known is → (ds : List Definition) → AreDefinitions n k known ds → AreDefined n is (map definition_of ds)
@@ -64,7 +64,7 @@ all_among : (ds : List Definition) (is : List ℕ) → AreAmong ds (indices_afte
 all_among [] is i h = absurd (let clash : false ≡ true = h in cc)
 all_among (d ∷ ds) is i h =
     ⊎_elim (λ (g : d.index == i ≡ true). kept ds (d.index ∷ is) i (inl (sym (eqb-true d.index i g))))
-      (λ (g : is_defined ds i ≡ true). all_among ds (d.index ∷ is) i g) (or_cases (d.index == i) (is_defined ds i) h)
+    (λ (g : is_defined ds i ≡ true). all_among ds (d.index ∷ is) i g) (or_cases (d.index == i) (is_defined ds i) h)
 
 -- ---- bodies and objectives
 
@@ -82,7 +82,7 @@ abbrev no_objective : Objective
 no_objective = record { maximise = false; tree = tree_or_zero None }
 
 objective_formed : (n : ℕ) (ds : List Definition) (is : List ℕ) → AreAmong ds is → (os : List Objective)
-  → All (λ o. IsTreeKnown n ds o.tree) os → (k : ℕ) → IsFormed n is (get_or os k no_objective).tree
+    → All (λ o. IsTreeKnown n ds o.tree) os → (k : ℕ) → IsFormed n is (get_or os k no_objective).tree
 objective_formed n ds is among os h k =
     ⊎_elim (λ (l : k < length os). let r = h k no_objective l in tree_formed n ds is among (get_or os k no_objective).tree r.formed r.within)
     (λ (g : length os ≤ k). subst (λ o. IsFormed n is o.tree) (sym (get_or_past os k no_objective g)) tt) (cases_lt k (length os))
@@ -101,8 +101,11 @@ file_formed f h k =
     record {
       ordered = λ i l. let s = get_or f.sides i no_sides in sides_ordered s.lo s.hi (h.sides i no_sides (subst (λ m. i < m) (sym h.side_count) l));
       definitions = definitions_formed n (defined_count f.counts) [] [] (λ i e. absurd (let clash : false ≡ true = e in cc)) f.definitions h.definitions;
-      bodies = λ i l. record { tree = body_formed n f.definitions is among (get_or f.bodies i None)
-          (h.bodies.known i None (subst (λ m. i < m) (sym h.bodies.count) l)); terms =
-          terms_at n f.terms h.terms.terms_below i };
+      bodies = λ i l. record {
+        tree = body_formed n f.definitions is among (get_or f.bodies i None)
+            (h.bodies.known i None (subst (λ m. i < m) (sym h.bodies.count) l));
+        terms =
+            terms_at n f.terms h.terms.terms_below i;
+      };
       objective = record { tree = objective_formed n f.definitions is among f.objectives h.objectives.known k; terms = terms_at n f.slopes h.terms.slopes_below k };
     }

@@ -62,8 +62,8 @@ power_sides true x (Some n) e = (refl, n, refl)
 power_sides false x k e = cc
 
 of_constants : (n : ℕ) (c : OpClass) (ls : List Line) → are_constant n ls ≡ true → (v : ℚ)
-  → applied (rule_of c) (constants_of ls) ≡ Some v → (at : Point)
-  → applied (rule_of c) (line_values n at ls) ≡ Some (line_value n (constants_line c ls) at)
+    → applied (rule_of c) (constants_of ls) ≡ Some v → (at : Point)
+    → applied (rule_of c) (line_values n at ls) ≡ Some (line_value n (constants_line c ls) at)
 of_constants n c ls e v there at =
     ap (applied (rule_of c)) (line_values-constant n at ls e) ∙ there
     ∙ ap Some (sym (constant_value n (or_zero (applied (rule_of c) (constants_of ls))) at ∙ ap or_zero there))
@@ -86,8 +86,8 @@ operator_has_line n Product (a ∷ b ∷ []) h e = λ at. ap Some (by at (is_con
     by at true is = ap (λ s. s *ℚ line_value n b at) (line_value-constant n at a is) ∙ sym (line_value-scaled n at a.constant b)
     by at false is =
         let q : is_constant n b ≡ true = ⊎_elim (λ (t : is_constant n a ≡ true). absurd
-            (let clash : true ≡ false = sym t ∙ is in cc)) (λ (t : is_constant n b ≡ true). t)
-          (product_sides (is_constant n a) (is_constant n b) _ _ e) in
+        (let clash : true ≡ false = sym t ∙ is in cc)) (λ (t : is_constant n b ≡ true). t)
+        (product_sides (is_constant n a) (is_constant n b) _ _ e) in
         ap (λ s. line_value n a at *ℚ s) (line_value-constant n at b q) ∙ *ℚ_comm (line_value n a at) b.constant ∙ sym (line_value-scaled n at b.constant a)
 operator_has_line n Product (a ∷ b ∷ d ∷ ls) h e = absurd (omega arith)
 operator_has_line n Quotient [] h e = absurd (omega arith)
@@ -152,8 +152,8 @@ both_there first rest v vs e f = rw (e, f) refl
 
 mutual
   pub tree_linear : (n : ℕ) (known : Point → Known) (is : List ℕ) (linear : AreLinear n known is) (i : ℕ) (t : Tree)
-    → IsFormed n is t → tree_fault known n i t ≡ None → HasValues n (λ at. tree_given (known at) t at)
-    (tree_line known t)
+      → IsFormed n is t → tree_fault known n i t ≡ None → HasValues n (λ at. tree_given (known at) t at)
+      (tree_line known t)
   tree_linear n known is linear i (number m e) formed clean =
       line_by_lem n (λ p. tree_given (known p) (number m e) p) (constant_line (decimal_value m e)) (λ p. ap Some (sym (constant_value n (decimal_value m e) p)))
   tree_linear n known is linear i (variable j) formed clean =
@@ -168,14 +168,14 @@ mutual
       (λ p. ap (option_and_then (applied (rule_of c))) (trees_linear n known is linear (i + 1) ts formed.1 free.0 p) ∙ r p)
 
   pub trees_linear : (n : ℕ) (known : Point → Known) (is : List ℕ) (linear : AreLinear n known is) (i : ℕ) (ts : Trees)
-    → AreFormed n is ts → trees_fault known n i ts ≡ None → (at : Point)
-    → trees_given (known at) ts at ≡ Some (line_values n at (trees_lines known ts))
+      → AreFormed n is ts → trees_fault known n i ts ≡ None → (at : Point)
+      → trees_given (known at) ts at ≡ Some (line_values n at (trees_lines known ts))
   trees_linear n known is linear i none formed clean at = refl
   trees_linear n known is linear i (more t ts) formed clean at =
       let free = option_or-none _ _ clean in
       both_there (tree_given (known at) t at) (trees_given (known at) ts at) _ _
-        (tree_linear n known is linear i t formed.0 free.0 at)
-        (trees_linear n known is linear (i + tree_size t) ts formed.1 free.1 at)
+      (tree_linear n known is linear i t formed.0 free.0 at)
+      (trees_linear n known is linear (i + tree_size t) ts formed.1 free.1 at)
 
 -- ---- expressions and defined variables
 pub terms_line : (n : ℕ) (at : Point) (a : Line) (ts : List LinearTerm) → AreTermsBelow n ts → line_value n a at +ℚ terms_value ts at ≡ line_value n (line_with_terms a ts) at
@@ -188,22 +188,22 @@ terms_line n at a (t ∷ ts) below =
 
 -- an expression whose tree has a line has that line with its terms added
 pub terms_added : (n : ℕ) (known : Point → Known) (x : Expression) (l : Line) → AreTermsBelow n x.terms
-  → HasValues n (λ at. tree_given (known at) x.tree at) l → HasValues n (λ at. expression_given (known at) x at)
-  (line_with_terms l x.terms)
+    → HasValues n (λ at. tree_given (known at) x.tree at) l → HasValues n (λ at. expression_given (known at) x at)
+    (line_with_terms l x.terms)
 terms_added n known x l below values at =
     ap (option_map (λ v. v +ℚ terms_value x.terms at)) (values at) ∙ ap Some (terms_line n at l x.terms below)
 
 pub expression_linear : (n : ℕ) (known : Point → Known) (is : List ℕ) → AreLinear n known is → (x : Expression)
-  → IsExpressionFormed n is x → expression_fault known n x ≡ None
-  → HasValues n (λ at. expression_given (known at) x at) (line_with_terms (tree_line known x.tree) x.terms)
+    → IsExpressionFormed n is x → expression_fault known n x ≡ None
+    → HasValues n (λ at. expression_given (known at) x at) (line_with_terms (tree_line known x.tree) x.terms)
 expression_linear n known is linear x formed clean =
     let free = option_or-none _ _ clean in
     terms_added n known x (tree_line known x.tree) formed.terms (tree_linear n known is linear 0 x.tree formed.tree free.0)
 
 -- one more definition with a line
 pub more_linear : (n : ℕ) (known : Point → Known) (is : List ℕ) → AreLinear n known is
-  → (i : ℕ) (f : Point → Option ℚ) (l : Line) → HasValues n f l
-  → AreLinear n (λ at x. if x == i then f at else known at x) (i ∷ is)
+    → (i : ℕ) (f : Point → Option ℚ) (l : Line) → HasValues n f l
+    → AreLinear n (λ at x. if x == i then f at else known at x) (i ∷ is)
 more_linear n known is linear i f l values k among = by (k == i) refl
   where
     by : (b : Bool) → k == i ≡ b → (m : Line) × HasValues n (λ at. if b then f at else known at k) m
@@ -212,15 +212,15 @@ more_linear n known is linear i f l values k among = by (k == i) refl
 
 -- what a file's definitions leave: lines
 pub definitions_linear : (n : ℕ) (known : Point → Known) (is : List ℕ) → AreLinear n known is → (ds : List Definition)
-  → AreDefined n is ds → definitions_fault known n ds ≡ None
-  → AreLinear n (fold with_definition known ds) (indices_after is ds)
+    → AreDefined n is ds → definitions_fault known n ds ≡ None
+    → AreLinear n (fold with_definition known ds) (indices_after is ds)
 definitions_linear n known is linear [] formed clean = linear
 definitions_linear n known is linear (d ∷ ds) formed clean =
     let free = option_or-none _ _ clean in
     definitions_linear n (with_definition known d) (d.index ∷ is)
     (more_linear n known is linear d.index (λ at. expression_given (known at) d.expression at)
-      (line_with_terms (tree_line known d.expression.tree) d.expression.terms)
-      (expression_linear n known is linear d.expression formed.0 free.0))
+    (line_with_terms (tree_line known d.expression.tree) d.expression.terms)
+    (expression_linear n known is linear d.expression formed.0 free.0))
     ds formed.1 free.1
 
 -- where no definition is known
@@ -232,15 +232,15 @@ known_linear n ds above clean = definitions_linear n (λ at i. None) [] (none_li
 
 -- where there is no first fault, the value at each point is the constant and the sum of the coefficients times the point
 pub linear_where_clean : (n : ℕ) (ds : List Definition) (t : Tree) → AreDefined n [] ds → IsFormed n (indices_of ds) t
-  → first_fault n ds t ≡ None → (at : Point) → tree_value ds t at
-  ≡ Some (constant_of ds t +ℚ sum_below (λ j. coef ds t j *ℚ at j) n)
+    → first_fault n ds t ≡ None → (at : Point) → tree_value ds t at
+    ≡ Some (constant_of ds t +ℚ sum_below (λ j. coef ds t j *ℚ at j) n)
 linear_where_clean n ds t above formed clean =
     let free = option_or-none _ _ clean in
     tree_linear n (known_values ds) (indices_of ds) (known_linear n ds above free.0) 0 t formed free.1
 
 pub expression_linear_where_clean : (n : ℕ) (ds : List Definition) (x : Expression) → AreDefined n [] ds
-  → IsExpressionFormed n (indices_of ds) x → first_expression_fault n ds x ≡ None
-  → HasValues n (expression_value ds x) (expression_line ds x)
+    → IsExpressionFormed n (indices_of ds) x → first_expression_fault n ds x ≡ None
+    → HasValues n (expression_value ds x) (expression_line ds x)
 expression_linear_where_clean n ds x above formed clean =
     let free = option_or-none _ _ clean in
     line_by_lem n (expression_value ds x) (line_with_terms (tree_line (known_values ds) x.tree) x.terms)

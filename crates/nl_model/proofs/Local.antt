@@ -49,7 +49,7 @@ module _ (n : ℕ) (p q : Point) (same : (j : ℕ) → j < n → p j ≡ q j) wh
       by false g = agree m (⊎_elim (λ (h : m ≡ i). absurd (let clash : true ≡ false = sym (eq-eqb m i h) ∙ g in cc)) (λ (r : IsOneOf m is). r) among)
 
   values_local : (k l : Point → Known) (is : List ℕ) → Agree (k p) (l q) is → (ds : List Definition)
-    → AreDefined n is ds → Agree (fold with_definition k ds p) (fold with_definition l ds q) (indices_after is ds)
+      → AreDefined n is ds → Agree (fold with_definition k ds p) (fold with_definition l ds q) (indices_after is ds)
   values_local k l is agree [] formed = agree
   values_local k l is agree (d ∷ ds) formed =
       values_local (with_definition k d) (with_definition l d) (d.index ∷ is)

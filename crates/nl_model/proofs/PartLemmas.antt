@@ -17,7 +17,7 @@ HasLine n known t = HasValues n (λ at. tree_given (known at) t at) (tree_line k
 
 mutual
   pub part_linear : (n : ℕ) (known : Point → Known) (is : List ℕ) (linear : AreLinear n known is) (i : ℕ) (t : Tree)
-    → IsFormed n is t → tree_fault known n i t ≡ None → (u : Tree) → IsPart u t → HasLine n known u
+      → IsFormed n is t → tree_fault known n i t ≡ None → (u : Tree) → IsPart u t → HasLine n known u
   part_linear n known is linear i (number m e) formed clean u part = subst (HasLine n known) (sym part) (tree_linear n known is linear i (number m e) formed clean)
   part_linear n known is linear i (variable j) formed clean u part = subst (HasLine n known) (sym part) (tree_linear n known is linear i (variable j) formed clean)
   part_linear n known is linear i (defined k) formed clean u part = subst (HasLine n known) (sym part) (tree_linear n known is linear i (defined k) formed clean)
@@ -26,8 +26,8 @@ mutual
       (λ (below : IsPartOfOne u ts). operand_part_linear n known is linear (i + 1) ts formed.1 (option_or-none _ _ clean).0 u below) part
 
   operand_part_linear : (n : ℕ) (known : Point → Known) (is : List ℕ) (linear : AreLinear n known is) (i : ℕ)
-    (ts : Trees) → AreFormed n is ts → trees_fault known n i ts ≡ None → (u : Tree) → IsPartOfOne u ts
-    → HasLine n known u
+      (ts : Trees) → AreFormed n is ts → trees_fault known n i ts ≡ None → (u : Tree) → IsPartOfOne u ts
+      → HasLine n known u
   operand_part_linear n known is linear i none formed clean u part = absurd part
   operand_part_linear n known is linear i (more t ts) formed clean u part =
       let free = option_or-none _ _ clean in
@@ -41,8 +41,8 @@ parts_where_clean n ds t above formed clean =
 
 -- each part of a definition's tree, which may use the definitions before it
 pub definition_parts : (n : ℕ) (known : Point → Known) (is : List ℕ) → AreLinear n known is → (ds : List Definition)
-  → AreDefined n is ds → definitions_fault known n ds ≡ None → (i : ℕ) (d : Definition) → slice_get ds i ≡ Some d
-  → (u : Tree) → IsPart u d.expression.tree → HasLine n (fold with_definition known (take i ds)) u
+    → AreDefined n is ds → definitions_fault known n ds ≡ None → (i : ℕ) (d : Definition) → slice_get ds i ≡ Some d
+    → (u : Tree) → IsPart u d.expression.tree → HasLine n (fold with_definition known (take i ds)) u
 definition_parts n known is linear [] formed clean i d e u part = cc
 definition_parts n known is linear (x ∷ ds) formed clean zero d e u part =
     let free = option_or-none _ _ clean in
@@ -52,6 +52,6 @@ definition_parts n known is linear (x ∷ ds) formed clean (suc i) d e u part =
     let free = option_or-none _ _ clean in
     definition_parts n (with_definition known x) (x.index ∷ is)
     (more_linear n known is linear x.index (λ at. expression_given (known at) x.expression at)
-      (line_with_terms (tree_line known x.expression.tree) x.expression.terms)
-      (expression_linear n known is linear x.expression formed.0 free.0))
+    (line_with_terms (tree_line known x.expression.tree) x.expression.terms)
+    (expression_linear n known is linear x.expression formed.0 free.0))
     ds formed.1 free.1 i d e u part

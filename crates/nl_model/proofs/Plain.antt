@@ -36,10 +36,10 @@ plain_line n ds x h below =
 
 -- its value: the number and its terms
 plain_value : (ds : List Definition) (t : Tree) (ts : List Term) → IsNumber t → (at : Point)
-  → expression_value ds (record { tree = t; terms = linear_terms ts }) at
-  ≡ Some (number_value t +ℚ sum_over (λ s. dec_value s.1 *ℚ at s.0) ts)
+    → expression_value ds (record { tree = t; terms = linear_terms ts }) at
+    ≡ Some (number_value t +ℚ sum_over (λ s. dec_value s.1 *ℚ at s.0) ts)
 plain_value ds (number m e) ts h at = ap (λ s. Some (decimal_value m e +ℚ s))
-  (sum_over-map (λ (u : LinearTerm). u.factor *ℚ at u.variable)
+    (sum_over-map (λ (u : LinearTerm). u.factor *ℚ at u.variable)
     (λ (t : Term). record { variable = t.0; factor = dec_value t.1 }) ts)
 plain_value ds (variable j) ts h at = absurd h
 plain_value ds (defined i) ts h at = absurd h
@@ -77,9 +77,9 @@ pub plain_has_lines : (f : File) (k : ℕ) → IsFormedFile f k → IsPlain f k 
 plain_has_lines f k formed plain =
     record {
       bodies = λ i h xs. plain_line f.counts.n_var (definitions_of f) (body_of f i) (plain.bodies i h)
-        (formed.bodies i h).terms (value_at xs) ∙ ap Some (form_value_lem f.counts.n_var
+          (formed.bodies i h).terms (value_at xs) ∙ ap Some (form_value_lem f.counts.n_var
           (expression_line (definitions_of f) (body_of f i)) xs);
       objective = λ xs. plain_line f.counts.n_var (definitions_of f) (objective_of f k) plain.objective
-        formed.objective.terms (value_at xs) ∙ ap Some (form_value_lem f.counts.n_var
+          formed.objective.terms (value_at xs) ∙ ap Some (form_value_lem f.counts.n_var
           (expression_line (definitions_of f) (objective_of f k)) xs);
     }

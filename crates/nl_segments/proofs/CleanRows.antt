@@ -56,8 +56,8 @@ unfolding awaited_in
 inside_tree c p kind e tree = by (nat_lt (length p.rows) (line_count c p.head)) (has_tree p.head) refl refl e
   where
     by : (t u : Bool) → nat_lt (length p.rows) (line_count c p.head) ≡ t → has_tree p.head ≡ u
-      → (if t then line_kind p.head else (if u then tree_awaits (piece_nodes c p) (piece_pending p) else Nothing))
-      ≡ kind
+        → (if t then line_kind p.head else (if u then tree_awaits (piece_nodes c p) (piece_pending p) else Nothing))
+        ≡ kind
         → IsInside c p kind
     by true u q r is = absurd (never (sym (ap in_tree is ∙ tree) ∙ lines_before p.head))
     by false true q r is =
@@ -95,11 +95,11 @@ running_row : (c : Counts) (p : Piece) (row : NumberedRow) (o : Option Pending) 
 running_row c p row o place e run pending =
     let nodes : only_nodes (piece_nodes c (longer p row)) ≡ only_nodes (piece_nodes c p) ++ only_nodes (last_nodes c.n_var o row) =
     ap only_nodes (tree_nodes c p row place) ∙ map-append (λ n. n.node) (piece_nodes c p)
-      (last_nodes c.n_var (piece_pending p) row) ∙ ap (λ o. only_nodes (piece_nodes c p)
-        ++ only_nodes (last_nodes c.n_var o row)) e in
+    (last_nodes c.n_var (piece_pending p) row) ∙ ap (λ o. only_nodes (piece_nodes c p)
+    ++ only_nodes (last_nodes c.n_var o row)) e in
     let after : piece_pending (longer p row) ≡ last_pending o row =
-      ap (pending_from None) (late_tree p row place.tree place.early) ∙ pending-more None (tree_rows p) row
-      ∙ ap (λ o. last_pending o row) e in
+    ap (pending_from None) (late_tree p row place.tree place.early) ∙ pending-more None (tree_rows p) row
+    ∙ ap (λ o. last_pending o row) e in
     record {
       run = subst (IsRun 1) (sym nodes) run;
       pending = subst (λ ns. IfSome (piece_pending (longer p row)) (IsPending ns)) (sym nodes)
@@ -160,13 +160,13 @@ pub clean_none : (c : Counts) → AreClean c []
 clean_none c = record { sound = no_piece_sound c; running = λ k d lt. absurd (omega (arith, lt)) }
 
 clean_longer : (c : Counts) (before : List Piece) (p : Piece) (row : NumberedRow) → AreClean c (before ++ p ∷ [])
-  → IsSoundPiece c (longer p row) → IsRunning c (longer p row) → AreClean c (before ++ longer p row ∷ [])
+    → IsSoundPiece c (longer p row) → IsRunning c (longer p row) → AreClean c (before ++ longer p row ∷ [])
 clean_longer c before p row h sound running =
     record { sound = sound_longer c before p row h.sound sound; running = other_last (IsRunning c) before p (longer p row) h.running running }
 
 -- a head
 clean_head : (c : Counts) (pieces : List Piece) (row : NumberedRow) → AreClean c pieces → is_head (row_words row) ≡ true
-  → first_reason (head_tests c pieces (row_words row)) ≡ None → AreClean c (with_row c pieces row)
+    → first_reason (head_tests c pieces (row_words row)) ≡ None → AreClean c (with_row c pieces row)
 unfolding head_tests head_form_tests
 clean_head c pieces row h is fine =
     let words = row_words row in
@@ -217,13 +217,13 @@ clean_line c d pieces before p row Pair h e fine =
 clean_line c d pieces before p row ColumnCount h e fine =
     let b = before_lines c p ColumnCount e refl in
     clean_longer c before p row h (sound_kept c p row (none_within p
-          (plain_lines p.head ColumnCount b.same_kind refl refl).0) (last_sound c before p h.sound))
-      (running_line c p row b.within (last_of (IsRunning c) before p h.running))
+    (plain_lines p.head ColumnCount b.same_kind refl refl).0) (last_sound c before p h.sound))
+    (running_line c p row b.within (last_of (IsRunning c) before p h.running))
 clean_line c d pieces before p row IntervalLine h e fine =
     let b = before_lines c p IntervalLine e refl in
     clean_longer c before p row h (sound_kept c p row (none_within p
-          (plain_lines p.head IntervalLine b.same_kind refl refl).0) (last_sound c before p h.sound))
-      (running_line c p row b.within (last_of (IsRunning c) before p h.running))
+    (plain_lines p.head IntervalLine b.same_kind refl refl).0) (last_sound c before p h.sound))
+    (running_line c p row b.within (last_of (IsRunning c) before p h.running))
 clean_line c d pieces before p row NodeLine h e fine =
     let i = inside_tree c p NodeLine e refl in
     clean_longer c before p row h (sound_kept c p row i.place.early (last_sound c before p h.sound)) (running_node c p row i (last_of (IsRunning c) before p h.running))

@@ -98,14 +98,14 @@ step P s n line here h fine = by (holds_words line) (is_in_header s) refl refl
 
 -- what each line without a fault keeps holds after all lines
 pub all_lines : (K : Standing → Type 0) (lines : List (List ℕ)) (last : Last)
-  → ((s : Standing) (n : ℕ) (line : List ℕ) → 0 < n → n ≤ length lines → K s → line_refusal s line ≡ None
+    → ((s : Standing) (n : ℕ) (line : List ℕ) → 0 < n → n ≤ length lines → K s → line_refusal s line ≡ None
     → K (after s n line))
     → K (standing []) → IsClean nl_rules lines last → K (standing lines)
 all_lines K lines last each start c =
     clean_keeps nl_rules (λ ls. K (standing ls)) last lines
     (λ before rest line is fine h. subst K (sym (standing-more before line))
-        (each (standing before) (length before + 1) line (omega arith)
-          (omega (arith, ap length is, length-append before (line ∷ rest))) h fine)) start c
+    (each (standing before) (length before + 1) line (omega arith)
+    (omega (arith, ap length is, length-append before (line ∷ rest))) h fine)) start c
 
 -- ---- the end
 
@@ -240,7 +240,7 @@ told_step d ps p (DefinitionHead i j u) e told =
       definitions = λ k x is. elim (push_cases d.definitions given x k is) [
         | inl before ↦ old.definitions k x before
         | inr same ↦ subst (λ (x : Definition). IsSaid d.counts (ps ++ p ∷ []) (IsOfDefinition k x.index) x.tree) same
-          (new d.counts ps p (IsOfDefinition k i) (DefinitionHead i j u) e (λ f at. at) refl)
+            (new d.counts ps p (IsOfDefinition k i) (DefinitionHead i j u) e (λ f at. at) refl)
       ];
     })
 told_step d ps p (Suffix kind n) e told =
@@ -274,14 +274,14 @@ all_told o c before (p ∷ rest) h =
 none_wanted : (ns : List Placed) (q : Option Pending) → is_nothing (tree_awaits ns q) ≡ true → awaited (only_nodes ns) ≡ 0
 none_wanted ns (Some q) e = absurd cc
 none_wanted ns None e = cond_both (awaited (only_nodes ns) == 0) Nothing NodeLine
-  (λ a. is_nothing a ≡ true → awaited (only_nodes ns) ≡ 0) (λ s f. eqb-true (awaited (only_nodes ns)) 0 s)
-  (λ s f. absurd cc) e
+    (λ a. is_nothing a ≡ true → awaited (only_nodes ns) ≡ 0) (λ s f. eqb-true (awaited (only_nodes ns)) 0 s)
+    (λ s f. absurd cc) e
 
 pub nothing_wanted : (c : Counts) (p : Piece) → has_tree p.head ≡ true → is_complete c p ≡ true → awaited (only_nodes (piece_nodes c p)) ≡ 0
 nothing_wanted c p t whole = none_wanted (piece_nodes c p) (piece_pending p) (tree_done c p t whole)
 
 found : (P : ℕ → Type 0) (s : Standing) (f : File) (owner : Owner) (begins : Head → Type 0) (t : Tree) → IsWholeText P s
-  → IsSaid (counts_of s) s.pieces begins t → ((h : Head) → begins h → BeginsTree f owner h) → HasPiece s f owner t
+    → IsSaid (counts_of s) s.pieces begins t → ((h : Head) → begins h → BeginsTree f owner h) → HasPiece s f owner t
 found P s f owner begins t w said is =
     let c = counts_of s in
     let whole = All-contains (λ q. is_complete c q ≡ true) s.pieces said.piece w.complete said.among in

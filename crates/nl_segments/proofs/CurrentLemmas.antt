@@ -75,7 +75,7 @@ node_step n cur row (Counted o) none is = record {
 
 -- the number of operands of the opcode that awaits it
 pub count_step : (n : ℕ) (cur : Current) (row : NumberedRow) (q : Pending) (k : ℕ) → cur.pending ≡ Some q
-  → whole_of (word_at (row_words row) 0) ≡ Some k → IsRowStep n cur row (Whole (Op q.opcode k)) q.line
+    → whole_of (word_at (row_words row) 0) ≡ Some k → IsRowStep n cur row (Whole (Op q.opcode k)) q.line
 count_step n cur row q k some is = record {
   nodes = ap (λ o. last_nodes n o row) some ∙ ap (λ (o : Option ℕ). (let y : Placed = record { node = Op q.opcode (unwrap_or o 0); line = q.line } in y) ∷ []) is;
   pending = sym (ap (λ o. last_pending o row) some);
@@ -95,7 +95,7 @@ row_fields cur line (Counted o) = (refl, refl, refl)
 
 -- a row of the expression changes nodes and the pending opcode alone
 pub with_row : (c : Counts) (p : Piece) (cur : Current) (row : NumberedRow) (r : NodeRow) (line : ℕ) → IsCurrent c p cur
-  → has_tree p.head ≡ true → line_count c p.head ≤ length p.rows → IsRowStep c.n_var cur row r line
+    → has_tree p.head ≡ true → line_count c p.head ≤ length p.rows → IsRowStep c.n_var cur row r line
     → IsCurrent c (longer p row) (with_node_row cur line r)
 with_row c p cur row r line h tree late step =
     let same = row_fields cur line r in

@@ -60,7 +60,7 @@ none_used n j (ts ∷ rows) h le =
     rw (sum_by-cons (λ terms. uses_in terms j) ts rows) (omega arith)
 
 all_uses : (n : ℕ) (uses : List ℕ) (rows : List (List Term)) → length uses ≡ n → All (AreTermsBelow n) rows
-  → ((j : ℕ) → j < n → get_or uses j 0 ≡ use_count rows j) → (j : ℕ) → get_or uses j 0 ≡ use_count rows j
+    → ((j : ℕ) → j < n → get_or uses j 0 ≡ use_count rows j) → (j : ℕ) → get_or uses j 0 ≡ use_count rows j
 all_uses n uses rows e low h j = by (nat_lt j n) refl
   where
     by : (t : Bool) → nat_lt j n ≡ t → get_or uses j 0 ≡ use_count rows j

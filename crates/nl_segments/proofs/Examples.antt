@@ -34,7 +34,7 @@ head_lines =
 body_lines : List (List ℕ)
 body_lines =
     codes "C0" ∷ codes "n0" ∷ codes "O0 0" ∷ codes "o0" ∷ codes "n1" ∷ codes "v0" ∷ codes "r" ∷ codes "1 5.5"
-      ∷ codes "b" ∷ codes "2 0" ∷ codes "3" ∷ codes "k1" ∷ codes "1" ∷ codes "J0 2" ∷ codes "0 1" ∷ codes "1 2.5" ∷ []
+    ∷ codes "b" ∷ codes "2 0" ∷ codes "3" ∷ codes "k1" ∷ codes "1" ∷ codes "J0 2" ∷ codes "0 1" ∷ codes "1 2.5" ∷ []
 
 next : List (List ℕ) → List ℕ → Option NlReason
 next before line = line_refusal (standing (head_lines ++ before)) line
@@ -95,10 +95,10 @@ lines_judged : AreJudged (
     given (codes "k1" ∷ []) (
     (codes "n5", Some BadLine) ∷ (codes "2147483648", Some BadNumber) ∷ (codes "7", None) ∷ []) ∷ [])
 unfolding head_lines next rows_from standing line_refusal end_refusal row_tests head_tests head_form_tests head_of
-  whole_of signed_of counts_in counts_by pieces_of extended last_piece awaited_in is_in_range draft_of options_in
-  nodes_from pending_from node_in opcode_in operands_of dec_of dec_of_signed is_dec_text dec_from decimal_of fits_dec
-  exponent_below decimal_value over gcd_of steps_of_euclid pair_in interval_in pair_form_tests pair_tests column_tests
-  interval_form_tests interval_tests node_form_tests node_tests operand_tests end_tests variable_kind whole
+    whole_of signed_of counts_in counts_by pieces_of extended last_piece awaited_in is_in_range draft_of options_in
+    nodes_from pending_from node_in opcode_in operands_of dec_of dec_of_signed is_dec_text dec_from decimal_of fits_dec
+    exponent_below decimal_value over gcd_of steps_of_euclid pair_in interval_in pair_form_tests pair_tests column_tests
+    interval_form_tests interval_tests node_form_tests node_tests operand_tests end_tests variable_kind whole
 lines_judged = refl
 
 -- after the header and these lines the end is judged so
@@ -112,10 +112,10 @@ ends_judged : AreEnded (
     (codes "O0 0" ∷ codes "n1" ∷ codes "r" ∷ codes "3" ∷ codes "b" ∷ codes "3" ∷ codes "3" ∷ [], Some NonzeroCount) ∷
     (codes "O0 0" ∷ codes "n1" ∷ codes "r" ∷ codes "3" ∷ codes "b" ∷ codes "3" ∷ codes "3" ∷ codes "J0 2" ∷ codes "0 1" ∷ codes "1 1" ∷ codes "k1" ∷ codes "2" ∷ [], Some ColumnCount) ∷ [])
 unfolding head_lines body_lines next rows_from standing line_refusal end_refusal row_tests head_tests head_form_tests
-  head_of whole_of signed_of counts_in counts_by pieces_of extended last_piece awaited_in is_in_range draft_of
-  options_in nodes_from pending_from node_in opcode_in operands_of dec_of dec_of_signed is_dec_text dec_from decimal_of
-  fits_dec exponent_below decimal_value over gcd_of steps_of_euclid pair_in interval_in pair_form_tests pair_tests
-  column_tests interval_form_tests interval_tests node_form_tests node_tests operand_tests end_tests variable_kind whole
+    head_of whole_of signed_of counts_in counts_by pieces_of extended last_piece awaited_in is_in_range draft_of
+    options_in nodes_from pending_from node_in opcode_in operands_of dec_of dec_of_signed is_dec_text dec_from decimal_of
+    fits_dec exponent_below decimal_value over gcd_of steps_of_euclid pair_in interval_in pair_form_tests pair_tests
+    column_tests interval_form_tests interval_tests node_form_tests node_tests operand_tests end_tests variable_kind whole
 ends_judged = refl
 
 -- ---- what a text says
@@ -141,9 +141,9 @@ record IsSaid : Type 0 where
 
 all_said : IsSaid
 unfolding told head_lines body_lines next rows_from standing line_refusal end_refusal row_tests head_tests
-  head_form_tests head_of whole_of signed_of counts_in counts_by pieces_of extended last_piece awaited_in is_in_range
-  draft_of options_in nodes_from pending_from node_in opcode_in operands_of dec_of dec_of_signed is_dec_text dec_from
-  decimal_of fits_dec exponent_below decimal_value over gcd_of steps_of_euclid pair_in interval_in pair_form_tests
-  pair_tests column_tests interval_form_tests interval_tests node_form_tests node_tests operand_tests end_tests
-  variable_kind whole place_lines class_of
+    head_form_tests head_of whole_of signed_of counts_in counts_by pieces_of extended last_piece awaited_in is_in_range
+    draft_of options_in nodes_from pending_from node_in opcode_in operands_of dec_of dec_of_signed is_dec_text dec_from
+    decimal_of fits_dec exponent_below decimal_value over gcd_of steps_of_euclid pair_in interval_in pair_form_tests
+    pair_tests column_tests interval_form_tests interval_tests node_form_tests node_tests operand_tests end_tests
+    variable_kind whole place_lines class_of
 all_said = record { terms = refl; bodies = refl; objectives = refl; bounds = refl; places = refl }

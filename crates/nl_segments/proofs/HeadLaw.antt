@@ -127,8 +127,8 @@ extra_line s b words plain e h = rw plain (by (last_piece s.pieces))
     by : (o : Option Piece) → first_reason (line_tests (counts_of s) (said s) s.pieces words o) ≡ Some ExtraLine
     by None = refl
     by (Some p) = ap (λ a. first_reason (awaited_tests (counts_of s) (said s) s.pieces p words a))
-      (only_nothing (awaited_of (counts_of s) s.pieces) (last_awaits (counts_of s) b.draft b.name s.pieces
-          (last_piece s.pieces) b.current refl h.last ∙ ap is_nothing e))
+        (only_nothing (awaited_of (counts_of s) s.pieces) (last_awaits (counts_of s) b.draft b.name s.pieces
+        (last_piece s.pieces) b.current refl h.last ∙ ap is_nothing e))
 
 -- ---- marks
 
@@ -237,7 +237,7 @@ pub form_fine : (c : Counts) (is_open : Bool) (seen : Segments) (suffixes : List
     → first_reason (new_head_tests c is_open seen suffixes count words) ≡ first_reason (held_head_tests c seen suffixes count (name_in words) head)
 form_fine c is_open seen suffixes count words head f e is =
     rw f (reason_after (head_form_tests c words) (formed_tests c seen suffixes count (name_in words) (head_of c words))
-        e ∙ ap (λ o. first_reason (formed_tests c seen suffixes count (name_in words) o)) is)
+    e ∙ ap (λ o. first_reason (formed_tests c seen suffixes count (name_in words) o)) is)
 
 -- a head that nothing is wrong with
 pub record IsNew (c : Counts) (is_open : Bool) (seen : Segments) (suffixes : List SuffixValue) (count : ℕ) (name : List ℕ) (head : Head) : Type 0 where
@@ -311,8 +311,8 @@ same_formed s b (Some head) name h closed = by (is_in_range (counts_of s) head) 
 
 -- a piece is open where one is held
 awaits_by : (c : Counts) (pieces : List Piece) (d : Draft) (name : Option (List ℕ)) (l : Option Piece)
-  (o : Option Current) → last_piece pieces ≡ l → IsLast c d name l o
-  → not (is_nothing (awaited_of c pieces)) ≡ is_some o
+    (o : Option Current) → last_piece pieces ≡ l → IsLast c d name l o
+    → not (is_nothing (awaited_of c pieces)) ≡ is_some o
 awaits_by c pieces d name None None e h = rw e refl
 awaits_by c pieces d name None (Some cur) e h = absurd h
 awaits_by c pieces d name (Some p) None e h = rw e (ap not h)
@@ -320,8 +320,8 @@ awaits_by c pieces d name (Some p) (Some cur) e h = rw e (ap not h.incomplete)
 
 head_reasons : (s : Standing) (words : List (List ℕ)) → is_head words ≡ true
     → words_refusal s words ≡ first_reason ((not (is_nothing (awaited_of (counts_of s) s.pieces)), ShortSegment)
-        ∷ (head_form_tests (counts_of s) words ++ formed_head_tests (counts_of s) s.pieces (name_in words)
-          (head_of (counts_of s) words)))
+    ∷ (head_form_tests (counts_of s) words ++ formed_head_tests (counts_of s) s.pieces (name_in words)
+    (head_of (counts_of s) words)))
 unfolding row_tests head_tests
 head_reasons s words first = rw first refl
 
@@ -341,8 +341,8 @@ same_refusal s b words h first =
     by (Some cur) e = rw e refl
 
 pub head_refused : (b : Body) (is_open : Bool) (words : List (List ℕ)) (r : Option NlReason)
-  → is_open ≡ is_some b.current → is_head words ≡ true → first_reason
-  (new_head_tests b.draft.counts is_open b.seen b.draft.suffixes b.suffixes words) ≡ r
+    → is_open ≡ is_some b.current → is_head words ≡ true → first_reason
+    (new_head_tests b.draft.counts is_open b.seen b.draft.suffixes b.suffixes words) ≡ r
     → (s : Standing) → IsHeld s b → words_refusal s words ≡ r
 head_refused b is_open words r e first fault s h =
     same_refusal s b words h first ∙ ap (λ o. first_reason (new_head_tests b.draft.counts o b.seen b.draft.suffixes b.suffixes words)) (sym e) ∙ fault
@@ -364,7 +364,7 @@ sound_piece c head name line range =
     }
 
 pub sound_begun : (c : Counts) (pieces : List Piece) (head : Head) (name : List ℕ) (line : ℕ) → AreSound c pieces
-  → All (λ q. is_complete c q ≡ true) pieces → is_in_range c head ≡ true → is_repeated pieces head name ≡ false
+    → All (λ q. is_complete c q ≡ true) pieces → is_in_range c head ≡ true → is_repeated pieces head name ≡ false
     → AreSound c (pieces ++ new_piece head name line ∷ [])
 sound_begun c pieces head name line h whole range fresh = record {
   each = All-push (IsSoundPiece c) pieces (new_piece head name line) h.each (sound_piece c head name line range);
@@ -375,8 +375,8 @@ sound_begun c pieces head name line h whole range fresh = record {
 -- ---- the last piece
 
 opened : (c : Counts) (d : Draft) (head : Head) (name : List ℕ) (line : ℕ)
-  → is_complete c (new_piece head name line) ≡ false → IsOpen c d (begun_name head name) (new_piece head name line)
-  (new_current head line (line_count c head))
+    → is_complete c (new_piece head name line) ≡ false → IsOpen c d (begun_name head name) (new_piece head name line)
+    (new_current head line (line_count c head))
 opened c d head name line e =
     record {
       incomplete = e;
@@ -409,8 +409,8 @@ held_begun : (s : Standing) (b : Body) (head : Head) (name : List ℕ) (line : �
     → IsHeld (with_new s head name line) (with_begun_head b head name line)
 held_begun s b head name line h closed range fresh =
     let draft : begun_draft b.draft head name ≡ said (with_new s head name line) =
-      ap (λ d. begun_draft d head name) h.draft ∙ sym (draft_begun (options_in s.header) (counts_of s) s.pieces head
-        name line) in
+    ap (λ d. begun_draft d head name) h.draft ∙ sym (draft_begun (options_in s.header) (counts_of s) s.pieces head
+    name line) in
     record {
       body = h.body;
       sound = sound_begun (counts_of s) s.pieces head name line h.sound (closed_complete s b h closed) range fresh;
@@ -458,7 +458,7 @@ pub new_of : (b : Body) (is_open : Bool) (words : List (List ℕ)) (head : Head)
     → first_reason (new_head_tests b.draft.counts is_open b.seen b.draft.suffixes b.suffixes words) ≡ None → IsNewOf b words head
 new_of b is_open words head e is none =
     is_new b.draft.counts (is_some b.current) b.seen b.draft.suffixes b.suffixes words head is
-      (ap (λ o. first_reason (new_head_tests b.draft.counts o b.seen b.draft.suffixes b.suffixes words)) (sym e) ∙ none)
+    (ap (λ o. first_reason (new_head_tests b.draft.counts o b.seen b.draft.suffixes b.suffixes words)) (sym e) ∙ none)
 
 pub marks_there : (b : Body) (head : Head) → HoldsSome b → is_in_range b.draft.counts head ≡ true → IsSeenIn b.seen head
 marks_there b head h range = (h.1.seen head (ap (λ c. is_in_range c head) (sym h.1.counts) ∙ range)).0

@@ -37,7 +37,7 @@ zero_number z more e =
 
 -- a text that begins with three bytes
 begins_with : (P : List ℕ → Type 0) (x y z : ℕ) → ((more : List ℕ) → P (x ∷ y ∷ z ∷ more)) → (text : List ℕ)
-  → 3 ≤ length text → get_or text 0 0 ≡ x → get_or text 1 0 ≡ y → get_or text 2 0 ≡ z → P text
+    → 3 ≤ length text → get_or text 0 0 ≡ x → get_or text 1 0 ≡ y → get_or text 2 0 ≡ z → P text
 begins_with P x y z is [] some p q r = absurd (omega (arith, some))
 begins_with P x y z is (a ∷ []) some p q r = absurd (omega (arith, some))
 begins_with P x y z is (a ∷ b ∷ []) some p q r = absurd (omega (arith, some))
@@ -49,5 +49,5 @@ pub product_line : (text : List ℕ) → 3 ≤ length text → get_or text 0 0 �
 product_line text some o two ends = begins_with (λ bs. IsFirstRow bs 3 (λ words. IsLeafRow words (Opcode 2))) 111 50 10 product text some o two ends
 
 pub zero_line : (z : Dec) (text : List ℕ) → dec_value z ≡ zero_ℚ → 3 ≤ length text → get_or text 0 0 ≡ 110
-  → get_or text 1 0 ≡ 48 → get_or text 2 0 ≡ 10 → IsFirstRow text 3 (λ words. IsLeafRow words (Number z))
+    → get_or text 1 0 ≡ 48 → get_or text 2 0 ≡ 10 → IsFirstRow text 3 (λ words. IsLeafRow words (Number z))
 zero_line z text e some n nought ends = begins_with (λ bs. IsFirstRow bs 3 (λ words. IsLeafRow words (Number z))) 110 48 10 (λ more. zero_number z more e) text some n nought ends

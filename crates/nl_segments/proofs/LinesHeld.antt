@@ -86,7 +86,7 @@ pub record AreRowLines (P : ℕ → Type 0) (p : Piece) : Type 0 where
   pub rows : All (λ r. P r.line) p.rows
 
 lines_from : (P : ℕ → Type 0) (n : ℕ) (pending : Option Pending) (rows : List NumberedRow)
-  → IfSome pending (λ q. P q.line) → All (λ r. P r.line) rows → All P (map (λ n. n.line) (nodes_from n pending rows))
+    → IfSome pending (λ q. P q.line) → All (λ r. P r.line) rows → All P (map (λ n. n.line) (nodes_from n pending rows))
 unfolding nodes_from
 lines_from P n None [] h rows = λ k d lt. absurd (omega (arith, lt))
 lines_from P n (Some q) [] h rows = λ k d lt. absurd (omega (arith, lt))
@@ -102,8 +102,8 @@ lines_from P n None (row ∷ more) h rows =
     next (Some o) = here
 
     by : (o : Option Node) → All P (map (λ n. n.line) (nodes_from n (pending_in row) more))
-      → All P (map (λ n. n.line) (cons_option (option_map (λ (m : Node). record { node = m; line = row.line }) o)
-          (nodes_from n (pending_in row) more)))
+        → All P (map (λ n. n.line) (cons_option (option_map (λ (m : Node). record { node = m; line = row.line }) o)
+        (nodes_from n (pending_in row) more)))
     by None rest = rest
     by (Some m) rest = All-cons P row.line (map (λ n. n.line) (nodes_from n (pending_in row) more)) here rest
 
@@ -145,15 +145,19 @@ some_and P None some h = absurd cc
 some_and P (Some n) some h = h
 
 step : (P : ℕ → Type 0) (c : Counts) (d : Draft) (l : PlaceLines) (p : Piece) (h : Head) → d.counts ≡ c → p.head ≡ h
-  → IsWhole P c p → IsUnused d h → HasOwner l h → AreLined P d l → AreLined P (said_by d p h) (more_lines c l p h)
+    → IsWhole P c p → IsUnused d h → HasOwner l h → AreLined P d l → AreLined P (said_by d p h) (more_lines c l p h)
 step P c d l p (BodyHead i) n e w free place old =
     let size = placed_nodes (piece_nodes c p) (piece_pending p) (tree_done c p (rw e refl) w.whole) in
     rw (n, w.whole) (record {
       definitions = old.definitions;
       constraints = with_tree_at P true (λ t. t) d.bodies d.terms l.constraints i (Some (piece_tree c p))
-        (with_tree_lines c p) place (λ ts o before. record { nodes = size; terms = before.terms; head = λ _. refl;
-            lines = record { head = w.lines.line; nodes = w.lines.nodes; terms = before.lines.terms } })
-        old.constraints;
+          (with_tree_lines c p) place (λ ts o before. record {
+            nodes = size;
+            terms = before.terms;
+            head = λ _. refl;
+            lines = record { head = w.lines.line; nodes = w.lines.nodes; terms = before.lines.terms };
+          })
+          old.constraints;
       objectives = old.objectives;
     })
 step P c d l p (ObjectiveHead k m) n e w free place old =
@@ -162,15 +166,15 @@ step P c d l p (ObjectiveHead k m) n e w free place old =
       definitions = old.definitions;
       constraints = old.constraints;
       objectives = with_tree_at P false (option_map (λ (o : Objective). o.tree)) d.objectives d.slopes l.objectives k
-        (Some (record { maximise = m; tree = piece_tree c p })) (with_tree_lines c p) place
+          (Some (record { maximise = m; tree = piece_tree c p })) (with_tree_lines c p) place
           (λ ts o before. record { nodes = size; terms = before.terms; head = λ _. refl; lines = record { head = w.lines.line; nodes = w.lines.nodes; terms = before.lines.terms } }) old.objectives;
     })
 step P c d l p (DefinitionHead i j u) n e w free place old =
     let size = placed_nodes (piece_nodes c p) (piece_pending p) (tree_done c p (rw e refl) w.whole) in
     rw (n, w.whole) (record {
       definitions = defs_push P d.definitions l.definitions
-        (record { index = i; terms = piece_pairs p; usage = u; tree = piece_tree c p })
-        (record { head = Some p.line; nodes = node_lines c p; terms = term_lines p }) old.definitions
+          (record { index = i; terms = piece_pairs p; usage = u; tree = piece_tree c p })
+          (record { head = Some p.line; nodes = node_lines c p; terms = term_lines p }) old.definitions
           (record { nodes = size; terms = pairs_lines P c p w; head = λ _. refl; lines = record { head = w.lines.line; nodes = w.lines.nodes; terms = w.lines.terms } });
       constraints = old.constraints;
       objectives = old.objectives;
@@ -179,10 +183,18 @@ step P c d l p (Terms i m) n e w free place old =
     record {
       definitions = old.definitions;
       constraints = with_row_at P true (λ t. t) d.bodies d.terms l.constraints i (get_or d.terms i [] ++ piece_pairs p) (with_term_lines p) place
-          (λ t o before. record { nodes = before.nodes; terms = rw free (pairs_lines P c p w); head =
-                λ _. some_head o.head p.line; lines = record
-                { head = or_line P o.head p.line before.lines.head w.lines.line; nodes = before.lines.nodes; terms =
-                  w.lines.terms } }) old.constraints;
+          (λ t o before. record {
+            nodes = before.nodes;
+            terms = rw free (pairs_lines P c p w);
+            head =
+                λ _. some_head o.head p.line;
+            lines = record {
+              head = or_line P o.head p.line before.lines.head w.lines.line;
+              nodes = before.lines.nodes;
+              terms =
+                  w.lines.terms;
+            };
+          }) old.constraints;
       objectives = old.objectives;
     }
 step P c d l p (Slopes k m) n e w free place old =
@@ -190,10 +202,14 @@ step P c d l p (Slopes k m) n e w free place old =
       definitions = old.definitions;
       constraints = old.constraints;
       objectives = with_row_at P false (option_map (λ (o : Objective). o.tree)) d.objectives d.slopes l.objectives k
-        (get_or d.slopes k [] ++ piece_pairs p) (λ o. record o { terms = term_lines p }) place
-          (λ t o before. record { nodes = before.nodes; terms = rw free (pairs_lines P c p w); head = before.head;
-                lines = record { head = before.lines.head; nodes = before.lines.nodes; terms = w.lines.terms } })
-            old.objectives;
+          (get_or d.slopes k [] ++ piece_pairs p) (λ o. record o { terms = term_lines p }) place
+          (λ t o before. record {
+            nodes = before.nodes;
+            terms = rw free (pairs_lines P c p w);
+            head = before.head;
+            lines = record { head = before.lines.head; nodes = before.lines.nodes; terms = w.lines.terms };
+          })
+          old.objectives;
     }
 step P c d l p (Suffix a m) n e w free place old = rw (n, w.whole) (record { definitions = old.definitions; constraints = old.constraints; objectives = old.objectives })
 step P c d l p head n e w free place old = record { definitions = old.definitions; constraints = old.constraints; objectives = old.objectives }
@@ -271,7 +287,7 @@ no_owner : (P : ℕ → Type 0) (both : Bool) → HasAll P both None [] None
 no_owner P both = record { nodes = λ k lt. absurd (omega (arith, lt)); terms = λ k lt. absurd (omega (arith, lt)); head = λ e. absurd (both_ways _ (and_right both false refl) e) }
 
 owner_at : {A : Type 0} (P : ℕ → Type 0) (both : Bool) (tree : Option A → Option Tree) (xs : List (Option A))
-  (rows : List (List Term)) (os : List OwnerLines) (i : ℕ) → tree None ≡ None → AllLined P both tree xs rows os
+    (rows : List (List Term)) (os : List OwnerLines) (i : ℕ) → tree None ≡ None → AllLined P both tree xs rows os
     → HasAll P both (tree (get_or xs i None)) (get_or rows i []) (slice_get os i)
 owner_at P both tree xs rows os i e h = by (nat_lt i (length os)) refl
   where
@@ -305,7 +321,7 @@ some_tree None h = absurd cc
 some_tree (Some o) h = refl
 
 objective_head : (P : ℕ → Type 0) (xs : List (Option Objective)) (rows : List (List Term)) (os : List OwnerLines)
-  (i : ℕ) → AllLined P false (option_map (λ (o : Objective). o.tree)) xs rows os → All IsSome xs
+    (i : ℕ) → AllLined P false (option_map (λ (o : Objective). o.tree)) xs rows os → All IsSome xs
     → (is_some (option_map (λ (o : Objective). o.tree) (get_or xs i None)) || not (length (get_or rows i []) == 0)) ≡ true → IsSomeAnd (option_and_then (λ (x : OwnerLines). x.head) (slice_get os i)) P
 objective_head P xs rows os i h g has = by (nat_lt i (length xs)) refl
   where

@@ -43,7 +43,7 @@ one_word words (Variable i) p = (0, p.0.one)
 one_word words (Opcode o) p = (0, p.0.one)
 
 pub leaf_can : (b : Body) (piece : List ℕ) (len : ℕ) (leaf : Leaf) (r : NodeRow) (line : ℕ) → IsAwaiting NodeLine b
-  → HoldsSome b → IsFirstRow piece len (λ words. IsLeafRow words leaf) → IsReadNext b leaf r
+    → HoldsSome b → IsFirstRow piece len (λ words. IsLeafRow words leaf) → IsReadNext b leaf r
     → IsSomeAnd b.current (λ c. CanTakeRow b.draft b.places c r line)
 leaf_can b piece len leaf r line awaits held first read =
     let words = row_of (without_comment first.line) in
@@ -53,11 +53,11 @@ pub leaf_few : (b : Body) (piece : List ℕ) (len : ℕ) (leaf : Leaf) (r : Node
 leaf_few b piece len leaf r first read = (read (row_of (without_comment first.line)) first.row).1.few
 
 pub leaf_first : (b : Body) (piece : List ℕ) (number len : ℕ) (leaf : Leaf) (r : NodeRow) (count : ℕ) (draft : Draft)
-  (kept : Option Current) (places : PlaceLines) → IsAwaiting NodeLine b
-  → IsFirstRow piece len (λ words. IsLeafRow words leaf)
+    (kept : Option Current) (places : PlaceLines) → IsAwaiting NodeLine b
+    → IsFirstRow piece len (λ words. IsLeafRow words leaf)
     → IsReadNext b leaf r → count ≡ row_count r → IfSome b.current
-      (λ c. places ≡ with_row_line b.places number c.head r)
-      → IfSome b.current (λ c. IsSettled b.draft (with_node_row c number r) kept draft)
+    (λ c. places ≡ with_row_line b.places number c.head r)
+    → IfSome b.current (λ c. IsSettled b.draft (with_node_row c number r) kept draft)
     → TakesLines b piece number (record { len = len; lines = 1 }) (record b { draft = draft; current = kept; nodes = b.nodes + count; places = places })
 leaf_first b piece number len leaf r count draft kept places awaits first read counted lines settled =
     row_first b (record b { draft = draft; current = kept; nodes = b.nodes + count; places = places }) piece number len (λ words. IsLeafRow words leaf) first (λ words p. one_word words leaf p)
@@ -74,7 +74,7 @@ pub record AwaitsOperands (b : Body) (cur : Current) (q : Pending) : Type 0 wher
   pub held : HoldsSome b
 
 pub operand_can : (b : Body) (piece : List ℕ) (len k line : ℕ) (cur : Current) (q : Pending) → AwaitsOperands b cur q
-  → IsFirstRow piece len (λ words. IsWholeRow words k) → (nat_lt 0 k && nat_le k (2 ^ 22)) ≡ true
+    → IsFirstRow piece len (λ words. IsWholeRow words k) → (nat_lt 0 k && nat_le k (2 ^ 22)) ≡ true
     → IsSomeAnd b.current (λ c. CanTakeRow b.draft b.places c (Whole (Op q.opcode k)) q.line)
 operand_can b piece len k line cur q a first few =
     let words = row_of (without_comment first.line) in
@@ -82,11 +82,11 @@ operand_can b piece len k line cur q a first few =
     (count_read b words line cur q k a.here a.awaiting (whole_plain words k first.row) a.pending a.waits a.held (operand_fine words k first.row few) (operand_says words k first.row few))
 
 pub operand_first : (b : Body) (piece : List ℕ) (number len k : ℕ) (cur : Current) (q : Pending) (draft : Draft)
-  (kept : Option Current) (places : PlaceLines) → AwaitsOperands b cur q
-  → IsFirstRow piece len (λ words. IsWholeRow words k)
+    (kept : Option Current) (places : PlaceLines) → AwaitsOperands b cur q
+    → IsFirstRow piece len (λ words. IsWholeRow words k)
     → (nat_lt 0 k && nat_le k (2 ^ 22)) ≡ true → IfSome b.current
-      (λ c. places ≡ with_row_line b.places q.line c.head (Whole (Op q.opcode k)))
-      → IfSome b.current (λ c. IsSettled b.draft (with_node_row c q.line (Whole (Op q.opcode k))) kept draft)
+    (λ c. places ≡ with_row_line b.places q.line c.head (Whole (Op q.opcode k)))
+    → IfSome b.current (λ c. IsSettled b.draft (with_node_row c q.line (Whole (Op q.opcode k))) kept draft)
     → TakesLines b piece number (record { len = len; lines = 1 }) (record b { draft = draft; current = kept; nodes = b.nodes + 1; places = places })
 operand_first b piece number len k cur q draft kept places a first few lines settled =
     row_first b (record b { draft = draft; current = kept; nodes = b.nodes + 1; places = places }) piece number len (λ words. IsWholeRow words k) first (λ words p. (0, p.one))

@@ -111,7 +111,7 @@ no_node d first before b cur number piece a =
     subst (TakesLines b piece number (record { len = 0; lines = 0 })) (sym same) (none_taken b piece number)
 
 pub node_taken : (d : Draft) (first ns : List Node) (node : Node) (before : ℕ) (b : Body) (cur : Current) (number : ℕ)
-  (piece : List ℕ) (front : Front) (len : ℕ) (leaf : Leaf) → AwaitsNodes d first before b cur → 0 < awaited ns
+    (piece : List ℕ) (front : Front) (len : ℕ) (leaf : Leaf) → AwaitsNodes d first before b cur → 0 < awaited ns
     → TakesLines b piece number front (with_nodes b cur ns number front.lines) → IsFirstRow (drop front.len piece) len (λ words. IsLeafRow words leaf) → IsReadAfter d (before + front.lines) leaf node
     → TakesLines b piece number (record { len = front.len + len; lines = front.lines + 1 }) (with_nodes b cur (ns ++ node ∷ []) number (front.lines + 1))
 node_taken d first ns node before b cur number piece front len leaf a some h row read =
@@ -126,8 +126,8 @@ node_taken d first ns node before b cur number piece front len leaf a some h row
     let new : Body = record old { draft = settled_draft old.draft next; current = unless_complete next; nodes = old.nodes + 1; places = with_node_line old.places (number + n) cur.head } in
     let step : TakesLines old (drop front.len piece) (number + n) (record { len = len; lines = 1 }) new =
     leaf_first old (drop front.len piece) (number + n) len leaf (Whole node) 1 (settled_draft old.draft next)
-      (unless_complete next) (with_node_line old.places (number + n) cur.head)
-      (awaiting d first ns before b cur number n a some) row
+    (unless_complete next) (with_node_line old.places (number + n) cur.head)
+    (awaiting d first ns before b cur number n a some) row
     (read_at old d (before + n) leaf node draft count read) refl
     (subst (λ o. IfSome o (λ c. with_node_line old.places (number + n) cur.head ≡ with_node_line old.places (number + n) c.head)) (sym held) refl)
     (subst (λ o. IfSome o (λ c. IsSettled old.draft (with_node_row c (number + n) (Whole node)) (unless_complete next) (settled_draft old.draft next))) (sym held) (settled_is old.draft next)) in
@@ -139,8 +139,8 @@ node_taken d first ns node before b cur number piece front len leaf a some h row
 -- the piece may take the node
 pub can_node : (d : Draft) (first ns : List Node) (node : Node) (before : ℕ) (piece : List ℕ) (front : Front) (len : ℕ) (leaf : Leaf) (h : HasNodes d first before) → 0 < awaited ns
     → TakesLines h.body piece 1 front (with_nodes h.body h.current ns 1 front.lines)
-      → IsFirstRow (drop front.len piece) len (λ words. IsLeafRow words leaf)
-      → IsReadAfter d (before + front.lines) leaf node
+    → IsFirstRow (drop front.len piece) len (λ words. IsLeafRow words leaf)
+    → IsReadAfter d (before + front.lines) leaf node
     → CanTakeRow (with_nodes h.body h.current ns 1 front.lines).draft (with_nodes h.body h.current ns 1 front.lines).places (only_nodes_of h.current ns) (Whole node) 1
 can_node d first ns node before piece front len leaf h some takes row read =
     let n = front.lines in
@@ -160,13 +160,13 @@ known_first d first before h =
     let o = opened h.held.0 h.body h.current h.is.current h.held.1 in
     subst (λ ns. All (IsNodeKnown d.counts.n_var d.definitions) ns) h.is.same_nodes
     (subst (λ x. All (IsNodeKnown x.counts.n_var x.definitions) h.current.nodes) h.is.draft
-      (subst (λ c. All (IsNodeKnown c.n_var h.body.draft.definitions) h.current.nodes) (sym h.held.1.counts)
-        o.is_open.known))
+    (subst (λ c. All (IsNodeKnown c.n_var h.body.draft.definitions) h.current.nodes) (sym h.held.1.counts)
+    o.is_open.known))
 
 pub known_next : (d : Draft) (first ns : List Node) (node : Node) (before : ℕ) (piece : List ℕ) (front : Front) (len : ℕ) (leaf : Leaf) (h : HasNodes d first before) → 0 < awaited ns
     → TakesLines h.body piece 1 front (with_nodes h.body h.current ns 1 front.lines)
-      → IsFirstRow (drop front.len piece) len (λ words. IsLeafRow words leaf)
-      → IsReadAfter d (before + front.lines) leaf node
+    → IsFirstRow (drop front.len piece) len (λ words. IsLeafRow words leaf)
+    → IsReadAfter d (before + front.lines) leaf node
     → All (IsNodeKnown d.counts.n_var d.definitions) (ns ++ node ∷ [])
 known_next d first ns node before piece front len leaf h some takes row read =
     subst (λ x. All (IsNodeKnown x.counts.n_var x.definitions) (ns ++ node ∷ [])) (same_draft d first ns before h.body h.current 1 front.lines h.is some)
@@ -183,8 +183,8 @@ awaits_nodes b cur line is a next = record { draft = refl; current = is; same_no
     given l h line e = absurd cc
 
 pub can_settle : (b : Body) (cur next : Current) → b.current ≡ Some cur → IsAwaiting NodeLine b → HoldsSome b
-  → next ≡ only_nodes_of cur next.nodes → All (IsNodeKnown b.draft.counts.n_var b.draft.definitions) next.nodes
-  → CanSettle b.draft next
+    → next ≡ only_nodes_of cur next.nodes → All (IsNodeKnown b.draft.counts.n_var b.draft.definitions) next.nodes
+    → CanSettle b.draft next
 can_settle b cur next is a h same known =
     let tree = (beyond cur (ap in_tree (awaits_as b cur NodeLine is a))).1 in
     subst (CanSettle b.draft) (sym same) (record { tree = tree; fresh = λ e. fresh_tree h.0 b cur h.1 is tree; known = known })

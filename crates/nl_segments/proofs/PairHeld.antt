@@ -84,8 +84,8 @@ unfolding awaited_in
 before_lines c p kind e line = by (nat_lt (length p.rows) (line_count c p.head)) (has_tree p.head) refl e
   where
     by : (t u : Bool) → nat_lt (length p.rows) (line_count c p.head) ≡ t
-      → (if t then line_kind p.head else (if u then tree_awaits (piece_nodes c p) (piece_pending p) else Nothing))
-      ≡ kind → IsBefore c p kind
+        → (if t then line_kind p.head else (if u then tree_awaits (piece_nodes c p) (piece_pending p) else Nothing))
+        ≡ kind → IsBefore c p kind
     by true u q is = record { within = ltb-true _ _ q; same_kind = is }
     by false true q is = absurd (never (sym (ap is_line_kind is ∙ line) ∙ no_line (piece_nodes c p) (piece_pending p)))
     by false false q is = absurd (never (sym (ap is_line_kind is ∙ line)))
@@ -103,7 +103,7 @@ early c p cur kind h e is =
 -- ---- the piece with the line
 
 pub last_closed : (c : Counts) (d : Draft) (name : Option (List ℕ)) (q : Piece) (cur : Current) (held : Option Current)
-  → IsCurrent c q cur → held ≡ unless_complete cur → (is_complete c q ≡ false → IsOpen c d name q cur)
+    → IsCurrent c q cur → held ≡ unless_complete cur → (is_complete c q ≡ false → IsOpen c d name q cur)
     → IsLast c d name (Some q) held
 last_closed c d name q cur held h e open_if =
     let same : is_nothing (current_awaits cur) ≡ is_complete c q = ap is_nothing (awaits c q cur h) in
@@ -132,8 +132,8 @@ pub record Changes (header : List (List (List ℕ))) (before : List Piece) (p : 
   pub few_terms : new.linear ≤ most_terms
 
 pub held_longer : (header : List (List (List ℕ))) (before : List Piece) (p : Piece) (row : NumberedRow) (old new : Body)
-  → IsHeld (at header (before ++ p ∷ [])) old → Changes header before p row old new
-  → IsHeld (at header (before ++ longer p row ∷ [])) new
+    → IsHeld (at header (before ++ p ∷ [])) old → Changes header before p row old new
+    → IsHeld (at header (before ++ longer p row ∷ [])) new
 held_longer header before p row old new h g =
     let c = counts_of (at header []) in
     let ps = before ++ longer p row ∷ [] in
@@ -160,14 +160,14 @@ held_longer header before p row old new h g =
 
 -- a line before any expression is no node
 pub nodes_early : (c : Counts) (before : List Piece) (p : Piece) (row : NumberedRow)
-  → length p.rows < line_count c p.head → node_total c (before ++ longer p row ∷ []) ≡ node_total c (before ++ p ∷ [])
+    → length p.rows < line_count c p.head → node_total c (before ++ longer p row ∷ []) ≡ node_total c (before ++ p ∷ [])
 nodes_early c before p row within = nodes_longer c before p row (ap (λ rs. nodes_of c.n_var rs) (early_tree c p row within))
 
 -- ---- a line that is no pair
 
 pub same_totals : (counts : Head → Bool) (before : List Piece) (p : Piece) (row : NumberedRow)
-  → piece_pairs (longer p row) ≡ piece_pairs p → pair_total counts (before ++ longer p row ∷ [])
-  ≡ pair_total counts (before ++ p ∷ [])
+    → piece_pairs (longer p row) ≡ piece_pairs p → pair_total counts (before ++ longer p row ∷ [])
+    ≡ pair_total counts (before ++ p ∷ [])
 same_totals counts before p row e = pairs_with counts before (longer p row) ∙ ap (λ ts. pair_total counts before + (if counts p.head then length ts else 0)) e ∙ sym (pairs_with counts before p)
 
 pub none_within : (p : Piece) → pair_count p.head ≡ 0 → pair_count p.head ≤ length p.rows
@@ -198,7 +198,7 @@ columns_kept before p row other = columns-append before (longer p row) ∙ ap (�
     by head e = rw e refl
 
 pub places_no_pair : (c : Counts) (before : List Piece) (p : Piece) (row : NumberedRow) → pair_count p.head ≡ 0
-  → length p.rows < line_count c p.head → place_lines c (before ++ longer p row ∷ []) ≡ place_lines c (before ++ p ∷ [])
+    → length p.rows < line_count c p.head → place_lines c (before ++ longer p row ∷ []) ≡ place_lines c (before ++ p ∷ [])
 places_no_pair c before p row e within =
     lines-append c before (longer p row)
     ∙ place_same c (place_lines c before) p row p.head (ap (λ rs. map (λ n. n.line) (nodes_of c.n_var rs)) (early_tree c p row within)) (rw e refl)
@@ -206,7 +206,7 @@ places_no_pair c before p row e within =
 
 -- what is held of the piece, with the line
 pub open_line : (c : Counts) (d e : Draft) (name : Option (List ℕ)) (p : Piece) (row : NumberedRow) (cur : Current)
-  → IsOpen c d name p cur → length p.rows < line_count c p.head → pair_count p.head ≡ 0
+    → IsOpen c d name p cur → length p.rows < line_count c p.head → pair_count p.head ≡ 0
     → e.definitions ≡ d.definitions → is_complete c (longer p row) ≡ false → IsOpen c e name (longer p row) (less_line cur)
 open_line c d e name p row cur h within none same f =
     record {
@@ -225,7 +225,7 @@ column_more before p row n k e is =
     columns-append before (longer p row)
     ∙ ap (λ h. all_column_counts before ++ column_counts (longer p row) h) e
     ∙ ap (λ ns. all_column_counts before ++ ns) (filter_map-append (λ r. whole_of (word_at (row_words r) 0)) p.rows
-        (row ∷ []) ∙ ap (λ o. filter_map (λ r. number_at (row_words r) 0) p.rows ++ cons_option o []) is)
+    (row ∷ []) ∙ ap (λ o. filter_map (λ r. number_at (row_words r) 0) p.rows ++ cons_option o []) is)
     ∙ sym (append_assoc (all_column_counts before) (filter_map (λ r. number_at (row_words r) 0) p.rows) (k ∷ []))
     ∙ sym (ap (λ ns. ns ++ k ∷ []) (columns-append before p ∙ ap (λ h. all_column_counts before ++ column_counts p h) e))
 
@@ -240,7 +240,7 @@ column_head head e = absurd cc
 
 -- a line that is no pair changes the draft or the numbers of columns, where p is the last piece
 with_plain_line : (header : List (List (List ℕ))) (before : List Piece) (p : Piece) (row : NumberedRow) (cur : Current)
-  (kind : Awaited) (old : Body) (draft : Draft) (columns : List ℕ) (current : Option Current)
+    (kind : Awaited) (old : Body) (draft : Draft) (columns : List ℕ) (current : Option Current)
     → IsHeld (at header (before ++ p ∷ [])) old → IsOpen (counts_of (at header [])) old.draft old.name p cur → old.current ≡ Some cur → IsEarly (counts_of (at header [])) p cur kind
     → is_line_kind kind ≡ true → is_pair kind ≡ false → draft ≡ said (at header (before ++ longer p row ∷ [])) → draft.definitions ≡ old.draft.definitions → draft.terms ≡ old.draft.terms
     → columns ≡ all_column_counts (before ++ longer p row ∷ []) → current ≡ unless_complete (less_line cur)
@@ -256,8 +256,8 @@ with_plain_line header before p row cur kind old draft columns current h o cur_i
       sound = sound_kept c p row late (last_sound c before p h.sound);
       draft = draft_is;
       last = last_closed c draft old.name (longer p row) (less_line cur) current
-        (with_line c p cur row o.current e.within) current_is
-        (open_line c old.draft draft old.name p row cur o e.within none definitions);
+          (with_line c p cur row o.current e.within) current_is
+          (open_line c old.draft draft old.name p row cur o e.within none definitions);
       marks = λ t. absurd (let once = plain.1 in cc);
       room = refl;
       linear = h.linear ∙ sym (same_totals _ before p row pairs);
@@ -276,21 +276,21 @@ with_plain_line header before p row cur kind old draft columns current h o cur_i
 -- ---- a line of k
 
 pub column_refused : (b : Body) (words : List (List ℕ)) (r : NlReason) → IsAwaiting ColumnCount b
-  → is_head words ≡ false → first_reason (column_tests words) ≡ Some r → (s : Standing) → IsHeld s b
-  → words_refusal s words ≡ Some r
+    → is_head words ≡ false → first_reason (column_tests words) ≡ Some r → (s : Standing) → IsHeld s b
+    → words_refusal s words ≡ Some r
 column_refused b words r a plain e s h =
     let w = awaiting b ColumnCount a in
     judged_by s b w.cur words ColumnCount (opened s b w.cur w.is h) plain w.awaits_it ∙ e
 
 pub column_step : (b : Body) (words : List (List ℕ)) (line k : ℕ) (columns : List ℕ) (current : Option Current)
-  → IsAwaiting ColumnCount b → is_head words ≡ false → first_reason (column_tests words) ≡ None
+    → IsAwaiting ColumnCount b → is_head words ≡ false → first_reason (column_tests words) ≡ None
     → whole_of (word_at words 0) ≡ Some k → columns ≡ b.columns ++ k ∷ []
-      → IfSome b.current (λ c. current ≡ unless_complete (less_line c))
-      → TakesRow b words line (Ok tt) (record b { columns = columns; current = current })
+    → IfSome b.current (λ c. current ≡ unless_complete (less_line c))
+    → TakesRow b words line (Ok tt) (record b { columns = columns; current = current })
 column_step b words line k columns current a plain fine is columns_are current_is =
     let w = awaiting b ColumnCount a in
     last_taken b (record b { columns = columns; current = current }) w.cur words line plain
-      (λ s h. judged_by s b w.cur words ColumnCount (opened s b w.cur w.is h) plain w.awaits_it ∙ fine) (λ s row r h.
+    (λ s h. judged_by s b w.cur words ColumnCount (opened s b w.cur w.is h) plain w.awaits_it ∙ fine) (λ s row r h.
     let c = counts_of s in
     let o = opened s b w.cur w.is h in
     let held = subst (λ t. IsHeld t b) o.whole h in
@@ -342,27 +342,27 @@ judged_interval : (s : Standing) (b : Body) (cur : Current) (words : List (List 
 judged_interval s b cur words e kind plain h =
     let o = opened s b cur e h in
     judged_by s b cur words IntervalLine o plain kind ∙ ap first_reason
-      (tests_held (counts_of s) o.piece cur words o.is_open.current
-        (early (counts_of s) o.piece cur IntervalLine o.is_open.current kind refl))
+    (tests_held (counts_of s) o.piece cur words o.is_open.current
+    (early (counts_of s) o.piece cur IntervalLine o.is_open.current kind refl))
 
 pub interval_refused : (b : Body) (cur : Current) (words : List (List ℕ)) (r : NlReason) → b.current ≡ Some cur
-  → IsAwaiting IntervalLine b → is_head words ≡ false → first_reason (next_interval_tests b.draft.counts cur words)
-  ≡ Some r
+    → IsAwaiting IntervalLine b → is_head words ≡ false → first_reason (next_interval_tests b.draft.counts cur words)
+    ≡ Some r
     → (s : Standing) → IsHeld s b → words_refusal s words ≡ Some r
 interval_refused b cur words r is a plain e s h = judged_interval s b cur words is (awaits_as b cur IntervalLine is a)
-  plain h ∙ ap (λ c. first_reason (next_interval_tests c cur words)) (sym h.counts) ∙ e
+    plain h ∙ ap (λ c. first_reason (next_interval_tests c cur words)) (sym h.counts) ∙ e
 
 pub interval_step : (b : Body) (cur : Current) (words : List (List ℕ)) (line : ℕ) (i : Interval) (draft : Draft)
-  (current : Option Current) → b.current ≡ Some cur → IsAwaiting IntervalLine b → is_head words ≡ false
+    (current : Option Current) → b.current ≡ Some cur → IsAwaiting IntervalLine b → is_head words ≡ false
     → first_reason (next_interval_tests b.draft.counts cur words) ≡ None → interval_in words ≡ Some i
-      → draft ≡ with_interval b.draft (is_sides cur.head) i
-      → IfSome b.current (λ c. current ≡ unless_complete (less_line c))
+    → draft ≡ with_interval b.draft (is_sides cur.head) i
+    → IfSome b.current (λ c. current ≡ unless_complete (less_line c))
     → TakesRow b words line (Ok tt) (record b { draft = draft; current = current })
 interval_step b cur words line i draft current cur_is a plain fine is draft_is current_is =
     let kind = awaits_as b cur IntervalLine cur_is a in
     last_taken b (record b { draft = draft; current = current }) cur words line plain
-      (λ s h. judged_interval s b cur words cur_is kind plain h
-        ∙ ap (λ c. first_reason (next_interval_tests c cur words)) (sym h.counts) ∙ fine) (λ s row r h.
+    (λ s h. judged_interval s b cur words cur_is kind plain h
+    ∙ ap (λ c. first_reason (next_interval_tests c cur words)) (sym h.counts) ∙ fine) (λ s row r h.
     let c = counts_of s in
     let o = opened s b cur cur_is h in
     let held = subst (λ t. IsHeld t b) o.whole h in
@@ -392,14 +392,14 @@ few_intervals : (p : Piece) → length (piece_intervals p) ≤ length p.rows
 few_intervals p = few_from p.rows
 
 room_said : (o : List ℤ) (c : Counts) (before : List Piece) (p : Piece) → AreSound c (before ++ p ∷ [])
-  → IsIntervalHead p.head → length p.rows < line_count c p.head
-  → HasRoom (draft_of o c (before ++ p ∷ [])) (is_sides p.head)
+    → IsIntervalHead p.head → length p.rows < line_count c p.head
+    → HasRoom (draft_of o c (before ++ p ∷ [])) (is_sides p.head)
 room_said o c before p h (of_constraints e) within =
     let fresh = none_before before p h.apart in
     let none = gave_none o c before Sides p.name refl (rw e at fresh) in
     let said : (draft_of o c (before ++ p ∷ [])).sides ≡ piece_intervals p =
-      ap (λ d. d.sides) (draft-append o c before p ∙ ap (said_by (draft_of o c before) p) e)
-      ∙ ap (λ is. is ++ piece_intervals p) none in
+    ap (λ d. d.sides) (draft-append o c before p ∙ ap (said_by (draft_of o c before) p) e)
+    ∙ ap (λ is. is ++ piece_intervals p) none in
     let few = few_intervals p in
     let lt : length p.rows < c.n_con = rw e at within in
     let n = ap (λ k. k.n_con) (draft_counts o c (before ++ p ∷ [])) in
@@ -408,8 +408,8 @@ room_said o c before p h (of_variables e) within =
     let fresh = none_before before p h.apart in
     let none = gave_none o c before Bounds p.name refl (rw e at fresh) in
     let said : (draft_of o c (before ++ p ∷ [])).bounds ≡ piece_intervals p =
-      ap (λ d. d.bounds) (draft-append o c before p ∙ ap (said_by (draft_of o c before) p) e)
-      ∙ ap (λ is. is ++ piece_intervals p) none in
+    ap (λ d. d.bounds) (draft-append o c before p ∙ ap (said_by (draft_of o c before) p) e)
+    ∙ ap (λ is. is ++ piece_intervals p) none in
     let few = few_intervals p in
     let lt : length p.rows < c.n_var = rw e at within in
     let n = ap (λ k. k.n_var) (draft_counts o c (before ++ p ∷ [])) in

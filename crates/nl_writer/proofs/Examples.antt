@@ -55,10 +55,41 @@ objective_alone : File
 objective_alone =
     record {
       options = options;
-      counts = record { n_var = 1; n_con = 0; n_obj = 1; n_ranges = 0; n_eqns = 0; n_lcon = 0; nlc = 0; nlo = 0; nlnc =
-          0; lnc = 0; nlvc = 0; nlvo = 0; nlvb = 0; nwv = 0; nfunc = 0; arith = 0; flags = 1; nbv = 0; niv = 0; nlvbi =
-          0; nlvci = 0; nlvoi = 0; nzc = 0; nzo = 1; row_name_len = 0; col_name_len = 0; comb = 0; comc = 0; como = 0;
-          comc1 = 0; como1 = 0 };
+      counts = record {
+        n_var = 1;
+        n_con = 0;
+        n_obj = 1;
+        n_ranges = 0;
+        n_eqns = 0;
+        n_lcon = 0;
+        nlc = 0;
+        nlo = 0;
+        nlnc =
+            0;
+        lnc = 0;
+        nlvc = 0;
+        nlvo = 0;
+        nlvb = 0;
+        nwv = 0;
+        nfunc = 0;
+        arith = 0;
+        flags = 1;
+        nbv = 0;
+        niv = 0;
+        nlvbi =
+            0;
+        nlvci = 0;
+        nlvoi = 0;
+        nzc = 0;
+        nzo = 1;
+        row_name_len = 0;
+        col_name_len = 0;
+        comb = 0;
+        comc = 0;
+        como = 0;
+        comc1 = 0;
+        como1 = 0;
+      };
       bodies = [];
       objectives = record { maximise = false; tree = number (pos 5) (pos 0) } ∷ [];
       definitions = [];
@@ -80,10 +111,41 @@ guessed : File
 guessed =
     record {
       options = options;
-      counts = record { n_var = 1; n_con = 1; n_obj = 0; n_ranges = 0; n_eqns = 0; n_lcon = 0; nlc = 0; nlo = 0; nlnc =
-          0; lnc = 0; nlvc = 0; nlvo = 0; nlvb = 0; nwv = 0; nfunc = 0; arith = 0; flags = 1; nbv = 0; niv = 0; nlvbi =
-          0; nlvci = 0; nlvoi = 0; nzc = 0; nzo = 0; row_name_len = 0; col_name_len = 0; comb = 0; comc = 0; como = 0;
-          comc1 = 0; como1 = 0 };
+      counts = record {
+        n_var = 1;
+        n_con = 1;
+        n_obj = 0;
+        n_ranges = 0;
+        n_eqns = 0;
+        n_lcon = 0;
+        nlc = 0;
+        nlo = 0;
+        nlnc =
+            0;
+        lnc = 0;
+        nlvc = 0;
+        nlvo = 0;
+        nlvb = 0;
+        nwv = 0;
+        nfunc = 0;
+        arith = 0;
+        flags = 1;
+        nbv = 0;
+        niv = 0;
+        nlvbi =
+            0;
+        nlvci = 0;
+        nlvoi = 0;
+        nzc = 0;
+        nzo = 0;
+        row_name_len = 0;
+        col_name_len = 0;
+        comb = 0;
+        comc = 0;
+        como = 0;
+        comc1 = 0;
+        como1 = 0;
+      };
       bodies = None ∷ [];
       objectives = [];
       definitions = [];

@@ -90,15 +90,15 @@ module _ (f : File) (k : ℕ) where
 
     -- the row of constraint i, at its own number of variables
     row_from : (xs : List ℚ) (i : ℕ) → i < f.counts.n_con → IsInside (row_at (linear_of f k) i).side
-      (form_value (row_at (linear_of f k) i).body (variable_count (linear_of f k)) xs)
-      → IsInside (side_of f i) (form_value (body_form f i) f.counts.n_var xs)
+        (form_value (row_at (linear_of f k) i).body (variable_count (linear_of f k)) xs)
+        → IsInside (side_of f i) (form_value (body_form f i) f.counts.n_var xs)
     row_from xs i l h =
         subst (λ n. IsInside (side_of f i) (form_value (body_form f i) n xs)) (count_lem f k)
         (subst (λ (r : Row). IsInside r.side (form_value r.body (variable_count (linear_of f k)) xs)) (row_lem i l) h)
 
     row_to : (xs : List ℚ) (i : ℕ) → i < f.counts.n_con → IsInside (side_of f i)
-      (form_value (body_form f i) f.counts.n_var xs) → IsInside (row_at (linear_of f k) i).side
-      (form_value (row_at (linear_of f k) i).body (variable_count (linear_of f k)) xs)
+        (form_value (body_form f i) f.counts.n_var xs) → IsInside (row_at (linear_of f k) i).side
+        (form_value (row_at (linear_of f k) i).body (variable_count (linear_of f k)) xs)
     row_to xs i l h =
         subst (λ (r : Row). IsInside r.side (form_value r.body (variable_count (linear_of f k)) xs)) (sym (row_lem i l))
         (subst (λ n. IsInside (side_of f i) (form_value (body_form f i) n xs)) (sym (count_lem f k)) h)

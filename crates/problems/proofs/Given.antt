@@ -25,8 +25,8 @@ use Rattle.certificates.proofs.ClaimsTold.{given_denied, given_true}
 
 -- ---- a certificate of a file is one of its linear program
 given_of : (f : File) (k : ℕ) (g : Given) → IsGivenOver (IsWholeFor (setting_of f)) (length (setting_of f).kinds)
-  (setting_of f).rows g → IsGivenOver (IsWholeVariable (linear_of f k)) (variable_count (linear_of f k))
-  (row_count (linear_of f k)) g
+    (setting_of f).rows g → IsGivenOver (IsWholeVariable (linear_of f k)) (variable_count (linear_of f k))
+    (row_count (linear_of f k)) g
 given_of f k = given_for (linear_of f k) (setting_of f) (file_setting f k)
 
 pub certificate_of : (f : File) (k : ℕ) (c : CertificateValue) → IsCertificateIn f c → IsCertificateOf (linear_of f k) c
@@ -34,8 +34,8 @@ certificate_of f k = certificate_for (linear_of f k) (setting_of f) (file_settin
 
 -- ---- what a claim says of the file
 pub claim_true : (f : File) (c : CertificateValue) → IsFile f → fold_fault f (claim_objective c.claim) ≡ None
-  → (h : IsCertificateIn f c) → (o : Option ℚ) → claim_outcome (linear_of f (claim_objective c.claim)) c.claim h.given
-  ≡ holds o
+    → (h : IsCertificateIn f c) → (o : Option ℚ) → claim_outcome (linear_of f (claim_objective c.claim)) c.claim h.given
+    ≡ holds o
     → IsToldTrue (problem_of f (claim_objective c.claim)) (spread f.counts.n_var h.given.point) (told_claim c.claim o)
 claim_true f c file clean h o e =
     let k : ℕ = claim_objective c.claim in
@@ -43,8 +43,8 @@ claim_true f c file clean h o e =
     (given_true (linear_of f k) (problem_of f k) (meant f k file clean) c.claim h.given h.asked (given_of f k h.given h.fine) o e)
 
 pub claim_denied : (f : File) (c : CertificateValue) → IsFile f → fold_fault f (claim_objective c.claim) ≡ None
-  → (h : IsCertificateIn f c) → (cause : Cause) → claim_outcome (linear_of f (claim_objective c.claim)) c.claim h.given
-  ≡ fails cause
+    → (h : IsCertificateIn f c) → (cause : Cause) → claim_outcome (linear_of f (claim_objective c.claim)) c.claim h.given
+    ≡ fails cause
     → Denies (problem_of f (claim_objective c.claim)) (linear_of f (claim_objective c.claim)) (certificate_over f.counts.n_var f.counts.n_con c.claim h.given) cause
 claim_denied f c file clean h cause e =
     let k : ℕ = claim_objective c.claim in

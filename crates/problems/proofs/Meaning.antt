@@ -91,9 +91,12 @@ module _ (m : Mps ℚ) (xs : List ℚ) where
   -- ---- where a point fails
   rows_broken : (i : ℕ) → IsConstraintBroken (mps_problem m) xs i ↔ IsRowBroken (linear_of m) xs i
   rows_broken i = (
-    (λ h. record { within = more h.within; broken = λ ok. h.broken
-        (subst (IsInside (row_interval m (row_of m.rows i)))
-          (same_Some (row_value m xs (row_of m.rows i)) h.value h.has) (holds_row i h.within ok)) }),
+    (λ h. record {
+      within = more h.within;
+      broken = λ ok. h.broken
+          (subst (IsInside (row_interval m (row_of m.rows i)))
+          (same_Some (row_value m xs (row_of m.rows i)) h.value h.has) (holds_row i h.within ok));
+    }),
     (λ h. record { within = fewer h.within; value = row_value m xs (row_of m.rows i); has = refl; broken = λ ok. h.broken (row_holds i (fewer h.within) ok) }),
   )
 

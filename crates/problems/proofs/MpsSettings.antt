@@ -35,6 +35,6 @@ program_setting m = record {
       let here : j < length m.columns = subst (λ n. j < n) (same_kinds m) h in
       let there : j < length (values_of m).columns = subst (λ n. j < n) (same_columns m) here in
       ap is_whole_kind (listed_at (column_kind m) (length m.columns) j Continuous here)
-        ∙ whole_kind (is_whole m j) (is_zero_to_one m j) ∙ sym
-        (ap (λ (v : Variable). v.whole) (variable_lem (values_of m) j there));
+      ∙ whole_kind (is_whole m j) (is_zero_to_one m j) ∙ sym
+      (ap (λ (v : Variable). v.whole) (variable_lem (values_of m) j there));
 }

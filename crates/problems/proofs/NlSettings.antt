@@ -23,6 +23,6 @@ file_setting f k = record {
       let there : j < f.counts.n_var = subst (λ n. j < n) (kinds_counted f) h in
       let here : 0 + j ≡ j = omega arith in
       ap is_whole_kind (elements_at (variable_kind f.counts) 0 f.counts.n_var j Continuous there)
-        ∙ ap (λ i. is_whole_kind (variable_kind f.counts i)) here
-        ∙ sym (ap (λ (v : Variable). v.whole) (variable_lem f k j there));
+      ∙ ap (λ i. is_whole_kind (variable_kind f.counts i)) here
+      ∙ sym (ap (λ (v : Variable). v.whole) (variable_lem f k j there));
 }

@@ -45,5 +45,5 @@ module _ (f : File) (k : ℕ) (file : IsFile f) (clean : fold_fault f k ≡ None
   file_leaf v tree g e = leaf_at (linear_of f k) (problem_of f k) (meant f k file clean) tree g (v, e)
 
   pub file_gaps : (ys : List ℚ) (n : ℕ) (b : ℚ) → IsLeafDenied (problem_of f k) (linear_of f k) (duals ys)
-    (open_gap n b) → (xs : List ℚ) → IsRelaxed (problem_of f k) xs → IsReached (problem_of f k) b xs
+      (open_gap n b) → (xs : List ℚ) → IsRelaxed (problem_of f k) xs → IsReached (problem_of f k) b xs
   file_gaps = lone_leaf (linear_of f k) (problem_of f k) (meant f k file clean)

@@ -43,8 +43,8 @@ total gs = sum_by (λ (g : Run). g.size) gs
 
 -- they follow runs of other kinds
 binary_place : (gs : List Run) (b i j : ℕ) → AllByRecursion (λ (g : Run). is_binary g.kind ≡ false) gs
-  → is_binary (kind_among (gs ++ run_of b Binary ∷ run_of i Integer ∷ []) j) ≡ true
-  → (total gs ≤ j) × (j < total gs + b)
+    → is_binary (kind_among (gs ++ run_of b Binary ∷ run_of i Integer ∷ []) j) ≡ true
+    → (total gs ≤ j) × (j < total gs + b)
 binary_place [] b i j others e = by (nat_lt j b) refl e
   where
     last : (c : Bool) → is_binary (if c then Integer else Continuous) ≡ false
@@ -60,8 +60,8 @@ binary_place (g ∷ gs) b i j others e = by (nat_lt j g.size) refl (binary_place
     Later = is_binary (kind_among (gs ++ run_of b Binary ∷ run_of i Integer ∷ []) (j - g.size)) ≡ true → (total gs ≤ j - g.size) × (j - g.size < total gs + b)
 
     by : (c : Bool) → nat_lt j g.size ≡ c → Later → is_binary
-      (if c then g.kind else kind_among (gs ++ run_of b Binary ∷ run_of i Integer ∷ []) (j - g.size)) ≡ true
-      → (total (g ∷ gs) ≤ j) × (j < total (g ∷ gs) + b)
+        (if c then g.kind else kind_among (gs ++ run_of b Binary ∷ run_of i Integer ∷ []) (j - g.size)) ≡ true
+        → (total (g ∷ gs) ≤ j) × (j < total (g ∷ gs) + b)
     by true h later e = absurd (not_both_ways (is_binary g.kind) e others.0)
     by false h later e =
         let above = ltb-false j g.size h in
@@ -94,8 +94,8 @@ module _ (m : Mps Dec) (j : ℕ) where
       let below : j - length firsts < length seconds = omega (arith, place.0, place.1, size) in
       let here = get_or-append_right firsts (seconds ++ thirds) (length firsts) j 0 refl from ∙ get_or_append_left seconds thirds 0 (j - length firsts) below in
       subst (λ k. z k ≡ true) (sym here) (and_parts (w (get_or seconds (j - length firsts) 0))
-          (z (get_or seconds (j - length firsts) 0)) (all_places (λ k. w k && z k ≡ true) (λ k. w k && z k) n
-            (λ k h e. e) (j - length firsts) 0 below)).1
+      (z (get_or seconds (j - length firsts) 0)) (all_places (λ k. w k && z k ≡ true) (λ k. w k && z k) n
+      (λ k h e. e) (j - length firsts) 0 below)).1
 
 -- ---- its sides
 
@@ -131,7 +131,7 @@ within_unit s e = by s.lo s.hi e
         ap₂ ◌&&◌ low high
 
 pub binary_within : (m : Mps Dec) (j : ℕ) (i : Sides) → j < (import_of m).counts.n_var
-  → is_binary (variable_kind (import_of m).counts j) ≡ true → is_within_unit (get_or (import_of m).bounds j i) ≡ true
+    → is_binary (variable_kind (import_of m).counts j) ≡ true → is_within_unit (get_or (import_of m).bounds j i) ≡ true
 unfolding import_of with_values import_counts
 binary_within m j i lt e =
     let k = get_or (order_of_columns m) j 0 in

@@ -62,7 +62,7 @@ pub all_ordered : (intervals : List Interval) → All IsOrdered intervals → Al
 all_ordered intervals h = recursion_from_All (λ i. is_empty i ≡ false) intervals (λ k i lt. not_empty (get_or intervals k i).lo (get_or intervals k i).hi (h k i lt))
 
 units_from : (c : Counts) (j : ℕ) (intervals : List Interval)
-  → ((k : ℕ) (i : Interval) → k < length intervals → is_binary (variable_kind c (j + k)) ≡ true
+    → ((k : ℕ) (i : Interval) → k < length intervals → is_binary (variable_kind c (j + k)) ≡ true
     → is_within_unit (get_or intervals k i) ≡ true) → AreUnits c j intervals
 units_from c j [] h = tt
 units_from c j (i ∷ intervals) h =
@@ -147,27 +147,27 @@ body_says f w =
     (recursion_from_All (λ s. IsWritableSuffix s × IsSuffix c s) f.suffixes (λ i s lt. (w.limits.suffixes i s lt, file.suffixes.each i s lt))) file.suffixes.apart
     (omega (arith, w.limits.few_values)) (omega (arith, w.limits.few_suffixes)) (at_start o c) in
     let r2 = reaches_then r1 (λ b s. definitions_reached [] f.definitions (record { counts = k; range = tt }) refl refl
-        (λ i j usage name. not_repeated b (DefinitionHead i j usage) name
-          (ranks_up b (rank (DefinitionHead 0 0 0)) (rank (DefinitionHead i j usage)) s.ranks (omega arith)))
+    (λ i j usage name. not_repeated b (DefinitionHead i j usage) name
+    (ranks_up b (rank (DefinitionHead 0 0 0)) (rank (DefinitionHead i j usage)) s.ranks (omega arith)))
     file.definitions (recursion_from_All IsPlainDefinition f.definitions
-          (λ i d lt. record { usage = w.limits.usages i d lt; nodes = w.limits.trees.definitions i d lt })) terms.0
-        nodes.0 (standing_up s to_bodies)) in
+    (λ i d lt. record { usage = w.limits.usages i d lt; nodes = w.limits.trees.definitions i d lt })) terms.0
+    nodes.0 (standing_up s to_bodies)) in
     let r3 = reaches_then r2 (λ b. bodies_reached f.bodies z refl file.bodies.count (bodies_ready f w) terms.0 nodes.1 (ap (λ n. replicate n None) (sym file.bodies.count))) in
     let r4 = reaches_then r3 (λ b s. objectives_reached f.objectives z refl file.objectives.count (objectives_ready f w) terms.0 nodes.2 (ap (λ n. replicate n None) (sym file.objectives.count))
     (standing_up s (later (length f.bodies) c.n_con 2 file.bodies.count k.constraints))) in
     let r5 = reaches_then r4 (λ b s. duals_reached f.dual_guesses k.constraints (all_below c.n_con f.dual_guesses file.dual_guesses.below) file.dual_guesses.apart w.limits.dual_guesses terms.0 refl
     (standing_up s (later (length f.objectives) c.n_obj 3 file.objectives.count n_obj))) in
     let r6 = reaches_then r5 (λ b. primals_reached f.primal_guesses k.variables
-        (all_below c.n_var f.primal_guesses file.primal_guesses.below) file.primal_guesses.apart w.limits.primal_guesses
-        terms.0 refl) in
+    (all_below c.n_var f.primal_guesses file.primal_guesses.below) file.primal_guesses.apart w.limits.primal_guesses
+    terms.0 refl) in
     let r7 = reaches_then r6 (λ b. sides_reached f.sides file.side_count (all_ordered f.sides file.sides) refl) in
     let r8 = reaches_then r7 (λ b. bounds_reached f.bounds file.bound_count (all_ordered f.bounds file.bounds) (all_units f w) refl) in
     let r9 = then_columns r8 (λ b. columns_reached c.n_var f.terms k.variables refl terms.3) in
     let r10 = columns_then r9 (λ b s. rows_reached f.terms (terms_section c no_slopes (length f.terms) k.constraints
-          file.terms.rows) k.variables (rows_below c.n_var f.terms file.terms.terms_below) terms.1 nodes.2
+    file.terms.rows) k.variables (rows_below c.n_var f.terms file.terms.terms_below) terms.1 nodes.2
     (same_standing s (ap (λ n. record no_slopes { terms = replicate n [] }) (sym file.terms.rows)) refl refl refl refl)) in
     let r11 = columns_then r10 (λ b s. rows_reached f.slopes
-        (slopes_section c (whole_draft f) (length f.slopes) n_obj file.terms.costs) k.variables
-        (rows_below c.n_var f.slopes file.terms.slopes_below) terms.2 nodes.2
+    (slopes_section c (whole_draft f) (length f.slopes) n_obj file.terms.costs) k.variables
+    (rows_below c.n_var f.slopes file.terms.slopes_below) terms.2 nodes.2
     (standing_as s (later (length f.terms) c.n_con 9 file.terms.rows k.constraints) (ap (λ n. record (whole_draft f) { slopes = replicate n [] }) (sym file.terms.costs)) refl refl refl refl)) in
     record { pieces = r11.after; taken = r11.taken; done = r11.stands.done; said = r11.stands.said; columns = r11.columns }

@@ -131,7 +131,7 @@ form_less c f n h = omega (arith, counted_front n f, from 0 n (λ j lt. h j (ome
 
 -- of exported rows
 exported_sums : (size : ScaledRow → ℕ) (own : Row → ℕ) → ((k : ℕ) (r : Row) → size (scaled_row k r) ≤ own r)
-  → (factor : ℕ → ℕ) (i : ℕ) (rows : List Row) → sums size (exported_rows factor i rows) ≤ sums own rows
+    → (factor : ℕ → ℕ) (i : ℕ) (rows : List Row) → sums size (exported_rows factor i rows) ≤ sums own rows
 unfolding exported_rows
 exported_sums size own less factor i [] = omega arith
 exported_sums size own less factor i (r ∷ rows) = by (has_side r.side) (exported_sums size own less factor (suc i) rows)
@@ -145,8 +145,8 @@ exported_sums size own less factor i (r ∷ rows) = by (has_side r.side) (export
 
 pub exported_count : (factor : ℕ → ℕ) (n i : ℕ) (rows : List Row) → sums (λ r. range_sum (counted r.coefficient) 0 n) (exported_rows factor i rows) ≤ sums (λ r. form_count n r.body) rows
 exported_count factor n i rows = exported_sums (λ r. range_sum (counted r.coefficient) 0 n) (λ r. form_count n r.body)
-  (λ k r. form_less (scaled_row k r).coefficient r.body n (λ j lt none. ap (λ (x : ℚ). whole (pos k) *ℚ x) none
-      ∙ *ℚ_zero (whole (pos k)))) factor i rows
+    (λ k r. form_less (scaled_row k r).coefficient r.body n (λ j lt none. ap (λ (x : ℚ). whole (pos k) *ℚ x) none
+    ∙ *ℚ_zero (whole (pos k)))) factor i rows
 
 sums_ones : {A : Type 0} (xs : List A) → sums (λ x. 1) xs ≡ length xs
 sums_ones [] = refl

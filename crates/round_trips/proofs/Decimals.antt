@@ -67,8 +67,8 @@ column_fits i p (e ∷ es) apart = by (nat_eq e.row i) (is_zero_dec e.value) ref
     alone same = none_in_row i p es (λ k d lt other. apart 0 (suc k) d (omega arith) (omega (arith, lt)) (same ∙ sym other))
 
     by : (a z : Bool) → nat_eq e.row i ≡ a → FitsDec (coefficient_of (filter_map (term_of i p) es) p)
-      → FitsDec (coefficient_of (cons_option (if a && not z then Some (p, e.value) else None)
-          (filter_map (term_of i p) es)) p)
+        → FitsDec (coefficient_of (cons_option (if a && not z then Some (p, e.value) else None)
+        (filter_map (term_of i p) es)) p)
     by true true s later = later
     by true false s later = subst (λ ts. FitsDec (coefficient_of ((p, e.value) ∷ ts) p)) (sym (alone (eqb-true e.row i s))) (one_fits p e.value)
     by false z s later = later

@@ -125,8 +125,8 @@ pub tie_written : (n g : ℕ) (objective : Form) → g < 2 ^ 127 → All (Scaled
 tie_written n g objective few parts =
     let q = whole (pos g) in
     let side : FitsDec (q *ℚ (zero_ℚ -ℚ objective.constant)) =
-      subst FitsDec (sym (tie_side g objective.constant)) (neg_fits (q *ℚ objective.constant)
-        (All-head (ScaledFits g) objective.constant (coefficients_below objective.coefficient n) parts).dec) in
+    subst FitsDec (sym (tie_side g objective.constant)) (neg_fits (q *ℚ objective.constant)
+    (All-head (ScaledFits g) objective.constant (coefficients_below objective.coefficient n) parts).dec) in
     let costs = All-tail (ScaledFits g) objective.constant (coefficients_below objective.coefficient n) parts in
     let s = q *ℚ (zero_ℚ -ℚ objective.constant) in
     record {
@@ -137,8 +137,8 @@ tie_written n g objective few parts =
     }
   where
     at : (j : ℕ) → j < suc n → (b : Bool) → nat_eq j n ≡ b → All (ScaledFits g)
-      (coefficients_below objective.coefficient n) → IfFits
-      (nonzero (whole (pos g) *ℚ cond b (neg_ℚ one_ℚ) (objective.coefficient j)))
+        (coefficients_below objective.coefficient n) → IfFits
+        (nonzero (whole (pos g) *ℚ cond b (neg_ℚ one_ℚ) (objective.coefficient j)))
     at j lt true e costs = nonzero_fits (whole (pos g) *ℚ neg_ℚ one_ℚ) (subst FitsDec (sym (tie_one g)) (neg_fits (whole (pos g)) (whole_fits (pos g) few)))
     at j lt false e costs =
         let other : j ≢ n = λ same. absurd (let is = eq-eqb j n same in cc) in
@@ -158,8 +158,8 @@ z_constant = nonzero_fits (neg_ℚ zero_ℚ) (neg_fits zero_ℚ zero_fits)
 
 pub costs_fit : (n : ℕ) (objective : Form) → All FitsDec (objective_numbers n objective) → (j : ℕ) → j < n → IfFits (nonzero (objective.coefficient j))
 costs_fit n objective h j lt = nonzero_fits (objective.coefficient j)
-  (below_fits FitsDec objective.coefficient n (All-tail FitsDec objective.constant
-      (coefficients_below objective.coefficient n) h) j lt)
+    (below_fits FitsDec objective.coefficient n (All-tail FitsDec objective.constant
+    (coefficients_below objective.coefficient n) h) j lt)
 
 pub constant_fits : (n : ℕ) (objective : Form) → All FitsDec (objective_numbers n objective) → IfFits (nonzero (neg_ℚ objective.constant))
 constant_fits n objective h = nonzero_fits (neg_ℚ objective.constant) (neg_fits objective.constant (All-head FitsDec objective.constant (coefficients_below objective.coefficient n) h))

@@ -154,7 +154,7 @@ data AreRowsFine (first : WordLine) : List (List ℕ) → List (List ℕ) → Ty
       → first_reason (rule_tests (length before + 2) (counts_of first (before ++ ns ∷ []))) ≡ None → AreRowsFine first (before ++ ns ∷ []) rest → AreRowsFine first before (ns ∷ rest)
 
 row_fine : (first : WordLine) (before : List (List ℕ)) (ns : List ℕ) → AreAllSmall before → AreSmall ns
-  → AreFieldsFine (length before + 2) 1 ns → lacks_number header_rows (length before + 2) (length ns) ≡ false
+    → AreFieldsFine (length before + 2) 1 ns → lacks_number header_rows (length before + 2) (length ns) ≡ false
     → first_reason (rule_tests (length before + 2) (counts_of first (before ++ ns ∷ []))) ≡ None → header_line_fault (first ∷ map numbers before) (numbers ns) ≡ None
 unfolding header_line_fault number_line_fault
 row_fine first before ns smalls small fields long rule =
@@ -168,7 +168,7 @@ rows_fine first before [] smalls small no_row = tt
 rows_fine first before (ns ∷ rows) smalls small (row fields long rule more) = (
   row_fine first before ns smalls small.0 fields long rule,
   subst (λ ls. AreHeadFine (first ∷ ls) (map numbers rows)) (map-append numbers before (ns ∷ []))
-    (rows_fine first (before ++ ns ∷ []) rows (all_append AreSmall before (ns ∷ []) smalls (small.0, tt)) small.1 more),
+      (rows_fine first (before ++ ns ∷ []) rows (all_append AreSmall before (ns ∷ []) smalls (small.0, tt)) small.1 more),
 )
 
 -- ---- the counts of a header
@@ -249,11 +249,24 @@ counts_said options c h = counts_read (options_line options) (rows_of c) h.small
 
 -- what holds of the first line and of a line of some numbers holds of each line
 pub header_each : (P : WordLine → Type 0) (options : List ℤ) (c : Counts) → IsHeaderReady options c
-  → P (options_line options) → ((ns : List ℕ) → 0 < length ns → length ns ≤ 12 → AreSmall ns → P (numbers ns))
-  → AllByRecursion P (header_lines options c)
-header_each P options c h first each = (first, rows (rows_of c)
-    (omega arith, (omega arith, (omega arith, (omega arith,
-            (omega arith, (omega arith, (omega arith, (omega arith, (omega arith, tt))))))))) h.small)
+    → P (options_line options) → ((ns : List ℕ) → 0 < length ns → length ns ≤ 12 → AreSmall ns → P (numbers ns))
+    → AllByRecursion P (header_lines options c)
+header_each P options c h first each = (
+  first,
+  rows (rows_of c) (
+    omega arith,
+    (
+      omega arith,
+      (
+        omega arith,
+        (
+          omega arith,
+          (omega arith, (omega arith, (omega arith, (omega arith, (omega arith, tt))))),
+        ),
+      ),
+    ),
+  ) h.small,
+)
   where
     rows : (rs : List (List ℕ)) → AllByRecursion (λ ns. (0 < length ns) × (length ns ≤ 12)) rs → AreAllSmall rs → AllByRecursion P (map numbers rs)
     rows [] sizes small = tt
@@ -262,8 +275,12 @@ header_each P options c h first each = (first, rows (rows_of c)
 lines_written : (options : List ℤ) (c : Counts) → IsHeaderReady options c → AllByRecursion IsWritten (header_lines options c)
 lines_written options c h =
     header_each IsWritten options c h (options_written options h.few h.all_small)
-      (λ ns some few all. record { some = omega (arith, length-map ns decimal); few =
-          omega (arith, length-map ns decimal); each = numbers_words ns all })
+    (λ ns some few all. record {
+      some = omega (arith, length-map ns decimal);
+      few =
+          omega (arith, length-map ns decimal);
+      each = numbers_words ns all;
+    })
 
 lines_fine : (options : List ℤ) (c : Counts) → IsHeaderReady options c → AreHeadFine [] (header_lines options c)
 unfolding field_at header_rows lacks_number rule_tests counts_by
@@ -272,22 +289,31 @@ lines_fine options c h =
     let k = h.counts in (
       first_fine options h.few h.second h.all_small,
       rows_fine (options_line options) [] (rows_of c) tt m
-          (row (free_field (field_at 2 1) c.n_var (2 ^ 20) refl refl k.variables,
-              (free_field (field_at 2 2) c.n_con (2 ^ 20) refl refl k.constraints,
-                (free_field (field_at 2 3) c.n_obj 256 refl refl k.objectives,
-                  open_fields 2 4 (c.n_ranges ∷ c.n_eqns ∷ []) refl m.0.1.1.1))) refl refl
+          (row (
+            free_field (field_at 2 1) c.n_var (2 ^ 20) refl refl k.variables,
+            (
+              free_field (field_at 2 2) c.n_con (2 ^ 20) refl refl k.constraints,
+              (
+                free_field (field_at 2 3) c.n_obj 256 refl refl k.objectives,
+                open_fields 2 4 (c.n_ranges ∷ c.n_eqns ∷ []) refl m.0.1.1.1,
+              ),
+            ),
+          ) refl refl
           (row (open_fields 3 1 (c.nlc ∷ c.nlo ∷ []) refl m.1.0) refl refl
           (row (zero_field (field_at 4 1) c.nlnc h.none.nlnc, (zero_field (field_at 4 2) c.lnc h.none.lnc, tt)) refl refl
           (row (open_fields 5 1 (c.nlvc ∷ c.nlvo ∷ c.nlvb ∷ []) refl m.1.1.1.0) refl (rw (le-leb c.nlvb c.nlvc k.shared_in_constraints, le-leb c.nlvb c.nlvo k.shared_in_objectives) refl)
           (row (zero_field (field_at 6 1) c.nwv h.none.nwv, (zero_field (field_at 6 2) c.nfunc h.none.nfunc, open_fields 6 3 (c.arith ∷ c.flags ∷ []) refl m.1.1.1.1.0.1.1)) refl refl
           (row (open_fields 7 1 (c.nbv ∷ c.niv ∷ c.nlvbi ∷ c.nlvci ∷ c.nlvoi ∷ []) refl m.1.1.1.1.1.0) refl
-          (rw (le-leb c.nlvbi c.nlvb k.whole_shared, le-leb c.nlvci (c.nlvc - c.nlvb) k.whole_in_constraints,
-              le-leb c.nlvoi (c.nlvo - c.nlvc) k.whole_in_objectives,
-              le-leb (max c.nlvc c.nlvo + c.nbv + c.niv) c.n_var k.grouped) refl)
+          (rw (
+            le-leb c.nlvbi c.nlvb k.whole_shared,
+            le-leb c.nlvci (c.nlvc - c.nlvb) k.whole_in_constraints,
+            le-leb c.nlvoi (c.nlvo - c.nlvc) k.whole_in_objectives,
+            le-leb (max c.nlvc c.nlvo + c.nbv + c.niv) c.n_var k.grouped,
+          ) refl)
           (row (free_field (field_at 8 1) c.nzc (2 ^ 22) refl refl k.terms, open_fields 8 2 (c.nzo ∷ []) refl m.1.1.1.1.1.1.0.1) refl refl
           (row (open_fields 9 1 (c.row_name_len ∷ c.col_name_len ∷ []) refl m.1.1.1.1.1.1.1.0) refl refl
           (row (open_fields 10 1 (c.comb ∷ c.comc ∷ c.como ∷ c.comc1 ∷ c.como1 ∷ []) refl m.1.1.1.1.1.1.1.1.0) refl
-            (rw (le-leb (c.comb + c.comc + c.como + c.comc1 + c.como1) (2 ^ 20) k.defined) refl) no_row))))))))),
+          (rw (le-leb (c.comb + c.comc + c.como + c.comc1 + c.como1) (2 ^ 20) k.defined) refl) no_row))))))))),
     )
 
 -- the written header has these words, and is read as these options and counts

@@ -72,10 +72,22 @@ same_some a b e =
 reads : (lo hi : Option Dec) → Reads (sides_line lo hi) (record { lo = lo; hi = hi })
 unfolding interval_in
 reads None None = record { written = written-one (codes "3") (digit_word 51 (omega arith)); no_head = refl; no_five = refl; sides = refl; read = refl }
-reads None (Some hi) = record { written = written-two (codes "1") (text_of hi) (digit_word 49 (omega arith))
-    (word-text hi); no_head = refl; no_five = refl; sides = refl; read = rw (dec_of-text hi) refl }
-reads (Some lo) None = record { written = written-two (codes "2") (text_of lo) (digit_word 50 (omega arith))
-    (word-text lo); no_head = refl; no_five = refl; sides = refl; read = rw (dec_of-text lo) refl }
+reads None (Some hi) = record {
+  written = written-two (codes "1") (text_of hi) (digit_word 49 (omega arith))
+      (word-text hi);
+  no_head = refl;
+  no_five = refl;
+  sides = refl;
+  read = rw (dec_of-text hi) refl;
+}
+reads (Some lo) None = record {
+  written = written-two (codes "2") (text_of lo) (digit_word 50 (omega arith))
+      (word-text lo);
+  no_head = refl;
+  no_five = refl;
+  sides = refl;
+  read = rw (dec_of-text lo) refl;
+}
 reads (Some lo) (Some hi) = by (is_same lo hi) refl
   where
     by : (b : Bool) → is_same lo hi ≡ b → Reads (sides_line (Some lo) (Some hi)) (record { lo = Some lo; hi = Some hi })
@@ -100,12 +112,12 @@ pub record IsIntervalFine (c : Counts) (p : Piece) (i : Interval) : Type 0 where
   pub unit : (wants_unit c p && not (is_within_unit i)) ≡ false
 
 tests_fine : (sides unit : Bool) (words : WordLine) (i : Interval) → Reads words i → is_empty i ≡ false
-  → (unit && not (is_within_unit i)) ≡ false → first_reason (interval_form_tests sides unit words) ≡ None
+    → (unit && not (is_within_unit i)) ≡ false → first_reason (interval_form_tests sides unit words) ≡ None
 unfolding interval_form_tests
 tests_fine sides unit words i r e u = rw (r.no_five, and-false sides, r.sides, r.read, e, u) refl
 
 interval_fine : (o : List ℤ) (c : Counts) (before : List Piece) (p : Piece) (i : Interval) → IsIntervalFine c p i
-  → awaited_in c p ≡ IntervalLine → IsLineFine o c before p (interval_line i) IntervalLine
+    → awaited_in c p ≡ IntervalLine → IsLineFine o c before p (interval_line i) IntervalLine
 unfolding interval_tests
 interval_fine o c before p i h awaited =
     let r = reads i.lo i.hi in
@@ -141,40 +153,46 @@ pub record IsIntervalHead (c : Counts) (head : Head) (count : ℕ) : Type 0 wher
 -- ---- a section of intervals
 
 intervals_reached : {o : List ℤ} {c : Counts} {before : List Piece} {d e : Draft}
-  {n next after linear values nodes suffixes : ℕ} (words : WordLine) (head : Head) (intervals : List Interval)
-  → IsHeadFine c before words head → IsIntervalHead c head (length intervals)
+    {n next after linear values nodes suffixes : ℕ} (words : WordLine) (head : Head) (intervals : List Interval)
+    → IsHeadFine c before words head → IsIntervalHead c head (length intervals)
     → AreLinesFine interval_line (IsIntervalFine c) (begun_piece n words head) (n + 1) intervals → next ≤ after → rank head < after
     → (piece_intervals (rows_of_intervals n words head intervals) ≡ intervals → with_piece d (rows_of_intervals n words head intervals) ≡ e)
     → IsStanding o c before d next linear values nodes suffixes → Reaches o c before n (words ∷ map interval_line intervals) e after linear values nodes suffixes
 intervals_reached {o = o} {c = c} {before = before} {n = n} {linear = linear} {values = values} {nodes = nodes} words head intervals h k fine up above said s =
     let p = rows_of_intervals n words head intervals in
     let lines = lines_taken o c before interval_line IntervalLine (IsIntervalFine c) (interval_fine o c before)
-      (begun_piece n words head) (n + 1) intervals (record { kind = k.kind; lacks = omega (arith, k.size) }) fine in
+    (begun_piece n words head) (n + 1) intervals (record { kind = k.kind; lacks = omega (arith, k.size) }) fine in
     added_reaches p (k.columns p)
     (piece_added p (taken_then (head_taken h) refl lines) (lines_done c n words head interval_line intervals k.size k.alone) up above (said (intervals_read (n + 1) intervals))
     (uncounted is_linear p k.not_linear linear) (uncounted is_suffix p k.no_suffix values)
-      (omega (arith, lines_no_nodes c n words head (map interval_line intervals) k.alone))
-      (rw k.no_suffix (omega arith)) s)
+    (omega (arith, lines_no_nodes c n words head (map interval_line intervals) k.alone))
+    (rw k.no_suffix (omega arith)) s)
 
 -- ---- the intervals of constraints
 
 sides_fine : (c : Counts) (p : Piece) (n : ℕ) (intervals : List Interval) → p.head ≡ Sides
-  → AllByRecursion (λ i. is_empty i ≡ false) intervals → AreLinesFine interval_line (IsIntervalFine c) p n intervals
+    → AllByRecursion (λ i. is_empty i ≡ false) intervals → AreLinesFine interval_line (IsIntervalFine c) p n intervals
 sides_fine c p n [] e ordered = tt
 sides_fine c p n (i ∷ intervals) e ordered = (record { ordered = ordered.0; unit = rw e refl }, sides_fine c (longer p (row_at n (interval_line i))) (n + 1) intervals e ordered.1)
 
 pub sides_reached : {o : List ℤ} {c : Counts} {before : List Piece} {d : Draft} {n linear values nodes suffixes : ℕ}
-  (intervals : List Interval) → length intervals ≡ c.n_con → AllByRecursion (λ i. is_empty i ≡ false) intervals
-  → d.sides ≡ []
+    (intervals : List Interval) → length intervals ≡ c.n_con → AllByRecursion (λ i. is_empty i ≡ false) intervals
+    → d.sides ≡ []
     → IsStanding o c before d (rank Sides) linear values nodes suffixes
-      → Reaches o c before n (interval_piece (codes "r") intervals) (record d { sides = intervals }) (rank Bounds)
-      linear values nodes suffixes
+    → Reaches o c before n (interval_piece (codes "r") intervals) (record d { sides = intervals }) (rank Bounds)
+    linear values nodes suffixes
 unfolding head_of is_in_range
 sides_reached {d = d} [] size ordered none s = reaches_none (standing_as s (omega arith) (λ j. record d { sides = none j }) refl refl refl refl)
 sides_reached {c = c} {before = before} {d = d} {n = n} (i ∷ intervals) size ordered none s =
     intervals_reached (codes "r" ∷ []) Sides (i ∷ intervals)
-      (record { written = written-one (codes "r") (digit_word 114 (omega arith)); form = (refl, refl, refl); read =
-          refl; done = s.done; fine = rw (not_repeated before Sides [] s.ranks) refl })
+    (record {
+      written = written-one (codes "r") (digit_word 114 (omega arith));
+      form = (refl, refl, refl);
+      read =
+          refl;
+      done = s.done;
+      fine = rw (not_repeated before Sides [] s.ranks) refl;
+    })
     (record { kind = refl; size = sym size; alone = refl; not_linear = refl; no_suffix = refl; columns = λ p. refl })
     (sides_fine c (begun_piece n (codes "r" ∷ []) Sides) (n + 1) (i ∷ intervals) refl ordered) (omega arith) (omega arith) (λ all. ap₂ (λ xs ys. record d { sides = xs ++ ys }) none all) s
 
@@ -189,25 +207,32 @@ bounds_fine : (c : Counts) (p : Piece) (n j : ℕ) (intervals : List Interval) �
     → AreLinesFine interval_line (IsIntervalFine c) p n intervals
 bounds_fine c p n j [] e k ordered units = tt
 bounds_fine c p n j (i ∷ intervals) e k ordered units =
-    let unit : (wants_unit c p && not (is_within_unit i)) ≡ false = rw (e, k) units.0 in
-    (record { ordered = ordered.0; unit = unit }, bounds_fine c (longer p (row_at n (interval_line i))) (n + 1) (j + 1)
-      intervals e (omega (arith, length-append p.rows (row_at n (interval_line i) ∷ []), k)) ordered.1 units.1)
+    let unit : (wants_unit c p && not (is_within_unit i)) ≡ false = rw (e, k) units.0 in (
+      record { ordered = ordered.0; unit = unit },
+      bounds_fine c (longer p (row_at n (interval_line i))) (n + 1) (j + 1)
+          intervals e (omega (arith, length-append p.rows (row_at n (interval_line i) ∷ []), k)) ordered.1 units.1,
+    )
 
 pub bounds_reached : {o : List ℤ} {c : Counts} {before : List Piece} {d : Draft} {n linear values nodes suffixes : ℕ}
-  (intervals : List Interval) → length intervals ≡ c.n_var → AllByRecursion (λ i. is_empty i ≡ false) intervals
-  → AreUnits c 0 intervals → d.bounds ≡ []
+    (intervals : List Interval) → length intervals ≡ c.n_var → AllByRecursion (λ i. is_empty i ≡ false) intervals
+    → AreUnits c 0 intervals → d.bounds ≡ []
     → IsStanding o c before d (rank Bounds) linear values nodes suffixes
-      → Reaches o c before n (interval_piece (codes "b") intervals) (record d { bounds = intervals })
-      (rank (ColumnCounts 0)) linear values nodes suffixes
+    → Reaches o c before n (interval_piece (codes "b") intervals) (record d { bounds = intervals })
+    (rank (ColumnCounts 0)) linear values nodes suffixes
 unfolding head_of is_in_range
 bounds_reached {d = d} [] size ordered units none s = reaches_none (standing_as s (omega arith) (λ j. record d { bounds = none j }) refl refl refl refl)
 bounds_reached {c = c} {before = before} {d = d} {n = n} (i ∷ intervals) size ordered units none s =
     intervals_reached (codes "b" ∷ []) Bounds (i ∷ intervals)
-      (record { written = written-one (codes "b") (digit_word 98 (omega arith)); form = (refl, refl, refl); read = refl;
-          done = s.done; fine = rw (not_repeated before Bounds [] s.ranks) refl })
+    (record {
+      written = written-one (codes "b") (digit_word 98 (omega arith));
+      form = (refl, refl, refl);
+      read = refl;
+      done = s.done;
+      fine = rw (not_repeated before Bounds [] s.ranks) refl;
+    })
     (record { kind = refl; size = sym size; alone = refl; not_linear = refl; no_suffix = refl; columns = λ p. refl })
     (bounds_fine c (begun_piece n (codes "b" ∷ []) Bounds) (n + 1) 0 (i ∷ intervals) refl refl ordered units)
-      (omega arith) (omega arith) (λ all. ap₂ (λ xs ys. record d { bounds = xs ++ ys }) none all) s
+    (omega arith) (omega arith) (λ all. ap₂ (λ xs ys. record d { bounds = xs ++ ys }) none all) s
 
 -- ---- the numbers of columns, a line each
 
@@ -279,7 +304,7 @@ abbrev columns_of : ℕ → ℕ → List ℕ → Piece
 columns_of n m ks = with_lines (begun_piece n (lettered (codes "k") m ∷ []) (ColumnCounts m)) (n + 1) (map count_line ks)
 
 columns_taken : (o : List ℤ) (c : Counts) (before : List Piece) (d : Draft) (n m linear values nodes suffixes : ℕ)
-  (rows : List (List Term)) → c.n_var ≤ 2 ^ 20 → c.n_var ≡ suc m → term_count rows ≤ most_terms
+    (rows : List (List Term)) → c.n_var ≤ 2 ^ 20 → c.n_var ≡ suc m → term_count rows ≤ most_terms
     → IsStanding o c before d (rank (ColumnCounts 0)) linear values nodes suffixes
     → ReachesColumns o c before n (column_piece (suc m) rows) d (rank (Terms 0 0)) linear values nodes suffixes (counts_from rows 0 m)
 unfolding head_of is_in_range
@@ -292,11 +317,11 @@ columns_taken o c before d n m linear values nodes suffixes rows most e few s =
     let small = counts_small rows 0 m few in
     let size = counts_size rows 0 m in
     let lines = lines_taken o c before count_line ColumnCount (λ q k. IsSmall k) (number_line o c before) p0 (n + 1) ks
-      (record { kind = refl; lacks = omega (arith, size) }) (all_lines_fine p0 (n + 1) ks small) in
+    (record { kind = refl; lacks = omega (arith, size) }) (all_lines_fine p0 (n + 1) ks small) in
     let low : m < 2 ^ 31 = omega (arith, most, e) in
     let fine = number_head 107 m head (omega arith) low (refl, refl, refl)
-      (rw (whole_of-decimal m low, eq-eqb (m + 1) c.n_var (omega (arith, e))) refl) s.done
-      (rw (not_repeated before head [] s.ranks) refl) in
+    (rw (whole_of-decimal m low, eq-eqb (m + 1) c.n_var (omega (arith, e))) refl) s.done
+    (rw (not_repeated before head [] s.ranks) refl) in
     let taken = taken_then (head_taken fine) refl lines in
     let more = standing_more {after = rank (Terms 0 0)} p s (lines_done c n words head count_line ks (sym size) refl) (omega arith) (omega arith) in
     record {
@@ -312,31 +337,31 @@ counts_of_columns zero rows = []
 counts_of_columns (suc m) rows = counts_from rows 0 m
 
 pub columns_reached : {o : List ℤ} {c : Counts} {before : List Piece} {d : Draft} {n linear values nodes suffixes : ℕ}
-  (k : ℕ) (rows : List (List Term)) → c.n_var ≤ 2 ^ 20 → c.n_var ≡ k → term_count rows ≤ most_terms
+    (k : ℕ) (rows : List (List Term)) → c.n_var ≤ 2 ^ 20 → c.n_var ≡ k → term_count rows ≤ most_terms
     → IsStanding o c before d (rank (ColumnCounts 0)) linear values nodes suffixes
-      → ReachesColumns o c before n (column_piece k rows) d (rank (Terms 0 0)) linear values nodes suffixes
-      (counts_of_columns k rows)
+    → ReachesColumns o c before n (column_piece k rows) d (rank (Terms 0 0)) linear values nodes suffixes
+    (counts_of_columns k rows)
 columns_reached {before = before} zero rows most e few s = record { after = before; taken = taken_none; stands = standing_up s (omega arith); columns = sym (append-nil (all_column_counts before)) }
 columns_reached {o = o} {c = c} {before = before} {d = d} {n = n} {linear = linear} {values = values} {nodes = nodes} {suffixes = suffixes} (suc m) rows most e few s =
     columns_taken o c before d n m linear values nodes suffixes rows most e few s
 
 -- these lines after others, and others after them
 pub then_columns : {o : List ℤ} {c : Counts} {before : List Piece} {n : ℕ} {xs ys : List WordLine} {d e : Draft}
-  {next after linear values nodes suffixes linear' values' nodes' suffixes' : ℕ} {counts : List ℕ}
-  → Reaches o c before n xs d next linear values nodes suffixes
+    {next after linear values nodes suffixes linear' values' nodes' suffixes' : ℕ} {counts : List ℕ}
+    → Reaches o c before n xs d next linear values nodes suffixes
     → ((b : List Piece) → IsStanding o c b d next linear values nodes suffixes
-        → ReachesColumns o c b (n + length xs) ys e after linear' values' nodes' suffixes' counts)
-      → ReachesColumns o c before n (xs ++ ys) e after linear' values' nodes' suffixes' counts
+    → ReachesColumns o c b (n + length xs) ys e after linear' values' nodes' suffixes' counts)
+    → ReachesColumns o c before n (xs ++ ys) e after linear' values' nodes' suffixes' counts
 then_columns {counts = counts} r then =
     let q = then r.after r.stands in
     record { after = q.after; taken = taken_then r.taken refl q.taken; stands = q.stands; columns = q.columns ∙ ap (λ ks. ks ++ counts) r.columns }
 
 pub columns_then : {o : List ℤ} {c : Counts} {before : List Piece} {n : ℕ} {xs ys : List WordLine} {d e : Draft}
-  {next after linear values nodes suffixes linear' values' nodes' suffixes' : ℕ} {counts : List ℕ}
-  → ReachesColumns o c before n xs d next linear values nodes suffixes counts
+    {next after linear values nodes suffixes linear' values' nodes' suffixes' : ℕ} {counts : List ℕ}
+    → ReachesColumns o c before n xs d next linear values nodes suffixes counts
     → ((b : List Piece) → IsStanding o c b d next linear values nodes suffixes
-        → Reaches o c b (n + length xs) ys e after linear' values' nodes' suffixes')
-      → ReachesColumns o c before n (xs ++ ys) e after linear' values' nodes' suffixes' counts
+    → Reaches o c b (n + length xs) ys e after linear' values' nodes' suffixes')
+    → ReachesColumns o c before n (xs ++ ys) e after linear' values' nodes' suffixes' counts
 columns_then r then =
     let q = then r.after r.stands in
     record { after = q.after; taken = taken_then r.taken refl q.taken; stands = q.stands; columns = q.columns ∙ r.columns }

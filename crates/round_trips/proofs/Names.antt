@@ -53,7 +53,7 @@ pub record IsShort (m : Mps ℚ) : Type 0 where
   pub columns : All (ShortColumn ℚ) m.columns
 
 pub short_program : (rows : List ScaledRow) (objective : Form) (vs : List Variable) (maximise : Bool)
-  → All ShortScaled rows → All ShortVariable vs → IsShort (mps_of (scaled_of rows objective vs maximise))
+    → All ShortScaled rows → All ShortVariable vs → IsShort (mps_of (scaled_of rows objective vs maximise))
 unfolding mps_of
 short_program rows objective vs maximise named short_vs = record {
   rows = All-cons (λ (r : MpsRow). length r.name ≤ 8) (record { name = obj_name; kind = N }) (map mps_row rows) (omega arith) (All-map (λ (r : MpsRow). length r.name ≤ 8) mps_row rows named);

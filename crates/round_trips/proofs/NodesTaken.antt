@@ -133,8 +133,8 @@ pub record IsInTree (c : Counts) (p : Piece) (ns : List Node) (pending : Option 
 
 -- with a row that adds these nodes, and leaves this opcode pending
 in_tree-more : {c : Counts} {p : Piece} {ns ms : List Node} {pending next : Option Pending} (row : NumberedRow)
-  → only_nodes (last_nodes c.n_var pending row) ≡ ms → last_pending pending row ≡ next → IsInTree c p ns pending
-  → IsInTree c (longer p row) (ns ++ ms) next
+    → only_nodes (last_nodes c.n_var pending row) ≡ ms → last_pending pending row ≡ next → IsInTree c p ns pending
+    → IsInTree c (longer p row) (ns ++ ms) next
 in_tree-more {c = c} {p = p} {ns = ns} {pending = pending} row new after h =
     let rows = late_tree p row h.tree h.late in
     let pend : pending_from None (tree_rows p) ≡ pending = h.pend in
@@ -170,7 +170,7 @@ tree_done c p ns h none =
     tree_awaited c p ns None h ∙ rw all refl
 
 node_room : (c : Counts) (before : List Piece) (p : Piece) (ns : List Node) (pending : Option Pending)
-  → IsInTree c p ns pending → node_total c before + length ns < 2 ^ 22 → node_total c (before ++ p ∷ []) < 2 ^ 22
+    → IsInTree c p ns pending → node_total c before + length ns < 2 ^ 22 → node_total c (before ++ p ∷ []) < 2 ^ 22
 node_room c before p ns pending h room =
     let size : length (piece_nodes c p) ≡ length ns = sym (length-map (piece_nodes c p) (λ n. n.node)) ∙ ap (length {A = Node}) h.nodes in
     omega (arith, nodes-append c before p, size, room)
@@ -224,8 +224,8 @@ module _ (o : List ℤ) (c : Counts) (before : List Piece) (d : Draft) (few : Ar
   takes_row p n words a ns ms pending next line h new after = record { taken = line_taken o c before p n words a line; within = in_tree-more (row_at n words) new after h }
 
   takes_then : (p : Piece) (n m : ℕ) (xs ys : List WordLine) (ns ms : List Node) (pending next : Option Pending)
-    → m ≡ n + length xs → TakesNodes o c before p n xs ns pending
-    → TakesNodes o c before (with_lines p n xs) m ys ms next
+      → m ≡ n + length xs → TakesNodes o c before p n xs ns pending
+      → TakesNodes o c before (with_lines p n xs) m ys ms next
       → TakesNodes o c before p n (xs ++ ys) ms next
   takes_then p n m xs ys ns ms pending next e f g =
       let same = with_lines-append p n m xs ys e in
@@ -235,8 +235,8 @@ module _ (o : List ℤ) (c : Counts) (before : List Piece) (d : Draft) (few : Ar
       }
 
   node_line : (p : Piece) (ns : List Node) (m : Node) → IsInTree c p ns None → 0 < awaited ns
-    → IsNodeFine c d.definitions m → node_total c before + length ns < 2 ^ 22
-    → IsLineFine o c before p (node_words m) NodeLine
+      → IsNodeFine c d.definitions m → node_total c before + length ns < 2 ^ 22
+      → IsLineFine o c before p (node_words m) NodeLine
   unfolding node_tests
   node_line p ns m h some fine room =
       let now = before ++ p ∷ [] in
@@ -247,8 +247,8 @@ module _ (o : List ℤ) (c : Counts) (before : List Piece) (d : Draft) (few : Ar
         is = no_head m;
         awaited = node_awaited c p ns h some;
         fine = reason_after (node_form_tests c (draft_of o c now) (node_words m))
-          ((nat_le (2 ^ 22) (node_total c now), TooLarge) ∷ []) form
-          ∙ not_large (node_total c now) (node_room c before p ns None h room);
+            ((nat_le (2 ^ 22) (node_total c now), TooLarge) ∷ []) form
+            ∙ not_large (node_total c now) (node_room c before p ns None h room);
       }
 
   one_row : (p : Piece) (ns : List Node) (m r : Node) (n : ℕ) → IsInTree c p ns None → 0 < awaited ns → IsNodeFine c d.definitions m → node_total c before + length ns < 2 ^ 22
@@ -272,14 +272,18 @@ module _ (o : List ℤ) (c : Counts) (before : List Piece) (d : Draft) (few : Ar
       let within : IsInTree c first ns (Some q) = subst (λ ms. IsInTree c first ms (Some q)) (append-nil ns) one.within in
       let written = written-one (decimal k) (word-decimal k (lt_trans least (lit< tt))) in
       let line : IsLineFine o c before first count OperandCount =
-        record { written = written; is = decimal_no_head k [] least; awaited = tree_awaited c first ns (Some q) within;
-          fine = count_fine k more fine.1 } in
+      record {
+        written = written;
+        is = decimal_no_head k [] least;
+        awaited = tree_awaited c first ns (Some q) within;
+        fine = count_fine k more fine.1;
+      } in
       let two = takes_row first (n + 1) count OperandCount ns (Op opcode k ∷ []) (Some q) None line within (rw (row-written count written, whole_of-decimal k least) refl) refl in
       takes_then p n (n + 1) (words ∷ []) (count ∷ []) (ns ++ []) (ns ++ Op opcode k ∷ []) (Some q) None refl one two
 
   node_taken : (p : Piece) (ns : List Node) (m : Node) (n : ℕ) → IsInTree c p ns None → 0 < awaited ns
-    → IsNodeFine c d.definitions m → node_total c before + length ns < 2 ^ 22
-    → TakesNodes o c before p n (node_lines m) (ns ++ m ∷ []) None
+      → IsNodeFine c d.definitions m → node_total c before + length ns < 2 ^ 22
+      → TakesNodes o c before p n (node_lines m) (ns ++ m ∷ []) None
   node_taken p ns (Num x) n h some fine room = one_row p ns (Num x) (Num x) n h some fine room (number_read c.n_var x)
   node_taken p ns (Var j) n h some fine room =
       let read = variable_read c.n_var j (omega (arith, fine, few.variables)) in
@@ -294,7 +298,7 @@ module _ (o : List ℤ) (c : Counts) (before : List Piece) (d : Draft) (few : Ar
       by (operands_of opcode) refl is.0 (omega (arith, is.1))
     where
       fixed : (j : ℕ) → k ≡ j → IsRead c.n_var ((codes "o" ++ decimal opcode) ∷ []) (Some (Op opcode j)) None
-        → TakesNodes o c before p n (((codes "o" ++ decimal opcode) ∷ []) ∷ []) (ns ++ Op opcode k ∷ []) None
+          → TakesNodes o c before p n (((codes "o" ++ decimal opcode) ∷ []) ∷ []) (ns ++ Op opcode k ∷ []) None
       fixed j f read = one_row p ns (Op opcode k) (Op opcode k) n h some fine room (read.0 ∙ ap (λ j. Some (Op opcode j)) (sym f), read.1)
 
       by : (x : Option Operands) → operands_of opcode ≡ x → FitsOperands x k → opcode < 2 ^ 31 → TakesNodes o c before p n (operator_lines opcode k) (ns ++ Op opcode k ∷ []) None
@@ -304,7 +308,7 @@ module _ (o : List ℤ) (c : Counts) (before : List Piece) (d : Draft) (few : Ar
       by (Some OnNextLine) e f small = rw e (counted_rows p ns opcode k n h some fine room e small f)
 
   pub nodes_taken : (p : Piece) (ns ms : List Node) (n : ℕ) → IsInTree c p ns None → AreAwaited (awaited ns) ms
-    → AllByRecursion (IsNodeFine c d.definitions) ms → node_total c before + (length ns + length ms) ≤ 2 ^ 22
+      → AllByRecursion (IsNodeFine c d.definitions) ms → node_total c before + (length ns + length ms) ≤ 2 ^ 22
       → TakesNodes o c before p n (flat_map node_lines ms) (ns ++ ms) None
   nodes_taken p ns [] n h w fine room =
       let same : with_lines p n [] ≡ p = ap (λ rs. record p { rows = rs }) (append-nil p.rows) in
@@ -357,8 +361,8 @@ defined_in_range n k (d ∷ ds) i h e = by (d.index == i) refl e (defined_in_ran
 
 mutual
   fine_prefix : {t : Tree} {ns : List Node} → IsPrefix t ns → (c : Counts) (ds : List Definition)
-    → AreInRange c.n_var (defined_count c) ds → IsTreeWithin c.n_var ds t → length ns ≤ 2 ^ 22
-    → AllByRecursion (IsNodeFine c ds) ns
+      → AreInRange c.n_var (defined_count c) ds → IsTreeWithin c.n_var ds t → length ns ≤ 2 ^ 22
+      → AllByRecursion (IsNodeFine c ds) ns
   fine_prefix (a_number d) c ds r w few = (tt, tt)
   fine_prefix (a_variable j) c ds r w few = (w, tt)
   fine_prefix (a_defined i) c ds r w few =
@@ -369,14 +373,14 @@ mutual
       ((k, omega (arith, sizes.1)), fine_prefixes h c ds r w (omega arith))
 
   fine_prefixes : {ts : Trees} {ns : List Node} → ArePrefixes ts ns → (c : Counts) (ds : List Definition)
-    → AreInRange c.n_var (defined_count c) ds → AreTreesWithin c.n_var ds ts → length ns ≤ 2 ^ 22
-    → AllByRecursion (IsNodeFine c ds) ns
+      → AreInRange c.n_var (defined_count c) ds → AreTreesWithin c.n_var ds ts → length ns ≤ 2 ^ 22
+      → AllByRecursion (IsNodeFine c ds) ns
   fine_prefixes no_tree c ds r w few = tt
   fine_prefixes (one_more t ns ts ms h k) c ds r w few =
       let size = length-append ns ms in
       all_append (IsNodeFine c ds) ns ms (fine_prefix h c ds r w.0 (omega (arith, size))) (fine_prefixes k c ds r w.1 (omega (arith, size)))
 
 pub nodes_fine : (t : Tree) (ns : List Node) → IsPrefix t ns → (c : Counts) (ds : List Definition)
-  → AreInRange c.n_var (defined_count c) ds → IsTreeWithin c.n_var ds t → length ns ≤ 2 ^ 22
-  → AllByRecursion (IsNodeFine c ds) ns
+    → AreInRange c.n_var (defined_count c) ds → IsTreeWithin c.n_var ds t → length ns ≤ 2 ^ 22
+    → AllByRecursion (IsNodeFine c ds) ns
 nodes_fine t ns h c ds r w few = fine_prefix h c ds r w few

@@ -123,7 +123,7 @@ room_left : (counts : Head → Bool) (before : List Piece) (p : Piece) (k : ℕ)
 room_left counts before p k h e = let room = h e in omega (arith, pair_total-append counts before p, all_more counts p e, room)
 
 pub pairs_fine : (c : Counts) (before : List Piece) (p : Piece) (n : ℕ) (terms : List Term)
-  → length p.rows + length terms ≤ pair_count p.head → MayTake c before p terms → ArePairsFine c before p n terms
+    → length p.rows + length terms ≤ pair_count p.head → MayTake c before p terms → ArePairsFine c before p n terms
 pairs_fine c before p n [] lacks h = tt
 pairs_fine c before p n (t ∷ terms) lacks h =
     let row = row_at n (term_line t) in
@@ -162,7 +162,7 @@ read_pairs n [] small = refl
 read_pairs n (t ∷ terms) small = rw (pair_read n t small.0) (ap (λ ts. t ∷ ts) (read_pairs (n + 1) terms small.1))
 
 pub pair_piece-pairs : (n : ℕ) (words : WordLine) (head : Head) (terms : List Term) → pair_count head ≡ length terms
-  → AllByRecursion (λ t. t.0 < 2 ^ 31) terms → piece_pairs (pair_piece n words head terms) ≡ terms
+    → AllByRecursion (λ t. t.0 < 2 ^ 31) terms → piece_pairs (pair_piece n words head terms) ≡ terms
 pair_piece-pairs n words head terms size small =
     let rows = rows_at (n + 1) (term_lines terms) in
     ap (filter_map (λ r. pair_in (row_words r))) (take_all (pair_count head) rows (omega (arith, size, line_rows_size (n + 1) term_line terms)))

@@ -49,11 +49,11 @@ use Rattle.nl_model.specs.SuffixKinds.{objects_of, wants_whole as kind_wants_who
 -- ---- any piece of pairs
 
 pairs_added : {o : List ℤ} {c : Counts} {before : List Piece} {d e : Draft}
-  {n next after linear values nodes suffixes linear' values' suffixes' : ℕ} (words : WordLine) (head : Head)
-  (terms : List Term)
+    {n next after linear values nodes suffixes linear' values' suffixes' : ℕ} (words : WordLine) (head : Head)
+    (terms : List Term)
     → IsHeadFine c before words head → IsPairHead c head → pair_count head ≡ length terms
-      → MayTake c before (begun_piece n words head) terms → AllByRecursion (λ t. t.0 < 2 ^ 31) terms → next ≤ after
-      → rank head < after
+    → MayTake c before (begun_piece n words head) terms → AllByRecursion (λ t. t.0 < 2 ^ 31) terms → next ≤ after
+    → rank head < after
     → (piece_pairs (pair_piece n words head terms) ≡ terms → awaited_in c (pair_piece n words head terms) ≡ Nothing → with_piece d (pair_piece n words head terms) ≡ e)
     → (length (piece_pairs (pair_piece n words head terms)) ≡ length terms → linear + pairs_more is_linear (pair_piece n words head terms) ≡ linear')
     → (length (piece_pairs (pair_piece n words head terms)) ≡ length terms → values + pairs_more is_suffix (pair_piece n words head terms) ≡ values')
@@ -77,8 +77,8 @@ no_more n words head = ap length (begun_pairs n words head)
 
 -- indices below a limit
 pub terms_fine : (c : Counts) (head : Head) (limit : ℕ) (terms : List Term) → index_limit c head ≡ limit
-  → wants_whole_values head ≡ false → limit ≤ 2 ^ 20 → AllByRecursion (IsTermBelow limit) terms
-  → AllByRecursion (IsTermFine c head) terms
+    → wants_whole_values head ≡ false → limit ≤ 2 ^ 20 → AllByRecursion (IsTermBelow limit) terms
+    → AllByRecursion (IsTermFine c head) terms
 terms_fine c head limit [] is real most low = tt
 terms_fine c head limit (t ∷ terms) is real most low =
     let lt = low.0.below in
@@ -110,14 +110,14 @@ pub record IsTermHead (c : Counts) (head : Head) (k limit : ℕ) (once linear : 
   pub no_suffix : is_suffix head ≡ false
 
 terms_reached : {o : List ℤ} {c : Counts} {before : List Piece} {d e : Draft}
-  {n next after linear values nodes suffixes linear' : ℕ} (limit : ℕ) (once counted : Bool) (words : WordLine)
-  (head : Head) (terms : List Term) → IsHeadFine c before words head
+    {n next after linear values nodes suffixes linear' : ℕ} (limit : ℕ) (once counted : Bool) (words : WordLine)
+    (head : Head) (terms : List Term) → IsHeadFine c before words head
     → IsTermHead c head (length terms) limit once counted → limit ≤ 2 ^ 20 → AllByRecursion (IsTermBelow limit) terms
-      → AreFresh once [] terms → linear' ≤ most_terms → linear + cond counted (length terms) 0 ≡ linear' → next ≤ after
-      → rank head < after
+    → AreFresh once [] terms → linear' ≤ most_terms → linear + cond counted (length terms) 0 ≡ linear' → next ≤ after
+    → rank head < after
     → (piece_pairs (pair_piece n words head terms) ≡ terms → with_piece d (pair_piece n words head terms) ≡ e)
-      → IsStanding o c before d next linear values nodes suffixes
-      → Reaches o c before n (words ∷ term_lines terms) e after linear' values nodes suffixes
+    → IsStanding o c before d next linear values nodes suffixes
+    → Reaches o c before n (words ∷ term_lines terms) e after linear' values nodes suffixes
 terms_reached {c = c} {before = before} {n = n} {linear = linear} {values = values} {linear' = linear'} limit once counted words head terms fine g most low fresh room sum up above said s =
     let p = pair_piece n words head terms in
     let may : MayTake c before (begun_piece n words head) terms = record {
@@ -136,14 +136,14 @@ dual_head : (c : Counts) (before : List Piece) (count : ℕ) → count < 2 ^ 31 
     → IsHeadFine c before (lettered (codes "d") count ∷ []) (DualGuesses count)
 unfolding head_of is_in_range
 dual_head c before count few done ranks = number_head 100 count (DualGuesses count) (omega arith) few (refl, refl, refl)
-  (rw (whole_of-decimal count few) refl) done (rw (not_repeated before (DualGuesses count) [] ranks) refl)
+    (rw (whole_of-decimal count few) refl) done (rw (not_repeated before (DualGuesses count) [] ranks) refl)
 
 pub duals_reached : {o : List ℤ} {c : Counts} {before : List Piece} {d : Draft} {n linear values nodes suffixes : ℕ}
-  (terms : List Term) → c.n_con ≤ 2 ^ 20 → AllByRecursion (IsTermBelow c.n_con) terms → AreIndicesApart terms
-  → length terms < 2 ^ 31 → linear ≤ most_terms → d.dual_guesses ≡ []
+    (terms : List Term) → c.n_con ≤ 2 ^ 20 → AllByRecursion (IsTermBelow c.n_con) terms → AreIndicesApart terms
+    → length terms < 2 ^ 31 → linear ≤ most_terms → d.dual_guesses ≡ []
     → IsStanding o c before d (rank (DualGuesses 0)) linear values nodes suffixes
-      → Reaches o c before n (guess_piece (codes "d") terms) (record d { dual_guesses = terms })
-      (rank (PrimalGuesses 0)) linear values nodes suffixes
+    → Reaches o c before n (guess_piece (codes "d") terms) (record d { dual_guesses = terms })
+    (rank (PrimalGuesses 0)) linear values nodes suffixes
 duals_reached {d = d} [] most low apart few room none s = reaches_none (standing_as s (omega arith) (λ j. record d { dual_guesses = none j }) refl refl refl refl)
 duals_reached {c = c} {before = before} {d = d} (t ∷ ts) most low apart few room none s =
     let k : ℕ = length (t ∷ ts) in
@@ -155,15 +155,15 @@ primal_head : (c : Counts) (before : List Piece) (count : ℕ) → count < 2 ^ 3
     → IsHeadFine c before (lettered (codes "x") count ∷ []) (PrimalGuesses count)
 unfolding head_of is_in_range
 primal_head c before count few done ranks = number_head 120 count (PrimalGuesses count) (omega arith) few
-  (refl, refl, refl) (rw (whole_of-decimal count few) refl) done
-  (rw (not_repeated before (PrimalGuesses count) [] ranks) refl)
+    (refl, refl, refl) (rw (whole_of-decimal count few) refl) done
+    (rw (not_repeated before (PrimalGuesses count) [] ranks) refl)
 
 pub primals_reached : {o : List ℤ} {c : Counts} {before : List Piece} {d : Draft} {n linear values nodes suffixes : ℕ}
-  (terms : List Term) → c.n_var ≤ 2 ^ 20 → AllByRecursion (IsTermBelow c.n_var) terms → AreIndicesApart terms
-  → length terms < 2 ^ 31 → linear ≤ most_terms → d.primal_guesses ≡ []
+    (terms : List Term) → c.n_var ≤ 2 ^ 20 → AllByRecursion (IsTermBelow c.n_var) terms → AreIndicesApart terms
+    → length terms < 2 ^ 31 → linear ≤ most_terms → d.primal_guesses ≡ []
     → IsStanding o c before d (rank (PrimalGuesses 0)) linear values nodes suffixes
-      → Reaches o c before n (guess_piece (codes "x") terms) (record d { primal_guesses = terms }) (rank Sides) linear
-      values nodes suffixes
+    → Reaches o c before n (guess_piece (codes "x") terms) (record d { primal_guesses = terms }) (rank Sides) linear
+    values nodes suffixes
 primals_reached {d = d} [] most low apart few room none s = reaches_none (standing_as s (omega arith) (λ j. record d { primal_guesses = none j }) refl refl refl refl)
 primals_reached {c = c} {before = before} {d = d} (t ∷ ts) most low apart few room none s =
     let k : ℕ = length (t ∷ ts) in
@@ -179,12 +179,12 @@ slice_get-at done rest x = slice_get-get_or (done ++ x ∷ rest) (length done) x
 -- where each piece leads from the draft of its number to the next one, with so many linear terms and nodes more
 pub steps_reached : {A : Type 0} {o : List ℤ} {c : Counts} {values suffixes : ℕ} (piece : ℕ → A → List WordLine) (D : ℕ → Draft) (R : ℕ → ℕ) (terms size : A → ℕ) (xs : List A)
     → ((i : ℕ) (x : A) (before : List Piece) (n linear nodes : ℕ) → slice_get xs i ≡ Some x
-        → linear + terms x ≤ most_terms → nodes + size x ≤ 2 ^ 22
-        → IsStanding o c before (D i) (R i) linear values nodes suffixes
+    → linear + terms x ≤ most_terms → nodes + size x ≤ 2 ^ 22
+    → IsStanding o c before (D i) (R i) linear values nodes suffixes
     → Reaches o c before n (piece i x) (D (i + 1)) (R (i + 1)) (linear + terms x) values (nodes + size x) suffixes)
     → (done rest : List A) (i : ℕ) → xs ≡ done ++ rest → length done ≡ i → (before : List Piece) (n linear nodes : ℕ)
-      → linear + sum_by terms rest ≤ most_terms → nodes + sum_by size rest ≤ 2 ^ 22
-      → IsStanding o c before (D i) (R i) linear values nodes suffixes
+    → linear + sum_by terms rest ≤ most_terms → nodes + sum_by size rest ≤ 2 ^ 22
+    → IsStanding o c before (D i) (R i) linear values nodes suffixes
     → Reaches o c before n (by_number piece i rest) (D (length xs)) (R (length xs)) (linear + sum_by terms rest) values (nodes + sum_by size rest) suffixes
 steps_reached {o = o} {c = c} {values = values} {suffixes = suffixes} piece D R terms size xs step done [] i e k before n linear nodes few small s =
     let all : i ≡ length xs = sym k ∙ ap length (sym (append-nil done)) ∙ ap length (sym e) in
@@ -195,8 +195,8 @@ steps_reached piece D R terms size xs step done (x ∷ rest) i e k before n line
     let more_nodes = sum_by-cons size x rest in
     let one = step i x before n linear nodes at (omega (arith, few, more_terms)) (omega (arith, small, more_nodes)) s in
     let more = λ (b : List Piece). steps_reached piece D R terms size xs step (done ++ x ∷ []) rest (i + 1)
-      (e ∙ sym (append_assoc done (x ∷ []) rest)) (omega (arith, length-append done (x ∷ []), k)) b
-      (n + length (piece i x)) (linear + terms x) (nodes + size x)
+    (e ∙ sym (append_assoc done (x ∷ []) rest)) (omega (arith, length-append done (x ∷ []), k)) b
+    (n + length (piece i x)) (linear + terms x) (nodes + size x)
     (omega (arith, few, more_terms)) (omega (arith, small, more_nodes)) in
     same_reach (reaches_then one more) refl (omega (arith, more_terms)) refl (omega (arith, more_nodes)) refl
 
@@ -250,16 +250,16 @@ pub record IsRowSection (c : Counts) (head : ℕ → ℕ → Head) (letter : Lis
   pub said : (xs : List (List Term)) (i k n : ℕ) (words : WordLine) (ts : List Term)
       → with_piece (put xs) (pair_piece n words (head i k) ts) ≡ put (slice_set xs i (get_or xs i [] ++ piece_pairs (pair_piece n words (head i k) ts)))
   pub fine : (before : List Piece) (i k : ℕ) → i < rows → k < 2 ^ 31 → awaited_of c before ≡ Nothing
-    → AllByRecursion (λ p. rank p.head < first + i) before → IsHeadFine c before (lettered letter i ∷ decimal k ∷ [])
-    (head i k)
+      → AllByRecursion (λ p. rank p.head < first + i) before → IsHeadFine c before (lettered letter i ∷ decimal k ∷ [])
+      (head i k)
 
 -- a row that has a term
 row_reached : {o : List ℤ} {c : Counts} {before : List Piece} {n linear values nodes suffixes : ℕ} {head : ℕ → ℕ → Head}
-  {letter : List ℕ} {put : List (List Term) → Draft} {many first : ℕ} (xs : List (List Term)) (i : ℕ) (t : Term)
-  (ts : List Term)
+    {letter : List ℕ} {put : List (List Term) → Draft} {many first : ℕ} (xs : List (List Term)) (i : ℕ) (t : Term)
+    (ts : List Term)
     → IsRowSection c head letter put many first → c.n_var ≤ 2 ^ 20 → i < many
-      → AllByRecursion (IsTermBelow c.n_var) (t ∷ ts) → linear + length (t ∷ ts) ≤ most_terms
-      → IsStanding o c before (put xs) (first + i) linear values nodes suffixes
+    → AllByRecursion (IsTermBelow c.n_var) (t ∷ ts) → linear + length (t ∷ ts) ≤ most_terms
+    → IsStanding o c before (put xs) (first + i) linear values nodes suffixes
     → Reaches o c before n (term_piece letter i (t ∷ ts)) (put (slice_set xs i (get_or xs i [] ++ t ∷ ts))) (first + (i + 1)) (linear + length (t ∷ ts)) values nodes suffixes
 row_reached {c = c} {before = before} {n = n} {head = head} {letter = letter} {put = put} xs i t ts r vars lt low room s =
     let terms : List Term = t ∷ ts in
@@ -270,27 +270,27 @@ row_reached {c = c} {before = before} {n = n} {head = head} {letter = letter} {p
     (λ pairs. r.said xs i k n words terms ∙ ap (λ ys. put (slice_set xs i (get_or xs i [] ++ ys))) pairs) s
 
 pub rows_reached : {o : List ℤ} {c : Counts} {before : List Piece} {n linear values nodes suffixes : ℕ}
-  {head : ℕ → ℕ → Head} {letter : List ℕ} {put : List (List Term) → Draft} {first : ℕ} (rows : List (List Term))
+    {head : ℕ → ℕ → Head} {letter : List ℕ} {put : List (List Term) → Draft} {first : ℕ} (rows : List (List Term))
     → IsRowSection c head letter put (length rows) first → c.n_var ≤ 2 ^ 20
-      → ((k : ℕ) (ts : List Term) → slice_get rows k ≡ Some ts → AllByRecursion (IsTermBelow c.n_var) ts)
-      → linear + term_count rows ≤ most_terms → nodes ≤ 2 ^ 22
+    → ((k : ℕ) (ts : List Term) → slice_get rows k ≡ Some ts → AllByRecursion (IsTermBelow c.n_var) ts)
+    → linear + term_count rows ≤ most_terms → nodes ≤ 2 ^ 22
     → IsStanding o c before (put (replicate (length rows) [])) (first + 0) linear values nodes suffixes
     → Reaches o c before n (by_number (term_piece letter) 0 rows) (put rows) (first + length rows) (linear + term_count rows) values nodes suffixes
 rows_reached {o = o} {c = c} {values = values} {suffixes = suffixes} {letter = letter} {put = put} {first = first} rows r vars low room few s =
     same_reach (steps_reached (term_piece letter) (λ i. put (filled rows [] i)) (λ i. first + i) (length {A = Term})
-        (λ ts. 0) rows step [] rows 0 refl refl _ _ _ _ room (omega (arith, few, no_sum rows))
-        (same_standing s (ap put (sym (filled-none rows []))) refl refl refl refl))
+    (λ ts. 0) rows step [] rows 0 refl refl _ _ _ _ room (omega (arith, few, no_sum rows))
+    (same_standing s (ap put (sym (filled-none rows []))) refl refl refl refl))
     (ap put (filled-all rows [])) refl refl (omega (arith, no_sum rows)) refl
   where
     step : (i : ℕ) (x : List Term) (before : List Piece) (n linear nodes : ℕ) → slice_get rows i ≡ Some x
-      → linear + length x ≤ most_terms → nodes + 0 ≤ 2 ^ 22
-      → IsStanding o c before (put (filled rows [] i)) (first + i) linear values nodes suffixes
+        → linear + length x ≤ most_terms → nodes + 0 ≤ 2 ^ 22
+        → IsStanding o c before (put (filled rows [] i)) (first + i) linear values nodes suffixes
         → Reaches o c before n (term_piece letter i x) (put (filled rows [] (i + 1))) (first + (i + 1)) (linear + length x) values (nodes + 0) suffixes
     step i [] before n linear nodes at room few s = reaches_none (standing_as s (omega arith) (ap put (filled-same rows [] i at)) (omega arith) refl (omega arith) refl)
     step i (t ∷ ts) before n linear nodes at room few s =
         let x : List Term = t ∷ ts in
         let place : slice_set (filled rows [] i) i (get_or (filled rows [] i) i [] ++ x) ≡ filled rows [] (i + 1) =
-          ap (λ y. slice_set (filled rows [] i) i (y ++ x)) (filled-get rows [] x i at) ∙ filled-set rows [] x i at in
+        ap (λ y. slice_set (filled rows [] i) i (y ++ x)) (filled-get rows [] x i at) ∙ filled-set rows [] x i at in
         same_reach (row_reached (filled rows [] i) i t ts r vars (slice_get_within rows i x at) (low i x at) room s) (ap put place) refl refl (omega arith) refl
 
 -- ---- constraints
@@ -299,8 +299,15 @@ pub terms_section : (c : Counts) (d : Draft) (rows : ℕ) → c.n_con ≤ 2 ^ 20
 unfolding head_of is_in_range
 terms_section c d rows most same = record {
   ranks = λ i k. refl;
-  terms = λ i k. record { alone = record { kind = refl; count = refl; alone = refl; columns = λ p. refl }; size = refl;
-      limit_is = refl; any_value = refl; once_is = refl; linear_is = refl; no_suffix = refl };
+  terms = λ i k. record {
+    alone = record { kind = refl; count = refl; alone = refl; columns = λ p. refl };
+    size = refl;
+    limit_is = refl;
+    any_value = refl;
+    once_is = refl;
+    linear_is = refl;
+    no_suffix = refl;
+  };
   said = λ xs i k n words ts. refl;
   fine = λ before i k lt few done ranks.
       let small : i < 2 ^ 31 = omega (arith, lt, same, most) in
@@ -314,8 +321,15 @@ pub slopes_section : (c : Counts) (d : Draft) (rows : ℕ) → c.n_obj ≤ 2 ^ 2
 unfolding head_of is_in_range
 slopes_section c d rows most same = record {
   ranks = λ i k. refl;
-  terms = λ i k. record { alone = record { kind = refl; count = refl; alone = refl; columns = λ p. refl }; size = refl;
-      limit_is = refl; any_value = refl; once_is = refl; linear_is = refl; no_suffix = refl };
+  terms = λ i k. record {
+    alone = record { kind = refl; count = refl; alone = refl; columns = λ p. refl };
+    size = refl;
+    limit_is = refl;
+    any_value = refl;
+    once_is = refl;
+    linear_is = refl;
+    no_suffix = refl;
+  };
   said = λ xs i k n words ts. refl;
   fine = λ before i k lt few done ranks.
       let small : i < 2 ^ 31 = omega (arith, lt, same, most) in
@@ -345,15 +359,15 @@ name_parts name e front =
     not_none k e = grind (arith, nat_tests)
 
 suffix_head_fine : (c : Counts) (before : List Piece) (s : Suffix) → IsWritableSuffix s → awaited_of c before ≡ Nothing
-  → is_repeated before (suffix_head_of s) s.name ≡ false → suffix_count before < 1024
+    → is_repeated before (suffix_head_of s) s.name ≡ false → suffix_count before < 1024
     → IsHeadFine c before (suffix_words s) (suffix_head_of s)
 unfolding head_of is_in_range
 suffix_head_fine c before s w done new few =
     let kind : s.kind < 2 ^ 31 = let k = w.kind in omega arith in
     record {
       written = written-three (lettered (codes "S") s.kind) (decimal (length s.values)) s.name
-        (word-lettered 83 s.kind (omega arith) (lt_trans kind (lit< tt)))
-        (word-decimal (length s.values) (lt_trans w.count (lit< tt))) (name_parts s.name w.name w.no_comment);
+          (word-lettered 83 s.kind (omega arith) (lt_trans kind (lit< tt)))
+          (word-decimal (length s.values) (lt_trans w.count (lit< tt))) (name_parts s.name w.name w.no_comment);
       form = (refl, refl, refl);
       read = rw (w.name, whole_of-decimal s.kind kind, whole_of-decimal (length s.values) w.count, lt-ltb s.kind 256 w.kind) refl;
       done = done;
@@ -391,11 +405,11 @@ fresh_suffix known xs x apart =
     let size = length-append known (x ∷ xs) in
     list_any_none (is_suffix_of x.kind x.name) known
     (λ i d lt. ap₂ (λ s t. is_suffix_of t.kind t.name s) (sym (get_or_append_left known (x ∷ xs) d i lt))
-      (sym (get_or_at known x xs d (length known) refl)) ∙ apart i (length known) d lt (omega arith))
+    (sym (get_or_at known x xs d (length known) refl)) ∙ apart i (length known) d lt (omega arith))
 
 suffix_more : (o : List ℤ) (c : Counts) (before : List Piece) (d : Draft) (n linear values nodes suffixes : ℕ)
-  (x : Suffix) → d.counts ≡ c → is_repeated before (suffix_head_of x) x.name ≡ false → AreCounts c
-  → IsWritableSuffix x × IsSuffix c x
+    (x : Suffix) → d.counts ≡ c → is_repeated before (suffix_head_of x) x.name ≡ false → AreCounts c
+    → IsWritableSuffix x × IsSuffix c x
     → values + length x.values ≤ most_terms → suffixes < 1024 → IsStanding o c before d (rank (DefinitionHead 0 0 0)) linear values nodes suffixes
     → Adds o c before n (suffix_piece x) (suffix_at n x) (with_suffix d x) (rank (DefinitionHead 0 0 0)) linear (values + length x.values) nodes (suffixes + 1)
 suffix_more o c before d n linear values nodes suffixes x counts new k r room few s =
@@ -424,11 +438,11 @@ suffix_repeated before n kind count name known x e =
 
 pub suffixes_reached : {o : List ℤ} {c : Counts} {before : List Piece} {d : Draft} {n linear values nodes suffixes : ℕ} (known xs : List Suffix) → d.counts ≡ c → d.suffixes ≡ known
     → ((kind count : ℕ) (name : List ℕ) → is_repeated before (SuffixHead kind count) name ≡ has_suffix known kind name)
-      → AreCounts c → AllByRecursion (λ s. IsWritableSuffix s × IsSuffix c s) xs
-      → AllPairs (λ s t. is_suffix_of t.kind t.name s ≡ false) (known ++ xs)
+    → AreCounts c → AllByRecursion (λ s. IsWritableSuffix s × IsSuffix c s) xs
+    → AllPairs (λ s t. is_suffix_of t.kind t.name s ≡ false) (known ++ xs)
     → values + sum_by (λ x. length x.values) xs ≤ most_terms → suffixes + length xs ≤ 1024 → IsStanding o c before d (rank (DefinitionHead 0 0 0)) linear values nodes suffixes
     → Reaches o c before n (flat_map suffix_piece xs) (record d { suffixes = known ++ xs })
-      (rank (DefinitionHead 0 0 0)) linear (values + sum_by (λ x. length x.values) xs) nodes (suffixes + length xs)
+    (rank (DefinitionHead 0 0 0)) linear (values + sum_by (λ x. length x.values) xs) nodes (suffixes + length xs)
 suffixes_reached {d = d} known [] counts are rep k fits apart room few s =
     reaches_none (same_standing s (λ j. record d { suffixes = (are ∙ sym (append-nil known)) j }) refl (omega arith) refl (omega arith))
 suffixes_reached {o = o} {c = c} {before = before} {d = d} {n = n} {linear = linear} {values = values} {nodes = nodes} {suffixes = suffixes} known (x ∷ xs) counts are rep k fits apart room few s =
@@ -438,6 +452,6 @@ suffixes_reached {o = o} {c = c} {before = before} {d = d} {n = n} {linear = lin
     let one = suffix_more o c before d n linear values nodes suffixes x counts new k fits.0 (omega (arith, room, total)) (omega (arith, few)) s in
     let more = suffixes_reached {before = before ++ p ∷ []} {n = n + length (suffix_piece x)} (known ++ x ∷ []) xs counts (ap (λ ss. ss ++ x ∷ []) are)
     (λ kind count name. suffix_repeated before n kind count name known x (rep kind count name)) k fits.1
-      (subst (AllPairs (λ s t. is_suffix_of t.kind t.name s ≡ false)) (sym (append_assoc known (x ∷ []) xs)) apart)
-      (omega (arith, room, total)) (omega (arith, few)) one.stands in
+    (subst (AllPairs (λ s t. is_suffix_of t.kind t.name s ≡ false)) (sym (append_assoc known (x ∷ []) xs)) apart)
+    (omega (arith, room, total)) (omega (arith, few)) one.stands in
     same_reach (added_then p refl one more) (ap (λ ss. record d { suffixes = ss }) (append_assoc known (x ∷ []) xs)) refl (omega (arith, total)) refl (omega arith)

@@ -87,7 +87,7 @@ Keeps o c P =
 
 -- what each piece keeps holds of all that they say
 said_all : (o : List ℤ) (c : Counts) (P : List Piece → Draft → Type 0) → Keeps o c P → (before rest : List Piece)
-  → AreSteps o c before rest → P before (draft_of o c before) → P (before ++ rest) (draft_of o c (before ++ rest))
+    → AreSteps o c before rest → P before (draft_of o c before) → P (before ++ rest) (draft_of o c (before ++ rest))
 said_all o c P each before [] steps h = subst (λ ps. P ps (draft_of o c ps)) (sym (append-nil before)) h
 said_all o c P each before (p ∷ rest) steps h =
     let next : P (before ++ p ∷ []) (draft_of o c (before ++ p ∷ [])) = subst (P (before ++ p ∷ [])) (sym (draft_more o c before p steps.0.complete)) (each before p p.head steps.0 h) in
@@ -123,9 +123,12 @@ row_more n many rows i p lt new k =
     let within : i < length rows = omega (arith, lt, k.count) in
     let sum = sum_by-set (length {A = Term}) rows i row [] within in
     record {
-      kept = record { count = length-set rows i row ∙ k.count; below =
-          All-set (AreTermsBelow n) rows i row (All-append (λ (t : Term). t.0 < n) old (piece_pairs p)
-            (All-get_or (AreTermsBelow n) rows i [] within k.below) new) k.below };
+      kept = record {
+        count = length-set rows i row ∙ k.count;
+        below =
+            All-set (AreTermsBelow n) rows i row (All-append (λ (t : Term). t.0 < n) old (piece_pairs p)
+            (All-get_or (AreTermsBelow n) rows i [] within k.below) new) k.below;
+      };
       total = omega (arith, sum, length-append old (piece_pairs p));
     }
 
@@ -198,7 +201,7 @@ GuessesKept c pieces d = AreGuessesKept c d.dual_guesses d.primal_guesses
 
 -- those of a piece
 guesses_of : (o : List ℤ) (c : Counts) (before : List Piece) (p : Piece) → IsStep o c before p
-  → holds_once p.head ≡ true → pair_count p.head < 2 ^ 31 → AreFewGuesses (index_limit c p.head) (piece_pairs p)
+    → holds_once p.head ≡ true → pair_count p.head < 2 ^ 31 → AreFewGuesses (index_limit c p.head) (piece_pairs p)
 guesses_of o c before p s once few = record { are = record { below = s.sound.below; apart = s.sound.once once }; few = omega (arith, few, few_pairs o c before p s) }
 
 guesses_step : (o : List ℤ) (c : Counts) → Keeps o c (GuessesKept c)
@@ -260,7 +263,7 @@ record IsGoodTree (n : ℕ) (ds : List Definition) (size : ℕ) (t : Tree) : Typ
   few : tree_size t ≡ size
 
 good_tree : (o : List ℤ) (c : Counts) (before : List Piece) (p : Piece) → IsStep o c before p → has_tree p.head ≡ true
-  → IsGoodTree c.n_var (draft_of o c before).definitions (length (piece_nodes c p)) (piece_tree c p)
+    → IsGoodTree c.n_var (draft_of o c before).definitions (length (piece_nodes c p)) (piece_tree c p)
 good_tree o c before p s has =
     let ns = only_nodes (piece_nodes c p) in
     let prefix : IsPrefix (piece_tree c p) ns = prefix_of_run ns s.running.run (nothing_wanted c p has s.complete) in
@@ -301,8 +304,8 @@ set_most f (x ∷ xs) zero y = omega (arith, sum_by-cons f x xs, sum_by-cons f y
 set_most f (x ∷ xs) (suc i) y = let more = set_most f xs i y in omega (arith, more, sum_by-cons f x xs, sum_by-cons f x (slice_set xs i y))
 
 place_given : {X : Type 0} (n many : ℕ) (ds : List Definition) (size : ℕ) (tree : X → Tree) (places : List (Option X))
-  (i : ℕ) (x : X) → IsGoodTree n ds size (tree x) → ArePlacesKept n many ds tree places
-  → ArePlacesKept n many ds tree (slice_set places i (Some x))
+    (i : ℕ) (x : X) → IsGoodTree n ds size (tree x) → ArePlacesKept n many ds tree places
+    → ArePlacesKept n many ds tree (slice_set places i (Some x))
 place_given n many ds size tree places i x t h = record {
   count = length-set places i (Some x) ∙ h.count;
   known = All-set (λ o. IfSome o (λ x. IsTreeKnown n ds (tree x))) places i (Some x) t.known h.known;
@@ -311,7 +314,7 @@ place_given n many ds size tree places i x t h = record {
 
 -- with one more definition
 places_more : {X : Type 0} (n many : ℕ) (ds : List Definition) (d : Definition) (tree : X → Tree)
-  (places : List (Option X)) → ArePlacesKept n many ds tree places → ArePlacesKept n many (ds ++ d ∷ []) tree places
+    (places : List (Option X)) → ArePlacesKept n many ds tree places → ArePlacesKept n many (ds ++ d ∷ []) tree places
 places_more n many ds d tree places h = record { count = h.count; known = λ i o lt. IfSome_then (get_or places i o) (h.known i o lt) (λ x. known_more n ds d (tree x)); nodes = h.nodes }
 
 no_places : {X : Type 0} (n many : ℕ) (tree : X → Tree) → ArePlacesKept n many [] tree (replicate many None)
@@ -417,12 +420,23 @@ no_pieces o c =
         few = omega (arith, bodies, objectives);
       };
       terms = record { rows = empty_rows c.n_var c.n_con; costs = empty_rows c.n_var c.n_obj; few = omega (arith, rows, costs) };
-      intervals = record { sides_are = record { most = omega arith; ordered = All-nil IsOrdered }; bounds_are =
-          record { most = omega arith; ordered = All-nil IsOrdered }; units = λ j i lt. absurd (omega (arith, lt)) };
+      intervals = record {
+        sides_are = record { most = omega arith; ordered = All-nil IsOrdered };
+        bounds_are =
+            record { most = omega arith; ordered = All-nil IsOrdered };
+        units = λ j i lt. absurd (omega (arith, lt));
+      };
       guesses = record { dual = no_guess c.n_con; primal = no_guess c.n_var };
-      suffixes = record { suffixes = record { each = All-nil (IsSuffix c); apart =
-            λ i j d lt within. absurd (omega (arith, within)) }; writable = All-nil IsWritableSuffix; few = omega arith;
-          few_values = omega arith };
+      suffixes = record {
+        suffixes = record {
+          each = All-nil (IsSuffix c);
+          apart =
+              λ i j d lt within. absurd (omega (arith, within));
+        };
+        writable = All-nil IsWritableSuffix;
+        few = omega arith;
+        few_values = omega arith;
+      };
     }
 
 pub all_kept : (o : List ℤ) (c : Counts) (pieces : List Piece) → AreSteps o c [] pieces → IsKept o c pieces (draft_of o c pieces)

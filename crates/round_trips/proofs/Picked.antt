@@ -33,7 +33,7 @@ entries_back = map_back (entry_with dec_value) (entry_with picked) (λ e. FitsDe
 
 columns_back : (cs : List (Column ℚ)) → All (λ (c : Column ℚ). AreDecimal c.entries) cs → map (column_with dec_value) (map (column_with picked) cs) ≡ cs
 columns_back = map_back (column_with dec_value) (column_with picked) (λ c. AreDecimal c.entries)
-  (λ c own. ap (λ (es : List (Entry ℚ)). record { name = c.name; marked = c.marked; entries = es })
+    (λ c own. ap (λ (es : List (Entry ℚ)). record { name = c.name; marked = c.marked; entries = es })
     (entries_back c.entries own))
 
 bounds_back : (bs : List (Bound ℚ)) → All (λ (b : Bound ℚ). FitsDec b.value) bs → map (bound_with dec_value) (map (bound_with picked) bs) ≡ bs
@@ -72,7 +72,7 @@ columns_picked n cs h = record {
   named = All-map (λ (c : Column Dec). IsName c.name) (column_with picked) cs h.named;
   apart = pairs_mapped (λ (c d : Column Dec). c.name ≢ d.name) (column_with picked) cs h.apart;
   entries = All-map (λ (c : Column Dec). AreEntries n c.entries) (column_with picked) cs
-    (All-weaker (λ (c : Column ℚ). AreEntries n c.entries) (λ c. AreEntries n (map (entry_with picked) c.entries))
+      (All-weaker (λ (c : Column ℚ). AreEntries n c.entries) (λ c. AreEntries n (map (entry_with picked) c.entries))
       (λ c k. entries_picked n c.entries k) cs h.entries);
 }
 
@@ -96,7 +96,7 @@ part_picked m h decimal = record {
   rhs = entries_picked (length m.rows) m.rhs h.rhs;
   ranges = record { entries = entries_picked (length m.rows) m.ranges h.ranges.entries; bounded = All-map (λ (e : Entry Dec). IsBounded m.rows e.row) (entry_with picked) m.ranges h.ranges.bounded };
   bounds = subst (λ (n : ℕ). AreBounds dec_value n (map (bound_with picked) m.bounds))
-    (sym (length-map m.columns (column_with picked))) (bounds_picked (length m.columns) m.bounds h.bounds
+      (sym (length-map m.columns (column_with picked))) (bounds_picked (length m.columns) m.bounds h.bounds
       decimal.bounds);
 }
 
@@ -107,7 +107,7 @@ whole_picked m h decimal = record {
   complete = record {
     objective = h.complete.objective;
     filled = All-map (λ (c : Column Dec). HasEntries c) (column_with picked) m.columns
-      (All-weaker HasEntries (λ (c : Column ℚ). 0 < length (map (entry_with picked) c.entries))
+        (All-weaker HasEntries (λ (c : Column ℚ). 0 < length (map (entry_with picked) c.entries))
         (λ c some. omega (arith, some, length-map c.entries (entry_with picked))) m.columns h.complete.filled);
   };
 }

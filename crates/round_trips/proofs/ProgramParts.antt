@@ -113,8 +113,13 @@ abbrev IsIn : ℕ → ℕ → Bound ℚ → Type 0
 IsIn j n b = (j ≤ b.column) × (b.column < n)
 
 no_bounds : (j n : ℕ) → AreBoundsFrom j n []
-no_bounds j n = record { within = All-nil (IsIn j n); apart = λ a b d lt within. absurd (omega arith); zeros =
-    All-nil (λ b. IsWithoutNumber b.kind → b.value ≡ zero_ℚ); decimal = All-nil (λ b. FitsDec b.value) }
+no_bounds j n = record {
+  within = All-nil (IsIn j n);
+  apart = λ a b d lt within. absurd (omega arith);
+  zeros =
+      All-nil (λ b. IsWithoutNumber b.kind → b.value ≡ zero_ℚ);
+  decimal = All-nil (λ b. FitsDec b.value);
+}
 
 -- a record of column j before records that set other sides of it or are of later columns
 record IsFirst (j : ℕ) (b : Bound ℚ) (bs : List (Bound ℚ)) : Type 0 where
@@ -142,8 +147,8 @@ alone : (j n : ℕ) (b : Bound ℚ) (bs : List (Bound ℚ)) → j < n → b.colu
 alone j n b bs lt e nought fits h = one_more j n b bs lt (record { column = e; other = before j n b bs e h; nought = nought; fits = fits }) (from_later j n bs h)
 
 both : (j n : ℕ) (b c : Bound ℚ) (bs : List (Bound ℚ)) → j < n → b.column ≡ j → c.column ≡ j
-  → SetOtherSides b.kind c.kind → (IsWithoutNumber b.kind → b.value ≡ zero_ℚ)
-  → (IsWithoutNumber c.kind → c.value ≡ zero_ℚ) → FitsDec b.value → FitsDec c.value
+    → SetOtherSides b.kind c.kind → (IsWithoutNumber b.kind → b.value ≡ zero_ℚ)
+    → (IsWithoutNumber c.kind → c.value ≡ zero_ℚ) → FitsDec b.value → FitsDec c.value
     → AreBoundsFrom (suc j) n bs → AreBoundsFrom j n (b ∷ c ∷ bs)
 both j n b c bs lt e g others zero_b zero_c fits_b fits_c h =
     one_more j n b (c ∷ bs) lt
@@ -157,9 +162,9 @@ fixed j n l u (Some r) bs lt fl fu h = both j n (bound_record Lo j l) (bound_rec
 column_bounds_from : (j n : ℕ) (l u : Option ℚ) (bs : List (Bound ℚ)) → j < n → IfSome l FitsDec → IfSome u FitsDec → AreBoundsFrom (suc j) n bs → AreBoundsFrom j n (column_bounds j l u ++ bs)
 column_bounds_from j n None None bs lt fl fu h = alone j n (bound_record Fr j zero_ℚ) bs lt refl (λ free. refl) zero_fits h
 column_bounds_from j n None (Some u) bs lt fl fu h = both j n (bound_record Mi j zero_ℚ) (bound_record Up j u) bs lt
-  refl refl (record { lower = refl; upper = refl }) (λ free. refl) (λ none. absurd none) zero_fits fu h
+    refl refl (record { lower = refl; upper = refl }) (λ free. refl) (λ none. absurd none) zero_fits fu h
 column_bounds_from j n (Some l) None bs lt fl fu h = both j n (bound_record Lo j l) (bound_record Pl j zero_ℚ) bs lt
-  refl refl (record { lower = refl; upper = refl }) (λ none. absurd none) (λ free. refl) fl zero_fits h
+    refl refl (record { lower = refl; upper = refl }) (λ none. absurd none) (λ free. refl) fl zero_fits h
 column_bounds_from j n (Some l) (Some u) bs lt fl fu h = fixed j n l u (nonzero (u -ℚ l)) bs lt fl fu h
 
 pub bounds_from : (j n : ℕ) (vs : List Variable) → j + length vs ≡ n → All HasDecimalBounds vs → AreBoundsFrom j n (bounds_of j vs)

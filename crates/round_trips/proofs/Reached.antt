@@ -27,7 +27,7 @@ pub reached_none : IsReached [] (standing [])
 reached_none = record { clean = clean_none nl_rules; here = refl }
 
 pub reached_more : (lines : List (List ℕ)) (s t : Standing) (line : List ℕ) → IsReached lines s
-  → line_refusal s line ≡ None → after_line s (length lines + 1) line ≡ t → IsReached (lines ++ line ∷ []) t
+    → line_refusal s line ≡ None → after_line s (length lines + 1) line ≡ t → IsReached (lines ++ line ∷ []) t
 reached_more lines s t line h e next = record {
   clean = clean_more nl_rules lines line h.clean (ap (λ s. line_refusal s line) h.here ∙ e);
   here = standing-more lines line ∙ ap (λ s. after_line s (length lines + 1) line) h.here ∙ next;
@@ -51,7 +51,7 @@ line_after : (header : List (List (List ℕ))) (pieces : List Piece) (n : ℕ) (
 line_after header pieces n words body w = rw (some-written words w, kept-spaced words w.each, body) refl
 
 pub body_reached : (header : List (List (List ℕ))) (pieces : List Piece) {after : List Piece} (lines : List (List ℕ))
-  (n : ℕ) (body : List WordLine) → ((ps : List Piece) → is_in_header (in_body header ps) ≡ false)
+    (n : ℕ) (body : List WordLine) → ((ps : List Piece) → is_in_header (in_body header ps) ≡ false)
     → n ≡ length lines + 1 → IsTaken (options_in header) (counts_in header) pieces n body after → IsReached lines (in_body header pieces) → IsReached (lines ++ map spaced body) (in_body header after)
 body_reached header pieces lines n [] past e taken_none h = subst (λ ls. IsReached ls (in_body header pieces)) (sym (append-nil lines)) h
 body_reached header pieces {after = after} lines n (words ∷ body) past e (taken_line w f t) h =
@@ -81,14 +81,14 @@ unfolding standing rows_from pieces_of
 nothing_read = refl
 
 pub head_reached : (before lines : List WordLine) → length before + length lines ≤ 10 → AllByRecursion IsWritten lines
-  → AreHeadFine before lines → IsReached (map spaced before) (in_body before [])
-  → IsReached (map spaced (before ++ lines)) (in_body (before ++ lines) [])
+    → AreHeadFine before lines → IsReached (map spaced before) (in_body before [])
+    → IsReached (map spaced (before ++ lines)) (in_body (before ++ lines) [])
 head_reached before [] few w fine h = subst (λ ls. IsReached (map spaced ls) (in_body ls [])) (sym (append-nil before)) h
 head_reached before (words ∷ lines) few w fine h =
     let next = before ++ words ∷ [] in
     let one = reached_more (map spaced before) (in_body before []) (in_body next []) (spaced words) h
-      (head_line_fine before words (omega arith) w.0 fine.0)
-      (head_line_after before words (length (map spaced before) + 1) (omega arith) w.0) in
+    (head_line_fine before words (omega arith) w.0 fine.0)
+    (head_line_after before words (length (map spaced before) + 1) (omega arith) w.0) in
     let now : IsReached (map spaced next) (in_body next []) = subst (λ ls. IsReached ls (in_body next [])) (sym (map-append spaced before (words ∷ []))) one in
     let more = head_reached next lines (omega (arith, few, length-append before (words ∷ []))) w.1 fine.1 now in
     subst (λ ls. IsReached (map spaced ls) (in_body ls [])) (append_assoc before (words ∷ []) lines) more

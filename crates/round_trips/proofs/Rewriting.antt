@@ -62,7 +62,7 @@ is_file pieces d w k =
 is_within_limits : (pieces : List Piece) (d : Draft) → IsWhole d.options d.counts pieces d → IsKept d.options d.counts pieces d → IsWithinLimits (file_of d)
 is_within_limits pieces d w k =
     let nodes : sum_by (λ x. tree_size x.tree) d.definitions + sum_by (λ b. option_map_or tree_size b 0) d.bodies
-      + sum_by objective_size d.objectives ≤ 2 ^ 22 = omega (arith, k.trees.few, w.kept.few.nodes) in
+    + sum_by objective_size d.objectives ≤ 2 ^ 22 = omega (arith, k.trees.few, w.kept.few.nodes) in
     record {
       options = w.options;
       trees = record { definitions = k.trees.definitions.nodes; bodies = k.trees.bodies_are.nodes; objectives = given_known (λ o. HasNodes o.tree) d.objectives k.trees.objectives.nodes };

@@ -87,8 +87,8 @@ mapped most f [] short all = none_fit
 mapped most f (x ∷ xs) short all = one_more most (f x) (all 0 x (omega arith)) short (mapped most f xs short (All-tail (λ x. length (spaced (f x)) < most) x xs all)) (omega arith)
 
 numbered : {X : Type 0} (w : X → ℕ) (piece : ℕ → X → List WordLine) (i : ℕ) (xs : List X)
-  → ((j : ℕ) → j < 2 ^ 20 → All (λ x. Fits (96 * w x) (piece j x)) xs) → i + length xs ≤ 2 ^ 20
-  → Fits (96 * sum_by w xs) (by_number piece i xs)
+    → ((j : ℕ) → j < 2 ^ 20 → All (λ x. Fits (96 * w x) (piece j x)) xs) → i + length xs ≤ 2 ^ 20
+    → Fits (96 * sum_by w xs) (by_number piece i xs)
 numbered w piece i [] each few = none_fit
 numbered w piece i (x ∷ xs) each few =
     more_room (both (each i (omega arith) 0 x (omega arith)) (numbered w piece (i + 1) xs (λ j lt. All-tail (λ x. Fits (96 * w x) (piece j x)) x xs (each j lt)) (omega arith)))
@@ -207,13 +207,13 @@ some_node (operator c ts) = omega arith
 
 -- a tree with its head
 headed : (c : Counts) (ds : List Definition) (t : Tree) (head : WordLine) → IsSized c ds → HasNodes t
-  → IsTreeKnown c.n_var ds t → tree_size t ≤ 2 ^ 22 → length (spaced head) < 34
-  → Fits (96 * tree_size t) (head ∷ tree_lines t)
+    → IsTreeKnown c.n_var ds t → tree_size t ≤ 2 ^ 22 → length (spaced head) < 34
+    → Fits (96 * tree_size t) (head ∷ tree_lines t)
 headed c ds t head k h is few line = let some = some_node t in one_more 34 head line (omega arith) (tree_fits c ds t k h is few) (omega (arith, some))
 
 body_fits : (c : Counts) (ds : List Definition) (i : ℕ) (b : Option Tree) → IsSized c ds → i < 2 ^ 20
-  → IfSome b HasNodes → IfSome b (IsTreeKnown c.n_var ds) → option_map_or tree_size b 0 ≤ 2 ^ 22
-  → Fits (96 * option_map_or tree_size b 0) (body_piece i b)
+    → IfSome b HasNodes → IfSome b (IsTreeKnown c.n_var ds) → option_map_or tree_size b 0 ≤ 2 ^ 22
+    → Fits (96 * option_map_or tree_size b 0) (body_piece i b)
 body_fits c ds i None k lt nodes is few = none_fit
 body_fits c ds i (Some t) k lt nodes is few = let word = number_brief i (omega (arith, lt)) in headed c ds t (lettered (codes "C") i ∷ []) k nodes is few (omega (arith, word))
 
@@ -222,8 +222,8 @@ sense_word-length true = refl
 sense_word-length false = refl
 
 objective_fits : (c : Counts) (ds : List Definition) (i : ℕ) (o : Objective) → IsSized c ds → i < 2 ^ 20
-  → HasNodes o.tree → IsTreeKnown c.n_var ds o.tree → tree_size o.tree ≤ 2 ^ 22
-  → Fits (96 * tree_size o.tree) (objective_piece i o)
+    → HasNodes o.tree → IsTreeKnown c.n_var ds o.tree → tree_size o.tree ≤ 2 ^ 22
+    → Fits (96 * tree_size o.tree) (objective_piece i o)
 objective_fits c ds i o k lt nodes is few =
     let word = number_brief i (omega (arith, lt)) in
     let sense = sense_word-length o.maximise in
@@ -232,8 +232,8 @@ objective_fits c ds i o k lt nodes is few =
 -- ---- definitions
 
 definition_fits : (c : Counts) (known : List Definition) (d : Definition) → IsSized c known → IsPlainDefinition d
-  → tree_size d.tree ≤ 2 ^ 22 → IsDefinition c.n_var (defined_count c) known d
-  → Fits (96 * tree_size d.tree + 72 * length d.terms) (definition_piece d)
+    → tree_size d.tree ≤ 2 ^ 22 → IsDefinition c.n_var (defined_count c) known d
+    → Fits (96 * tree_size d.tree + 72 * length d.terms) (definition_piece d)
 definition_fits c known d k h size is =
     let index = number_brief d.index (omega (arith, is.below, k.counts.variables, k.counts.defined)) in
     let count = number_brief (length d.terms) (omega (arith, is.few)) in
@@ -245,15 +245,15 @@ definition_fits c known d k h size is =
     (both (terms_fit c.n_var d.terms k.counts.variables is.terms) (tree_fits c known d.tree k h.nodes is.tree size)) (omega (arith, some))
 
 definitions_fit : (c : Counts) (known ds : List Definition) → IsSized c known
-  → AreDefinitions c.n_var (defined_count c) known ds → AllByRecursion
-  (λ d. IsPlainDefinition d × (tree_size d.tree ≤ 2 ^ 22)) ds
+    → AreDefinitions c.n_var (defined_count c) known ds → AllByRecursion
+    (λ d. IsPlainDefinition d × (tree_size d.tree ≤ 2 ^ 22)) ds
     → Fits (96 * sum_by (λ d. tree_size d.tree) ds + 72 * sum_by (λ d. length d.terms) ds) (flat_map definition_piece ds)
 definitions_fit c known [] k are plain = none_fit
 definitions_fit c known (d ∷ ds) k are plain =
     let next : IsSized c (known ++ d ∷ []) = record { counts = k.counts; range = range_more c.n_var (defined_count c) known d k.range are.0.from are.0.below } in
     more_room (both (definition_fits c known d k plain.0.0 plain.0.1 are.0)
-        (definitions_fit c (known ++ d ∷ []) ds next are.1 plain.1))
-      (omega (arith, sum_by-cons (λ d. tree_size d.tree) d ds, sum_by-cons (λ d. length d.terms) d ds))
+    (definitions_fit c (known ++ d ∷ []) ds next are.1 plain.1))
+    (omega (arith, sum_by-cons (λ d. tree_size d.tree) d ds, sum_by-cons (λ d. length d.terms) d ds))
 
 -- ---- suffixes
 
@@ -273,8 +273,8 @@ suffix_fits c s k h =
     (terms_fit (object_count c s.kind) s.values (few_objects c s.kind k) h.1.below) (omega arith)
 
 suffixes_fit : (c : Counts) (ss : List Suffix) → AreCounts c
-  → AllByRecursion (λ s. IsWritableSuffix s × IsSuffix c s) ss
-  → Fits (340 * length ss + 72 * sum_by (λ s. length s.values) ss) (flat_map suffix_piece ss)
+    → AllByRecursion (λ s. IsWritableSuffix s × IsSuffix c s) ss
+    → Fits (340 * length ss + 72 * sum_by (λ s. length s.values) ss) (flat_map suffix_piece ss)
 suffixes_fit c [] k h = none_fit
 suffixes_fit c (s ∷ ss) k h = more_room (both (suffix_fits c s k h.0) (suffixes_fit c ss k h.1)) (omega (arith, sum_by-cons (λ s. length s.values) s ss))
 
@@ -294,7 +294,7 @@ intervals_fit : (b n : ℕ) (is : List Interval) → n ≤ 2 ^ 20 → length is 
 intervals_fit b n [] le count = none_fit
 intervals_fit b n (i ∷ is) le count =
     one_more 2 ((b ∷ []) ∷ []) (omega arith) (omega arith) (mapped 124 interval_line (i ∷ is) (omega arith)
-        (λ k j lt. side_short (get_or (i ∷ is) k j).lo (get_or (i ∷ is) k j).hi)) (omega (arith, le, count))
+    (λ k j lt. side_short (get_or (i ∷ is) k j).lo (get_or (i ∷ is) k j).hi)) (omega (arith, le, count))
 
 columns_fit : (rows : List (List Term)) (j n : ℕ) → term_count rows ≤ most_terms → Fits (11 * n) (column_lines rows j n)
 columns_fit rows j zero few = none_fit
@@ -322,15 +322,15 @@ lines_fit f file m =
     let size = get_or-le-sum_by (λ (d : Definition). tree_size d.tree) f.definitions i d lt in
     (record { usage = m.usages i d lt; nodes = m.trees.definitions i d lt }, omega (arith, nodes, size)) in
     let definitions = definitions_fit c [] f.definitions (record { counts = k; range = tt }) file.definitions
-      (recursion_from_All (λ d. IsPlainDefinition d × (tree_size d.tree ≤ 2 ^ 22)) f.definitions plain) in
+    (recursion_from_All (λ d. IsPlainDefinition d × (tree_size d.tree ≤ 2 ^ 22)) f.definitions plain) in
     let bodies = numbered (λ b. option_map_or tree_size b 0) body_piece 0 f.bodies (λ j small i b lt.
     let size = get_or-le-sum_by (λ b. option_map_or tree_size b 0) f.bodies i b lt in
     body_fits c f.definitions j (get_or f.bodies i b) trees small (m.trees.bodies i b lt) (file.bodies.known i b lt) (omega (arith, nodes, size))) (omega (arith, file.bodies.count, k.constraints)) in
     let objectives = numbered (λ (o : Objective). tree_size o.tree) objective_piece 0 f.objectives (λ j small i o lt.
     let size = get_or-le-sum_by (λ (o : Objective). tree_size o.tree) f.objectives i o lt in
     objective_fits c f.definitions j (get_or f.objectives i o) trees small (m.trees.objectives i o lt)
-        (file.objectives.known i o lt) (omega (arith, nodes, size)))
-      (omega (arith, file.objectives.count, k.objectives)) in
+    (file.objectives.known i o lt) (omega (arith, nodes, size)))
+    (omega (arith, file.objectives.count, k.objectives)) in
     let duals = guesses_fit 100 c.n_con f.dual_guesses k.constraints file.dual_guesses in
     let primals = guesses_fit 120 n f.primal_guesses k.variables file.primal_guesses in
     let sides = intervals_fit 114 c.n_con f.sides k.constraints file.side_count in

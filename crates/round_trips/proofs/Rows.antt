@@ -104,7 +104,7 @@ few_last : (c : Counts) (before : List Piece) (p : Piece) → AreFew c (before +
 few_last c before p h = subst (λ o. IfSome o (HasNodeLeft c (before ++ p ∷ []))) (last-append before p) h.pending
 
 few_next : (c : Counts) (before : List Piece) (p : Piece) → pair_total is_linear (before ++ p ∷ []) ≤ 2 ^ 22
-  → pair_total is_suffix (before ++ p ∷ []) ≤ 2 ^ 22 → node_total c (before ++ p ∷ []) ≤ 2 ^ 22
+    → pair_total is_suffix (before ++ p ∷ []) ≤ 2 ^ 22 → node_total c (before ++ p ∷ []) ≤ 2 ^ 22
     → HasNodeLeft c (before ++ p ∷ []) p → suffix_count (before ++ p ∷ []) ≤ 1024 → AreFew c (before ++ p ∷ [])
 few_next c before p linear values nodes pending suffixes =
     record { linear = linear; values = values; nodes = nodes; pending = subst (λ o. IfSome o (HasNodeLeft c (before ++ p ∷ []))) (sym (last-append before p)) pending; suffixes = suffixes }
@@ -138,8 +138,8 @@ room_for : (limit : ℕ) (counts : Bool) (n m : ℕ) → (counts && nat_le limit
 room_for limit counts n m room e few = grind (arith, nat_tests, room, e, few)
 
 few_begun : (c : Counts) (pieces : List Piece) (head : Head) (name : List ℕ) (line : ℕ)
-  → (is_suffix head && nat_le 1024 (suffix_count pieces)) ≡ false → AreFew c pieces
-  → AreFew c (pieces ++ new_piece head name line ∷ [])
+    → (is_suffix head && nat_le 1024 (suffix_count pieces)) ≡ false → AreFew c pieces
+    → AreFew c (pieces ++ new_piece head name line ∷ [])
 few_begun c pieces head name line room h =
     let linear = pairs_begun is_linear pieces head name line in
     let values = pairs_begun is_suffix pieces head name line in
@@ -148,19 +148,19 @@ few_begun c pieces head name line room h =
     (room_for 1024 (is_suffix head) (suffix_count pieces) _ room (sym (count_begun pieces head name line)) h.suffixes)
 
 kept_head : (o : List ℤ) (c : Counts) (pieces : List Piece) (row : NumberedRow) → HasNoMark (name_in (row_words row))
-  → AreKept o c pieces → AreClean c (with_row c pieces row) → is_head (row_words row) ≡ true
-  → first_reason (head_tests c pieces (row_words row)) ≡ None
+    → AreKept o c pieces → AreClean c (with_row c pieces row) → is_head (row_words row) ≡ true
+    → first_reason (head_tests c pieces (row_words row)) ≡ None
     → AreKept o c (with_row c pieces row)
 unfolding head_tests
 kept_head o c pieces row unmarked h clean is fine =
     let words = row_words row in
     let formed = formed_head_tests c pieces (name_in words) (head_of c words) in
     by (head_of c words) refl (good_head c words unmarked) (none_second (head_form_tests c words) formed
-        (none_head (not (is_nothing (awaited_of c pieces))) ShortSegment (head_form_tests c words ++ formed) fine).1)
+    (none_head (not (is_nothing (awaited_of c pieces))) ShortSegment (head_form_tests c words ++ formed) fine).1)
   where
     by : (head : Option Head) → head_of c (row_words row) ≡ head → IfSome head (MayBeGood (row_words row))
-      → first_reason (formed_head_tests c pieces (name_in (row_words row)) (head_of c (row_words row))) ≡ None
-      → AreKept o c (with_row c pieces row)
+        → first_reason (formed_head_tests c pieces (name_in (row_words row)) (head_of c (row_words row))) ≡ None
+        → AreKept o c (with_row c pieces row)
     by None e good formed = rw (is, e) h
     by (Some head) e good formed =
         let name = name_in (row_words row) in
@@ -201,14 +201,14 @@ good_interval c p words fine =
     by (interval_in words) refl none.1.1.0 none.1.1.1.0 none.1.1.1.1.0
   where
     by : (i : Option Interval) → interval_in words ≡ i → is_none i ≡ false → option_map_or is_empty i false ≡ false
-      → (wants_unit c p && not (option_map_or is_within_unit i true)) ≡ false → IsGoodInterval c p words
+        → (wants_unit c p && not (option_map_or is_within_unit i true)) ≡ false → IsGoodInterval c p words
     by None e n f u = absurd cc
     by (Some i) e n f u = record { interval = i; says = e; in_order = ordered i f; unit = λ w. grind (arith, u, w) }
 
 -- what holds of each by its place, with one more
 push_at : {X : Type 0} (P : ℕ → X → Type 0) (xs : List X) (x : X)
-  → ((j : ℕ) (d : X) → j < length xs → P j (get_or xs j d)) → P (length xs) x → (j : ℕ) (d : X)
-  → j < length (xs ++ x ∷ []) → P j (get_or (xs ++ x ∷ []) j d)
+    → ((j : ℕ) (d : X) → j < length xs → P j (get_or xs j d)) → P (length xs) x → (j : ℕ) (d : X)
+    → j < length (xs ++ x ∷ []) → P j (get_or (xs ++ x ∷ []) j d)
 push_at P [] x all last zero d lt = last
 push_at P [] x all last (suc j) d lt = absurd (omega (arith, lt))
 push_at P (y ∷ xs) x all last zero d lt = all 0 d (omega arith)
@@ -217,8 +217,8 @@ push_at P (y ∷ xs) x all last (suc j) d lt = push_at (λ k. P (suc k)) xs x (�
 longer_intervals : (c : Counts) (p : Piece) (row : NumberedRow) → length p.rows < line_count c p.head → IsGoodInterval c p (row_words row) → AreGoodIntervals c p → AreGoodIntervals c (longer p row)
 longer_intervals c p row within i h =
     let is : piece_intervals (longer p row) ≡ piece_intervals p ++ i.interval ∷ [] =
-      filter_map-append (λ (r : NumberedRow). interval_in (row_words r)) p.rows (row ∷ [])
-      ∙ ap (λ x. piece_intervals p ++ cons_option x []) i.says in
+    filter_map-append (λ (r : NumberedRow). interval_in (row_words r)) p.rows (row ∷ [])
+    ∙ ap (λ x. piece_intervals p ++ cons_option x []) i.says in
     let size = length-append (piece_intervals p) (i.interval ∷ []) in
     let rows = length-append p.rows (row ∷ []) in
     let Unit_at : ℕ → Interval → Type 0 = λ j x. is_binary (variable_kind c j) ≡ true → is_within_unit x ≡ true in
@@ -287,11 +287,11 @@ module _ (o : List ℤ) (c : Counts) (before : List Piece) (p : Piece) (row : Nu
       let more : length (piece_pairs q) ≡ length (piece_pairs p) + 1 = ap length pairs ∙ length-append (piece_pairs p) (pair.term ∷ []) in
       let whole_term : wants_whole_values p.head ≡ true → is_whole pair.term.1 ≡ true = λ w.
       subst (λ o. IfSome {T = Term} o (λ t. is_whole t.1 ≡ true)) pair.says
-        (whole_value (index_limit c p.head) words (subst (λ k. first_reason
-              (pair_form_tests (index_limit c p.head) k words) ≡ None) w formed)) in
+      (whole_value (index_limit c p.head) words (subst (λ k. first_reason
+      (pair_form_tests (index_limit c p.head) k words) ≡ None) w formed)) in
       kept_early b.within (λ w. subst AreWhole (sym pairs) (All-push (λ (t : Term). is_whole t.1 ≡ true) (piece_pairs p)
-            pair.term (g.whole w) (whole_term w))) (λ i. absurd
-          (let clash : Pair ≡ IntervalLine = sym b.same_kind ∙ i in cc))
+      pair.term (g.whole w) (whole_term w))) (λ i. absurd
+      (let clash : Pair ≡ IntervalLine = sym b.same_kind ∙ i in cc))
       (room_for (2 ^ 22) (is_linear p.head) (pair_total is_linear now) _ full.0 (pairs_longer is_linear before p row 1 more) h.few.linear)
       (room_for (2 ^ 22) (is_suffix p.head) (pair_total is_suffix now) _ full.1 (pairs_longer is_suffix before p row 1 more) h.few.values)
 
@@ -316,8 +316,13 @@ module _ (o : List ℤ) (c : Counts) (before : List Piece) (p : Piece) (row : Nu
       let only : only_nodes (piece_nodes c q) ≡ only_nodes (piece_nodes c p) ++ only_nodes new = ap only_nodes nodes ∙ map-append (λ (n : Placed). n.node) (piece_nodes c p) new in
       let after : piece_pending q ≡ last_pending x row = ap (pending_from None) (late_tree p row place.tree place.early) ∙ pending-more None (tree_rows p) row ∙ ap (λ y. last_pending y row) e in
       let total : node_total c next ≡ node_total c now + length new =
-        omega (arith, nodes-append c before q, nodes-append c before p, ap (length {A = Placed}) nodes,
-          length-append (piece_nodes c p) new) in
+      omega (
+        arith,
+        nodes-append c before q,
+        nodes-append c before p,
+        ap (length {A = Placed}) nodes,
+        length-append (piece_nodes c p) new,
+      ) in
       let pairs = late_pairs p row place.early in
       kept_longer (subst Known (sym only) (All-append (IsNodeKnown c.n_var (draft_of o c before).definitions) (only_nodes (piece_nodes c p)) (only_nodes new) g.known known)) (same_whole pairs)
       (λ i. absurd (tree_no_intervals p.head place.tree i)) (same_total is_linear pairs h.few.linear) (same_total is_suffix pairs h.few.values) (omega (arith, total, room))
@@ -341,9 +346,9 @@ module _ (o : List ℤ) (c : Counts) (before : List Piece) (p : Piece) (row : Nu
     where
       by : (n : Option Node) (k : Option ℕ) → node_in c.n_var (row_words row) ≡ n → opcode_in (row_words row) ≡ k
           → (Known (only_nodes (last_nodes c.n_var None row))
-              → node_total c now + length (last_nodes c.n_var None row) ≤ 2 ^ 22
-              → IfSome (last_pending None row) (λ y. node_total c now + length (last_nodes c.n_var None row) < 2 ^ 22)
-              → AreKept o c next)
+          → node_total c now + length (last_nodes c.n_var None row) ≤ 2 ^ 22
+          → IfSome (last_pending None row) (λ y. node_total c now + length (last_nodes c.n_var None row) < 2 ^ 22)
+          → AreKept o c next)
           → ((node : Node) → node_in c.n_var (row_words row) ≡ Some node → IsNodeKnown c.n_var (draft_of o c before).definitions node) → node_total c now < 2 ^ 22 → AreKept o c next
       by None None n e kept known room = kept (rw n (λ k d lt. absurd (omega (arith, lt)))) (rw n (omega (arith, room))) (rw e tt)
       by None (Some k) n e kept known room = kept (rw n (λ k d lt. absurd (omega (arith, lt)))) (rw n (omega (arith, room))) (rw (n, e) (omega (arith, room)))
@@ -373,8 +378,8 @@ module _ (o : List ℤ) (c : Counts) (before : List Piece) (p : Piece) (row : Nu
   kept_line OperandCount e fine = kept_count e
 
 pub kept_row : (o : List ℤ) (c : Counts) (pieces : List Piece) (row : NumberedRow) → HasNoMark (name_in (row_words row))
-  → AreKept o c pieces → first_reason (row_tests c (draft_of o c pieces) pieces (row_words row)) ≡ None
-  → AreKept o c (with_row c pieces row)
+    → AreKept o c pieces → first_reason (row_tests c (draft_of o c pieces) pieces (row_words row)) ≡ None
+    → AreKept o c (with_row c pieces row)
 unfolding row_tests
 kept_row o c pieces row unmarked h fine = by (is_head (row_words row)) (last_piece pieces) refl refl
   where

@@ -66,8 +66,8 @@ standing_more {o = o} {c = c} {before = before} {next = next} {after = after} p 
 
 -- with equal parts, and more said to have come
 pub standing_as : {o : List ℤ} {c : Counts} {before : List Piece} {d e : Draft}
-  {next after linear values nodes suffixes linear' values' nodes' suffixes' : ℕ}
-  → IsStanding o c before d next linear values nodes suffixes
+    {next after linear values nodes suffixes linear' values' nodes' suffixes' : ℕ}
+    → IsStanding o c before d next linear values nodes suffixes
     → next ≤ after → d ≡ e → linear ≡ linear' → values ≡ values' → nodes ≡ nodes' → suffixes ≡ suffixes' → IsStanding o c before e after linear' values' nodes' suffixes'
 standing_as {before = before} {next = next} {after = after} s le p q r t u = record {
   done = s.done;
@@ -84,8 +84,8 @@ pub standing_up : {o : List ℤ} {c : Counts} {before : List Piece} {d : Draft} 
 standing_up s le = standing_as s le refl refl refl refl refl
 
 pub same_standing : {o : List ℤ} {c : Counts} {before : List Piece} {d e : Draft}
-  {next linear values nodes suffixes linear' values' nodes' suffixes' : ℕ}
-  → IsStanding o c before d next linear values nodes suffixes
+    {next linear values nodes suffixes linear' values' nodes' suffixes' : ℕ}
+    → IsStanding o c before d next linear values nodes suffixes
     → d ≡ e → linear ≡ linear' → values ≡ values' → nodes ≡ nodes' → suffixes ≡ suffixes' → IsStanding o c before e next linear' values' nodes' suffixes'
 same_standing s p q r t u = standing_as s (omega arith) p q r t u
 
@@ -102,8 +102,8 @@ columns-append before p none = columns_more before p ∙ ap (λ ks. all_column_c
 -- ---- lines that reach a standing
 
 pub same_reach : {o : List ℤ} {c : Counts} {before : List Piece} {n : ℕ} {lines : List WordLine} {d e : Draft}
-  {next linear values nodes suffixes linear' values' nodes' suffixes' : ℕ}
-  → Reaches o c before n lines d next linear values nodes suffixes
+    {next linear values nodes suffixes linear' values' nodes' suffixes' : ℕ}
+    → Reaches o c before n lines d next linear values nodes suffixes
     → d ≡ e → linear ≡ linear' → values ≡ values' → nodes ≡ nodes' → suffixes ≡ suffixes' → Reaches o c before n lines e next linear' values' nodes' suffixes'
 same_reach r p q s t u = record { after = r.after; taken = r.taken; stands = same_standing r.stands p q s t u; columns = r.columns }
 
@@ -113,42 +113,42 @@ pub record Adds (o : List ℤ) (c : Counts) (before : List Piece) (n : ℕ) (lin
   pub stands : IsStanding o c (before ++ p ∷ []) d next linear values nodes suffixes
 
 pub piece_added : {o : List ℤ} {c : Counts} {before : List Piece} {n : ℕ} {lines : List WordLine} {d e : Draft}
-  {next after linear values nodes suffixes linear' values' nodes' suffixes' : ℕ} (p : Piece)
-  → IsTaken o c before n lines (before ++ p ∷ [])
+    {next after linear values nodes suffixes linear' values' nodes' suffixes' : ℕ} (p : Piece)
+    → IsTaken o c before n lines (before ++ p ∷ [])
     → awaited_in c p ≡ Nothing → next ≤ after → rank p.head < after → with_piece d p ≡ e
-      → linear + pairs_more is_linear p ≡ linear' → values + pairs_more is_suffix p ≡ values'
-      → nodes + length (piece_nodes c p) ≡ nodes' → suffixes + suffixes_more p.head ≡ suffixes'
+    → linear + pairs_more is_linear p ≡ linear' → values + pairs_more is_suffix p ≡ values'
+    → nodes + length (piece_nodes c p) ≡ nodes' → suffixes + suffixes_more p.head ≡ suffixes'
     → IsStanding o c before d next linear values nodes suffixes → Adds o c before n lines p e after linear' values' nodes' suffixes'
 piece_added p taken done up above said lin val nod suf s = record { taken = taken; stands = same_standing (standing_more p s done up above) said lin val nod suf }
 
 pub added_reaches : {o : List ℤ} {c : Counts} {before : List Piece} {n : ℕ} {lines : List WordLine} {d : Draft}
-  {next linear values nodes suffixes : ℕ} (p : Piece) → column_counts p p.head ≡ []
-  → Adds o c before n lines p d next linear values nodes suffixes
+    {next linear values nodes suffixes : ℕ} (p : Piece) → column_counts p p.head ≡ []
+    → Adds o c before n lines p d next linear values nodes suffixes
     → Reaches o c before n lines d next linear values nodes suffixes
 added_reaches {before = before} p none a = record { after = before ++ p ∷ []; columns = columns-append before p none; taken = a.taken; stands = a.stands }
 
 -- no lines
 pub reaches_none : {o : List ℤ} {c : Counts} {before : List Piece} {n : ℕ} {d : Draft}
-  {next linear values nodes suffixes : ℕ} → IsStanding o c before d next linear values nodes suffixes
-  → Reaches o c before n [] d next linear values nodes suffixes
+    {next linear values nodes suffixes : ℕ} → IsStanding o c before d next linear values nodes suffixes
+    → Reaches o c before n [] d next linear values nodes suffixes
 reaches_none {before = before} s = record { after = before; taken = taken_none; columns = refl; stands = s }
 
 -- a piece, and further lines after it
 pub added_then : {o : List ℤ} {c : Counts} {before : List Piece} {n : ℕ} {xs ys : List WordLine} {d e : Draft}
-  {next after linear values nodes suffixes linear' values' nodes' suffixes' : ℕ} (p : Piece)
-  → column_counts p p.head ≡ []
+    {next after linear values nodes suffixes linear' values' nodes' suffixes' : ℕ} (p : Piece)
+    → column_counts p p.head ≡ []
     → Adds o c before n xs p d next linear values nodes suffixes
-      → Reaches o c (before ++ p ∷ []) (n + length xs) ys e after linear' values' nodes' suffixes'
-      → Reaches o c before n (xs ++ ys) e after linear' values' nodes' suffixes'
+    → Reaches o c (before ++ p ∷ []) (n + length xs) ys e after linear' values' nodes' suffixes'
+    → Reaches o c before n (xs ++ ys) e after linear' values' nodes' suffixes'
 added_then {before = before} p none a q = record { after = q.after; taken = taken_then a.taken refl q.taken; stands = q.stands; columns = q.columns ∙ columns-append before p none }
 
 -- lines, and further ones after them
 pub reaches_then : {o : List ℤ} {c : Counts} {before : List Piece} {n : ℕ} {xs ys : List WordLine} {d e : Draft}
-  {next after linear values nodes suffixes linear' values' nodes' suffixes' : ℕ}
-  → Reaches o c before n xs d next linear values nodes suffixes
+    {next after linear values nodes suffixes linear' values' nodes' suffixes' : ℕ}
+    → Reaches o c before n xs d next linear values nodes suffixes
     → ((b : List Piece) → IsStanding o c b d next linear values nodes suffixes
-        → Reaches o c b (n + length xs) ys e after linear' values' nodes' suffixes')
-      → Reaches o c before n (xs ++ ys) e after linear' values' nodes' suffixes'
+    → Reaches o c b (n + length xs) ys e after linear' values' nodes' suffixes')
+    → Reaches o c before n (xs ++ ys) e after linear' values' nodes' suffixes'
 reaches_then r then =
     let q = then r.after r.stands in
     record { after = q.after; taken = taken_then r.taken refl q.taken; stands = q.stands; columns = q.columns ∙ r.columns }

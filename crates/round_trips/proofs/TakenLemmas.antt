@@ -27,14 +27,14 @@ use Rattle.nl_lines.specs.Nodes.{nodes_from}
 -- ---- lines after lines
 
 pub taken_then : {o : List ℤ} {c : Counts} {before between after : List Piece} {n m : ℕ} {xs ys : List WordLine}
-  → IsTaken o c before n xs between → m ≡ n + length xs → IsTaken o c between m ys after
-  → IsTaken o c before n (xs ++ ys) after
+    → IsTaken o c before n xs between → m ≡ n + length xs → IsTaken o c between m ys after
+    → IsTaken o c before n (xs ++ ys) after
 taken_then {o = o} {c = c} {before = before} {after = after} {ys = ys} taken_none e g = subst (λ k. IsTaken o c before k ys after) (omega (arith, e)) g
 taken_then (taken_line w f t) e g = taken_line w f (taken_then t (omega (arith, e)) g)
 
 taken_one : {o : List ℤ} {c : Counts} {before after : List Piece} {n : ℕ} {words : WordLine} → IsWritten words
-  → first_reason (row_tests c (draft_of o c before) before words) ≡ None → with_row c before (row_at n words) ≡ after
-  → IsTaken o c before n (words ∷ []) after
+    → first_reason (row_tests c (draft_of o c before) before words) ≡ None → with_row c before (row_at n words) ≡ after
+    → IsTaken o c before n (words ∷ []) after
 taken_one {o = o} {c = c} {before = before} {n = n} {words = words} w f e = subst (IsTaken o c before n (words ∷ [])) e (taken_line w f taken_none)
 
 pub taken_written : {o : List ℤ} {c : Counts} {before after : List Piece} {n : ℕ} {lines : List WordLine} → IsTaken o c before n lines after → AllByRecursion IsWritten lines
@@ -59,14 +59,14 @@ pub record IsHeadFine (c : Counts) (before : List Piece) (words : WordLine) (hea
 
 -- a letter and a number, and a letter and two numbers
 pub number_head : {c : Counts} {before : List Piece} (letter n : ℕ) (head : Head) → 36 ≤ letter → n < 2 ^ 31
-  → IsHeadForm (lettered (letter ∷ []) n ∷ []) → head_of c (lettered (letter ∷ []) n ∷ []) ≡ Some head
+    → IsHeadForm (lettered (letter ∷ []) n ∷ []) → head_of c (lettered (letter ∷ []) n ∷ []) ≡ Some head
     → awaited_of c before ≡ Nothing → first_reason (formed_head_tests c before [] (Some head)) ≡ None → IsHeadFine c before (lettered (letter ∷ []) n ∷ []) head
 number_head letter n head low small form read done fine =
     record { written = written-one (lettered (letter ∷ []) n) (word-lettered letter n low (lt_trans small (lit< tt))); form = form; read = read; done = done; fine = fine }
 
 pub counted_head : {c : Counts} {before : List Piece} (letter n k : ℕ) (head : Head) → 36 ≤ letter → n < 2 ^ 31
-  → k < 2 ^ 31 → IsHeadForm (lettered (letter ∷ []) n ∷ decimal k ∷ [])
-  → head_of c (lettered (letter ∷ []) n ∷ decimal k ∷ []) ≡ Some head
+    → k < 2 ^ 31 → IsHeadForm (lettered (letter ∷ []) n ∷ decimal k ∷ [])
+    → head_of c (lettered (letter ∷ []) n ∷ decimal k ∷ []) ≡ Some head
     → awaited_of c before ≡ Nothing → first_reason (formed_head_tests c before [] (Some head)) ≡ None → IsHeadFine c before (lettered (letter ∷ []) n ∷ decimal k ∷ []) head
 counted_head letter n k head low small few form read done fine = record {
   written = written-two (lettered (letter ∷ []) n) (decimal k) (word-lettered letter n low (lt_trans small (lit< tt))) (word-decimal k (lt_trans few (lit< tt)));
@@ -77,7 +77,7 @@ counted_head letter n k head low small few form read done fine = record {
 }
 
 pub head_taken : {o : List ℤ} {c : Counts} {before : List Piece} {n : ℕ} {words : WordLine} {head : Head}
-  → IsHeadFine c before words head → IsTaken o c before n (words ∷ []) (before ++ begun_piece n words head ∷ [])
+    → IsHeadFine c before words head → IsTaken o c before n (words ∷ []) (before ++ begun_piece n words head ∷ [])
 unfolding row_tests head_tests head_form_tests
 head_taken {words = words} h =
     taken_one h.written (rw (h.form.0, h.done, h.form.1, h.form.2, h.read) h.fine) (rw (row-written words h.written, h.form.0, h.read, row-written words h.written) refl)
@@ -94,8 +94,8 @@ pub record IsLineFine (o : List ℤ) (c : Counts) (before : List Piece) (p : Pie
   pub fine : first_reason (awaited_tests c (draft_of o c (before ++ p ∷ [])) (before ++ p ∷ []) p words a) ≡ None
 
 pub line_taken : (o : List ℤ) (c : Counts) (before : List Piece) (p : Piece) (n : ℕ) (words : WordLine) (a : Awaited)
-  → IsLineFine o c before p words a → IsTaken o c (before ++ p ∷ []) n (words ∷ [])
-  (before ++ longer p (row_at n words) ∷ [])
+    → IsLineFine o c before p words a → IsTaken o c (before ++ p ∷ []) n (words ∷ [])
+    (before ++ longer p (row_at n words) ∷ [])
 unfolding row_tests
 line_taken o c before p n words a h =
     let ps = before ++ p ∷ [] in
@@ -146,8 +146,8 @@ pub line_rows_size : {A : Type 0} (n : ℕ) (line : A → WordLine) (xs : List A
 line_rows_size n line xs = rows_size n (map line xs) ∙ length-map xs line
 
 pub lines_done : {A : Type 0} (c : Counts) (n : ℕ) (words : WordLine) (head : Head) (line : A → WordLine) (xs : List A)
-  → line_count c head ≡ length xs → has_tree head ≡ false → awaited_in c
-  (with_lines (begun_piece n words head) (n + 1) (map line xs)) ≡ Nothing
+    → line_count c head ≡ length xs → has_tree head ≡ false → awaited_in c
+    (with_lines (begun_piece n words head) (n + 1) (map line xs)) ≡ Nothing
 unfolding awaited_in
 lines_done c n words head line xs size alone =
     let rows = rows_at (n + 1) (map line xs) in
@@ -155,6 +155,6 @@ lines_done c n words head line xs size alone =
     rw (whole, alone) refl
 
 pub lines_no_nodes : (c : Counts) (n : ℕ) (words : WordLine) (head : Head) (lines : List WordLine)
-  → has_tree head ≡ false → length (piece_nodes c (with_lines (begun_piece n words head) (n + 1) lines)) ≡ 0
+    → has_tree head ≡ false → length (piece_nodes c (with_lines (begun_piece n words head) (n + 1) lines)) ≡ 0
 unfolding nodes_from
 lines_no_nodes c n words head lines alone = rw alone refl

@@ -201,8 +201,8 @@ whole_by s h e = by (is_in_header s) refl
         }
 
 pub whole_text : (text : List ℕ) → IsClean nl_rules (lines_of text) (last_line text)
-  → IsWhole (options_in (standing (lines_of text)).header) (counts_of (standing (lines_of text)))
-  (standing (lines_of text)).pieces (said (standing (lines_of text)))
+    → IsWhole (options_in (standing (lines_of text)).header) (counts_of (standing (lines_of text)))
+    (standing (lines_of text)).pieces (said (standing (lines_of text)))
 whole_text text c =
     let lines = lines_of text in
     whole_by (standing lines) (all_lines IsKeptStanding lines (last_line text) (λ s n line more most h fine. step s n line h fine) start c) (text_ends nl_rules text c)

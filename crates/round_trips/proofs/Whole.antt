@@ -80,9 +80,9 @@ module _ (rows : List ScaledRow) (objective : Form) (vs : List Variable) (maximi
     few = omega (arith, height, can.few_rows);
     named = All-cons (λ (r : MpsRow). IsName r.name) obj_row (map mps_row rows) obj_is_name (All-map (λ (r : MpsRow). IsName r.name) mps_row rows can.named.named);
     apart = AllPairs-cons (λ (r s : MpsRow). r.name ≢ s.name) obj_row (map mps_row rows)
-      (All-map (λ (s : MpsRow). obj_name ≢ s.name) mps_row rows
+        (All-map (λ (s : MpsRow). obj_name ≢ s.name) mps_row rows
         (All-weaker (λ r. r.name ≢ obj_name) (λ r. obj_name ≢ r.name) (λ r other same. other (sym same)) rows
-          can.named.not_obj)) (pairs_mapped (λ (r s : MpsRow). r.name ≢ s.name) mps_row rows can.named.apart);
+        can.named.not_obj)) (pairs_mapped (λ (r s : MpsRow). r.name ≢ s.name) mps_row rows can.named.apart);
     no_marker = All-cons (IsOtherRow marker_word) obj_row (map mps_row rows) obj_not_marker (All-map (IsOtherRow marker_word) mps_row rows can.named.no_marker);
   }
 
@@ -90,14 +90,14 @@ module _ (rows : List ScaledRow) (objective : Form) (vs : List Variable) (maximi
   column_fits j lt =
       or_zero_fits (with_entry 0 (nonzero (objective.coefficient j)) (entries_of (λ r. nonzero (r.coefficient j)) 1 rows))
       (with_fits 0 (nonzero (objective.coefficient j)) (entries_of (λ r. nonzero (r.coefficient j)) 1 rows)
-        (can.costs j lt) (entries_fit (λ r. nonzero (r.coefficient j)) 1 rows
-          (All-weaker (IsWritten (length vs)) (λ r. IfFits (nonzero (r.coefficient j))) (λ r w. w.coefficients j lt)
-            rows can.written)))
+      (can.costs j lt) (entries_fit (λ r. nonzero (r.coefficient j)) 1 rows
+      (All-weaker (IsWritten (length vs)) (λ r. IfFits (nonzero (r.coefficient j))) (λ r w. w.coefficients j lt)
+      rows can.written)))
 
   -- a property of every column
   each_column : (P : Column ℚ → Type 0) → ((j : ℕ) (v : Variable) → j < length vs → IsName v.name
       → P (record { name = v.name; marked = v.whole; entries = column_entries objective rows j }))
-    → All P (columns_of objective rows 0 vs)
+      → All P (columns_of objective rows 0 vs)
   each_column P h = columns_all P (λ v. IsName v.name) objective rows 0 vs (λ j v lt. h j v (omega (arith, lt))) can.variables.named
 
   -- the name of a column is that of its variable
@@ -123,8 +123,8 @@ module _ (rows : List ScaledRow) (objective : Form) (vs : List Variable) (maximi
       record {
         entries = subst (λ (n : ℕ). AreEntries n es) (sym height) (are_entries 1 (1 + length rows) es from);
         bounded = All-weaker (λ (e : Entry ℚ). (1 ≤ e.row) × (e.row < 1 + length rows))
-          (λ e. IsBounded (record { name = obj_name; kind = N } ∷ map mps_row rows) e.row)
-          (λ e k. bounded_at e.row k.0 k.1) es (all_from 1 (1 + length rows) es from);
+            (λ e. IsBounded (record { name = obj_name; kind = N } ∷ map mps_row rows) e.row)
+            (λ e k. bounded_at e.row k.0 k.1) es (all_from 1 (1 + length rows) es from);
       }
 
   bounds_are : AreBoundsFrom 0 (length vs) (bounds_of 0 vs)
@@ -144,17 +144,17 @@ module _ (rows : List ScaledRow) (objective : Form) (vs : List Variable) (maximi
           named = each_column (λ (c : Column ℚ). IsName c.name) (λ j v lt named. named);
           apart = columns_apart 0 vs can.variables.apart;
           entries = subst (λ (n : ℕ). All (λ (c : Column ℚ). AreEntries n c.entries) cs) (sym height)
-            (each_column (λ (c : Column ℚ). AreEntries (1 + length rows) c.entries)
+              (each_column (λ (c : Column ℚ). AreEntries (1 + length rows) c.entries)
               (λ j v lt named. are_entries 0 (1 + length rows) (column_entries objective rows j)
-                (column_from objective rows j)));
+              (column_from objective rows j)));
         };
         rhs = subst (λ (n : ℕ). AreEntries n es) (sym height)
-          (are_entries 0 (1 + length rows) es (objective_first (nonzero (neg_ℚ objective.constant))
-              (λ r. nonzero (rhs_of r.side.lower r.side.upper)) rows));
+            (are_entries 0 (1 + length rows) es (objective_first (nonzero (neg_ℚ objective.constant))
+            (λ r. nonzero (rhs_of r.side.lower r.side.upper)) rows));
         ranges = ranges_are;
         bounds = record {
           within = All-weaker (λ (b : Bound ℚ). (0 ≤ b.column) × (b.column < length vs)) (λ b. b.column < length cs)
-            (λ b k. omega (arith, k.1, columns_length objective rows 0 vs)) (bounds_of 0 vs) bounds_are.within;
+              (λ b k. omega (arith, k.1, columns_length objective rows 0 vs)) (bounds_of 0 vs) bounds_are.within;
           apart = bounds_are.apart;
           zeros = bounds_are.zeros;
         };
@@ -162,10 +162,16 @@ module _ (rows : List ScaledRow) (objective : Form) (vs : List Variable) (maximi
 
   pub program_is_whole : IsMps (λ x. x) (mps_of (scaled_of rows objective vs maximise))
   unfolding mps_of
-  program_is_whole = record { part = program_part; complete =
-      record { objective = objective_first_row (map mps_row rows); filled =
-        each_column HasEntries (λ j v lt named. some_entry (with_entry 0 (nonzero (objective.coefficient j))
-            (entries_of (λ r. nonzero (r.coefficient j)) 1 rows))) } }
+  program_is_whole = record {
+    part = program_part;
+    complete =
+        record {
+          objective = objective_first_row (map mps_row rows);
+          filled =
+              each_column HasEntries (λ j v lt named. some_entry (with_entry 0 (nonzero (objective.coefficient j))
+              (entries_of (λ r. nonzero (r.coefficient j)) 1 rows)));
+        };
+  }
 
   pub program_is_decimal : IsDecimalProgram (mps_of (scaled_of rows objective vs maximise))
   unfolding mps_of
@@ -174,7 +180,7 @@ module _ (rows : List ScaledRow) (objective : Form) (vs : List Variable) (maximi
     rhs = with_fits 0 (nonzero (neg_ℚ objective.constant)) (entries_of (λ r. nonzero (rhs_of r.side.lower r.side.upper))
         1 rows) can.constant (entries_fit (λ r. nonzero (rhs_of r.side.lower r.side.upper)) 1 rows
         (All-weaker (IsWritten (length vs)) (λ r. IfFits (nonzero (rhs_of r.side.lower r.side.upper))) (λ r w. w.right)
-          rows can.written));
+        rows can.written));
     ranges = entries_fit (λ r. range_of r.side.lower r.side.upper) 1 rows (All-weaker (IsWritten (length vs)) (λ r. IfFits (range_of r.side.lower r.side.upper)) (λ r w. w.range) rows can.written);
     bounds = bounds_are.decimal;
   }

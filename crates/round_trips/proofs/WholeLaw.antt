@@ -58,9 +58,15 @@ not_less a b e = le-ltb a b (omega (arith, e))
 tests_fine : (f : File) → IsWritable f → (b : BodySays f) → first_reason (end_tests f.counts (whole_draft f) b.pieces) ≡ None
 unfolding end_tests
 tests_fine f w b =
-    rw (b.done, all_some f.objectives, not_less (length f.sides) f.counts.n_con w.file.side_count,
-        not_less (length f.bounds) f.counts.n_var w.file.bound_count,
-        eq-eqb (term_count f.terms) f.counts.nzc w.file.all_terms, b.columns, columns_right f.counts.n_var f.terms) refl
+    rw (
+      b.done,
+      all_some f.objectives,
+      not_less (length f.sides) f.counts.n_con w.file.side_count,
+      not_less (length f.bounds) f.counts.n_var w.file.bound_count,
+      eq-eqb (term_count f.terms) f.counts.nzc w.file.all_terms,
+      b.columns,
+      columns_right f.counts.n_var f.terms,
+    ) refl
 
 end_fine : (f : File) (header : List WordLine) → IsWritable f → HeaderSays f.options f.counts header → (b : BodySays f) → end_refusal (in_body header b.pieces) ≡ None
 unfolding end_refusal

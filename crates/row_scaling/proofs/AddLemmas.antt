@@ -76,7 +76,7 @@ filled_rising n z [] some h =
 filled_rising n z (t ∷ ts) some h = h
 
 pub can_add : (old : Mps Dec) (ts us : List TermOf) (z : Dec) → us ≡ or_first (0, z) ts → 0 < length old.rows
-  → AreRising (length old.rows) ts → entry_count old.columns + length ts < 2 ^ 24 → CanAddEntries old us
+    → AreRising (length old.rows) ts → entry_count old.columns + length ts < 2 ^ 24 → CanAddEntries old us
 can_add old ts us z e some h few =
     let r : AreRising (length old.rows) us = subst (AreRising (length old.rows)) (sym e) (filled_rising (length old.rows) z ts some h) in
     record {
@@ -88,7 +88,7 @@ can_add old ts us z e some h few =
 
 -- ---- names
 pub names_apart : (letter : ℕ) (word : List ℕ) (n i k : ℕ) → (get_or word 0 0 ≡ letter → ⊥) → i < k → k ≤ n → n < 2 ^ 32
-  → cond (nat_eq i n) word (letter ∷ decimal i) ≢ cond (nat_eq k n) word (letter ∷ decimal k)
+    → cond (nat_eq i n) word (letter ∷ decimal i) ≢ cond (nat_eq k n) word (letter ∷ decimal k)
 names_apart letter word n i k other less within small e =
     let f : letter ∷ decimal i ≡ cond (nat_eq k n) word (letter ∷ decimal k) = ap (λ b. cond b word (letter ∷ decimal i)) (sym (ne_eqb i n (λ g. omega (arith, g)))) ∙ e in
     ⊎_elim
@@ -120,9 +120,9 @@ module _ (n : ℕ) (rows : Rows) (old : Mps Dec) where
     pub other : (k : ℕ) → i ≤ k → k ≤ n → All (IsOtherRow (name_in n k)) now.rows
 
   pub row_put : (now new : Mps Dec) (i : ℕ) (o : Option FactoredRow) (r : FactoredRow) (name : List ℕ) (kind : RowKind)
-    → AreRowsLeft now i → n < 2 ^ 32 → i < length rows → o ≡ get_or rows i o → o ≡ Some r →
+      → AreRowsLeft now i → n < 2 ^ 32 → i < length rows → o ≡ get_or rows i o → o ≡ Some r →
       name ≡ name_in n i → kind ≡ kind_of_row (side_value r.row.side.lo) (side_value r.row.side.hi)
-        → new ≡ record now { rows = now.rows ++ record { name = name; kind = kind } ∷ [] } → AreRowsLeft new (i + 1)
+      → new ≡ record now { rows = now.rows ++ record { name = name; kind = kind } ∷ [] } → AreRowsLeft new (i + 1)
   row_put now new i o r name kind a small h is some same k e =
       let row : MpsRow = record { name = name; kind = kind } in
       let known : row ≡ mps_row (row_named (name_in n i) r.row) = ap₂ (λ n k. record { name = n; kind = k }) same k in
@@ -143,9 +143,14 @@ module _ (n : ℕ) (rows : Rows) (old : Mps Dec) where
       length old.rows + length rows < 2 ^ 21 → name ≡ name_in n i → CanAddRow now name
   can_put_row now i o r name a h short is some few same =
       let counts : length now.rows + length (left (name_in n) rows i) ≡ length old.rows + length (left (name_in n) rows 0) =
-      omega (arith, length-append now.rows (map mps_row (left (name_in n) rows i)),
-          length-append old.rows (map mps_row (left (name_in n) rows 0)), length-map (left (name_in n) rows i) mps_row,
-          length-map (left (name_in n) rows 0) mps_row, ap length a.all) in
+      omega (
+        arith,
+        length-append now.rows (map mps_row (left (name_in n) rows i)),
+        length-append old.rows (map mps_row (left (name_in n) rows 0)),
+        length-map (left (name_in n) rows i) mps_row,
+        length-map (left (name_in n) rows 0) mps_row,
+        ap length a.all,
+      ) in
       let one : length (left (name_in n) rows i) ≡ 1 + length (left (name_in n) rows (i + 1)) = ap length (left_some (name_in n) rows i o r h is some) ∙ omega arith in
       record {
         few = omega (arith, counts, one, few, rows_short (name_in n) 0 rows);
@@ -183,21 +188,21 @@ module _ (g : ScaledRow → Option ℚ) (name : ℕ → List ℕ) (rows : Rows) 
             ap (λ es. es ++ after) b.value
             ∙ append_assoc before (with_entry p v []) after
             ∙ ap (λ es. before ++ es) (entry_front p v after ∙ ap (λ o. with_entry p o after) same
-                ∙ sym (entries_more g p (row_named (name i) r.row) (left name rows (i + 1)))
-                ∙ ap (entries_of g p) (sym e))
+            ∙ sym (entries_more g p (row_named (name i) r.row) (left name rows (i + 1)))
+            ∙ ap (entries_of g p) (sym e))
             ∙ a.value;
         before = b.before;
       }
 
   pub there_is_place : (now : List (Entry Dec)) (p i : ℕ) (o : Option FactoredRow) (r : FactoredRow)
-    → AreEntriesLeft now p i → i < length rows → o ≡ get_or rows i o → o ≡ Some r → p < 1 + length (left name rows 0)
+      → AreEntriesLeft now p i → i < length rows → o ≡ get_or rows i o → o ≡ Some r → p < 1 + length (left name rows 0)
   there_is_place now p i o r a h is some =
       let count : length (left name rows i) ≡ 1 + length (left name rows (i + 1)) = ap length (left_some name rows i o r h is some) ∙ omega arith in
       omega (arith, count, a.place)
 
   pub entries_put : (s : ScaledValue) (now : List (Entry Dec)) (p i : ℕ) → AreEntriesLeft now p i → i ≡ length rows
-    → rows_in name 0 rows ≡ program_rows s → map (entry_with dec_value) now
-    ≡ map (entry_with dec_value) old ++ entries_of g 1 (program_rows s)
+      → rows_in name 0 rows ≡ program_rows s → map (entry_with dec_value) now
+      ≡ map (entry_with dec_value) old ++ entries_of g 1 (program_rows s)
   entries_put s now p i a e named =
       sym (append-nil (map (entry_with dec_value) now))
       ∙ ap (λ es. map (entry_with dec_value) now ++ es) (sym (ap (entries_of g p) (left_end name rows i e) ∙ entries_none g p))
@@ -213,7 +218,7 @@ variable_there : (n i j : ℕ) (bs : List Interval) (ks : List Kind) (t : Option
 variable_there n i zero [] [] (Some t) d e same h = ap (λ x. record { name = cond x z_name (variable_name (i + 0)); bound = unbounded; whole = false }) (sym (eq-eqb (i + 0) n (omega (arith, e))))
 variable_there n i zero (b ∷ bs) (k ∷ ks) t d e same h =
     ap₂ (λ x m. record { name = cond x z_name (variable_name m); bound = interval_of b; whole = is_whole_kind k })
-      (sym (ne_eqb (i + 0) n (λ f. omega (arith, e, f)))) (let g : i ≡ i + 0 = omega arith in g)
+    (sym (ne_eqb (i + 0) n (λ f. omega (arith, e, f)))) (let g : i ≡ i + 0 = omega arith in g)
 variable_there n i (suc j) (b ∷ bs) (k ∷ ks) t d e same h =
     variable_there n (suc i) j bs ks t d (omega (arith, e)) (omega (arith, same)) (omega (arith, h))
     ∙ ap (λ m. variable_of n m (get_or (bs ++ tied_bounds t) j no_sides) (get_or (ks ++ tied_kinds t) j Continuous)) (let g : suc i + j ≡ i + suc j = omega arith in g)
@@ -249,18 +254,18 @@ module _ (s : ScaledValue) (h : IsScaled s) where
   all_variables = variables_count 0 s.bounds s.kinds s.tie h.kinds
 
   pub variable_at : (j : ℕ) (d : Variable) → j < column_count s
-    → get_or (program_variables s) j d ≡ variable_of (length s.bounds) j (get_or (column_sides s) j no_sides)
-    (get_or (all_kinds s) j Continuous)
+      → get_or (program_variables s) j d ≡ variable_of (length s.bounds) j (get_or (column_sides s) j no_sides)
+      (get_or (all_kinds s) j Continuous)
   variable_at j d l =
       variable_there (length s.bounds) 0 j s.bounds s.kinds s.tie d (omega arith) h.kinds l
       ∙ ap (λ m. variable_of (length s.bounds) m (get_or (column_sides s) j no_sides) (get_or (all_kinds s) j Continuous)) (let e : 0 + j ≡ j = omega arith in e)
 
   pub variable_left : (j : ℕ) → j < column_count s → left_variables s j
-    ≡ variable_of (length s.bounds) j (get_or (column_sides s) j no_sides) (get_or (all_kinds s) j Continuous)
-    ∷ left_variables s (j + 1)
+      ≡ variable_of (length s.bounds) j (get_or (column_sides s) j no_sides) (get_or (all_kinds s) j Continuous)
+      ∷ left_variables s (j + 1)
   variable_left j l = let v = variable_of (length s.bounds) j (get_or (column_sides s) j no_sides)
-    (get_or (all_kinds s) j Continuous) in rest_of (program_variables s) j v (omega (arith, l, all_variables))
-    (sym (variable_at j v l))
+      (get_or (all_kinds s) j Continuous) in rest_of (program_variables s) j v (omega (arith, l, all_variables))
+      (sym (variable_at j v l))
 
   pub variables_end : (j : ℕ) → j ≡ column_count s → left_variables s j ≡ []
   variables_end j e = drop_all j (program_variables s) (omega (arith, e, all_variables))
@@ -291,28 +296,42 @@ module _ (side : Interval) where
 
   pub of_upper : (z u : Dec) → side.lo ≡ None → side.hi ≡ Some u → dec_value z ≡ zero_ℚ → AreBoundsOf side (Mi, z) (Some (Up, u))
   of_upper z u a b e =
-      record { records = λ j. ap (λ v. bound_record Mi j v ∷ bound_record Up j (dec_value u) ∷ []) e
-          ∙ by_sides None (Some u) j a b; zero = λ w. e; zero_too = λ w. absurd w; apart =
-          record { lower = refl; upper = refl } }
+      record {
+        records = λ j. ap (λ v. bound_record Mi j v ∷ bound_record Up j (dec_value u) ∷ []) e
+            ∙ by_sides None (Some u) j a b;
+        zero = λ w. e;
+        zero_too = λ w. absurd w;
+        apart =
+            record { lower = refl; upper = refl };
+      }
 
   pub of_lower : (l z : Dec) → side.lo ≡ Some l → side.hi ≡ None → dec_value z ≡ zero_ℚ → AreBoundsOf side (Lo, l) (Some (Pl, z))
   of_lower l z a b e =
-      record { records = λ j. ap (λ v. bound_record Lo j (dec_value l) ∷ bound_record Pl j v ∷ []) e
-          ∙ by_sides (Some l) None j a b; zero = λ w. absurd w; zero_too = λ w. e; apart =
-          record { lower = refl; upper = refl } }
+      record {
+        records = λ j. ap (λ v. bound_record Lo j (dec_value l) ∷ bound_record Pl j v ∷ []) e
+            ∙ by_sides (Some l) None j a b;
+        zero = λ w. absurd w;
+        zero_too = λ w. e;
+        apart =
+            record { lower = refl; upper = refl };
+      }
 
   pub of_one : (l u : Dec) → side.lo ≡ Some l → side.hi ≡ Some u → dec_value l ≡ dec_value u → AreBoundsOf side (Fx, l) None
   of_one l u a b e = record { records = λ j. sym (fixed_bounds j (dec_value l) (dec_value u) e) ∙ by_sides (Some l) (Some u) j a b; zero = λ w. absurd w; zero_too = tt; apart = tt }
 
   pub of_both : (l u : Dec) → side.lo ≡ Some l → side.hi ≡ Some u → (dec_value l ≡ dec_value u → ⊥) → AreBoundsOf side (Lo, l) (Some (Up, u))
   of_both l u a b e =
-      record { records = λ j. sym (both_bounds j (dec_value l) (dec_value u) e) ∙ by_sides (Some l) (Some u) j a b;
-          zero = λ w. absurd w; zero_too = λ w. absurd w; apart = record { lower = refl; upper = refl } }
+      record {
+        records = λ j. sym (both_bounds j (dec_value l) (dec_value u) e) ∙ by_sides (Some l) (Some u) j a b;
+        zero = λ w. absurd w;
+        zero_too = λ w. absurd w;
+        apart = record { lower = refl; upper = refl };
+      }
 
 -- records that are added at the end
 pub bounds_put : (j : ℕ) (old now bs : List (Bound Dec)) (records : List (Bound ℚ)) → now ≡ old ++ bs
-  → map (bound_with dec_value) bs ≡ records → All (λ b. b.column < j) old → All (λ b. b.column < j + 1) bs
-  → AreBoundsAdded j records old now
+    → map (bound_with dec_value) bs ≡ records → All (λ b. b.column < j) old → All (λ b. b.column < j + 1) bs
+    → AreBoundsAdded j records old now
 bounds_put j old now bs records e same before new =
     let P : Bound Dec → Type 0 = λ b. b.column < j + 1 in
     record {
@@ -321,15 +340,15 @@ bounds_put j old now bs records e same before new =
     }
 
 pub one_put : (j : ℕ) (old now : List (Bound Dec)) (b : Bound Dec) (records : List (Bound ℚ)) → now ≡ old ++ b ∷ []
-  → b.column ≡ j → bound_with dec_value b ∷ [] ≡ records → All (λ b. b.column < j) old
-  → AreBoundsAdded j records old now
+    → b.column ≡ j → bound_with dec_value b ∷ [] ≡ records → All (λ b. b.column < j) old
+    → AreBoundsAdded j records old now
 one_put j old now b records e at same before =
     let P : Bound Dec → Type 0 = λ b. b.column < j + 1 in
     bounds_put j old now (b ∷ []) records e same before (All-cons P b [] (omega (arith, at)) (All-nil P))
 
 pub two_put : (j : ℕ) (old now : List (Bound Dec)) (b c : Bound Dec) (records : List (Bound ℚ))
-  → now ≡ old ++ b ∷ c ∷ [] → b.column ≡ j → c.column ≡ j → bound_with dec_value b ∷ bound_with dec_value c ∷ []
-  ≡ records → All (λ b. b.column < j) old →
+    → now ≡ old ++ b ∷ c ∷ [] → b.column ≡ j → c.column ≡ j → bound_with dec_value b ∷ bound_with dec_value c ∷ []
+    ≡ records → All (λ b. b.column < j) old →
     AreBoundsAdded j records old now
 two_put j old now b c records e at and same before =
     let P : Bound Dec → Type 0 = λ b. b.column < j + 1 in
@@ -347,7 +366,7 @@ module _ (s : ScaledValue) where
       ap (bounds_of j) (variable_left s h j l)
       ∙ bounds_more j (variable_of (length s.bounds) j (get_or (column_sides s) j no_sides) (get_or (all_kinds s) j Continuous)) (left_variables s (j + 1))
       ∙ ap (λ b. column_bounds j (side_value b.lo) (side_value b.hi) ++ bounds_of (j + 1) (left_variables s (j + 1)))
-        (get_or_default (column_sides s) j no_sides b (omega (arith, l, sides_count s h)) ∙ sym is)
+      (get_or_default (column_sides s) j no_sides b (omega (arith, l, sides_count s h)) ∙ sym is)
 
   pub column_bounds_put : (h : IsScaled s) (now new : List (Bound Dec)) (j : ℕ) (b : Interval) → AreBoundsLeft now j → j < column_count s → b ≡ get_or (column_sides s) j b →
       AreBoundsAdded j (column_bounds j (side_value b.lo) (side_value b.hi)) now new → AreBoundsLeft new (j + 1)
@@ -386,7 +405,7 @@ with_rising p high (Some v) es h r = (omega arith, h, r)
 entries_rising : (g : ScaledRow → Option ℚ) (p high : ℕ) (rows : List ScaledRow) → p + length rows ≡ high → IsRisingFrom p high (entries_of g p rows)
 entries_rising g p high [] e = subst (IsRisingFrom p high) (sym (entries_none g p)) tt
 entries_rising g p high (r ∷ rs) e = subst (IsRisingFrom p high) (sym (entries_more g p r rs))
-  (with_rising p high (g r) (entries_of g (p + 1) rs) (omega (arith, e))
+    (with_rising p high (g r) (entries_of g (p + 1) rs) (omega (arith, e))
     (entries_rising g (p + 1) high rs (omega (arith, e))))
 
 all_above : (ts : List TermOf) (low high : ℕ) → IsRisingFrom low high (map entry_value ts) → All (λ t. low ≤ t.0) ts
@@ -404,9 +423,9 @@ terms_rising (t ∷ ts) low high h =
 pub column_rising : (s : ScaledValue) (j n : ℕ) (ts : List TermOf) → map entry_value ts ≡ entries_in_column s j → n ≡ 1 + length (program_rows s) → AreRising n ts
 column_rising s j n ts e size =
     terms_rising ts 0 n (subst (IsRisingFrom 0 n) (sym e) (with_rising 0 n
-          (nonzero ((program_objective s).coefficient j)) (entries_of (λ r. nonzero (r.coefficient j)) 1
-            (program_rows s)) (omega (arith, size)) (entries_rising (λ r. nonzero (r.coefficient j)) 1 n
-            (program_rows s) (sym size))))
+    (nonzero ((program_objective s).coefficient j)) (entries_of (λ r. nonzero (r.coefficient j)) 1
+    (program_rows s)) (omega (arith, size)) (entries_rising (λ r. nonzero (r.coefficient j)) 1 n
+    (program_rows s) (sym size))))
 
 -- ---- the value of a column
 values_of_entries : (ts : List TermOf) → map (entry_with dec_value) (map entry_of ts) ≡ map entry_value ts
@@ -418,8 +437,8 @@ entries_or_zero [] z e = ap (λ v. record { row = 0; value = v } ∷ []) e
 entries_or_zero (t ∷ ts) z e = ap (λ es. entry_value t ∷ es) (values_of_entries ts)
 
 pub columns_more : (o : Form) (rows : List ScaledRow) (j : ℕ) (v : Variable) (vs : List Variable)
-  → columns_of o rows j (v ∷ vs) ≡ record { name = v.name; marked = v.whole; entries = column_entries o rows j }
-  ∷ columns_of o rows (j + 1) vs
+    → columns_of o rows j (v ∷ vs) ≡ record { name = v.name; marked = v.whole; entries = column_entries o rows j }
+    ∷ columns_of o rows (j + 1) vs
 unfolding columns_of
 columns_more o rows j v vs = ap (λ n. record { name = v.name; marked = v.whole; entries = column_entries o rows j } ∷ columns_of o rows n vs) (sym (add-one j))
 
@@ -443,7 +462,7 @@ module _ {V : Type 0} (items : V → List TermOf) (s : ScaledValue) (cols : List
     pub only : now ≡ record old { columns = now.columns }
     pub count : length now.columns ≡ j
     pub value : map (column_with dec_value) now.columns ++ columns_of (program_objective s) (program_rows s) j
-      (left_variables s j) ≡ columns_of (program_objective s) (program_rows s) 0 (program_variables s)
+        (left_variables s j) ≡ columns_of (program_objective s) (program_rows s) 0 (program_variables s)
     pub few : entry_count now.columns + total_of items (drop j cols) ≤ total_of items cols + j
     pub other : (k : ℕ) → j ≤ k → k ≤ length s.bounds → All (IsOtherColumn (column_in (length s.bounds) k)) now.columns
     pub filled : All HasEntries now.columns
@@ -455,7 +474,7 @@ module _ {V : Type 0} (items : V → List TermOf) (s : ScaledValue) (cols : List
 
     pub value_put : (v : Variable) (rest : List Variable) → map entry_value (items c) ≡ entries_in_column s j → dec_value z ≡ zero_ℚ → name ≡ v.name → marked ≡ v.whole →
         map (column_with dec_value) new.columns ++ columns_of (program_objective s) (program_rows s) (j + 1) rest
-          ≡ map (column_with dec_value) now.columns ++ columns_of (program_objective s) (program_rows s) j (v ∷ rest)
+        ≡ map (column_with dec_value) now.columns ++ columns_of (program_objective s) (program_rows s) j (v ∷ rest)
     value_put v rest terms none n m =
         let after = columns_of (program_objective s) (program_rows s) (j + 1) rest in
         ap (λ cs. map (column_with dec_value) cs ++ after) columns_are
@@ -486,7 +505,7 @@ module _ {V : Type 0} (items : V → List TermOf) (s : ScaledValue) (cols : List
         )
 
     pub column_put : (h : IsScaled s) (old : Mps Dec) (v : Variable) → AreColumnsLeft old now j → j < length cols
-      → c ≡ get_or cols j c → map entry_value (items c) ≡ entries_in_column s j → dec_value z ≡ zero_ℚ →
+        → c ≡ get_or cols j c → map entry_value (items c) ≡ entries_in_column s j → dec_value z ≡ zero_ℚ →
         left_variables s j ≡ v ∷ left_variables s (j + 1) → name ≡ column_in (length s.bounds) j → name ≡ v.name → marked ≡ v.whole → AreColumnsLeft old new (j + 1)
     column_put h old v a inside is terms none left own n m =
         let total : total_of items (drop j cols) ≡ length (items c) + total_of items (drop (j + 1) cols) =
@@ -495,18 +514,18 @@ module _ {V : Type 0} (items : V → List TermOf) (s : ScaledValue) (cols : List
           only = e ∙ ap (λ (m : Mps Dec). with_column m (column_from name marked (items c) z)) a.only ∙ ap (λ cs. record old { columns = cs }) (sym columns_are);
           count = count_put a.count;
           value = value_put v (left_variables s (j + 1)) terms none n m
-            ∙ ap (λ vs. map (column_with dec_value) now.columns
+              ∙ ap (λ vs. map (column_with dec_value) now.columns
               ++ columns_of (program_objective s) (program_rows s) j vs) (sym left) ∙ a.value;
           few = omega (arith, entry_count_put, total, a.few);
           other = λ k l g. other_put (column_in (length s.bounds) k) (a.other k (omega arith) g)
-            (λ f. names_apart 120 z_name (length s.bounds) j k (λ z. omega (arith, z)) (omega arith) g
+              (λ f. names_apart 120 z_name (length s.bounds) j k (λ z. omega (arith, z)) (omega arith) g
               (omega (arith, h.few_columns)) (sym own ∙ f));
           filled = filled_put a.filled;
         }
 
   pub rising_enough : (old now : Mps Dec) (j : ℕ) (c : V) → AreColumnsLeft old now j
-    → length old.rows ≡ 1 + length (program_rows s) → map entry_value (items c) ≡ entries_in_column s j
-    → AreRising (length now.rows) (items c)
+      → length old.rows ≡ 1 + length (program_rows s) → map entry_value (items c) ≡ entries_in_column s j
+      → AreRising (length now.rows) (items c)
   rising_enough old now j c a size terms = column_rising s j (length now.rows) (items c) terms (ap (λ (m : Mps Dec). length m.rows) a.only ∙ size)
 
   pub all_filled : (h : IsScaled s) (old now : Mps Dec) (j : ℕ) → AreColumnsLeft old now j → j ≡ column_count s → AreFilled s now.columns
@@ -515,8 +534,8 @@ module _ {V : Type 0} (items : V → List TermOf) (s : ScaledValue) (cols : List
         value =
             sym (append-nil (map (column_with dec_value) now.columns))
             ∙ ap (λ cs. map (column_with dec_value) now.columns ++ cs)
-              (sym (ap (columns_of (program_objective s) (program_rows s) j) (variables_end s h j e)
-                  ∙ columns_none (program_objective s) (program_rows s) j))
+            (sym (ap (columns_of (program_objective s) (program_rows s) j) (variables_end s h j e)
+            ∙ columns_none (program_objective s) (program_rows s) j))
             ∙ a.value;
         count = a.count ∙ e;
         filled = a.filled;
@@ -540,19 +559,19 @@ listed_bounded m name i (Some r ∷ rows) all zero d h = kind_bounded (side_valu
 listed_bounded m name i (Some r ∷ rows) all (suc k) d h = listed_bounded m name (suc i) rows (λ j e l. all (suc j) e (omega arith)) k d (omega arith)
 
 pub rows_bounded : (s : ScaledValue) (rows : Rows) (ms : List MpsRow) (p : ℕ) → AreProgramRows s rows
-  → ms ≡ record { name = obj_name; kind = N } ∷ map mps_row (program_rows s) → 0 < p → p < 1 + length (program_rows s)
-  → IsBounded ms p
+    → ms ≡ record { name = obj_name; kind = N } ∷ map mps_row (program_rows s) → 0 < p → p < 1 + length (program_rows s)
+    → IsBounded ms p
 rows_bounded s rows ms p h e some less =
     let all : All (λ r. r.kind ≢ N) (map mps_row (program_rows s)) =
-      subst (λ rs. All (λ r. r.kind ≢ N) (map mps_row rs)) h.named
-      (listed_bounded (column_count s) (name_in (length s.rows)) 0 rows h.over) in
+    subst (λ rs. All (λ r. r.kind ≢ N) (map mps_row rs)) h.named
+    (listed_bounded (column_count s) (name_in (length s.rows)) 0 rows h.over) in
     let place : suc (p - 1) ≡ p = omega (arith, some) in
     subst (λ rs. IsBounded rs p) (sym e)
     (subst (IsBounded (record { name = obj_name; kind = N } ∷ map mps_row (program_rows s))) place (all (p - 1) no_mps_row (omega (arith, length-map (program_rows s) mps_row, less, some))))
 
 pub complete : (s : ScaledValue) (m : Mps Dec) (columns : List (Column Dec))
-  → m.rows ≡ record { name = obj_name; kind = N } ∷ map mps_row (program_rows s) → m.columns ≡ columns
-  → AreFilled s columns → IsComplete m
+    → m.rows ≡ record { name = obj_name; kind = N } ∷ map mps_row (program_rows s) → m.columns ≡ columns
+    → AreFilled s columns → IsComplete m
 unfolding objective_row
 complete s m columns e same a =
     record {
@@ -562,11 +581,11 @@ complete s m columns e same a =
 
 -- ---- the parts together
 pub whole_program : (s : ScaledValue) (m : Mps Dec) → m.name ≡ nl_name → m.maximise ≡ s.maximise
-  → m.rows ≡ record { name = obj_name; kind = N } ∷ map mps_row (program_rows s) → AreFilled s m.columns →
+    → m.rows ≡ record { name = obj_name; kind = N } ∷ map mps_row (program_rows s) → AreFilled s m.columns →
     map (entry_with dec_value) m.rhs ≡ with_entry 0 (nonzero (neg_ℚ (program_objective s).constant)) (entries_of right_side_of 1 (program_rows s)) →
     map (entry_with dec_value) m.ranges ≡ entries_of range_in 1 (program_rows s)
-      → map (bound_with dec_value) m.bounds ≡ bounds_of 0 (program_variables s)
-      → with_values dec_value m ≡ mps_of (scaled_as s)
+    → map (bound_with dec_value) m.bounds ≡ bounds_of 0 (program_variables s)
+    → with_values dec_value m ≡ mps_of (scaled_as s)
 unfolding with_values mps_of scaled_as
 whole_program s m name sense rows a rhs ranges bounds = λ i. record {
   name = name i;

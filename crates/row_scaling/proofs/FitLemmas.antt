@@ -223,13 +223,13 @@ module _ (n i : ℕ) (b : Form) (s : Interval) (up : AreAscending 0 (form_terms 
       ap₂ (λ p q. least_factor (xs ++ p ++ q)) (listed_less c l) (listed_less c u)
       ∙ same_factor (xs ++ lo ++ hi) (ts ++ lo ++ hi)
       (λ k h. let first = all_left (Finite k) (xs ++ lo) hi h in
-        All-append (Finite k) (ts ++ lo) hi (All-append (Finite k) ts lo
-          (to_terms n (form_terms b) up below (Finite k) (all_left (Finite k) xs lo first))
-          (all_right (Finite k) xs lo first)) (all_right (Finite k) (xs ++ lo) hi h))
+      All-append (Finite k) (ts ++ lo) hi (All-append (Finite k) ts lo
+      (to_terms n (form_terms b) up below (Finite k) (all_left (Finite k) xs lo first))
+      (all_right (Finite k) xs lo first)) (all_right (Finite k) (xs ++ lo) hi h))
       (λ k h. let first = all_left (Finite k) (ts ++ lo) hi h in
-        All-append (Finite k) (xs ++ lo) hi (All-append (Finite k) xs lo
-          (from_terms n (form_terms b) up below (Finite k) (zero_finite k) (all_left (Finite k) ts lo first))
-          (all_right (Finite k) ts lo first)) (all_right (Finite k) (ts ++ lo) hi h))
+      All-append (Finite k) (xs ++ lo) hi (All-append (Finite k) xs lo
+      (from_terms n (form_terms b) up below (Finite k) (zero_finite k) (all_left (Finite k) ts lo first))
+      (all_right (Finite k) ts lo first)) (all_right (Finite k) (ts ++ lo) hi h))
 
   module _ (lo hi : Option ℚ) (e : lo ≡ less_side c l) (f : hi ≡ less_side c u) where
     pub same_numbers : factor_for n row ≡ least_factor (numbers lo hi)
@@ -255,28 +255,28 @@ module _ (n i : ℕ) (b : Form) (s : Interval) (up : AreAscending 0 (form_terms 
       pub no_scaled_fit : ¬ AreSidesFit q lo hi → ¬ RowFits n row (factor_for n row)
       no_scaled_fit bad h =
           bad (subst (λ r. AreSidesFit r lo hi) (sym same_multiplier)
-              (subst (λ p. AreSidesFit (whole (pos (factor_for n row))) p hi) (sym e)
-                (subst (AreSidesFit (whole (pos (factor_for n row))) (less_side c l)) (sym f) (sides_of h))))
+          (subst (λ p. AreSidesFit (whole (pos (factor_for n row))) p hi) (sym e)
+          (subst (AreSidesFit (whole (pos (factor_for n row))) (less_side c l)) (sym f) (sides_of h))))
 
       pub no_terms_fit : ¬ All (NumberFits q) (coefficients_in (form_terms b)) → ¬ RowFits n row (factor_for n row)
       no_terms_fit bad h =
           bad (subst (λ r. All (NumberFits r) (coefficients_in (form_terms b))) (sym same_multiplier)
-              (to_terms n (form_terms b) up below (NumberFits (whole (pos (factor_for n row))))
-                (all_map (coefficients_below (form_line b).coef n) (number_of (factor_for n row)) h.coefficients)))
+          (to_terms n (form_terms b) up below (NumberFits (whole (pos (factor_for n row))))
+          (all_map (coefficients_below (form_line b).coef n) (number_of (factor_for n row)) h.coefficients)))
 
       pub all_fit : IfSide (LessFits c) l → IfSide (LessFits c) u → least_factor (numbers lo hi) < 2 ^ 127
-        → AreSidesFit q lo hi → All (NumberFits q) (coefficients_in (form_terms b)) → RowFits n row (factor_for n row)
+          → AreSidesFit q lo hi → All (NumberFits q) (coefficients_in (form_terms b)) → RowFits n row (factor_for n row)
       all_fit first second small sides terms =
           let k = factor_for n row in
           let w = whole (pos k) in
           let both : AreSidesFit w (less_side c l) (less_side c u) =
-            subst (λ r. AreSidesFit r (less_side c l) (less_side c u)) same_multiplier
-            (subst (λ p. AreSidesFit q p (less_side c u)) e (subst (AreSidesFit q lo) f sides)) in
+          subst (λ r. AreSidesFit r (less_side c l) (less_side c u)) same_multiplier
+          (subst (λ p. AreSidesFit q p (less_side c u)) e (subst (AreSidesFit q lo) f sides)) in
           let under : k < 2 ^ 127 = omega (arith, small, same_numbers) in
           record {
             factor = under;
             coefficients = all_map (coefficients_below (form_line b).coef n) (scaled_of k)
-              (from_terms n (form_terms b) up below (NumberFits w) (zero_number w)
+                (from_terms n (form_terms b) up below (NumberFits w) (zero_number w)
                 (subst (λ r. All (NumberFits r) (coefficients_in (form_terms b))) same_multiplier terms));
             lower = side_fits k c l first both.lower;
             upper = side_fits k c u second both.upper;
@@ -304,10 +304,10 @@ sided_times q c None (Some u) = refl
 sided_times q c (Some l) u = refl
 
 pub is_scaled : (q c : ℚ) (l u lo hi : Option ℚ) (b : Form) (us : List TermOf) (d : Interval) (m : Option Dec)
-  → lo ≡ less_side c l → hi ≡ less_side c u → q ≢ zero_ℚ → AreAscending 0 (form_terms b) → IsTrue (either_there l u) →
+    → lo ≡ less_side c l → hi ≡ less_side c u → q ≢ zero_ℚ → AreAscending 0 (form_terms b) → IsTrue (either_there l u) →
     AreTermsTimes q (form_terms b) us → side_value d.lo ≡ times_side q lo → side_value d.hi ≡ times_side q hi
-      → side_value m ≡ range_of (side_value d.lo) (side_value d.hi)
-      → IsScaledRow (record { terms = us; side = d; range = m })
+    → side_value m ≡ range_of (side_value d.lo) (side_value d.hi)
+    → IsScaledRow (record { terms = us; side = d; range = m })
 is_scaled q c l u lo hi b us d m e f some up sided times first second range =
     record {
       sparse = times_sparse q some 0 (form_terms b) us times up;
@@ -319,8 +319,8 @@ module _ (n i : ℕ) (b : Form) (s : Interval) (up : AreAscending 0 (form_terms 
     (e : lo ≡ less_side (form_line b).constant (side_value s.lo)) (f : hi ≡ less_side (form_line b).constant (side_value s.hi))
     (q : ℚ) (g : q ≡ whole (pos (least_factor (coefficients_in (form_terms b) ++ listed lo ++ listed hi)))) where
   same_row : (v : RowValue) → AreTermsTimes q (form_terms b) v.terms → side_value v.side.lo ≡ times_side q lo
-    → side_value v.side.hi ≡ times_side q hi → scaled_row_of i v
-    ≡ scaled_row (factor_for n (row_for i b s)) (row_for i b s)
+      → side_value v.side.hi ≡ times_side q hi → scaled_row_of i v
+      ≡ scaled_row (factor_for n (row_for i b s)) (row_for i b s)
   same_row v times first second =
       let c = (form_line b).constant in
       let k = factor_for n (row_for i b s) in

@@ -57,7 +57,7 @@ abbrev obj_row : MpsRow
 obj_row = record { name = obj_name; kind = N }
 
 pub rows_written : (s : ScaledValue) (out0 out1 out2 out3 : List ℕ) → out1 ≡ out0 ++ line_text (codes "ROWS" ∷ [])
-  → out2 ≡ out1 ++ line_text (row_line obj_row) → out3 ≡ out2 ++ lines_text (flat_map row_lines (program_rows s)) →
+    → out2 ≡ out1 ++ line_text (row_line obj_row) → out3 ≡ out2 ++ lines_text (flat_map row_lines (program_rows s)) →
     out3 ≡ out0 ++ lines_text (section (codes "ROWS") ∷ map row_line (all_rows s))
 rows_written s out0 out1 out2 out3 first second third =
     section_written (codes "ROWS") (row_line obj_row ∷ flat_map row_lines (program_rows s)) out0 out1 out3 first
@@ -76,16 +76,16 @@ lines_by_row all word g p [] e = ap (entry_lines value_text all word) (entries_n
 lines_by_row all word g p (r ∷ rs) e =
     ap (entry_lines value_text all word) (entries_more g p r rs)
     ∙ with_line all word r.name p (g r) (entries_of g (p + 1) rs)
-      (sym (ap (λ (m : MpsRow). m.name) (get_or-drop p all 0 no_mps_row
-            ∙ ap (λ k. get_or all k no_mps_row) (omega arith))) ∙ ap (λ ms. (get_or ms 0 no_mps_row).name) e)
+    (sym (ap (λ (m : MpsRow). m.name) (get_or-drop p all 0 no_mps_row
+    ∙ ap (λ k. get_or all k no_mps_row) (omega arith))) ∙ ap (λ ms. (get_or ms 0 no_mps_row).name) e)
     ∙ ap (λ ls. value_lines word r.name (g r) ++ ls) (lines_by_row all word g (p + 1) rs (sym (others_left all p (mps_row r) (map mps_row rs) e)))
 
 -- ---- right sides
 pub sides_written : (s : ScaledValue) (v : Option ℚ) (out0 out1 out2 out3 : List ℕ) → v ≡ nonzero (neg_ℚ (program_objective s).constant) → out1 ≡ out0 ++ line_text (codes "RHS" ∷ []) →
     out2 ≡ out1 ++ lines_text (value_lines (codes "RHS") obj_name v)
-      → out3 ≡ out2 ++ lines_text (flat_map side_lines (program_rows s))
-      → out3 ≡ out0 ++ lines_text (section (codes "RHS") ∷ entry_lines value_text (all_rows s) (codes "RHS")
-        (all_sides s))
+    → out3 ≡ out2 ++ lines_text (flat_map side_lines (program_rows s))
+    → out3 ≡ out0 ++ lines_text (section (codes "RHS") ∷ entry_lines value_text (all_rows s) (codes "RHS")
+    (all_sides s))
 sides_written s v out0 out1 out2 out3 constant first second third =
     let o = nonzero (neg_ℚ (program_objective s).constant) in
     let lines = flat_map side_lines (program_rows s) in
@@ -123,12 +123,12 @@ value_written word name value number out0 out1 is now =
 
 -- the lines of a row are written, row i being the next of a list
 pub next_written : (lines : ScaledRow → List WordLine) (name : ℕ → List ℕ) (rows : Rows) (i : ℕ)
-  (o : Option FactoredRow) (r : FactoredRow) (n out0 out1 total : List ℕ) → i < length rows → o ≡ get_or rows i o
-  → o ≡ Some r → n ≡ name i →
+    (o : Option FactoredRow) (r : FactoredRow) (n out0 out1 total : List ℕ) → i < length rows → o ≡ get_or rows i o
+    → o ≡ Some r → n ≡ name i →
     out0 ++ lines_text (flat_map lines (left name rows i)) ≡ total → out1 ≡ out0 ++ lines_text (lines (row_named n r.row)) → out1 ++ lines_text (flat_map lines (left name rows (i + 1))) ≡ total
 next_written lines name rows i o r n out0 out1 total h is some named start now =
     rest_written out0 out1 total (lines (row_named (name i) r.row)) (flat_map lines (left name rows (i + 1)))
-      (ap (λ rs. out0 ++ lines_text (flat_map lines rs)) (sym (left_some name rows i o r h is some)) ∙ start)
+    (ap (λ rs. out0 ++ lines_text (flat_map lines rs)) (sym (left_some name rows i o r h is some)) ∙ start)
     (now ∙ ap (λ n. out0 ++ lines_text (lines (row_named n r.row))) named)
 
 -- ---- the columns in order
@@ -152,32 +152,40 @@ module _ (s : ScaledValue) (h : IsScaled s) where
   all_columns_length = columns_length (program_objective s) (program_rows s) 0 (program_variables s) ∙ all_variables s h
 
   column_at : (j : ℕ) → j < column_count s →
-      get_or (all_columns s) j no_column ≡ record { name = (get_or (program_variables s) j z_variable).name; marked =
-          (get_or (program_variables s) j z_variable).whole; entries = or_obj_zero (entries_in_column s j) }
+      get_or (all_columns s) j no_column ≡ record {
+        name = (get_or (program_variables s) j z_variable).name;
+        marked =
+            (get_or (program_variables s) j z_variable).whole;
+        entries = or_obj_zero (entries_in_column s j);
+      }
   column_at j l =
       column_is (program_objective s) (program_rows s) 0 (program_variables s) j no_column (omega (arith, l, all_variables s h))
-      ∙ ap (λ n. record { name = (get_or (program_variables s) j z_variable).name; marked =
-            (get_or (program_variables s) j z_variable).whole; entries = or_obj_zero (entries_in_column s n) })
-        (let e : 0 + j ≡ j = omega arith in e)
+      ∙ ap (λ n. record {
+        name = (get_or (program_variables s) j z_variable).name;
+        marked =
+            (get_or (program_variables s) j z_variable).whole;
+        entries = or_obj_zero (entries_in_column s n);
+      })
+      (let e : 0 + j ≡ j = omega arith in e)
 
   -- the column j is written
   pub part_written : (j : ℕ) (before marked : Bool) (i n : ℕ) (out0 out1 out2 total word : List ℕ) (ts : List TermOf) → j < column_count s → out0 ++ lines_text (lines_from s before i j) ≡ total →
       marked ≡ (get_or (program_variables s) j z_variable).whole
-        → word ≡ (get_or (program_variables s) j z_variable).name → map entry_value ts ≡ entries_in_column s j
-        → n ≡ markers_after before marked i →
+      → word ≡ (get_or (program_variables s) j z_variable).name → map entry_value ts ≡ entries_in_column s j
+      → n ≡ markers_after before marked i →
       out1 ≡ out0 ++ lines_text (change_lines before marked i)
-        → out2 ≡ out1 ++ lines_text (entry_lines value_text (all_rows s) word (or_obj_zero (map entry_value ts)))
-        → out2 ++ lines_text (lines_from s marked n (j + 1)) ≡ total
+      → out2 ≡ out1 ++ lines_text (entry_lines value_text (all_rows s) word (or_obj_zero (map entry_value ts)))
+      → out2 ++ lines_text (lines_from s marked n (j + 1)) ≡ total
   part_written j before marked i n out0 out1 out2 total word ts l start m w t k first second =
       let inside : j < length (all_columns s) = omega (arith, l, all_columns_length) in
       let c : Column ℚ = get_or (all_columns s) j no_column in
       let e = column_at j l in
       column_written value_text (all_rows s) (all_columns s) before i j c out0 out1 out2 total word
-        (or_obj_zero (map entry_value ts)) marked marked n inside (get_or_default (all_columns s) j no_column c inside)
-        start
+      (or_obj_zero (map entry_value ts)) marked marked n inside (get_or_default (all_columns s) j no_column c inside)
+      start
       (m ∙ sym (ap (λ (c : Column ℚ). c.marked) e)) (m ∙ sym (ap (λ (c : Column ℚ). c.marked) e))
-        (w ∙ sym (ap (λ (c : Column ℚ). c.name) e)) (ap or_obj_zero t ∙ sym (ap (λ (c : Column ℚ). c.entries) e)) k
-        first second
+      (w ∙ sym (ap (λ (c : Column ℚ). c.name) e)) (ap or_obj_zero t ∙ sym (ap (λ (c : Column ℚ). c.entries) e)) k
+      first second
 
   pub columns_written : (n : ℕ) (before : Bool) (i : ℕ) (out0 out1 out2 out3 : List ℕ) → n ≡ column_count s → out1 ≡ out0 ++ line_text (codes "COLUMNS" ∷ []) →
       out2 ++ lines_text (lines_from s before i n) ≡ out1 ++ lines_text (lines_from s false 0 0) → out3 ≡ out2 ++ lines_text (change_lines before false i) →
@@ -195,7 +203,7 @@ some_entries [] some = absurd (some refl)
 some_entries (t ∷ ts) some = refl
 
 pub no_entries_written : (s : ScaledValue) (word : List ℕ) (ts : List TermOf) (z : Dec) (out0 out1 : List ℕ)
-  → length ts ≡ 0 → dec_value z ≡ zero_ℚ → out1 ≡ out0 ++ line_text (indented (word ∷ obj_name ∷ text_of z ∷ [])) →
+    → length ts ≡ 0 → dec_value z ≡ zero_ℚ → out1 ≡ out0 ++ line_text (indented (word ∷ obj_name ∷ text_of z ∷ [])) →
     out1 ≡ out0 ++ lines_text (entry_lines value_text (all_rows s) word (or_obj_zero (map entry_value ts)))
 no_entries_written s word [] z out0 out1 h e now =
     now
@@ -220,16 +228,16 @@ module _ (s : ScaledValue) (word : List ℕ) where
 
   -- a part after those before it
   pub part_of_entries_written : (ts part : List TermOf) (i n : ℕ) (text out0 out1 total : List ℕ)
-    → out0 ++ lines_text (lines_of (drop i ts)) ≡ total → part ≡ take n (drop i ts) → text ≡ lines_text (lines_of part)
-    → out1 ≡ out0 ++ text →
+      → out0 ++ lines_text (lines_of (drop i ts)) ≡ total → part ≡ take n (drop i ts) → text ≡ lines_text (lines_of part)
+      → out1 ≡ out0 ++ text →
       out1 ++ lines_text (lines_of (drop (i + n) ts)) ≡ total
   part_of_entries_written ts part i n text out0 out1 total start is lines now =
       let line = entry_line value_text (all_rows s) word in
       let rest = drop n (drop i ts) in
       let split : lines_of part ++ lines_of rest ≡ lines_of (drop i ts) =
       sym (map-append line (map entry_value part) (map entry_value rest))
-        ∙ ap (map line) (sym (map-append entry_value part rest))
-        ∙ ap lines_of (ap (λ us. us ++ rest) is ∙ take-append-drop n (drop i ts)) in
+      ∙ ap (map line) (sym (map-append entry_value part rest))
+      ∙ ap lines_of (ap (λ us. us ++ rest) is ∙ take-append-drop n (drop i ts)) in
       ap (λ us. out1 ++ lines_text (lines_of us)) (sym (drop-drop n i ts))
       ∙ rest_written out0 out1 total (lines_of part) (lines_of rest) (ap (λ ls. out0 ++ lines_text ls) split ∙ start) (now ∙ ap (λ x. out0 ++ x) lines)
 
@@ -251,13 +259,13 @@ exported_named i (None ∷ rows) = exported_named (suc i) rows
 exported_named i (Some r ∷ rows) = ap (λ rs. row_named (row_name i) r.row ∷ rs) (exported_named (suc i) rows)
 
 pub numbers_named : (s : ScaledValue) (rows : Rows) (numbers : List ℕ) → rows ≡ s.rows
-  → map row_name numbers ≡ map (λ r. r.name) (rows_in row_name 0 rows)
-  → map row_name numbers ≡ map (λ r. r.name) (exported_from 0 s.rows)
+    → map row_name numbers ≡ map (λ r. r.name) (rows_in row_name 0 rows)
+    → map row_name numbers ≡ map (λ r. r.name) (exported_from 0 s.rows)
 numbers_named s rows numbers same e = e ∙ ap (map (λ r. r.name)) (exported_named 0 rows ∙ ap (exported_from 0) same)
 
 pub row_is_named : (s : ScaledValue) (numbers : List ℕ) (row k : ℕ)
-  → map row_name numbers ≡ map (λ r. r.name) (exported_from 0 s.rows) → (row ≡ 0 → ⊥) → row - 1 < length numbers
-  → k ≡ get_or numbers (row - 1) 0 →
+    → map row_name numbers ≡ map (λ r. r.name) (exported_from 0 s.rows) → (row ≡ 0 → ⊥) → row - 1 < length numbers
+    → k ≡ get_or numbers (row - 1) 0 →
     row_name k ≡ name_at (all_rows s) row
 row_is_named s numbers row k e some h is =
     let q = row - 1 in
@@ -276,13 +284,13 @@ by_value : (name : List ℕ) (j : ℕ) (b : KindOfBound) → bound_by name b.0 b
 by_value name j b = ap (λ t. indented (bound_text b.0 ∷ codes "BND" ∷ name ∷ value_words b.0 t)) (same_text b.1)
 
 lines_by_value : (name : List ℕ) (j : ℕ) (first : KindOfBound) (second : Option KindOfBound)
-  → bound_by name first.0 first.1 ∷ second_lines name second ≡ map (named_bound name) (bounds_at j first second)
+    → bound_by name first.0 first.1 ∷ second_lines name second ≡ map (named_bound name) (bounds_at j first second)
 lines_by_value name j first None = ap (λ l. l ∷ []) (by_value name j first)
 lines_by_value name j first (Some second) = ap₂ (λ l m. l ∷ m ∷ []) (by_value name j first) (by_value name j second)
 
 -- the lines of both bounds, the second of which was written first
 pub bounds_written : (name : List ℕ) (side : Interval) (first : KindOfBound) (second : Option KindOfBound) (j : ℕ)
-  (before text out0 out1 : List ℕ) → AreBoundsOf side first second → before ≡ lines_text (second_lines name second) →
+    (before text out0 out1 : List ℕ) → AreBoundsOf side first second → before ≡ lines_text (second_lines name second) →
     text ≡ line_text (bound_by name first.0 first.1) ++ before → out1 ≡ out0 ++ text → out1 ≡ out0 ++ lines_text (map (named_bound name) (column_bounds j (side_value side.lo) (side_value side.hi)))
 bounds_written name side first second j before text out0 out1 of last lines now =
     now
@@ -316,8 +324,8 @@ module _ (s : ScaledValue) (h : IsScaled s) where
       let named : (get_or (all_columns s) j no_column).name ≡ name = name_of j l ∙ ap (λ (v : Variable). v.name) (variable_at s h j z_variable l) ∙ sym n in
       let split : map line_of (bounds_of j (left_variables s j)) ≡ map (named_bound name) records ++ map line_of rest =
       ap (map line_of) (bounds_left s h j b l is) ∙ map-append line_of records rest
-        ∙ ap (λ ls. ls ++ map line_of rest) (named_lines (all_columns s) j (side_value b.lo) (side_value b.hi)
-          ∙ ap (λ n. map (named_bound n) records) named) in
+      ∙ ap (λ ls. ls ++ map line_of rest) (named_lines (all_columns s) j (side_value b.lo) (side_value b.hi)
+      ∙ ap (λ n. map (named_bound n) records) named) in
       rest_written out0 out1 total (map (named_bound name) records) (map line_of rest) (ap (λ ls. out0 ++ lines_text ls) (sym split) ∙ start) now
 
   pub bounds_end : (j : ℕ) (out total : List ℕ) → j ≡ column_count s → out ++ lines_text (map line_of (bounds_of j (left_variables s j))) ≡ total → out ≡ total
@@ -362,8 +370,8 @@ module _ (s : ScaledValue) (heads : Heads) (h : AreHeads s heads) (j : ℕ) (wit
 
 -- ---- a part of the columns
 pub part_columns : {V : Type 0} (items : V → List TermOf) (s : ScaledValue) (n first m : ℕ) (all : List (List TermOf))
-  (columns : List V) → ArePart items first m all columns → AreColumns (λ c. c) n (entries_in_column s) all
-  → first + m ≤ n →
+    (columns : List V) → ArePart items first m all columns → AreColumns (λ c. c) n (entries_in_column s) all
+    → first + m ≤ n →
     AreColumns items (length columns) (λ k. entries_in_column s (first + k)) columns
 part_columns items s n first m all columns p a within =
     let size = p.count in

@@ -54,7 +54,7 @@ use Rattle.row_scaling.specs.declared.row.Tie.{Tie}
 -- The linear program of a linear program, row by row.
 
 rows_there : (p i : ℕ) (bs : List Form) (ss : List Interval) (b : Form) (s : Interval) (r : Row) → i < length bs
-  → length ss ≡ length bs → b ≡ get_or bs i b → s ≡ get_or ss i s → get_or (rows_from p bs ss) i r ≡ row_for (p + i) b s
+    → length ss ≡ length bs → b ≡ get_or bs i b → s ≡ get_or ss i s → get_or (rows_from p bs ss) i r ≡ row_for (p + i) b s
 rows_there p zero (x ∷ bs) (y ∷ ss) b s r h n e f = ap (λ k. row_for k x y) (omega arith) ∙ ap₂ (row_for (p + 0)) (sym e) (sym f)
 rows_there p (suc i) (x ∷ bs) (y ∷ ss) b s r h n e f = rows_there (suc p) i bs ss b s r (omega (arith, h)) (omega (arith, n)) e f ∙ ap (λ k. row_for k b s) (omega arith)
 rows_there p i bs ss b s r h n e f = absurd (omega (arith, h, n))
@@ -107,7 +107,7 @@ scaled_fits f i (Some r) h = λ t. h.1.fits
 
 -- ---- rows one by one
 pub row_fault : (f : Linear) (i : ℕ) (stop : Stop ScaleFault) → ((k : ℕ) → k < i → ExportFits f k)
-  → IfFault stop (λ fault. (fault ≡ RowTooWide i) × ¬ ExportFits f i) → IfFault stop (λ fault. HasScaleFault f fault)
+    → IfFault stop (λ fault. (fault ≡ RowTooWide i) × ¬ ExportFits f i) → IfFault stop (λ fault. HasScaleFault f fault)
 row_fault f i (Fault x) before h = subst (HasScaleFault f) (sym h.0) (record { before = before; wide = h.1 })
 row_fault f i Memory before h = tt
 
@@ -118,7 +118,7 @@ pub record AreFirstRows (l : LinearValue) (rows : List (Option FactoredRow)) (i 
   pub few : row_term_count rows + body_term_count (drop i l.bodies) ≤ body_term_count l.bodies
 
 pub one_row_more : (l : LinearValue) (rows new : List (Option FactoredRow)) (i : ℕ) (o : Option FactoredRow)
-  → AreFirstRows l rows i → i < length l.bodies → new ≡ rows ++ o ∷ [] → IsScaledAt (linear_value l) i o →
+    → AreFirstRows l rows i → i < length l.bodies → new ≡ rows ++ o ∷ [] → IsScaledAt (linear_value l) i o →
     ((d : Form) → term_count_of o ≤ length (form_terms (get_or l.bodies i d))) → AreFirstRows l new (i + 1)
 one_row_more l rows new i o a h e s few =
     let d = get_or l.bodies i l.objective in
@@ -150,7 +150,7 @@ all_rows l rows i is a e = record { count = a.count ∙ e ∙ sym (row_count l i
 -- An objective's numbers, by its coefficients and by its terms.
 
 pub both_wide : (b : Form) (r : Result TiedObjective (Stop Wide)) → ¬ All (NumberFits one_ℚ) (numbers_of b)
-  → IfErr r (λ stop. IfFault stop (λ w. ¬ AreTiedFit b)) → IfErr r (λ stop. IfFault stop (λ w. IsTooWide b))
+    → IfErr r (λ stop. IfFault stop (λ w. ¬ AreTiedFit b)) → IfErr r (λ stop. IfFault stop (λ w. IsTooWide b))
 both_wide b (Ok x) tied h = h
 both_wide b (Err (Fault w)) tied h = record { tied = tied; wide = h }
 both_wide b (Err Memory) tied h = tt
@@ -161,8 +161,8 @@ as_one x h = record { frac = ap fits (one-*ℚ (frac_value x)) ∙ frac_fits_lem
 all_as_one : (ts : List Term) → All FitsDec (coefficients_in ts) → All (NumberFits one_ℚ) (coefficients_in ts)
 all_as_one [] h = All-nil (NumberFits one_ℚ)
 all_as_one (t ∷ ts) h = All-cons (NumberFits one_ℚ) (frac_value t.1) (coefficients_in ts)
-  (as_one t.1 (All-head FitsDec (frac_value t.1) (coefficients_in ts) h))
-  (all_as_one ts (All-tail FitsDec (frac_value t.1) (coefficients_in ts) h))
+    (as_one t.1 (All-head FitsDec (frac_value t.1) (coefficients_in ts) h))
+    (all_as_one ts (All-tail FitsDec (frac_value t.1) (coefficients_in ts) h))
 
 of_one : (x : ℚ) → NumberFits one_ℚ x → FitsDec x
 of_one x h = subst FitsDec (one-*ℚ x) h.dec
@@ -188,8 +188,8 @@ module _ (n : ℕ) (b : Form) (up : AreAscending 0 (form_terms b)) (below : AreB
   decimal_to h =
       let all = to FitsDec h in
       All-cons (NumberFits one_ℚ) c (coefficients_in (form_terms b))
-        (as_one (kept_constant b.kept) (All-head FitsDec c (coefficients_in (form_terms b)) all))
-        (all_as_one (form_terms b) (All-tail FitsDec c (coefficients_in (form_terms b)) all))
+      (as_one (kept_constant b.kept) (All-head FitsDec c (coefficients_in (form_terms b)) all))
+      (all_as_one (form_terms b) (All-tail FitsDec c (coefficients_in (form_terms b)) all))
 
   decimal_from : All (NumberFits one_ℚ) (numbers_of b) → All FitsDec (objective_numbers n (linear_form b))
   decimal_from h = from FitsDec (subst FitsDec zero_decimal zero_fits) (all_map (numbers_of b) of_one h)
@@ -204,8 +204,8 @@ module _ (n : ℕ) (b : Form) (up : AreAscending 0 (form_terms b)) (below : AreB
   tied_from : (g : ℕ) → least_factor (numbers_of b) ≡ g → AreTiedFit b → All (ScaledFits g) (objective_numbers n (linear_form b))
   tied_from g e h =
       all_map (objective_numbers n (linear_form b)) (scaled_of g)
-        (from (NumberFits (whole (pos g))) (zero_number (whole (pos g)))
-          (subst (λ k. All (NumberFits (whole (pos k))) (numbers_of b)) e h.numbers))
+      (from (NumberFits (whole (pos g))) (zero_number (whole (pos g)))
+      (subst (λ k. All (NumberFits (whole (pos k))) (numbers_of b)) e h.numbers))
 
 -- ---- the objective of a linear program
 module _ (l : LinearValue) (is : IsLinear l) (up : AreAscending 0 (form_terms l.objective)) where
@@ -241,16 +241,30 @@ pub times_all : (q : ℚ) (b : Form) (o : ScaledObjective) → IsObjectiveTimes 
 times_all q b o h = All-cons (NumberFits q) (form_line b).constant (coefficients_in (form_terms b)) h.constant (times_fit q (form_terms b) o.terms h.terms)
 
 pub plain_as : (s : ScaledValue) → s.tie ≡ None → scaled_as s
-  ≡ record { rows = exported_from 0 s.rows; objective = form_of s.objective; variables =
-    variables_from 0 s.bounds s.kinds; maximise = s.maximise }
+    ≡ record {
+      rows = exported_from 0 s.rows;
+      objective = form_of s.objective;
+      variables =
+          variables_from 0 s.bounds s.kinds;
+      maximise = s.maximise;
+    }
 unfolding scaled_as
 plain_as s e =
-    ap (λ o. let p : ScaledProgram = record { rows = exported_from 0 s.rows ++ tied_rows o s; objective =
-          written_form o s; variables = variables_from 0 s.bounds s.kinds ++ tied_variables o; maximise = s.maximise }
-        in p) e
-    ∙ ap₂ (λ rows vs. let p : ScaledProgram = record { rows = rows; objective = form_of s.objective; variables = vs;
-          maximise = s.maximise } in p) (append-nil (exported_from 0 s.rows))
-      (append-nil (variables_from 0 s.bounds s.kinds))
+    ap (λ o. let p : ScaledProgram = record {
+      rows = exported_from 0 s.rows ++ tied_rows o s;
+      objective =
+          written_form o s;
+      variables = variables_from 0 s.bounds s.kinds ++ tied_variables o;
+      maximise = s.maximise;
+    }
+    in p) e
+    ∙ ap₂ (λ rows vs. let p : ScaledProgram = record {
+      rows = rows;
+      objective = form_of s.objective;
+      variables = vs;
+      maximise = s.maximise;
+    } in p) (append-nil (exported_from 0 s.rows))
+    (append-nil (variables_from 0 s.bounds s.kinds))
 
 one_coefficient : (n k j : ℕ) (objective form : LinearForm) → form.coefficient j ≡ whole (pos k) *ℚ objective.coefficient j →
     then_at n (neg_ℚ (whole (pos k))) form.coefficient j ≡ whole (pos k) *ℚ then_at n (neg_ℚ one_ℚ) objective.coefficient j
@@ -279,8 +293,8 @@ IsRowAt factor k r None = ¬ IsTrue (is_exported r)
 IsRowAt factor k r (Some x) = IsTrue (is_exported r) × (scaled_row_of k x.row ≡ scaled_row (factor k) r)
 
 same_from : (factor : ℕ → ℕ) (p : ℕ) (os : List (Option FactoredRow)) (rs : List Row) → length os ≡ length rs
-  → ((i k : ℕ) → k ≡ p + i → i < length os → IsRowAt factor k (get_or rs i no_row) (get_or os i None))
-  → exported_from p os ≡ exported_rows factor p rs
+    → ((i k : ℕ) → k ≡ p + i → i < length os → IsRowAt factor k (get_or rs i no_row) (get_or os i None))
+    → exported_from p os ≡ exported_rows factor p rs
 unfolding exported_rows
 same_from factor p [] [] n h = refl
 same_from factor p (None ∷ os) (r ∷ rs) n h =
@@ -320,7 +334,7 @@ module _ (f : Linear) (rows : List (Option FactoredRow)) (r : AreScaledRows f ro
 
   no_factors : (i : ℕ) → (IsTrue (is_exported (row_of_program f i)) → ⊥) → option_map (λ x. x.factor) (get_or rows i None) ≡ None
   no_factors i t = ⊎_elim (λ (h : i < length rows). no_factor i (get_or rows i None) (r.scaled i h) t)
-    (λ (h : length rows ≤ i). ap (option_map (λ x. x.factor)) (get_or_past rows i None h)) (cases_lt i (length rows))
+      (λ (h : length rows ≤ i). ap (option_map (λ x. x.factor)) (get_or_past rows i None h)) (cases_lt i (length rows))
 
 -- ---- the objective
 abbrev pub value_of : LinearValue → List (Option FactoredRow) → ScaledObjective → Option Tie → ScaledValue
@@ -330,7 +344,7 @@ abbrev parts_of : List (Option FactoredRow) → ScaledObjective → Option Tie �
 parts_of rows o t m bs ks = record { rows = rows; objective = o; tie = t; maximise = m; bounds = bs; kinds = ks }
 
 pub same_value_of : (l : LinearValue) (rows : List (Option FactoredRow)) (o : ScaledObjective) (t : Option Tie)
-  (m : Bool) (bs : List Interval) (ks : List Kind) → m ≡ l.maximise → bs ≡ l.bounds → ks ≡ l.kinds →
+    (m : Bool) (bs : List Interval) (ks : List Kind) → m ≡ l.maximise → bs ≡ l.bounds → ks ≡ l.kinds →
     parts_of rows o t m bs ks ≡ value_of l rows o t
 same_value_of l rows o t m bs ks e f g = λ i. record { rows = rows; objective = o; tie = t; maximise = e i; bounds = f i; kinds = g i }
 
@@ -402,8 +416,8 @@ module _ (l : LinearValue) (is : IsLinear l) (up : AreAscending 0 (form_terms l.
         (λ j. times_coefficients _ o h.times j ∙ ap (λ k. whole (pos k) *ℚ (form_line l.objective).coef j) (sym e))
 
     tied_export : (o : ScaledObjective) (t : Tie) → IsTiedTo l.objective o t
-      → scaled_as (value_of l rows o (Some t)) ≡ scaled_and_tied (linear_value l) (factor_of_row (linear_value l))
-      (factor_of_objective (linear_value l))
+        → scaled_as (value_of l rows o (Some t)) ≡ scaled_and_tied (linear_value l) (factor_of_row (linear_value l))
+        (factor_of_objective (linear_value l))
     unfolding scaled_as linear_value
     tied_export o t h =
         let rows_same = same_rows (linear_value l) rows r in

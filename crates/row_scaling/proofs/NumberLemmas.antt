@@ -55,13 +55,13 @@ factor_of_fewer xs ys =
 
 -- one number more
 pub factor_of_more : (xs : List ℚ) (x : ℚ) (m : ℕ) → least_factor xs ∣ m → cofactor_of x.bottom ∣ m
-  → ((k : ℕ) → least_factor xs ∣ k → cofactor_of x.bottom ∣ k → m ∣ k) → m ≡ least_factor (xs ++ x ∷ [])
+    → ((k : ℕ) → least_factor xs ∣ k → cofactor_of x.bottom ∣ k → m ∣ k) → m ≡ least_factor (xs ++ x ∷ [])
 factor_of_more xs x m first second least =
     let k = least_factor (xs ++ x ∷ []) in
     dvd_antisymm
     (least k (factor_of_fewer xs (x ∷ [])) ((finite_multiple k x).0
-        (subst (Finite k) (get_or-append_seam xs x [] x) ((factor_multiples (xs ++ x ∷ []) k).1 (dvd_refl k) (length xs)
-            x (omega (arith, length-append xs (x ∷ [])))))))
+    (subst (Finite k) (get_or-append_seam xs x [] x) ((factor_multiples (xs ++ x ∷ []) k).1 (dvd_refl k) (length xs)
+    x (omega (arith, length-append xs (x ∷ [])))))))
     ((factor_multiples (xs ++ x ∷ []) m).0 (All-push (Finite m) xs x ((factor_multiples xs m).1 first) ((finite_multiple m x).1 second)))
 
 pub one_more : (xs : List ℚ) (x : ℚ) → least_multiple (least_factor xs) (cofactor_of x.bottom) ≡ least_factor (xs ++ x ∷ [])
@@ -94,8 +94,8 @@ pub with_none : (z : ℤ) (x : Frac) → pos 0 <ℤ z → cofactor_of (frac_valu
 with_none z x h none =
     let one : 1 ≡ cofactor_of (frac_value x).bottom = sym none in
     back_to z _ h (same_lcm (unsigned_abs z) (cofactor_of (frac_value x).bottom) (unsigned_abs z) (omega (arith, one))
-        (subst (λ n. IsLcm (unsigned_abs z) n (unsigned_abs z)) one
-          (dvd_refl (unsigned_abs z), one_dvd (unsigned_abs z), λ k p q. p)))
+    (subst (λ n. IsLcm (unsigned_abs z) n (unsigned_abs z)) one
+    (dvd_refl (unsigned_abs z), one_dvd (unsigned_abs z), λ k p q. p)))
 
 pub with_one : (z : ℤ) (x : Frac) (c : ℤ) → pos 0 <ℤ z → c ≡ pos 1 → IsCofactor (frac_value x).bottom (unsigned_abs c) → z ≡ pos (least_multiple (unsigned_abs z) (cofactor_of (frac_value x).bottom))
 with_one z x c h e is = with_none z x h (sym (cofactor_is x (unsigned_abs c) is) ∙ ap unsigned_abs e)
@@ -136,8 +136,8 @@ running_wide k n t ts rest h is e wide =
 pub next_above : (z f : ℤ) (x : Frac) → pos 0 <ℤ f → z ≡ pos (least_multiple (unsigned_abs f) (cofactor_of (frac_value x).bottom)) → pos 0 <ℤ z
 next_above z f x h e =
     let some : 0 < least_multiple (unsigned_abs f) (cofactor_of (frac_value x).bottom) =
-      lcm_above (unsigned_abs f) (cofactor_of (frac_value x).bottom) (omega (arith, ints, h))
-      (cofactor_above (frac_value x).bottom (frac_value x).above) in
+    lcm_above (unsigned_abs f) (cofactor_of (frac_value x).bottom) (omega (arith, ints, h))
+    (cofactor_above (frac_value x).bottom (frac_value x).above) in
     omega (arith, ints, e, some)
 
 pub size_above : (f : ℤ) → pos 0 <ℤ f → 0 < unsigned_abs f
@@ -172,7 +172,7 @@ short_value x k e none is =
     turned k b = omega arith
 
 pub short_is : (o : Option Dec) (x : ℚ) (m e f : ℤ) (k : ℕ) → m ≡ x.top *ℤ pos k → f ≡ e → above_zero e ≡ 0
-  → x.bottom * k ≡ 10 ^ below_zero e → IsDecOf o (decimal_value m f) → IfSome o (λ d. dec_value d ≡ x)
+    → x.bottom * k ≡ 10 ^ below_zero e → IsDecOf o (decimal_value m f) → IfSome o (λ d. dec_value d ≡ x)
 short_is None x m e f k top same places whole h = tt
 short_is (Some d) x m e f k top same places whole h = h ∙ ap₂ decimal_value top same ∙ short_value x k e places whole
 
@@ -188,7 +188,7 @@ whole_times q x k one top =
     turned k b = omega arith
 
 pub whole_product_is : (o : Option Dec) (q x : ℚ) (k : ℕ) (m e : ℤ) → q.bottom ≡ 1 → q.top ≡ pos (x.bottom * k)
-  → m ≡ x.top *ℤ pos k → unsigned_abs m < 2 ^ 127 → e ≡ pos 0 → IsDecOf o (decimal_value m e) →
+    → m ≡ x.top *ℤ pos k → unsigned_abs m < 2 ^ 127 → e ≡ pos 0 → IsDecOf o (decimal_value m e) →
     IfSome o (λ d. NumberFits q x × (dec_value d ≡ q *ℚ x))
 whole_product_is None q x k m e one top same small none h = tt
 whole_product_is (Some d) q x k m e one top same small none h =
@@ -240,7 +240,7 @@ plain_terms q e (d ∷ ds) (t ∷ ts) h =
 plain_terms q e ds ts h = absurd h
 
 pub plain_if_some : {X : Type 0} (items : X → List TermOf) (q : ℚ) → q ≡ one_ℚ → (ts : List Term) (o : Option X)
-  → IfSome o (λ x. AreDecimalsOf (items x) ts) → IfSome o (λ x. AreTermsTimes q ts (items x))
+    → IfSome o (λ x. AreDecimalsOf (items x) ts) → IfSome o (λ x. AreTermsTimes q ts (items x))
 plain_if_some items q e ts None h = tt
 plain_if_some items q e ts (Some x) h = plain_terms q e (items x) ts h
 

@@ -52,7 +52,7 @@ factor_with_side xs None = ap least_factor (sym (append-nil xs))
 factor_with_side xs (Some d) = sym (same_multiple (least_factor xs) _ (decimal_cofactor d (dec_value d) refl)) ∙ one_more xs (dec_value d)
 
 module _ (n i : ℕ) (b : Form) (s : Interval) (up : AreAscending 0 (form_terms b)) (sided : IsTrue (is_sided s))
-  (ds : List TermOf) (are : AreDecimalsOf ds (form_terms b)) (none : (form_line b).constant ≡ zero_ℚ)
+    (ds : List TermOf) (are : AreDecimalsOf ds (form_terms b)) (none : (form_line b).constant ≡ zero_ℚ)
     (side : Interval) (same : side ≡ s) (range : Option Dec) (plain : ArePlain (side_value s.lo) (side_value s.hi) range) where
   abbrev lo : Option ℚ
   lo = side_value s.lo

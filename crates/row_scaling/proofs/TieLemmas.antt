@@ -126,13 +126,13 @@ taken : {A : Type 0} (n : ℕ) (xs all ys : List A) → n ≡ length xs → all 
 taken n xs all ys e same = ap₂ take e same ∙ take-append_seam xs ys
 
 module _ (p : Parts) (rows : List (Option FactoredRow)) (o : ScaledObjective) (bs : List Interval) (ks : List Kind)
-  (constraints : p.constraints ≡ length rows) (variables : p.variables ≡ length bs) (objective : p.objective ≡ o) where
+    (constraints : p.constraints ≡ length rows) (variables : p.variables ≡ length bs) (objective : p.objective ≡ o) where
   abbrev the_value : Option Tie → ScaledValue
   the_value t = record { rows = rows; objective = o; tie = t; maximise = p.maximise; bounds = bs; kinds = ks }
 
   value_is : (t : Option Tie) → p.tie ≡ t → (rs : List (Option FactoredRow)) (cs : List Interval) (js : List Kind)
-    → length ks ≡ length bs → p.rows.items ≡ rows ++ rs → p.bounds.items ≡ bs ++ cs → p.kinds.items ≡ ks ++ js
-    → value_of p ≡ the_value t
+      → length ks ≡ length bs → p.rows.items ≡ rows ++ rs → p.bounds.items ≡ bs ++ cs → p.kinds.items ≡ ks ++ js
+      → value_of p ≡ the_value t
   value_is t tie rs cs js same by_row by_column kind_by_column =
       let r = taken p.constraints rows p.rows.items rs constraints by_row in
       let b = taken p.variables bs p.bounds.items cs variables by_column in
@@ -169,8 +169,8 @@ module _ (p : Parts) (rows : List (Option FactoredRow)) (o : ScaledObjective) (b
       subst (λ t. HaveValue p (the_value t)) (sym none) (no_tie_kept (subst (λ t. IsScaled (the_value t)) none h) tie by_row by_column kind_by_column column)
 
   pub tied_kept : (t : Tie) (r : FactoredRow) (z : ScaledObjective) → IsScaled (the_value (Some t)) → p.tie ≡ Some t
-    → IsTieRow (length bs) o t r → IsColumn (length bs) z → p.rows.items ≡ rows ++ Some r ∷ []
-    → p.bounds.items ≡ bs ++ no_sides ∷ [] → p.kinds.items ≡ ks ++ Continuous ∷ [] →
+      → IsTieRow (length bs) o t r → IsColumn (length bs) z → p.rows.items ≡ rows ++ Some r ∷ []
+      → p.bounds.items ≡ bs ++ no_sides ∷ [] → p.kinds.items ≡ ks ++ Continuous ∷ [] →
       p.column ≡ Some z → HaveValue p (the_value (Some t))
   tied_kept t r z h tie row column by_row by_column kind_by_column alone =
       record {

@@ -23,8 +23,8 @@ zero_of_value m e h =
     let tops : m *ℤ pos (10 ^ above_zero e) *ℤ pos 1 ≡ pos 0 *ℤ pos (10 ^ below_zero e) =
     equal_tops (subst (λ z. HasValue z (m *ℤ pos (10 ^ above_zero e)) (10 ^ below_zero e)) h (decimal_value_lem m e)) (whole_value (pos 0)) in
     times_cancel m (pos 0) (10 ^ above_zero e) (ten-pos (above_zero e))
-      (ap (λ k. m *ℤ pos k) (sym (mul-one (10 ^ above_zero e))) ∙ sym (times_twice m (10 ^ above_zero e) 1) ∙ tops
-        ∙ zero_times (pos (10 ^ below_zero e)) ∙ sym (zero_times (pos (10 ^ above_zero e))))
+    (ap (λ k. m *ℤ pos k) (sym (mul-one (10 ^ above_zero e))) ∙ sym (times_twice m (10 ^ above_zero e) 1) ∙ tops
+    ∙ zero_times (pos (10 ^ below_zero e)) ∙ sym (zero_times (pos (10 ^ above_zero e))))
 
 -- the number itself, where it is not 0
 pub none_at_zero : (d : Dec) → d.m ≡ pos 0 → None ≡ nonzero (dec_value d)

@@ -27,7 +27,7 @@ same_sense f factor = sense_same (scaled_by f factor)
 -- ---- a tied objective
 module _ (f : Linear) (factor : ℕ → ℕ) (g : ℕ) where
   pub tied_points : (xs : List ℚ) (z : ℚ) → IsLinear f → ((i : ℕ) → 0 < factor i) → 0 < g → length xs ≡ variable_count f
-    → IsMpsFeasible (tied_program f factor g) (xs ++ z ∷ []) ↔ (IsFeasible f xs × (z ≡ objective_value f xs))
+      → IsMpsFeasible (tied_program f factor g) (xs ++ z ∷ []) ↔ (IsFeasible f xs × (z ≡ objective_value f xs))
   tied_points xs z linear above some count =
       let written = feasible_same (scaled_and_tied f factor g) (xs ++ z ∷ []) (tied_ordered f factor g linear above some) in
       let scaled = scaled_tied_points f factor g xs z linear above some count in

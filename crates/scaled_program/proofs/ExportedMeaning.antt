@@ -22,12 +22,19 @@ module _ (s : ScaledProgram) where
   columns_count = columns_length s.objective s.rows 0 s.variables
 
   the_column : (j : ℕ) → j < length s.variables → column_at (mps_of s) j
-    ≡ record { name = (get_or s.variables j no_variable).name; marked = (get_or s.variables j no_variable).whole;
-      entries = column_entries s.objective s.rows j }
+      ≡ record {
+        name = (get_or s.variables j no_variable).name;
+        marked = (get_or s.variables j no_variable).whole;
+        entries = column_entries s.objective s.rows j;
+      }
   unfolding mps_of
   the_column j h = column_there s.objective s.rows 0 j s.variables no_variable h
-    ∙ ap (λ i. record { name = (get_or s.variables j no_variable).name; marked =
-        (get_or s.variables j no_variable).whole; entries = column_entries s.objective s.rows i }) (omega arith)
+      ∙ ap (λ i. record {
+        name = (get_or s.variables j no_variable).name;
+        marked =
+            (get_or s.variables j no_variable).whole;
+        entries = column_entries s.objective s.rows i;
+      }) (omega arith)
 
   -- the sum of a row over the columns, by its coefficient in each
   by_columns : (xs : List ℚ) (i : ℕ) (c : ℕ → ℚ) → ((j : ℕ) (x : ℚ) → part_of_row i (column_entries s.objective s.rows j) x ≡ c j *ℚ x) →
@@ -46,19 +53,19 @@ module _ (s : ScaledProgram) where
   row_sum xs k h = by_columns xs (suc k) (get_or s.rows k no_scaled_row).coefficient (λ j x. column_row s.objective s.rows j x k no_scaled_row h)
 
   pub row_sides_are : (k : ℕ) → k < length s.rows → AreOrdered (get_or s.rows k no_scaled_row).side.lower
-    (get_or s.rows k no_scaled_row).side.upper → row_interval (mps_of s) (suc k) ≡ (get_or s.rows k no_scaled_row).side
+      (get_or s.rows k no_scaled_row).side.upper → row_interval (mps_of s) (suc k) ≡ (get_or s.rows k no_scaled_row).side
   unfolding mps_of
   row_sides_are k h o =
       let r = get_or s.rows k no_scaled_row in
       let g = λ (r : ScaledRow). nonzero (rhs_of r.side.lower r.side.upper) in
       let kind = ap (λ r. r.kind) (get_or-map mps_row s.rows k no_scaled_row) in
       let rhs = ap or_zero (at_row_other (suc k) 0 (nonzero (neg_ℚ s.objective.constant)) (entries_of g 1 s.rows)
-          (λ e. omega arith) ∙ at_row_there g s.rows (suc k) 1 k no_scaled_row (omega arith) h)
-        ∙ nonzero_back (rhs_of r.side.lower r.side.upper) in
+      (λ e. omega arith) ∙ at_row_there g s.rows (suc k) 1 k no_scaled_row (omega arith) h)
+      ∙ nonzero_back (rhs_of r.side.lower r.side.upper) in
       let range = at_row_there (λ r. range_of r.side.lower r.side.upper) s.rows (suc k) 1 k no_scaled_row (omega arith) h in
       ap (λ t. row_sides t (or_zero (at_row (suc k) (with_entry 0 (nonzero (neg_ℚ s.objective.constant))
-                (entries_of g 1 s.rows)))) (at_row (suc k) (entries_of (λ r. range_of r.side.lower r.side.upper) 1
-              s.rows))) kind
+      (entries_of g 1 s.rows)))) (at_row (suc k) (entries_of (λ r. range_of r.side.lower r.side.upper) 1
+      s.rows))) kind
       ∙ ap₂ (row_sides (kind_of_row r.side.lower r.side.upper)) rhs range
       ∙ row_sides_back r.side.lower r.side.upper o
 
@@ -67,7 +74,7 @@ module _ (s : ScaledProgram) where
   objective_is xs =
       let g = λ (r : ScaledRow). nonzero (rhs_of r.side.lower r.side.upper) in
       let rhs = ap or_zero (at_row_same 0 0 (nonzero (neg_ℚ s.objective.constant)) (entries_of g 1 s.rows) refl
-          (at_row_before g s.rows 0 1 (omega arith))) ∙ nonzero_back (neg_ℚ s.objective.constant) in
+      (at_row_before g s.rows 0 1 (omega arith))) ∙ nonzero_back (neg_ℚ s.objective.constant) in
       ap₂ (λ v b. v -ℚ b) (objective_sum xs) rhs
       ∙ -ℚ_lem (linear_part s.objective.coefficient (length s.variables) xs) (neg_ℚ s.objective.constant)
       ∙ ap (λ v. linear_part s.objective.coefficient (length s.variables) xs +ℚ v) (neg-neg s.objective.constant)

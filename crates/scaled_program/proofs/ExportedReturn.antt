@@ -16,7 +16,7 @@ law_of_return f factor s w i xs h e =
     scaled_law f factor s w i xs h e ∙ ap (λ t. s *ℚ w *ℚ t) (sym (row_sum (scaled_by f factor) xs (place_of f.rows i) (placed f factor i h e)))
 
 pub law_of_return_tied : (f : Linear) (factor : ℕ → ℕ) (g : ℕ) (s w : ℚ) (i : ℕ) (xs : List ℚ) (z : ℚ) → IsLinear f
-  → length xs ≡ variable_count f → i < length f.rows → IsTrue (is_exported (row_at f i)) →
+    → length xs ≡ variable_count f → i < length f.rows → IsTrue (is_exported (row_at f i)) →
     dual_of s w (factor i) *ℚ (form_value (row_at f i).body (variable_count f) xs -ℚ form_value (row_at f i).body (variable_count f) [])
     ≡ s *ℚ w *ℚ row_value (tied_program f factor g) (xs ++ z ∷ []) (program_row f i)
 law_of_return_tied f factor g s w i xs z linear count h e =

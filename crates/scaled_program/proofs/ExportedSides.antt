@@ -38,8 +38,8 @@ row_sides_back (Some l) (Some u) h =
     ⊎_elim
     (λ (z : (nonzero (u -ℚ l) ≡ None) × (u -ℚ l ≡ zero_ℚ)). ap (λ o. row_sides (two_sided o) l o) z.0 ∙ ap (λ v. sides (Some l) (Some v)) (difference_zero l u z.1))
     (λ (s : nonzero (u -ℚ l) ≡ Some (u -ℚ l)). ap (λ o. row_sides (two_sided o) l o) s
-      ∙ ap (λ v. sides (Some l) (Some v)) (ap (λ v. l +ℚ v) (size_above (u -ℚ l) (difference_above l u h))
-        ∙ there_and_back l u))
+    ∙ ap (λ v. sides (Some l) (Some v)) (ap (λ v. l +ℚ v) (size_above (u -ℚ l) (difference_above l u h))
+    ∙ there_and_back l u))
     (nonzero_cases (u -ℚ l))
 
 -- ---- columns
@@ -65,8 +65,8 @@ skip_all p j (Some l) (Some u) rest e = by_range (nonzero (u -ℚ l))
 
 -- they set both of its own sides
 two_kept : (j : ℕ) (k n : BoundKind) (v w : ℚ) (rest : List (Bound ℚ))
-  → sides_set j (bound_record k j v ∷ bound_record n j w ∷ rest)
-  ≡ first_sides (sets k v) (first_sides (sets n w) (sides_set j rest))
+    → sides_set j (bound_record k j v ∷ bound_record n j w ∷ rest)
+    ≡ first_sides (sets k v) (first_sides (sets n w) (sides_set j rest))
 two_kept j k n v w rest = keep j k v (bound_record n j w ∷ rest) ∙ ap (first_sides (sets k v)) (keep j n w rest)
 
 own_sides : (j : ℕ) (l u : Option ℚ) (rest : List (Bound ℚ)) → interval_set (sides_set j (column_bounds j l u ++ rest)) ≡ sides l u
@@ -76,8 +76,8 @@ own_sides j (Some l) None rest = ap interval_set (two_kept j Lo Pl l zero_ℚ re
 own_sides j (Some l) (Some u) rest =
     ⊎_elim
     (λ (z : (nonzero (u -ℚ l) ≡ None) × (u -ℚ l ≡ zero_ℚ)). ap
-      (λ o. interval_set (sides_set j (fixed_or_both j l u o ++ rest))) z.0 ∙ ap interval_set (keep j Fx l rest)
-      ∙ ap (λ v. sides (Some l) (Some v)) (difference_zero l u z.1))
+    (λ o. interval_set (sides_set j (fixed_or_both j l u o ++ rest))) z.0 ∙ ap interval_set (keep j Fx l rest)
+    ∙ ap (λ v. sides (Some l) (Some v)) (difference_zero l u z.1))
     (λ (s : nonzero (u -ℚ l) ≡ Some (u -ℚ l)). ap (λ o. interval_set (sides_set j (fixed_or_both j l u o ++ rest))) s ∙ ap interval_set (two_kept j Lo Up l u rest))
     (nonzero_cases (u -ℚ l))
 

@@ -26,11 +26,11 @@ stands factor j (r ∷ rs) zero h e =
 stands factor j (r ∷ rs) (suc i) h e =
     let ih = stands factor (suc j) rs i (omega arith) e in
     let there : get_or (exported_rows factor (suc j) rs) (place_of rs i) no_scaled_row
-      ≡ scaled_row (factor (j + suc i)) (get_or rs i no_row) =
-      ih.there ∙ ap (λ k. scaled_row (factor k) (get_or rs i no_row)) (omega arith) in
+    ≡ scaled_row (factor (j + suc i)) (get_or rs i no_row) =
+    ih.there ∙ ap (λ k. scaled_row (factor k) (get_or rs i no_row)) (omega arith) in
     elim (is_exported r) as (λ b. StandsAt (cond b (scaled_row (factor j) r ∷ exported_rows factor (suc j) rs)
-          (exported_rows factor (suc j) rs)) (cond b (suc (place_of rs i)) (place_of rs i))
-        (scaled_row (factor (j + suc i)) (get_or rs i no_row)))
+    (exported_rows factor (suc j) rs)) (cond b (suc (place_of rs i)) (place_of rs i))
+    (scaled_row (factor (j + suc i)) (get_or rs i no_row)))
     [ true ↦ record { inside = omega (arith, ih.inside); there = there } | false ↦ record { inside = ih.inside; there = there } ]
 
 -- the body less its value at the point 0
@@ -74,7 +74,7 @@ law_of_return f factor s w i xs h e =
     ap (λ t. dual_of s w (factor i) *ℚ t) (body_less r.body n xs) ∙ regroup s w k v ∙ ap (λ t. s *ℚ w *ℚ t) (sym row)
 
 pub law_of_return_tied : (f : Linear) (factor : ℕ → ℕ) (g : ℕ) (s w : ℚ) (i : ℕ) (xs : List ℚ) (z : ℚ) → IsLinear f
-  → length xs ≡ variable_count f → i < length f.rows → IsTrue (is_exported (row_at f i)) →
+    → length xs ≡ variable_count f → i < length f.rows → IsTrue (is_exported (row_at f i)) →
     dual_of s w (factor i) *ℚ (form_value (row_at f i).body (variable_count f) xs -ℚ form_value (row_at f i).body (variable_count f) [])
     ≡ s *ℚ w *ℚ scaled_row_value (scaled_and_tied f factor g) (xs ++ z ∷ []) (place_of f.rows i)
 law_of_return_tied f factor g s w i xs z linear count h e =
@@ -86,11 +86,11 @@ law_of_return_tied f factor g s w i xs z linear count h e =
     let first = exported_rows factor 0 f.rows in
     let t = scaled_row g (tie n f.objective) in
     let row = ap (λ (t : ScaledRow). linear_part t.coefficient (length (f.variables ++ z_variable ∷ [])) (xs ++ z ∷ []))
-      (get_or-append first (t ∷ []) no_scaled_row (place_of f.rows i) at.inside ∙ at.there
-        ∙ ap (λ t. scaled_row (factor t) r) (omega arith))
+    (get_or-append first (t ∷ []) no_scaled_row (place_of f.rows i) at.inside ∙ at.there
+    ∙ ap (λ t. scaled_row (factor t) r) (omega arith))
     ∙ linear_scaled k r.body.coefficient (length (f.variables ++ z_variable ∷ [])) (xs ++ z ∷ [])
     ∙ ap (λ m. k *ℚ linear_part r.body.coefficient m (xs ++ z ∷ [])) (one_more f.variables z_variable)
     ∙ ap (λ v. k *ℚ v) (linear_more n xs z count r.body.coefficient r.body.coefficient (λ j h. refl)
-        ∙ ap (λ c. v +ℚ c *ℚ z) (linear.within i no_row h n (omega arith)) ∙ ap (λ c. v +ℚ c) (zero-*ℚ z) ∙ +ℚ_zero v)
-      in
+    ∙ ap (λ c. v +ℚ c *ℚ z) (linear.within i no_row h n (omega arith)) ∙ ap (λ c. v +ℚ c) (zero-*ℚ z) ∙ +ℚ_zero v)
+    in
     ap (λ t. dual_of s w (factor i) *ℚ t) (body_less r.body n xs) ∙ regroup s w k v ∙ ap (λ t. s *ℚ w *ℚ t) (sym row)

@@ -74,11 +74,16 @@ row_same k n xs r h =
     let v = linear_part r.body.coefficient n xs in
     let lower = lower_same q (factor_above k h) (factor_some k h) r.body.constant v r.side.lower in
     let upper = upper_same q (factor_above k h) (factor_some k h) r.body.constant v r.side.upper in (
-      λ s. record { above = lower.0 (subst (λ t. AtLeast (scaled_side q r.body.constant r.side.lower) t) e s.above);
-          below = upper.0 (subst (λ t. AtMost (scaled_side q r.body.constant r.side.upper) t) e s.below) },
-      λ s. record { above = subst (λ t. AtLeast (scaled_side q r.body.constant r.side.lower) t) (sym e)
-          (lower.1 s.above); below = subst (λ t. AtMost (scaled_side q r.body.constant r.side.upper) t) (sym e)
-          (upper.1 s.below) },
+      λ s. record {
+        above = lower.0 (subst (λ t. AtLeast (scaled_side q r.body.constant r.side.lower) t) e s.above);
+        below = upper.0 (subst (λ t. AtMost (scaled_side q r.body.constant r.side.upper) t) e s.below);
+      },
+      λ s. record {
+        above = subst (λ t. AtLeast (scaled_side q r.body.constant r.side.lower) t) (sym e)
+            (lower.1 s.above);
+        below = subst (λ t. AtMost (scaled_side q r.body.constant r.side.upper) t) (sym e)
+            (upper.1 s.below);
+      },
     )
 
 -- a row without sides holds everywhere
@@ -99,10 +104,10 @@ exported_same factor n xs i (r ∷ rs) h =
       | true ↦ λ e. (
         λ s. All-cons (RowHolds n xs) r rs ((row_same (factor i) n xs r (h i)).0
             (All-head (ScaledHolds n xs) (scaled_row (factor i) r) (exported_rows factor (suc i) rs) s))
-          (ih.0 (All-tail (ScaledHolds n xs) (scaled_row (factor i) r) (exported_rows factor (suc i) rs) s)),
+            (ih.0 (All-tail (ScaledHolds n xs) (scaled_row (factor i) r) (exported_rows factor (suc i) rs) s)),
         λ s. All-cons (ScaledHolds n xs) (scaled_row (factor i) r) (exported_rows factor (suc i) rs)
-          ((row_same (factor i) n xs r (h i)).1 (All-head (RowHolds n xs) r rs s))
-          (ih.1 (All-tail (RowHolds n xs) r rs s)),
+            ((row_same (factor i) n xs r (h i)).1 (All-head (RowHolds n xs) r rs s))
+            (ih.1 (All-tail (RowHolds n xs) r rs s)),
       )
       | false ↦ λ e.
           let free = no_sides r.side.lower r.side.upper (form_value r.body n xs) e in (

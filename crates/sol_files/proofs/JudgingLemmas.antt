@@ -28,8 +28,8 @@ is_number limit None e = absurd cc
 is_number limit (Some n) e = ltb-true n limit e
 
 pub judged : (s : Standing) (m : List Bool) (limit : ℕ) (whole_only : Bool) (count : ℕ) (words : Row)
-  → AreMarked s.sol m → limit ≡ index_limit s.sol → whole_only ≡ wants_whole (last_kind s.sol.suffixes)
-  → count ≡ s.value_count
+    → AreMarked s.sol m → limit ≡ index_limit s.sol → whole_only ≡ wants_whole (last_kind s.sol.suffixes)
+    → count ≡ s.value_count
     → first_reason (marked_value_tests limit whole_only m count words) ≡ first_reason (value_tests s words)
 judged s m limit whole_only count words h e f g =
     let value = dec_of (word_at words 1) in
@@ -46,6 +46,6 @@ judged_ok (Ok x) xs ys e h = sym e ∙ h
 judged_ok (Err stop) xs ys e h = tt
 
 pub judged_err : {A : Type 0} (r : Result A SolReason) (xs ys : Tests) → first_reason xs ≡ first_reason ys
-  → IfErr r (λ reason. first_reason xs ≡ Some (Here reason)) → IfErr r (λ reason. first_reason ys ≡ Some (Here reason))
+    → IfErr r (λ reason. first_reason xs ≡ Some (Here reason)) → IfErr r (λ reason. first_reason ys ≡ Some (Here reason))
 judged_err (Ok x) xs ys e h = tt
 judged_err (Err reason) xs ys e h = sym e ∙ h

@@ -60,8 +60,8 @@ both_false false b e f = refl
 
 -- a line more, where the message has room for it
 speaks_more : (message : List (List ℕ)) (held : Bool) (line : List ℕ) → Speaks message held → IsSaidLine line
-  → length message + cond held 1 0 < 65537 → (((length message + cond held 1 0) == 65536) && not (length line == 0))
-  ≡ false
+    → length message + cond held 1 0 < 65537 → (((length message + cond held 1 0) == 65536) && not (length line == 0))
+    ≡ false
     → Speaks (lines_with (message ++ held_lines held) line) (length line == 0)
 speaks_more message held line h one room test = by (length line == 0) refl
   where
@@ -86,23 +86,40 @@ kept_message s line text is h f = by (is_options line) refl
     by : (b : Bool) → is_options line ≡ b → Keeps (after_message s line)
     by true e =
         let room = h.said.room in
-        rw e (record { said = record { each = h.said.each; room = room; count = omega (arith, room) }; options =
-              h.options; n_con = h.n_con; n_var = h.n_var; objno = h.objno; rest =
-              (record { duals = h.rest.0.duals; primals = h.rest.0.primals }, h.rest.1) })
+        rw e (record {
+          said = record { each = h.said.each; room = room; count = omega (arith, room) };
+          options =
+              h.options;
+          n_con = h.n_con;
+          n_var = h.n_var;
+          objno = h.objno;
+          rest =
+              (record { duals = h.rest.0.duals; primals = h.rest.0.primals }, h.rest.1);
+        })
     by false e =
         let tests : first_reason (((true && (message_count (seen s) == 65537)) && true, IsLate)
-            ∷ (((message_count (seen s) == 65536) && true) && not (length line == 0), Here TooLarge) ∷ []) ≡ None =
-          rw (is, e) at f in
+        ∷ (((message_count (seen s) == 65536) && true) && not (length line == 0), Here TooLarge) ∷ []) ≡ None =
+        rw (is, e) at f in
         let one = fine_next ((true && (message_count (seen s) == 65537)) && true) IsLate _ tests in
         let two = fine_next (((message_count (seen s) == 65536) && true) && not (length line == 0)) (Here TooLarge) None one.1 in
         let count = h.said.count in
         let less = eqb-false (message_count (seen s)) 65537 (both_false (message_count (seen s) == 65537) true one.0 refl) in
         let said = speaks_more s.sol.message s.is_held_back line h.said (record { line_of_text = text; other = e })
-          (omega (arith, count, less)) (with_true (message_count (seen s) == 65536) (not (length line == 0)) two.0) in
-        let kept : KeepsAt Message (record s { is_held_back = length line == 0; sol =
-              record s.sol { message = lines_with (s.sol.message ++ held_lines s.is_held_back) line } }) =
-          record { said = said; options = h.options; n_con = h.n_con; n_var = h.n_var; objno = h.objno; rest =
-            (record { duals = h.rest.0.duals; primals = h.rest.0.primals }, h.rest.1) } in
+        (omega (arith, count, less)) (with_true (message_count (seen s) == 65536) (not (length line == 0)) two.0) in
+        let kept : KeepsAt Message (record s {
+          is_held_back = length line == 0;
+          sol =
+              record s.sol { message = lines_with (s.sol.message ++ held_lines s.is_held_back) line };
+        }) =
+        record {
+          said = said;
+          options = h.options;
+          n_con = h.n_con;
+          n_var = h.n_var;
+          objno = h.objno;
+          rest =
+              (record { duals = h.rest.0.duals; primals = h.rest.0.primals }, h.rest.1);
+        } in
         rw e (subst (λ a. KeepsAt a (record s { is_held_back = length line == 0; sol = record s.sol { message = lines_with (s.sol.message ++ held_lines s.is_held_back) line } })) (sym is) kept)
       where
         with_true : (a b : Bool) → ((a && true) && b) ≡ false → (a && b) ≡ false
@@ -112,7 +129,7 @@ kept_message s line text is h f = by (is_options line) refl
 -- ---- the number of the objective
 
 objno_fits : (words : Row) → is_none (signed_of (word_at words 1)) ≡ false
-  → is_none (signed_of (word_at words 2)) ≡ false → IfSome (both (signed_of (word_at words 1))
+    → is_none (signed_of (word_at words 2)) ≡ false → IfSome (both (signed_of (word_at words 1))
     (signed_of (word_at words 2))) IsSignedPair
 objno_fits words e f =
     let number = is_there (signed_of (word_at words 1)) e in
@@ -124,7 +141,7 @@ objno_kept None n old new = new
 objno_kept (Some t) n old new = old
 
 objno_in_fits : (words : Row) → begins words (codes "objno") ≡ true → is_none (signed_of (word_at words 1)) ≡ false
-  → is_none (signed_of (word_at words 2)) ≡ false → IfSome (objno_in words) IsSignedPair
+    → is_none (signed_of (word_at words 2)) ≡ false → IfSome (objno_in words) IsSignedPair
 objno_in_fits words b e f = rw b (objno_fits words e f)
 
 -- ---- the first line of a suffix
@@ -175,8 +192,8 @@ kept_head s words h f =
     }
 
 kept_objno : (s : Progress) (words : Row) → begins words (codes "objno") ≡ true → KeepsAt Tail s
-  → first_reason (objno_tests (is_some s.sol.objno || nat_lt 0 s.suffix_count) words) ≡ None
-  → KeepsAt Tail (after_objno s words)
+    → first_reason (objno_tests (is_some s.sol.objno || nat_lt 0 s.suffix_count) words) ≡ None
+    → KeepsAt Tail (after_objno s words)
 unfolding KeptAt
 kept_objno s words b h f =
     let all = none_each (objno_tests (is_some s.sol.objno || nat_lt 0 s.suffix_count) words) f in
@@ -221,8 +238,8 @@ less_rows s rows h =
     (h.0, record { each = old.each; begun = old.begun; begun_room = old.begun_room; tables = omega (arith, old.tables); table_room = old.table_room; values = old.values; value_room = old.value_room })
 
 await_rest : (s : Progress) (t v : ℕ) → Speaks s.sol.message s.is_held_back → HasOptions 0 s.sol.options
-  → s.sol.n_con ≤ 2 ^ 20 → s.sol.n_var ≤ 2 ^ 20 → IfSome s.sol.objno IsSignedPair → Late 0 t s
-  → KeepsAt (rest_awaits t v) s
+    → s.sol.n_con ≤ 2 ^ 20 → s.sol.n_var ≤ 2 ^ 20 → IfSome s.sol.objno IsSignedPair → Late 0 t s
+    → KeepsAt (rest_awaits t v) s
 unfolding KeptAt
 await_rest s t v said options con var objno late = by (nat_lt 0 t) (nat_lt 0 v) refl refl
   where
@@ -244,8 +261,14 @@ kept_name s head words h f =
       h.rest.1.0,
       record {
         each = all_push (IsWritableSuffix s.sol.n_var s.sol.n_con) s.sol.suffixes x old.each
-          (record { kind = fits.kind; name = (and_parts _ _ is).1; name_len = fits.name_len; table_len = fits.table_len;
-              table = tt; values = refl });
+            (record {
+              kind = fits.kind;
+              name = (and_parts _ _ is).1;
+              name_len = fits.name_len;
+              table_len = fits.table_len;
+              table = tt;
+              values = refl;
+            });
         begun = omega (arith, old.begun, length_push s.sol.suffixes x);
         begun_room = old.begun_room;
         tables = omega (arith, old.tables, sum_by_push (λ (y : SolSuffix). length y.table) s.sol.suffixes x);
@@ -292,8 +315,8 @@ kept_table s tables values line text h =
 -- ---- a value
 
 pub values_push : (limit : ℕ) (w : Bool) (before xs : List (ℕ × Dec)) (t : ℕ × Dec)
-  → are_values limit w before xs ≡ true → nat_lt t.0 limit ≡ true → has_index (before ++ xs) t.0 ≡ false
-  → (not w || is_whole t.1) ≡ true → are_values limit w before (xs ++ t ∷ []) ≡ true
+    → are_values limit w before xs ≡ true → nat_lt t.0 limit ≡ true → has_index (before ++ xs) t.0 ≡ false
+    → (not w || is_whole t.1) ≡ true → are_values limit w before (xs ++ t ∷ []) ≡ true
 unfolding are_values
 values_push limit w before [] t all below fresh whole =
     let new : has_index before t.0 ≡ false = ap (λ l. has_index l t.0) (sym (append-nil before)) ∙ fresh in
@@ -307,15 +330,24 @@ last_next : {A : Type 0} (x y : A) (xs : List A) → last_of (x ∷ y ∷ xs) �
 last_next x y xs = let n : length (x ∷ y ∷ xs) - 1 ≡ suc (length (y ∷ xs) - 1) = omega arith in rw n refl
 
 each_value : (v n : ℕ) (t : ℕ × Dec) (xs : List SolSuffix) → AllByRecursion (IsWritableSuffix v n) xs
-  → nat_lt t.0 (object_limit v n 256 (last_kind xs)) ≡ true → has_index (last_values xs) t.0 ≡ false
-  → (not (wants_whole (last_kind xs)) || is_whole t.1) ≡ true
+    → nat_lt t.0 (object_limit v n 256 (last_kind xs)) ≡ true → has_index (last_values xs) t.0 ≡ false
+    → (not (wants_whole (last_kind xs)) || is_whole t.1) ≡ true
     → AllByRecursion (IsWritableSuffix v n) (change_last (with_values (t ∷ [])) xs)
 unfolding change_last
 each_value v n t [] all below fresh whole = tt
 each_value v n t (x ∷ []) all below fresh whole =
-    let w = all.0 in
-    (record { kind = w.kind; name = w.name; name_len = w.name_len; table_len = w.table_len; table = w.table; values =
-        values_push (object_limit v n 256 x.kind) (wants_whole x.kind) [] x.values t w.values below fresh whole }, tt)
+    let w = all.0 in (
+      record {
+        kind = w.kind;
+        name = w.name;
+        name_len = w.name_len;
+        table_len = w.table_len;
+        table = w.table;
+        values =
+            values_push (object_limit v n 256 x.kind) (wants_whole x.kind) [] x.values t w.values below fresh whole;
+      },
+      tt,
+    )
 each_value v n t (x ∷ y ∷ xs) all below fresh whole =
     let kind : last_kind (x ∷ y ∷ xs) ≡ last_kind (y ∷ xs) = ap (λ o. option_map_or (λ s. s.kind) o 0) (last_next x y xs) in
     let values : last_values (x ∷ y ∷ xs) ≡ last_values (y ∷ xs) = ap (λ o. option_map_or (λ s. s.values) o []) (last_next x y xs) in
@@ -350,9 +382,13 @@ kept_value s left words h f =
     let g = with_values (t ∷ []) in
     let old = h.rest.1 in
     let next : Progress = record s { awaited = rest_awaits 0 (left - 1); sol = record s.sol { suffixes = change_last g s.sol.suffixes }; value_count = s.value_count + 1 } in
-    subst (λ o. Keeps (record s { awaited = rest_awaits 0 (left - 1); sol =
-            record s.sol { suffixes = change_last (with_values (listed o)) s.sol.suffixes }; value_count =
-            s.value_count + length (listed o) })) (sym (pair_there words index.value number.value index.is number.is))
+    subst (λ o. Keeps (record s {
+      awaited = rest_awaits 0 (left - 1);
+      sol =
+          record s.sol { suffixes = change_last (with_values (listed o)) s.sol.suffixes };
+      value_count =
+          s.value_count + length (listed o);
+    })) (sym (pair_there words index.value number.value index.is number.is))
     (await_rest next 0 (left - 1) h.said h.options h.n_con h.n_var h.objno (
       h.rest.0,
       record {

@@ -52,8 +52,8 @@ pub place : (k d p i : ℕ) → Place k d p i (row_at k d p i)
 place k d p i = by (i == 0) refl (nat_le i k) refl (i == k + 1) refl (i == k + 2) refl (i == k + 3) refl (i == k + 4) refl (nat_lt i (k + 5 + d)) refl (nat_lt i (k + 5 + d + p)) refl
   where
     by : (a : Bool) → (i == 0) ≡ a → (b : Bool) → nat_le i k ≡ b → (c : Bool) → (i == k + 1) ≡ c → (e : Bool)
-      → (i == k + 2) ≡ e → (g : Bool) → (i == k + 3) ≡ g → (h : Bool) → (i == k + 4) ≡ h → (x : Bool)
-      → nat_lt i (k + 5 + d) ≡ x → (y : Bool) → nat_lt i (k + 5 + d + p) ≡ y → Place k d p i (row_at k d p i)
+        → (i == k + 2) ≡ e → (g : Bool) → (i == k + 3) ≡ g → (h : Bool) → (i == k + 4) ≡ h → (x : Bool)
+        → nat_lt i (k + 5 + d) ≡ x → (y : Bool) → nat_lt i (k + 5 + d + p) ≡ y → Place k d p i (row_at k d p i)
     by true q b r c s e t g u h v x w y z = rw q (first (eqb-true i 0 q))
     by false q true r c s e t g u h v x w y z = rw (q, r) (option (let ne = eqb-false i 0 q in omega arith) (leb-true i k r))
     by false q false r true s e t g u h v x w y z = rw (q, r, s) (constraints (eqb-true i (k + 1) s))
@@ -73,8 +73,8 @@ place k d p i = by (i == 0) refl (nat_le i k) refl (i == k + 1) refl (i == k + 2
 -- the row after it
 
 pub after_counts : (k d p : ℕ) → (row_at k d p 1 ≡ options_await k) × (row_at k d p (k + 2) ≡ DualCount)
-  × (row_at k d p (k + 3) ≡ Variables) × (row_at k d p (k + 4) ≡ PrimalCount)
-  × (row_at k d p (k + 5) ≡ values_await d p)
+    × (row_at k d p (k + 3) ≡ Variables) × (row_at k d p (k + 4) ≡ PrimalCount)
+    × (row_at k d p (k + 5) ≡ values_await d p)
 after_counts k d p = (grind (arith, nat_tests), grind (arith, nat_tests), grind (arith, nat_tests), grind (arith, nat_tests), grind (arith, nat_tests))
 
 pub after_option_row : (k d p i : ℕ) → 0 < i → i ≤ k → row_at k d p (i + 1) ≡ options_await (((k + 1) - i) - 1)
@@ -107,7 +107,7 @@ pub line_place : (head : SuffixHead) (i : ℕ) → LinePlace head i (line_at hea
 line_place head i = by (i == 0) refl (nat_lt 0 ((head.table_lines + 1) - i)) refl (nat_lt 0 (head.value_count - (i - (head.table_lines + 1)))) refl
   where
     by : (a : Bool) → (i == 0) ≡ a → (b : Bool) → nat_lt 0 ((head.table_lines + 1) - i) ≡ b → (c : Bool)
-      → nat_lt 0 (head.value_count - (i - (head.table_lines + 1))) ≡ c → LinePlace head i (line_at head i)
+        → nat_lt 0 (head.value_count - (i - (head.table_lines + 1))) ≡ c → LinePlace head i (line_at head i)
     by true q b r c s = rw q (at_name (eqb-true i 0 q))
     by false q true r c s =
         let ne = eqb-false i 0 q in

@@ -39,7 +39,7 @@ pub reached_none : IsReached [] start
 reached_none = record { clean = clean_none sol_rules; here = read-none; ones = tt }
 
 pub reached_more : (lines : List (List ℕ)) (s t : Progress) (line : List ℕ) → IsReached lines s → IsTextLine line
-  → first_reason (line_tests (seen s) line) ≡ None → after s line ≡ t → IsReached (lines ++ line ∷ []) t
+    → first_reason (line_tests (seen s) line) ≡ None → after s line ≡ t → IsReached (lines ++ line ∷ []) t
 reached_more lines s t line h one fine e =
     record {
       clean = clean_more sol_rules lines line h.clean (ap (λ (x : Standing). first_reason (line_tests x line)) (standing-read lines ∙ ap seen h.here) ∙ fine);
@@ -67,8 +67,8 @@ plain_tests Message s line e = cc
 plain_tests a s line e = cc
 
 pub reached_row : (lines : List (List ℕ)) (s t : Progress) (words : Row) → IsReached lines s → is_plain s.awaited ≡ true
-  → AreWords words → first_reason (row_tests (kind_of s.awaited) (seen s) words) ≡ None
-  → after_row s.awaited s words ≡ t
+    → AreWords words → first_reason (row_tests (kind_of s.awaited) (seen s) words) ≡ None
+    → after_row s.awaited s words ≡ t
     → IsReached (lines ++ spaced words ∷ []) t
 reached_row lines s t words h plain w fine e =
     let read = row-spaced words w.few (are_words words w.each) in
@@ -139,7 +139,7 @@ begun message = ap (λ (ls : List (List ℕ)). at OptionCount (only_message ls) 
 
 -- the message, an empty line and `Options`
 pub reached_options : (message : List (List ℕ)) → AllByRecursion IsSaidLine message → length message ≤ 65536
-  → IsReached (message ++ [] ∷ codes "Options" ∷ []) (at OptionCount (only_message message) 0 0 0 0 0)
+    → IsReached (message ++ [] ∷ codes "Options" ∷ []) (at OptionCount (only_message message) 0 0 0 0 0)
 unfolding line_tests_at spoken
 reached_options message all room =
     let none : start ≡ spoken [] = no_words in
@@ -147,6 +147,6 @@ reached_options message all room =
     let empty = reached_more message (spoken message) (spoken (message ++ [] ∷ [])) [] said (row-line [] (omega arith) tt) (empty_fine message room) (spoken_more message [] refl) in
     subst (λ ls. IsReached ls (at OptionCount (only_message message) 0 0 0 0 0)) (append_assoc message ([] ∷ []) (codes "Options" ∷ []))
     (reached_more (message ++ [] ∷ []) (spoken (message ++ [] ∷ [])) (at OptionCount (only_message message) 0 0 0 0 0)
-      (codes "Options") empty (row-line (codes "Options" ∷ []) (omega arith)
-        (record { is = record { some = omega arith; bytes = refl }; short = omega arith }, tt))
-      (options_fine (message ++ [] ∷ [])) (begun message))
+    (codes "Options") empty (row-line (codes "Options" ∷ []) (omega arith)
+    (record { is = record { some = omega arith; bytes = refl }; short = omega arith }, tt))
+    (options_fine (message ++ [] ∷ [])) (begun message))

@@ -75,14 +75,14 @@ unfolding after_row
 plain_step message b line a plain row = by (length (row_of line) == 0) refl (is_tail (kind_of a) && begins (row_of line) (codes "suffix")) refl ∙ plain_after a (met message b) line plain
   where
     by : (z : Bool) → (length (row_of line) == 0) ≡ z → (t : Bool)
-      → (is_tail (kind_of a) && begins (row_of line) (codes "suffix")) ≡ t
-      → met message (with_at (kind_of a) b line) ≡ after_row_line a (met message b) (row_of line)
+        → (is_tail (kind_of a) && begins (row_of line) (codes "suffix")) ≡ t
+        → met message (with_at (kind_of a) b line) ≡ after_row_line a (met message b) (row_of line)
     by true e t f = rw (plain_raw a plain, e) refl
     by false e true f =
         let parts = and_parts (is_tail (kind_of a)) (begins (row_of line) (codes "suffix")) f in
         rw (plain_raw a plain, e, f) (piece_begun message b.rows b.pieces (row_of line)
-            ∙ sym (tail_suffix (met message b) (row_of line) parts.1)
-            ∙ ap (λ x. after_row x (met message b) (row_of line)) (sym (tail_is a parts.0)))
+        ∙ sym (tail_suffix (met message b) (row_of line) parts.1)
+        ∙ ap (λ x. after_row x (met message b) (row_of line)) (sym (tail_is a parts.0)))
     by false e false f = rw (plain_raw a plain, e, f) (row (λ tail. rw tail at f))
 
 -- ---- without a suffix
@@ -94,8 +94,8 @@ rows_plain k d p i (Table tables values) h = elim h [ ]
 rows_plain k d p i a h = refl
 
 step_of_rows : (message : List (List ℕ)) (rows : List Row) (line : List ℕ)
-  → met message (with_line (record { rows = rows; pieces = [] }) line)
-  ≡ after (met message (record { rows = rows; pieces = [] })) line
+    → met message (with_line (record { rows = rows; pieces = [] }) line)
+    ≡ after (met message (record { rows = rows; pieces = [] })) line
 unfolding met
 step_of_rows message rows line =
     let b : Body = record { rows = rows; pieces = [] } in
@@ -123,24 +123,24 @@ module _ (message : List (List ℕ)) (rows : List Row) (front : List Piece) (hea
   step_named lines z = subst (λ ls. Steps message (body ls) line (Name (head_in head))) (sym (nil_from_length lines z)) (named message rows front head line)
 
   step_tabled : (lines : List (List ℕ)) → 0 < length lines → length lines ≤ (head_in head).table_lines
-    → Steps message (body lines) line (Table (((head_in head).table_lines + 1) - length lines)
+      → Steps message (body lines) line (Table (((head_in head).table_lines + 1) - length lines)
       ((head_in head).value_count - (length lines - ((head_in head).table_lines + 1))))
   unfolding after_at
   step_tabled [] lt le = absurd (omega arith)
   step_tabled (text ∷ lines) lt le = tabled message rows front head line text lines le _ _ refl refl
 
   valued_row : (lines : List (List ℕ)) → (head_in head).table_lines < length lines
-    → length lines < (head_in head).table_lines + 1 + (head_in head).value_count
-    → met message (with_row_line (body lines) line) ≡ after_row
-    (Values ((head_in head).value_count - (length lines - ((head_in head).table_lines + 1)))) (met message (body lines))
-    (row_of line)
+      → length lines < (head_in head).table_lines + 1 + (head_in head).value_count
+      → met message (with_row_line (body lines) line) ≡ after_row
+      (Values ((head_in head).value_count - (length lines - ((head_in head).table_lines + 1)))) (met message (body lines))
+      (row_of line)
   unfolding after_row
   valued_row [] lt less = absurd (omega arith)
   valued_row (text ∷ lines) lt less = ap (met message) (to_last (text ∷ lines)) ∙ valued message rows front head line text lines lt less _ refl
 
   over_row : (lines : List (List ℕ)) → (head_in head).table_lines + 1 + (head_in head).value_count ≤ length lines
-    → begins (row_of line) (codes "suffix") ≡ false → met message (with_row_line (body lines) line)
-    ≡ after_row Tail (met message (body lines)) (row_of line)
+      → begins (row_of line) (codes "suffix") ≡ false → met message (with_row_line (body lines) line)
+      ≡ after_row Tail (met message (body lines)) (row_of line)
   over_row [] le e = absurd (omega arith)
   over_row (text ∷ lines) le e = ap (met message) (to_last (text ∷ lines)) ∙ over message rows front head line text lines le ∙ sym (past_tail (text ∷ lines) e)
 
@@ -161,8 +161,8 @@ module _ (message : List (List ℕ)) (rows : List Row) (front : List Piece) (hea
 -- ---- any line of a body
 
 step_with : (message : List (List ℕ)) (rows : List Row) (pieces : List Piece) (line : List ℕ)
-  → met message (with_line (record { rows = rows; pieces = pieces }) line)
-  ≡ after (met message (record { rows = rows; pieces = pieces })) line
+    → met message (with_line (record { rows = rows; pieces = pieces }) line)
+    ≡ after (met message (record { rows = rows; pieces = pieces })) line
 step_with message rows [] line = step_of_rows message rows line
 step_with message rows (p ∷ ps) line =
     let e = ends_with p ps in
@@ -211,11 +211,13 @@ pub spoken_more : (said : List (List ℕ)) (line : List ℕ) → is_options line
 unfolding after_at spoken sol_of
 spoken_more said line other =
     let more : without_blank_end (said ++ line ∷ []) ≡ lines_with
-      (without_blank_end said ++ held_lines (ends_blank said)) line =
-      without_blank_end-more said line ∙ ap (λ ls. lines_with ls line) (sym (held_back said)) in
-    let becomes : after (spoken said) line ≡ record (spoken said)
-      { is_held_back = length line == 0; sol = record (spoken said).sol
-        { message = lines_with (without_blank_end said ++ held_lines (ends_blank said)) line } } = rw other refl in
+    (without_blank_end said ++ held_lines (ends_blank said)) line =
+    without_blank_end-more said line ∙ ap (λ ls. lines_with ls line) (sym (held_back said)) in
+    let becomes : after (spoken said) line ≡ record (spoken said) {
+      is_held_back = length line == 0;
+      sol = record (spoken said).sol
+          { message = lines_with (without_blank_end said ++ held_lines (ends_blank said)) line };
+    } = rw other refl in
     becomes ∙ sym (ap₂ (λ h m. record (spoken said) { is_held_back = h; sol = record (spoken said).sol { message = m } }) (ends_blank-more said line) more)
 
 -- a line of the message
@@ -242,8 +244,8 @@ unfolding body_of
 body_line lines line some =
     let still : list_any is_options (lines ++ line ∷ []) ≡ true = rw (options_more lines line, some) refl in
     let more : body_of (lines ++ line ∷ []) ≡ with_line (body_of lines) line =
-      ap (fold with_line no_body) (rw some at (after_more is_options lines line))
-      ∙ fold_push with_line no_body (after_first is_options lines) line in
+    ap (fold with_line no_body) (rw some at (after_more is_options lines line))
+    ∙ fold_push with_line no_body (after_first is_options lines) line in
     past_message (lines ++ line ∷ []) still ∙ ap₂ (λ ls b. met (without_blank_end ls) b) (rw (some, append-nil) at (before_more is_options lines line)) more
     ∙ body_step (without_blank_end (message_lines lines)) (body_of lines) line ∙ ap (λ (s : Progress). after s line) (sym (past_message lines some))
 
@@ -275,7 +277,7 @@ value_sum [] = refl
 value_sum (p ∷ ps) = by (suffix_of p) ∙ ap (λ n. value_count_in p + n) (value_sum ps) ∙ sym (sum_by-cons value_count_in p ps)
   where
     by : (o : Option SolSuffix) → sum_by (λ s. length s.values) (cons_option o (filter_map suffix_of ps))
-      ≡ option_map_or (λ s. length s.values) o 0 + sum_by (λ s. length s.values) (filter_map suffix_of ps)
+        ≡ option_map_or (λ s. length s.values) o 0 + sum_by (λ s. length s.values) (filter_map suffix_of ps)
     by None = omega arith
     by (Some s) = sum_by-cons (λ x. length x.values) s (filter_map suffix_of ps)
 

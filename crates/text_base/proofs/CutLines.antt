@@ -35,7 +35,7 @@ cut-more start bytes line [] h = ap (λ (s : ℕ). slice_range (bytes ++ line) s
 cut-more start bytes line (end ∷ ends) h =
     let first = range-front bytes line start end h.0 (ends-most end ends (length bytes) h.1) in
     ap (λ (l : List ℕ). l ∷ cut_at end (bytes ++ line) (ends ++ (length bytes + length line) ∷ [])) first
-      ∙ ap (λ (ls : List (List ℕ)). slice_range bytes start end ∷ ls) (cut-more end bytes line ends h.1)
+    ∙ ap (λ (ls : List (List ℕ)). slice_range bytes start end ∷ ls) (cut-more end bytes line ends h.1)
 
 -- the line at a place
 pub record LineAt (start : ℕ) (bytes ends : List ℕ) (i : ℕ) : Type 0 where
@@ -61,7 +61,7 @@ pub record Pushed (bytes ends line : List ℕ) (new_bytes new_ends : List ℕ) :
   pub lines : cut_at 0 new_bytes new_ends ≡ cut_at 0 bytes ends ++ line ∷ []
 
 pub pushed : (bytes ends line new_bytes new_ends : List ℕ) → AreEnds 0 ends (length bytes) → new_bytes ≡ bytes ++ line
-  → new_ends ≡ ends ++ length new_bytes ∷ [] → Pushed bytes ends line new_bytes new_ends
+    → new_ends ≡ ends ++ length new_bytes ∷ [] → Pushed bytes ends line new_bytes new_ends
 pushed bytes ends line new_bytes new_ends h b e =
     let len : length new_bytes ≡ length bytes + length line = ap length b ∙ length-append bytes line in
     rw (e, len, b) (record { ends_are = rw length-append (ends-more 0 ends (length bytes) (length bytes + length line) h (omega arith)); lines = cut-more 0 bytes line ends h })

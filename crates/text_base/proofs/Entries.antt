@@ -24,7 +24,7 @@ pub record IsPlace (es : List Entry) (name : List ℕ) (i : ℕ) : Type 0 where
   pub stored : (text : List ℕ) → with_text (entries es) name text ≡ text_set (entries es) i text
 
 first_place : (es : List Entry) (name : List ℕ) (i : ℕ) (d : Entry) → i < length es
-  → has_name name (get_or es i d) ≡ true → ((k : ℕ) → k < i → has_name name (get_or es k d) ≡ false) → IsPlace es name i
+    → has_name name (get_or es i d) ≡ true → ((k : ℕ) → k < i → has_name name (get_or es k d) ≡ false) → IsPlace es name i
 first_place [] name i d lt is none = absurd (omega arith)
 first_place (e ∷ es) name zero d lt is none = record { within = lt; named = rw is refl; stored = λ text. rw is refl }
 first_place (e ∷ es) name (suc i) d lt is none =
@@ -85,7 +85,7 @@ read_rest text buf taken n same =
     sym (take-append-drop n (drop taken text)) ∙ ap (λ l. l ++ drop n (drop taken text)) (sym same) ∙ ap (λ l. take n buf ++ l) (drop-drop n taken text)
 
 pub found_named : (es : List Entry) (name : List ℕ) (o : Option ℕ) → o ≡ position (has_name name) es
-  → MatchOption o (text_named (entries es) name ≡ None) (λ i. (i < length es)
+    → MatchOption o (text_named (entries es) name ≡ None) (λ i. (i < length es)
     × (text_named (entries es) name ≡ Some (text_at (entries es) i)))
 found_named es name None e = (place_none es name (sym e)).named
 found_named es name (Some i) e = let place = place_found es name i (sym e) in (place.within, place.named)

@@ -25,15 +25,15 @@ pub steps-written : (lines : List (List ℕ)) (c : Walk) → c.fault ≡ None �
 steps-written [] c none empty all room = (sym (append-nil c.lines), empty, none, omega arith)
 steps-written (line ∷ lines) c none empty all room =
     let len : length (ended_lines (line ∷ lines)) ≡ (length line + 1) + length (ended_lines lines) =
-      length-append (line ++ 10 ∷ []) (ended_lines lines) ∙ ap (λ (n : ℕ). n + length (ended_lines lines))
-      (length-append line (10 ∷ [])) in
+    length-append (line ++ 10 ∷ []) (ended_lines lines) ∙ ap (λ (n : ℕ). n + length (ended_lines lines))
+    (length-append line (10 ∷ [])) in
     let short : length c.rest + length line ≤ 65536 = rw empty (let fits : length line ≤ 65536 = all.0.short in omega arith) in
     let one = steps-line c line 10 none all.0.one.no_end refl short (omega arith) in
     let next : Walk = record { lines = c.lines ++ trimmed (c.rest ++ line) ∷ []; rest = []; total = (c.total + length line) + 1; fault = None } in
     let more = steps-written lines next refl refl all.1 (omega arith) in
     let all_steps : steps c (ended_lines (line ∷ lines)) ≡ steps next (ended_lines lines) =
-      fold-append next_byte c (line ++ 10 ∷ []) (ended_lines lines)
-      ∙ ap (λ (s : Walk). steps s (ended_lines lines)) one in
+    fold-append next_byte c (line ++ 10 ∷ []) (ended_lines lines)
+    ∙ ap (λ (s : Walk). steps s (ended_lines lines)) one in
     let same : trimmed (c.rest ++ line) ≡ line = rw empty all.0.one.no_cr in
     let grown : next.lines ++ lines ≡ c.lines ++ line ∷ lines = append_assoc c.lines (trimmed (c.rest ++ line) ∷ []) lines ∙ ap (λ (l : List ℕ). c.lines ++ l ∷ lines) same in
     rw all_steps (more.0 ∙ grown, more.1, more.2, omega (arith, more.3, len))
@@ -75,8 +75,8 @@ front_one text line more len parts is one =
     }
 
 pub front_joined : (piece : List ℕ) (f g : Front) (xs ys : List (List ℕ)) → IsFront piece f xs
-  → IsFront (drop f.len piece) g ys → IsFront piece (record { len = f.len + g.len; lines = f.lines + g.lines })
-  (xs ++ ys)
+    → IsFront (drop f.len piece) g ys → IsFront piece (record { len = f.len + g.len; lines = f.lines + g.lines })
+    (xs ++ ys)
 front_joined piece f g xs ys h k =
     let size : length (take f.len piece) ≡ f.len = omega (arith, h.within, length-take f.len piece) in
     let both : take (f.len + g.len) piece ≡ take f.len piece ++ take g.len (drop f.len piece) =
@@ -113,7 +113,7 @@ fronted s front piece text lines none empty room h k =
     )
 
 pub going-front : {R : Type 0} (rules : Rules R) (took now : List (List ℕ) → Type 0) (s : LinesState) (number : ℕ)
-  (front : Front) (n : ℕ) (piece text : List ℕ) → s.fault ≡ None → s.rest ≡ [] → number ≡ s.count + 1
+    (front : Front) (n : ℕ) (piece text : List ℕ) → s.fault ≡ None → s.rest ≡ [] → number ≡ s.count + 1
     → s.total + front.len ≤ 2 ^ 31 → TakesFront rules took now (take n piece) number front → IsGoing rules took s text → IsGoing rules now (after_front s front) (text ++ take front.len piece)
 going-front rules took now s number front n piece text none empty next room h g =
     let f = fronted s front piece text h.lines none empty room (front_of_front n piece front h.lines h.is) g.split in

@@ -40,8 +40,8 @@ pub trimmed-free : (bytes : List ℕ) → EndsFree bytes → trimmed bytes ≡ b
 trimmed-free bytes e = ap (λ (k : ℕ). take (length bytes - k) bytes) e ∙ take_all (length bytes - 0) bytes (omega arith)
 
 none-in-front : (zs : List ℕ) (x : ℕ) (b : Bool) → eqb (prefix_len (λ b. b == 13) zs) (length zs) ≡ b
-  → cond b (length zs + prefix_len (λ b. b == 13) (x ∷ [])) (prefix_len (λ b. b == 13) zs) ≡ 0
-  → prefix_len (λ b. b == 13) zs ≡ 0
+    → cond b (length zs + prefix_len (λ b. b == 13) (x ∷ [])) (prefix_len (λ b. b == 13) zs) ≡ 0
+    → prefix_len (λ b. b == 13) zs ≡ 0
 none-in-front zs x true e h = omega (arith, h, eqb-true (prefix_len (λ b. b == 13) zs) (length zs) e)
 none-in-front zs x false e h = h
 

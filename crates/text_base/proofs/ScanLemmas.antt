@@ -25,8 +25,16 @@ follows-more c s after piece e k takes =
     let none : c.fault ≡ None = sym k.fault ∙ e in
     let plain : HasNoEnd piece = subst HasNoEnd takes.0 p.3 in
     let h = steps-more c piece none plain (rw (← k.rest e) takes.1) (rw (← k.total e) takes.2) in
-    rw (h, takes.3) (record { count = k.count; fault = e; rest = λ _. ap (λ (r : List ℕ). r ++ piece) (k.rest e);
-          total = λ _. ap (λ (n : ℕ). n + length piece) (k.total e); awaits = λ fault is. refl }, (refl, refl))
+    rw (h, takes.3) (
+      record {
+        count = k.count;
+        fault = e;
+        rest = λ _. ap (λ (r : List ℕ). r ++ piece) (k.rest e);
+        total = λ _. ap (λ (n : ℕ). n + length piece) (k.total e);
+        awaits = λ fault is. refl;
+      },
+      (refl, refl),
+    )
 
 ends_with : (back : List ℕ) → IsBack back → 0 < length back → (b : ℕ) × (more : List ℕ) × (back ≡ b ∷ more) × ((b == 10) ≡ true)
 ends_with [] is lt = absurd (omega arith)
@@ -41,8 +49,8 @@ follows-line c s after piece n e k takes =
     let none : c.fault ≡ None = sym k.fault ∙ e in
     let back = ends_with p.0 p.2 (omega (arith, takes.0, takes.1, ap length p.1, length-append (front_of piece) p.0)) in
     let taken : take n piece ≡ front_of piece ++ back.0 ∷ [] =
-      ap (λ k. take k piece) takes.0 ∙ ap (take (length (front_of piece) + 1))
-      (p.1 ∙ ap (λ (x : List ℕ). front_of piece ++ x) back.2) ∙ take_front (front_of piece) back.0 back.1 in
+    ap (λ k. take k piece) takes.0 ∙ ap (take (length (front_of piece) + 1))
+    (p.1 ∙ ap (λ (x : List ℕ). front_of piece ++ x) back.2) ∙ take_front (front_of piece) back.0 back.1 in
     let room : c.total + length (front_of piece) < 2 ^ 31 = omega (arith, takes.0, takes.3, k.total e) in
     let h = steps-line c (front_of piece) back.0 none p.3 back.3 (rw (← k.rest e) takes.2) room in
     rw (taken, h, takes.4) (
@@ -104,7 +112,7 @@ follows-fault InputTooLong c s after piece e k takes =
     let next : Walk = record { lines = c.lines; rest = c.rest ++ take at piece; total = c.total + length (take at piece); fault = None } in
     let h = steps-stop c (take at piece) f.0 f.1 InputTooLong none f.3 (omega arith) (omega arith) (next-input next f.0 refl (omega arith)) in
     stopped c s after piece f.1 InputTooLong k (ap (λ (x : LinesState). x.fault) takes.1)
-      (ap (λ (x : LinesState). x.count) takes.1) (ap (λ (x : LinesState). x.line) takes.1) _ _ (ap (steps c) f.2 ∙ h)
+    (ap (λ (x : LinesState). x.count) takes.1) (ap (λ (x : LinesState). x.line) takes.1) _ _ (ap (steps c) f.2 ∙ h)
 
 follows-again : (c : Walk) (s after : LinesState) (piece : List ℕ) (fault : LineFault) → s.fault ≡ Some fault → Keeps c s → after ≡ s → Follows c piece (Fault fault) after
 follows-again c s after piece fault e k same =
@@ -117,7 +125,7 @@ follows-now c s after piece More e k takes = follows-more c s after piece e k ta
 follows-now c s after piece (Fault fault) e k takes = follows-fault fault c s after piece e k takes
 
 follows-by : (o : Option LineFault) (c : Walk) (s after : LinesState) (piece : List ℕ) (taken : Taken) → s.fault ≡ o
-  → Keeps c s → TakesBy o s piece taken after → Follows c (taken_of taken piece) taken after
+    → Keeps c s → TakesBy o s piece taken after → Follows c (taken_of taken piece) taken after
 follows-by None c s after piece taken e k takes = follows-now c s after piece taken e k takes
 follows-by (Some fault) c s after piece taken e k takes = rw takes.0 (follows-again c s after piece fault e k takes.1)
 
@@ -156,7 +164,7 @@ pub taken_text : (s after : LinesState) (piece text : List ℕ) (taken : Taken) 
 taken_text s after piece text taken takes stands = stands_more text (taken_of taken piece) after (follows-by s.fault (walk text) s after piece taken refl (kept text s stands) takes).0
 
 pub taken_lines : (s after : LinesState) (piece text : List ℕ) (taken : Taken) → TakesPiece s piece taken after
-  → StandsFor text s → GoesOn (scan text) (scan (text ++ taken_of taken piece)) taken after
+    → StandsFor text s → GoesOn (scan text) (scan (text ++ taken_of taken piece)) taken after
 taken_lines s after piece text taken takes stands = rw (scan-append text (taken_of taken piece), scan_is text) (follows-by s.fault (walk text) s after piece taken refl (kept text s stands) takes).1
 
 -- ---- a line that lies whole in a piece

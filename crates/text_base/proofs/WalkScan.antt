@@ -118,11 +118,11 @@ full : (c : Walk) (b : ℕ) (bytes : List ℕ) → c.fault ≡ None → length c
 full c b bytes none short is =
     let over : fits_in c (b ∷ bytes) ≡ false = lt-leb (c.total + length (b ∷ bytes)) (2 ^ 31) (omega (arith, is)) in
     let stops : steps c (b ∷ bytes) ≡ record c { fault = Some InputTooLong } =
-      rw (next-input c b none (omega (arith, is))) (steps-fault (record c { fault = Some InputTooLong }) InputTooLong
-        bytes refl) in
+    rw (next-input c b none (omega (arith, is))) (steps-fault (record c { fault = Some InputTooLong }) InputTooLong
+    bytes refl) in
     let last : lines_then c.lines (scan_of (c.rest ∷ []) (fits_in c (b ∷ bytes)))
-      ≡ record { lines = c.lines; rest = c.rest; fault = Some InputTooLong } =
-      the_last c.lines c.rest (fits_in c (b ∷ bytes)) (Some InputTooLong) short (rw over refl) in
+    ≡ record { lines = c.lines; rest = c.rest; fault = Some InputTooLong } =
+    the_last c.lines c.rest (fits_in c (b ∷ bytes)) (Some InputTooLong) short (rw over refl) in
     record {
       lines = rw (append-nil c.rest) (ap seen stops ∙ sym last);
       total = λ fault. absurd (let gone : Some InputTooLong ≡ None = sym (ap (λ (w : Walk). w.fault) stops) ∙ fault in cc);
@@ -145,7 +145,7 @@ run (b ∷ bytes) c (suc room) none short e = by (b == 10) (leb 65536 (length c.
         let fits = fits_same c next b bytes refl in
         let cut : behind c.rest (parts (take (suc room) (b ∷ bytes))) ≡ c.rest ∷ h.0 ∷ h.1 = rw (p, h.2, append-nil c.rest) refl in
         let first : lines_then next.lines (scan_of (behind [] (parts (take room bytes))) (fits_in next bytes))
-          ≡ lines_then next.lines (scan_of (h.0 ∷ h.1) (fits_in c (b ∷ bytes))) = rw (h.2, fits) refl in
+        ≡ lines_then next.lines (scan_of (h.0 ∷ h.1) (fits_in c (b ∷ bytes))) = rw (h.2, fits) refl in
         record {
           lines = rw cut (ap seen one ∙ more.lines ∙ first ∙ sym (one-line c.lines c.rest h.0 h.1 (fits_in c (b ∷ bytes)) short));
           total = λ fault. ap (λ (w : Walk). w.total) one ∙ more.total (sym (ap (λ (w : Walk). w.fault) one) ∙ fault) ∙ omega arith;
@@ -169,8 +169,8 @@ run (b ∷ bytes) c (suc room) none short e = by (b == 10) (leb 65536 (length c.
         let fits = fits_same c next b bytes refl in
         let cut : behind c.rest (parts (take (suc room) (b ∷ bytes))) ≡ (c.rest ++ b ∷ h.0) ∷ h.1 = rw (p, h.2) refl in
         let first : lines_then next.lines (scan_of (behind next.rest (parts (take room bytes))) (fits_in next bytes))
-          ≡ lines_then c.lines (scan_of ((c.rest ++ b ∷ h.0) ∷ h.1) (fits_in c (b ∷ bytes))) =
-          rw (h.2, fits, grown c.rest h.0 b) refl in
+        ≡ lines_then c.lines (scan_of ((c.rest ++ b ∷ h.0) ∷ h.1) (fits_in c (b ∷ bytes))) =
+        rw (h.2, fits, grown c.rest h.0 b) refl in
         record {
           lines = rw cut (ap seen one ∙ more.lines ∙ first);
           total = λ fault. ap (λ (w : Walk). w.total) one ∙ more.total (sym (ap (λ (w : Walk). w.fault) one) ∙ fault) ∙ omega arith;

@@ -28,7 +28,7 @@ unfolding next_byte
 next-input c b e h = rw (e, le-leb (2 ^ 31) c.total h) refl
 
 pub next-line : (c : Walk) (b : ℕ) → c.fault ≡ None → c.total < 2 ^ 31 → (b == 10) ≡ true
-  → next_byte c b ≡ record { lines = c.lines ++ trimmed c.rest ∷ []; rest = []; total = c.total + 1; fault = None }
+    → next_byte c b ≡ record { lines = c.lines ++ trimmed c.rest ∷ []; rest = []; total = c.total + 1; fault = None }
 unfolding next_byte
 next-line c b e h n = rw (e, lt-leb (2 ^ 31) c.total h, n) refl
 
@@ -37,7 +37,7 @@ unfolding next_byte
 next-long c b e h n l = rw (e, lt-leb (2 ^ 31) c.total h, n, le-leb 65536 (length c.rest) l) refl
 
 pub next-more : (c : Walk) (b : ℕ) → c.fault ≡ None → c.total < 2 ^ 31 → (b == 10) ≡ false → length c.rest < 65536
-  → next_byte c b ≡ record { lines = c.lines; rest = c.rest ++ b ∷ []; total = c.total + 1; fault = None }
+    → next_byte c b ≡ record { lines = c.lines; rest = c.rest ++ b ∷ []; total = c.total + 1; fault = None }
 unfolding next_byte
 next-more c b e h n l = rw (e, lt-leb (2 ^ 31) c.total h, n, lt-leb 65536 (length c.rest) l) refl
 
@@ -71,7 +71,7 @@ steps-line c bytes b e n is l t =
 -- bytes up to one that is a fault
 pub steps-stop : (c : Walk) (bytes : List ℕ) (b : ℕ) (more : List ℕ) (f : LineFault) → c.fault ≡ None → HasNoEnd bytes → length c.rest + length bytes ≤ 65536 → c.total + length bytes ≤ 2 ^ 31
     → next_byte (record { lines = c.lines; rest = c.rest ++ bytes; total = c.total + length bytes; fault = None }) b
-      ≡ record { lines = c.lines; rest = c.rest ++ bytes; total = c.total + length bytes; fault = Some f }
+    ≡ record { lines = c.lines; rest = c.rest ++ bytes; total = c.total + length bytes; fault = Some f }
     → steps c (bytes ++ b ∷ more) ≡ record { lines = c.lines; rest = c.rest ++ bytes; total = c.total + length bytes; fault = Some f }
 steps-stop c bytes b more f e n l t h =
     let plain = steps-more c bytes e n l t in
@@ -138,8 +138,13 @@ next-lines c b = by c.fault (leb (2 ^ 31) c.total) (b == 10) (leb 65536 (length 
   where
     by : (o : Option LineFault) (full end long : Bool)
         → (others : List (List ℕ)) × ((if is_some o then c else if full then record c { fault = Some InputTooLong } else
-              if end then record { lines = c.lines ++ trimmed c.rest ∷ []; rest = []; total = c.total + 1; fault =
-                None }
+        if end then record {
+          lines = c.lines ++ trimmed c.rest ∷ [];
+          rest = [];
+          total = c.total + 1;
+          fault =
+              None;
+        }
         else if long then record c { fault = Some LineTooLong } else record { lines = c.lines; rest = c.rest ++ b ∷ []; total = c.total + 1; fault = None }).lines ≡ c.lines ++ others)
     by (Some f) full end long = ([], sym (append-nil c.lines))
     by None true end long = ([], sym (append-nil c.lines))

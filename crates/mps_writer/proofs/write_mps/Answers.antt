@@ -24,8 +24,8 @@ put_ranges-requires-clause-rows c = subst are_named (sym c.rows-rows.ensures.val
 pub put_rhs-requires-clause-within : goal.put_rhs-requires-clause-within
 put_rhs-requires-clause-within c =
     subst (λ n. All (λ t. t.0 < length n) c.rhs-rhs.result.now) (sym c.rows-rows.ensures.value)
-      (terms_in_rows (length c.args.mps.now.rows) c.rhs-rhs.result.now c.args.mps.now.rhs c.rhs-rhs.ensures.value
-        c.rhs-rhs.ensures.valid.part.rhs.within)
+    (terms_in_rows (length c.args.mps.now.rows) c.rhs-rhs.result.now c.args.mps.now.rhs c.rhs-rhs.ensures.value
+    c.rhs-rhs.ensures.valid.part.rhs.within)
 
 pub put_ranges-requires-clause-within : goal.put_ranges-requires-clause-within
 put_ranges-requires-clause-within c =

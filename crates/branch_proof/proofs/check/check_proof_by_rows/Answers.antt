@@ -9,14 +9,14 @@ use Rattle.branch_proof.proofs.check.check_proof_by_rows.Goals as goal
 pub check_tree-found-requires-clause-tree : goal.check_tree-found-requires-clause-tree
 check_tree-found-requires-clause-tree c =
     let t = same_parts (program_value c.args.program.now) c.requires.tree _ _ (c.in_ok-tree.ensures.tree c.requires)
-      c.deref.result.now c.deref-2.result.now c.deref.ensures.value c.deref-2.ensures.value in
+    c.deref.result.now c.deref-2.result.now c.deref.ensures.value c.deref-2.ensures.value in
     (t.written, t.is_written)
 
 pub returns-clause-exact : goal.returns-clause-exact
 returns-clause-exact c = λ h.
     let t = same_parts (program_value c.args.program.now) h.tree _ _ (c.in_ok-tree.ensures.tree h) c.deref.result.now c.deref-2.result.now c.deref.ensures.value c.deref-2.ensures.value in
     same_verdict (program_value c.args.program.now) c.args.proof.now h c.deref.result.now c.deref-2.result.now t
-      (frac_value c.stated_value-value.result) (fault_found c.in_ok-found.field-0) c.verdict_of-verdict.result
+    (frac_value c.stated_value-value.result) (fault_found c.in_ok-found.field-0) c.verdict_of-verdict.result
     c.verdict_of-verdict.ensures c.in_ok-found.ensures (c.stated_value-value.ensures ∙ ap claim_value c.claim.ensures)
 
 pub returns-clause-proved : goal.returns-clause-proved

@@ -12,7 +12,7 @@ loop-node-init c =
       ready = c.requires.ready;
       count = (let none = ap length c.requires.nodes in omega (arith, none));
       on = λ f rows h. whole_begins f c.args.proof.now h c.items-rest.result.now c.args.tree.now.nodes.items
-        c.args.tree.now.pairs.items (c.items-rest.ensures ∙ c.pairs.ensures) c.requires.nodes c.requires.pairs;
+          c.args.tree.now.pairs.items (c.items-rest.ensures ∙ c.pairs.ensures) c.requires.nodes c.requires.pairs;
     }
 
 pub split_at-requires : goal.split_at-requires
@@ -20,8 +20,8 @@ split_at-requires c =
     let within = subst (λ ns. c.loop-node.node-index < length ns) c.nodes-node-items.ensures c.loop-node-test.true in
     let many = c.announced_pairs.ensures ∙ ap (λ ns. announced_pairs (get_or ns c.loop-node.node-index (Split 0 (pos 0)))) c.nodes-node-items.ensures in
     let at = here c.requires.proof.0 c.requires.proof.2.tree c.args.proof.now.nodes c.loop-node.node-index
-      c.loop-node.rest.now c.loop-node.tree.nodes.items c.loop-node.tree.pairs.items
-      (c.loop-node.invariant.on c.requires.proof.0 c.requires.proof.1 c.requires.proof.2) (Split 0 (pos 0)) within in
+    c.loop-node.rest.now c.loop-node.tree.nodes.items c.loop-node.tree.pairs.items
+    (c.loop-node.invariant.on c.requires.proof.0 c.requires.proof.1 c.requires.proof.2) (Split 0 (pos 0)) within in
     subst (λ n. n ≤ length c.loop-node.rest.now) (sym many) at.enough
 
 pub put-requires-clause-within : goal.put-requires-clause-within
@@ -29,8 +29,8 @@ put-requires-clause-within c =
     let within = subst (λ ns. c.loop-node.node-index < length ns) c.nodes-node-items.ensures c.loop-node-test.true in
     let many = c.announced_pairs.ensures ∙ ap (λ ns. announced_pairs (get_or ns c.loop-node.node-index (Split 0 (pos 0)))) c.nodes-node-items.ensures in
     own_rows c.requires.proof.0 c.requires.proof.2.tree c.args.proof.now.nodes c.loop-node.node-index
-      c.loop-node.rest.now c.loop-node.tree.nodes.items c.loop-node.tree.pairs.items
-      (c.loop-node.invariant.on c.requires.proof.0 c.requires.proof.1 c.requires.proof.2) (Split 0 (pos 0)) within
+    c.loop-node.rest.now c.loop-node.tree.nodes.items c.loop-node.tree.pairs.items
+    (c.loop-node.invariant.on c.requires.proof.0 c.requires.proof.1 c.requires.proof.2) (Split 0 (pos 0)) within
     c.announced_pairs.result many c.split_at.result.0.now c.split_at.result.1.now c.split_at.ensures.front c.split_at.ensures.back
     (length c.loop-node.numbers.by_row.items) (c.requires.proof.1 ∙ sym c.loop-node.invariant.ready.count)
 
@@ -41,19 +41,19 @@ loop-node-preserved c =
     record {
       ready = subst (λ n. AreReady n c.put.new.self) c.loop-node.invariant.ready.count c.in_ok-count.ensures.ready;
       count = one_counted c.requires.proof.0 c.requires.proof.2.tree c.args.proof.now.nodes c.loop-node.node-index
-        c.loop-node.rest.now c.loop-node.tree.nodes.items c.loop-node.tree.pairs.items
-        (c.loop-node.invariant.on c.requires.proof.0 c.requires.proof.1 c.requires.proof.2) (Split 0 (pos 0)) within
+          c.loop-node.rest.now c.loop-node.tree.nodes.items c.loop-node.tree.pairs.items
+          (c.loop-node.invariant.on c.requires.proof.0 c.requires.proof.1 c.requires.proof.2) (Split 0 (pos 0)) within
           c.push.new.self.items c.node_with.result c.in_ok-push.ensures.items c.loop-node.invariant.count;
       on = λ f rows h.
           node_added f h.tree c.args.proof.now.nodes c.loop-node.node-index c.loop-node.rest.now
-            c.loop-node.tree.nodes.items c.loop-node.tree.pairs.items (c.loop-node.invariant.on f rows h)
-            (Split 0 (pos 0)) within
+          c.loop-node.tree.nodes.items c.loop-node.tree.pairs.items (c.loop-node.invariant.on f rows h)
+          (Split 0 (pos 0)) within
           c.announced_pairs.result many c.split_at.result.0.now c.split_at.result.1.now c.split_at.ensures.front c.split_at.ensures.back
           c.put.new.pairs.items (length c.loop-node.numbers.by_row.items) (rows ∙ sym c.loop-node.invariant.ready.count)
-            c.in_ok-count.ensures.added c.in_ok-count.count c.in_ok-count.ensures.count c.in_ok-count.ensures.few
+          c.in_ok-count.ensures.added c.in_ok-count.count c.in_ok-count.ensures.count c.in_ok-count.ensures.few
           c.node_with.result (c.node_with.ensures.node ∙ ap
-              (λ ns. node_with (get_or ns c.loop-node.node-index (Split 0 (pos 0))) c.in_ok-count.count)
-              c.nodes-node-items.ensures) c.node_with.ensures.number c.push.new.self.items c.in_ok-push.ensures.items;
+          (λ ns. node_with (get_or ns c.loop-node.node-index (Split 0 (pos 0))) c.in_ok-count.count)
+          c.nodes-node-items.ensures) c.node_with.ensures.number c.push.new.self.items c.in_ok-push.ensures.items;
     }
 
 pub returns-clause-tree : goal.returns-clause-tree

@@ -15,7 +15,7 @@ outcome_line-requires c = subst HasFittingBound (sym c.claim.ensures) (bound_fit
 pub returns : goal.returns
 returns c =
     let exact = subst (λ (f : Linear). (h : IsCertificateOf f c.args.certificate.now)
-        → outcome_of c.in_ok-outcome.outcome ≡ claim_outcome f c.args.certificate.now.claim h.given)
-      c.in_ok-program.ensures c.in_ok-outcome.ensures.exact in
+    → outcome_of c.in_ok-outcome.outcome ≡ claim_outcome f c.args.certificate.now.claim h.given)
+    c.in_ok-program.ensures c.in_ok-outcome.ensures.exact in
     let shown = shown_so (linear_value c.args.linear) c.args.certificate.now c.requires (outcome_of c.in_ok-outcome.outcome) exact in
     ap₂ Done c.is_held.ensures (c.in_ok-line.ensures ∙ ap (λ claim. outcome_line claim (outcome_of c.in_ok-outcome.outcome)) c.claim.ensures) ∙ ap (λ o. by_linear c.args.certificate.now o None) shown

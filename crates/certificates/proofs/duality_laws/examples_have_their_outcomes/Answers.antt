@@ -11,9 +11,9 @@ use Rattle.certificates.proofs.duality_laws.examples_have_their_outcomes.Goals a
 
 pub returns : goal.returns
 unfolding outcome judged given_fault fitting_bound_fault whole_fault ray_fault ray_row_fault ray_bound_fault run_change
-  dual_fault dual_bound bound_total first_fault run_form row_fault bound_fault reduced_cost cost_fault plus_product
-  less_product run is_at_most proof_fault branch_fault capped raised leaves gcd_of steps_of_euclid over whole ◌+ℚ◌ ◌*ℚ◌
-  ◌-ℚ◌ neg_ℚ AreSplitsWhole AreAllWeights
+    dual_fault dual_bound bound_total first_fault run_form row_fault bound_fault reduced_cost cost_fault plus_product
+    less_product run is_at_most proof_fault branch_fault capped raised leaves gcd_of steps_of_euclid over whole ◌+ℚ◌ ◌*ℚ◌
+    ◌-ℚ◌ neg_ℚ AreSplitsWhole AreAllWeights
 returns c = record {
   best = refl;
   not_best = refl;

@@ -9,8 +9,8 @@ use Rattle.certificates.proofs.duality_laws.examples_have_their_verdicts.Goals a
 
 pub returns : goal.returns
 unfolding verdict early_fault dual_fault dual_bound bound_total first_fault run_form row_fault bound_fault reduced_cost
-  cost_fault plus_product less_product run is_at_most is_same proof_fault branch_fault capped raised leaves gcd_of
-  steps_of_euclid over whole ◌+ℚ◌ ◌*ℚ◌ ◌-ℚ◌ neg_ℚ
+    cost_fault plus_product less_product run is_at_most is_same proof_fault branch_fault capped raised leaves gcd_of
+    steps_of_euclid over whole ◌+ℚ◌ ◌*ℚ◌ ◌-ℚ◌ neg_ℚ
 returns c = record {
   row_broken = refl;
   bound_broken = refl;

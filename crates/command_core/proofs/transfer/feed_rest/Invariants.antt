@@ -9,8 +9,8 @@ abbrev pub invariant-reading : goal.invariant-reading
 invariant-reading g l = record {
   within : l.taken ≤ LIMIT;
   feeds : IsFedSo (g.D.Desk.meaning l.initial.desk).left (g.D.Desk.meaning l.desk).left l.taken
-    (HasTaken (g.G.Grammar.rules (g.G.Grammar.setting (grammar_of l.initial.reader))) g.G.Grammar.took l.initial.reader)
-    (HasTaken (g.G.Grammar.rules (g.G.Grammar.setting (grammar_of l.reader))) g.G.Grammar.took l.reader);
+      (HasTaken (g.G.Grammar.rules (g.G.Grammar.setting (grammar_of l.initial.reader))) g.G.Grammar.took l.initial.reader)
+      (HasTaken (g.G.Grammar.rules (g.G.Grammar.setting (grammar_of l.reader))) g.G.Grammar.took l.reader);
   count : (g.D.Desk.meaning l.desk).input_faults ≡ (g.D.Desk.meaning l.initial.desk).input_faults;
   rest : OnlyInput (g.D.Desk.meaning l.initial.desk) (g.D.Desk.meaning l.desk);
   setting : g.G.Grammar.setting (grammar_of l.reader) ≡ g.G.Grammar.setting (grammar_of l.initial.reader);

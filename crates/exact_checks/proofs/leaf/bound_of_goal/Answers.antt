@@ -17,6 +17,6 @@ returns-clause-exact c f held goal =
     (λ j. ap (λ v. sum_value (sum_at v.items j)) c.order.ensures.sums ∙ c.in_ok-take_rows.ensures.costs f held j)
     (ap (λ v. length v.items) c.order.ensures.sums ∙ c.in_ok-take_rows.ensures.count ∙ c.in_ok-begin.ensures.count ∙ c.requires.leaf.count)
     (by_parts f (bounds_in c.args.lo.now c.args.hi.now) (value_at (spread (row_count f) c.args.pairs.now))
-      (cost_in c.order.new.self) (cost_count c.order.new.self) c.args.maximise (frac_value c.args.constant)
-      (value_found c.rows_total-start.result) (bound_answer_of c.bound-verdict.result)
+    (cost_in c.order.new.self) (cost_count c.order.new.self) c.args.maximise (frac_value c.args.constant)
+    (value_found c.rows_total-start.result) (bound_answer_of c.bound-verdict.result)
     goal.sense (ap (λ (g : Form). g.constant) goal.sum) (c.rows_total-start.ensures f held goal.sense) c.bound-verdict.ensures)

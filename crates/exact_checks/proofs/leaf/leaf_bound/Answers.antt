@@ -16,5 +16,5 @@ returns-in-Zero-clause-exact c =
     if_put c.bound_of_goal-in-Zero.result c.bound_of_goal-in-Zero.ensures.exact (λ v q f over.
     subst (λ g. bound_answer_of v ≡ dual_bound (asked g f) (bounds_in c.args.lo.now c.args.hi.now) (spread (row_count f) c.args.pairs.now)) (sym c.in-Zero.is)
     (q (asked Zero f) (rows_asked c.args.program.now c.args.planes.now f Zero over)
-      (subst (λ ts. IsGoal false (frac_value c.zero.result) ts (asked Zero f)) (sym c.new-none.ensures)
-        (zero_goal f (frac_value c.zero.result) c.zero.ensures))))
+    (subst (λ ts. IsGoal false (frac_value c.zero.result) ts (asked Zero f)) (sym c.new-none.ensures)
+    (zero_goal f (frac_value c.zero.result) c.zero.ensures))))

@@ -10,6 +10,6 @@ pub returns-clause-exact : goal.returns-clause-exact
 returns-clause-exact c =
     if_put c.bound_of_goal.result c.bound_of_goal.ensures.exact (λ v q f held.
     q (maximising f (record { constant = zero_ℚ; coefficient = coef_in c.args.terms.now }))
-      (rows_maximised c.args.program.now c.args.planes.now f
-        (record { constant = zero_ℚ; coefficient = coef_in c.args.terms.now }) held)
-      (sum_goal f c.args.terms.now (frac_value c.zero.result) c.zero.ensures))
+    (rows_maximised c.args.program.now c.args.planes.now f
+    (record { constant = zero_ℚ; coefficient = coef_in c.args.terms.now }) held)
+    (sum_goal f c.args.terms.now (frac_value c.zero.result) c.zero.ensures))

@@ -12,6 +12,6 @@ returns-clause-is c d same =
     let power = c.in-Some.power in
     let x = c.in-Some.ensures in
     marked_front c.args.text.now c.split_at.result.1.now p.negative p.size p.places p.len power.len _ power.value d
-      c.requires (omega (arith, c.if-plain-text.false)) (sym c.is_mark.ensures ∙ c.if-not-is_mark.false)
-      c.split_at.ensures.back x refl
+    c.requires (omega (arith, c.if-plain-text.false)) (sym c.is_mark.ensures ∙ c.if-not-is_mark.false)
+    c.split_at.ensures.back x refl
     (same ∙ ap (decimal_value (signed p.negative p.size)) (omega (arith, ints, abs_is power.value, x.short, c.requires.short)))

@@ -10,7 +10,7 @@ abbrev pub invariant-loop-index : goal.invariant-loop-index
 invariant-loop-index g l =
     record {
       listed : IsListed (list_line (frac_value l.number) []) l.first (linear_terms l.terms) (frac_value l.number)
-        (fraction_terms (take l.index l.terms)) (l.first + l.index) (linear_terms (drop l.index l.terms));
+          (fraction_terms (take l.index l.terms)) (l.first + l.index) (linear_terms (drop l.index l.terms));
       fit : AllFit (drop l.index l.terms) → AllFit l.terms;
       counted : l.steps ≡ l.fn.steps + 1 + l.index;
     }

@@ -25,14 +25,14 @@ loop-index-preserved g c =
     record {
       folder_now = c.in-Ok.ensures.folder;
       left = left_more f c.args.folder.now.count (λ j. owned_at f (OfDefinition j)) (length f.definitions)
-        c.loop-index.folder.count c.fold_definition.new.folder.count i below c.loop-index.invariant.left
-        c.in-Ok.ensures.folded;
+          c.loop-index.folder.count c.fold_definition.new.folder.count i below c.loop-index.invariant.left
+          c.in-Ok.ensures.folded;
       above = (let h = c.loop-index.invariant.above in let k = c.in-Ok.ensures.above in omega arith);
       below =
           subst (λ m. c.fold_definition.new.steps ≤ c.args.steps.now + 2 * (f.counts.n_var + 1) * m) (sym (definition_size f c.requires.file i c.definition-item.result at))
           (steps_more f.counts.n_var c.args.steps.now c.loop-index.steps c.fold_definition.new.steps
-            (definitions_size (take i f.definitions)) (tree_size c.definition-item.result.tree
-              + length c.definition-item.result.terms) c.loop-index.invariant.below c.in-Ok.ensures.below);
+          (definitions_size (take i f.definitions)) (tree_size c.definition-item.result.tree
+          + length c.definition-item.result.terms) c.loop-index.invariant.below c.in-Ok.ensures.below);
     }
 
 pub returns-in-Err-clause-folded : goal.returns-in-Err-clause-folded
@@ -48,12 +48,12 @@ returns-in-Err-clause-below g c =
     let i = c.loop-index.index in
     let at = at_position f.definitions c.defs-definition-items.result.now c.defs-definition-items.ensures i c.definition-item.result c.loop-index-test.true c.definition-item.is in
     steps_within f.counts.n_var c.args.steps.now c.fold_definition.new.steps
-      (definitions_size (take (i + 1) f.definitions)) (definitions_size f.definitions)
-      (definitions_size_le f.definitions (i + 1))
+    (definitions_size (take (i + 1) f.definitions)) (definitions_size f.definitions)
+    (definitions_size_le f.definitions (i + 1))
     (subst (λ m. c.fold_definition.new.steps ≤ c.args.steps.now + 2 * (f.counts.n_var + 1) * m) (sym (definition_size f c.requires.file i c.definition-item.result at))
     (steps_more f.counts.n_var c.args.steps.now c.loop-index.steps c.fold_definition.new.steps
-      (definitions_size (take i f.definitions)) (tree_size c.definition-item.result.tree
-        + length c.definition-item.result.terms) c.loop-index.invariant.below c.in-Err.ensures.below))
+    (definitions_size (take i f.definitions)) (tree_size c.definition-item.result.tree
+    + length c.definition-item.result.terms) c.loop-index.invariant.below c.in-Err.ensures.below))
 
 pub returns-clause-folded : goal.returns-clause-folded
 returns-clause-folded g c =
@@ -73,4 +73,4 @@ returns-clause-below g c =
     let f = c.args.file.now in
     let i = c.loop-index.index in
     steps_within f.counts.n_var c.args.steps.now c.loop-index.steps (definitions_size (take i f.definitions))
-      (definitions_size f.definitions) (definitions_size_le f.definitions i) c.loop-index.invariant.below
+    (definitions_size f.definitions) (definitions_size_le f.definitions i) c.loop-index.invariant.below

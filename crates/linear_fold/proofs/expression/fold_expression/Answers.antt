@@ -18,5 +18,5 @@ returns-clause-entry g c =
 pub returns-clause-below : goal.returns-clause-below
 returns-clause-below g c =
     both_steps (c.args.variables + 1) (option_map_or tree_size (option_copied c.args.tree) 0) (length c.args.terms.now)
-      c.args.steps.now c.tree_entry.new.steps c.sum_entry.new.steps c.tree_entry.ensures.below
+    c.args.steps.now c.tree_entry.new.steps c.sum_entry.new.steps c.tree_entry.ensures.below
     (subst (λ ts. c.sum_entry.new.steps ≤ c.tree_entry.new.steps + 2 * (c.args.variables + 1) * length ts) c.items.ensures c.sum_entry.ensures.below)

@@ -14,8 +14,8 @@ returns-then-are_zero-clause-entry g c known tree size folded =
     let zeros = c.are_zero.ensures.0 c.if-are_zero.true in
     let none = nothing_listed (form_line form) c.args.first (linear_terms c.args.terms.now) (form_fits form).coefs zeros in
     some_terms known c.args.variables tree form (subst (IsFolded known c.args.variables 0 tree) c.in-Linear.is folded)
-      (linear_terms c.args.terms.now) c.args.first (Linear form) within size
-      (terms_formed c.args.variables c.args.terms.now c.requires.below) none
+    (linear_terms c.args.terms.now) c.args.first (Linear form) within size
+    (terms_formed c.args.variables c.args.terms.now c.requires.below) none
 
 pub returns-else-are_zero-clause-entry : goal.returns-else-are_zero-clause-entry
 returns-else-are_zero-clause-entry g c =
@@ -23,8 +23,8 @@ returns-else-are_zero-clause-entry g c =
     if_ok c.with_terms.result _ _
     (λ e h known tree size folded.
     some_terms known c.args.variables tree c.in-Linear.form
-      (subst (IsFolded known c.args.variables 0 tree) c.in-Linear.is folded) (linear_terms c.args.terms.now)
-      c.args.first e within size (terms_formed c.args.variables c.args.terms.now c.requires.below) h)
+    (subst (IsFolded known c.args.variables 0 tree) c.in-Linear.is folded) (linear_terms c.args.terms.now)
+    c.args.first e within size (terms_formed c.args.variables c.args.terms.now c.requires.below) h)
     c.with_terms.ensures.entry
 
 pub returns-else-are_zero-clause-within : goal.returns-else-are_zero-clause-within
@@ -37,5 +37,5 @@ returns-else-are_zero-clause-within g c =
 pub returns-else-are_zero-clause-below : goal.returns-else-are_zero-clause-below
 returns-else-are_zero-clause-below g c =
     sum_bound c.args.variables c.with_terms.new.steps c.args.steps.now (length c.args.terms.now)
-      (some_term c.args.terms.now (λ z. (let clash = c.are_zero.ensures.1 z in let k = c.if-are_zero.false in cc)))
+    (some_term c.args.terms.now (λ z. (let clash = c.are_zero.ensures.1 z in let k = c.if-are_zero.false in cc)))
     (let h = c.with_terms.ensures.below in omega arith)

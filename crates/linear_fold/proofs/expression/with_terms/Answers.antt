@@ -23,6 +23,6 @@ pub returns-clause-entry : goal.returns-clause-entry
 returns-clause-entry g c =
     if_ok c.entry_of_sum.result _ _
     (λ e h. subst (λ l. ComesToTerms l c.args.first (linear_terms c.args.terms.now) e) c.in_ok-put.ensures.line
-      (h (sum_line c.put.new.total) c.args.first (linear_terms c.args.terms.now)
-        c.add_linear_terms-summed.ensures.adds))
+    (h (sum_line c.put.new.total) c.args.first (linear_terms c.args.terms.now)
+    c.add_linear_terms-summed.ensures.adds))
     c.entry_of_sum.ensures.entry

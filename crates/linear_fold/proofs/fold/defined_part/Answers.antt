@@ -16,5 +16,5 @@ pub returns-clause-within : goal.returns-clause-within
 returns-clause-within c =
     form_within c.args.variables c.in_ok-copy-in-Some.copy c.in-Some.form c.in_ok-copy-in-Some.ensures.line c.in_ok-copy-in-Some.ensures.closed
     (c.requires.slots (c.args.index - c.args.variables) c.in-Some.form
-      (slot_at c.args.slots.now (c.args.index - c.args.variables) c.index-slots-index.result c.requires.given.below
-        c.index-slots-index.is ∙ c.in-Some.is))
+    (slot_at c.args.slots.now (c.args.index - c.args.variables) c.index-slots-index.result c.requires.given.below
+    c.index-slots-index.is ∙ c.in-Some.is))

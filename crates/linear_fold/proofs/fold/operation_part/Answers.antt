@@ -10,8 +10,8 @@ use Rattle.linear_fold.proofs.fold.operation_part.Goals.{After-operate}
 
 -- no operand has a fault
 sound : (g : _) (c : After-operate g) → (first_broken (take c.args.count (reverse c.args.stack.now.items)) ≡ None)
-  × Takes (rule_of c.args.class) (length (take c.args.count (reverse c.args.stack.now.items)))
-  × AreOperands c.args.variables (take c.args.count (reverse c.args.stack.now.items))
+    × Takes (rule_of c.args.class) (length (take c.args.count (reverse c.args.stack.now.items)))
+    × AreOperands c.args.variables (take c.args.count (reverse c.args.stack.now.items))
 sound g c =
     let operands = take c.args.count (reverse c.args.stack.now.items) in
     let clean : first_broken operands ≡ None = ap first_broken (sym c.operands_of.ensures.operands) ∙ sym c.first_fault.ensures ∙ c.in_default.is in (
@@ -22,8 +22,8 @@ sound g c =
 
 pub returns-in-Some-clause-part : goal.returns-in-Some-clause-part
 returns-in-Some-clause-part g c known ts operands = faulty_operands known c.args.variables c.args.place c.args.class ts
-  (take c.args.count (reverse c.args.stack.now.items)) operands c.in-Some.fault
-  (ap first_broken (sym c.operands_of.ensures.operands) ∙ sym c.first_fault.ensures ∙ c.in-Some.is)
+    (take c.args.count (reverse c.args.stack.now.items)) operands c.in-Some.fault
+    (ap first_broken (sym c.operands_of.ensures.operands) ∙ sym c.first_fault.ensures ∙ c.in-Some.is)
 
 pub returns-in-Some-clause-below : goal.returns-in-Some-clause-below
 returns-in-Some-clause-below g c = from_start c.args.steps.now (2 * (c.args.variables + 1) * c.args.count)
@@ -31,7 +31,7 @@ returns-in-Some-clause-below g c = from_start c.args.steps.now (2 * (c.args.vari
 pub operate-requires-clause-within : goal.operate-requires-clause-within
 operate-requires-clause-within g c =
     all_operands c.args.variables (take c.args.count (reverse c.args.stack.now.items)) c.requires.within
-      (ap first_broken (sym c.operands_of.ensures.operands) ∙ sym c.first_fault.ensures ∙ c.in_default.is)
+    (ap first_broken (sym c.operands_of.ensures.operands) ∙ sym c.first_fault.ensures ∙ c.in_default.is)
 
 pub returns-in-Ok-Linear-clause-part : goal.returns-in-Ok-Linear-clause-part
 returns-in-Ok-Linear-clause-part g c known ts operands =

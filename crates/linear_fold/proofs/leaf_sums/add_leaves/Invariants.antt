@@ -12,8 +12,8 @@ invariant-loop g l =
       within : l.place ≤ length l.nodes;
       leaves : AreLeaves l.variables l.sum;
       leads : (known : Point → Known) (line : Line) → SumsUpTo known l.variables l.place
-        (first_trees (l.count - l.counter) (trees_of (drop l.place l.nodes))) (leaves_line l.sum) line
-        → SumsUpTo known l.variables 1 (first_trees l.count (trees_of (drop 1 l.nodes))) zero_line line;
+          (first_trees (l.count - l.counter) (trees_of (drop l.place l.nodes))) (leaves_line l.sum) line
+          → SumsUpTo known l.variables 1 (first_trees l.count (trees_of (drop 1 l.nodes))) zero_line line;
       above : l.fn.steps ≤ l.steps;
       below : l.steps ≤ l.fn.steps + seen l.sum;
     }

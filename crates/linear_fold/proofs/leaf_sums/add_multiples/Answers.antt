@@ -21,8 +21,8 @@ loop-preserved g c =
       leads = λ known line rest.
           c.loop.invariant.leads known line
           (multiple_more known n c.args.nodes.now c.loop.place c.loop.least (c.args.count - (c.loop.counter + 1))
-            (c.args.count - c.loop.counter) m old new line c.in-Some.ensures c.loop.invariant.terms.below adds left
-            rest);
+          (c.args.count - c.loop.counter) m old new line c.in-Some.ensures c.loop.invariant.terms.below adds left
+          rest);
       above = (let h = c.loop.invariant.above in let k = c.tick.ensures in omega arith);
       below = (let h = c.loop.invariant.below in let k = c.tick.ensures in let l = adds.up in omega arith);
     }
@@ -34,5 +34,5 @@ pub returns-clause-sum : goal.returns-clause-sum
 returns-clause-sum g c known t =
     c.loop.invariant.leads known (parts_line zero_ℚ c.loop.terms.items)
     (leaves_end known c.args.variables c.loop.place (c.args.count - c.loop.counter)
-      (trees_of (drop c.loop.place c.args.nodes.now)) (parts_line zero_ℚ c.loop.terms.items)
-      (let h = c.loop-test.false in omega arith))
+    (trees_of (drop c.loop.place c.args.nodes.now)) (parts_line zero_ℚ c.loop.terms.items)
+    (let h = c.loop-test.false in omega arith))

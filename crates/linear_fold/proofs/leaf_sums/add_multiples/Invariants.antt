@@ -15,8 +15,8 @@ invariant-loop g l =
       terms : AreTerms l.least l.terms.items;
       few : l.least ≤ l.variables;
       leads : (known : Point → Known) (line : Line) → SumsUpTo known l.variables l.place
-        (first_trees (l.count - l.counter) (trees_of (drop l.place l.nodes))) (parts_line zero_ℚ l.terms.items) line
-        → SumsUpTo known l.variables 1 (first_trees l.count (trees_of (drop 1 l.nodes))) zero_line line;
+          (first_trees (l.count - l.counter) (trees_of (drop l.place l.nodes))) (parts_line zero_ℚ l.terms.items) line
+          → SumsUpTo known l.variables 1 (first_trees l.count (trees_of (drop 1 l.nodes))) zero_line line;
       above : l.fn.steps ≤ l.steps;
       below : l.steps ≤ l.fn.steps + l.least;
     }

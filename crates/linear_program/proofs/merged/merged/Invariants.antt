@@ -11,7 +11,7 @@ invariant-loop-term g l =
     × (goal.iterator-loop-term g).is_finite l.term-iterator
     × ((q : ℚ) → adds_fit (parts_line q (l.done.items ++ drop l.at l.list)) (frac_value l.k) (terms_left l.term-iterator) ≡ adds_fit (parts_line q l.list) (frac_value l.k) (terms_left l.fn.terms))
     × ((q : ℚ) → with_scaled (parts_line q (l.done.items ++ drop l.at l.list)) (frac_value l.k)
-        (terms_left l.term-iterator) ≡ with_scaled (parts_line q l.list) (frac_value l.k) (terms_left l.fn.terms))
+    (terms_left l.term-iterator) ≡ with_scaled (parts_line q l.list) (frac_value l.k) (terms_left l.fn.terms))
     × AreAscending 0 (l.done.items ++ drop l.at l.list)
     × (l.at ≤ length l.list)
     × ((bound : ℕ) × AreBelow bound l.done.items × AreAscending bound (terms_left l.term-iterator))

@@ -15,7 +15,7 @@ returns-in-Some c =
 
 pub returns-in_default-plain_number : goal.returns-in_default-plain_number
 returns-in_default-plain_number c = none_below c.args.letter c.args.count c.in-Some.number c.args.text.now c.requires
-  c.in-Some.ensures.0 c.if-number-count.false (c.in-Some.ensures.1 ∙ c.after_first.ensures)
+    c.in-Some.ensures.0 c.if-number-count.false (c.in-Some.ensures.1 ∙ c.after_first.ensures)
 
 pub returns-in_default-plain_number-2 : goal.returns-in_default-plain_number-2
 returns-in_default-plain_number-2 c = none_plain c.args.letter c.args.count c.args.text.now c.requires (λ k h e. c.in_default-plain_number.ensures k h (e ∙ sym c.after_first.ensures))

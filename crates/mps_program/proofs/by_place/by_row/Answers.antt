@@ -10,5 +10,5 @@ give-requires c = omega (arith, entry_within c.args.given.now c.given.entry-inde
 
 pub returns-clause-value : goal.returns-clause-value
 returns-clause-value c = λ i lt. sym (or_none (get_or c.given.all.items i None))
-  ∙ ap (option_or (get_or c.given.all.items i None)) (at_end c.args.given.now c.given.entry-index i (omega arith))
-  ∙ c.given.invariant.left i lt
+    ∙ ap (option_or (get_or c.given.all.items i None)) (at_end c.args.given.now c.given.entry-index i (omega arith))
+    ∙ c.given.invariant.left i lt

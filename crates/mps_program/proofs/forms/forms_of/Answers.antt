@@ -12,14 +12,22 @@ use Rattle.mps_program.proofs.forms.forms_of.Goals as goal
 pub add_bodies-requires-clause-terms : goal.add_bodies-requires-clause-terms
 add_bodies-requires-clause-terms c =
     part_terms c.args.mps.now c.args.terms c.requires c.parts.done (c.part_end-end.result - c.parts.done) c.parts.terms
-      c.in_ok-part.part (omega (arith, c.part_end-end.ensures.within, c.part_end-end.ensures.some,
-          ap length c.rows-rows.ensures.value)) c.parts.invariant.later c.in_ok-part.ensures.part
+    c.in_ok-part.part (omega (
+      arith,
+      c.part_end-end.ensures.within,
+      c.part_end-end.ensures.some,
+      ap length c.rows-rows.ensures.value,
+    )) c.parts.invariant.later c.in_ok-part.ensures.part
 
 pub next_objective-requires-clause-terms : goal.next_objective-requires-clause-terms
 next_objective-requires-clause-terms c =
     part_terms c.args.mps.now c.args.terms c.requires c.parts.done (c.part_end-end.result - c.parts.done) c.parts.terms
-      c.in_ok-part.part (omega (arith, c.part_end-end.ensures.within, c.part_end-end.ensures.some,
-          ap length c.rows-rows.ensures.value)) c.parts.invariant.later c.in_ok-part.ensures.part
+    c.in_ok-part.part (omega (
+      arith,
+      c.part_end-end.ensures.within,
+      c.part_end-end.ensures.some,
+      ap length c.rows-rows.ensures.value,
+    )) c.parts.invariant.later c.in_ok-part.ensures.part
 
 pub next_objective-requires-clause-place : goal.next_objective-requires-clause-place
 next_objective-requires-clause-place c = c.objective_row-place.ensures ∙ ap objective_row c.rows-rows.ensures.value
@@ -57,5 +65,5 @@ take_part-requires c =
 
 pub returns-clause-bodies : goal.returns-clause-bodies
 returns-clause-bodies c = bodies_end c.args.mps.now c.parts.done c.parts.bodies.items
-  (omega (arith, c.parts.invariant.within, c.parts-test.false, ap length c.rows-rows.ensures.value))
-  c.parts.invariant.bodies
+    (omega (arith, c.parts.invariant.within, c.parts-test.false, ap length c.rows-rows.ensures.value))
+    c.parts.invariant.bodies

@@ -9,6 +9,6 @@ groups-preserved c = record {
   within = grind (arith, common_steps, c.groups.invariant.left, c.groups-test.ensures.long refl);
   left = c.split_at.ensures.back ∙ ap (drop 8) c.groups.invariant.left ∙ drop-drop 8 c.groups.passed c.args.bytes.now;
   each = more_bytes c.args.bytes.now c.groups.passed 8 c.groups.invariant.each
-    (subst (λ (rest : List ℕ). has_name_bytes (take 8 rest) ≡ true) c.groups.invariant.left
+      (subst (λ (rest : List ℕ). has_name_bytes (take 8 rest) ≡ true) c.groups.invariant.left
       (c.groups-test.ensures.each refl));
 }

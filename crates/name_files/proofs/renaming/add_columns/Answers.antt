@@ -15,8 +15,8 @@ new_name-requires-clause-named c =
     let f : List ℕ → List ℕ = new_name variable_name c.args.names.now in
     subst (λ (t : List ℕ). IsName (f t)) (sym (c.bytes.ensures.value ∙ c.name.ensures))
     (subst (λ (y : Column Dec). IsName y.name) (sym (at_mapped (named_column f) xs i x (omega arith) c.column-item.is))
-      (c.requires.valid.named i (named_column f x) (within_mapped (named_column f) xs i x (omega arith)
-          c.column-item.is)))
+    (c.requires.valid.named i (named_column f x) (within_mapped (named_column f) xs i x (omega arith)
+    c.column-item.is)))
 
 pub add_column-requires : goal.add_column-requires
 add_column-requires c =

@@ -17,7 +17,7 @@ new_name-requires-clause-named c =
     let f : List ℕ → List ℕ = new_name row_name c.args.names.now in
     subst (λ (t : List ℕ). IsName (f t)) (sym (c.bytes.ensures.value ∙ ap (λ (r : MpsRow). r.name) c.row.view_is))
     (subst (λ (s : MpsRow). IsName s.name) (sym (at_mapped (named_row f) xs i r (omega arith) c.row-item.is))
-      (c.requires.valid.named i (named_row f r) (within_mapped (named_row f) xs i r (omega arith) c.row-item.is)))
+    (c.requires.valid.named i (named_row f r) (within_mapped (named_row f) xs i r (omega arith) c.row-item.is)))
 
 pub add_row-requires : goal.add_row-requires
 add_row-requires c =

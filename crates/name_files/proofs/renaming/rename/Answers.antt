@@ -31,17 +31,40 @@ add_bounds-requires-clause-valid c =
 pub finish-requires : goal.finish-requires
 unfolding with_names
 finish-requires c =
-    rw (c.in_ok-add_bounds.ensures, c.in_ok-add_ranges.ensures, c.in_ok-add_rhs.ensures, c.in_ok-add_columns.ensures,
-        c.in_ok-add_rows.ensures, c.new-builder.ensures, c.in_ok-own_name.ensures, c.maximise.ensures,
-        c.rows.ensures.value, c.columns.ensures.value, c.rhs.ensures.value, c.ranges-2.ensures.value,
-        c.bounds.ensures.value)
+    rw (
+      c.in_ok-add_bounds.ensures,
+      c.in_ok-add_ranges.ensures,
+      c.in_ok-add_rhs.ensures,
+      c.in_ok-add_columns.ensures,
+      c.in_ok-add_rows.ensures,
+      c.new-builder.ensures,
+      c.in_ok-own_name.ensures,
+      c.maximise.ensures,
+      c.rows.ensures.value,
+      c.columns.ensures.value,
+      c.rhs.ensures.value,
+      c.ranges-2.ensures.value,
+      c.bounds.ensures.value,
+    )
     (complete_named c.args.mps.now c.args.rows.now c.args.columns.now c.rows.ensures.valid.complete)
 
 pub returns : goal.returns
 unfolding with_names
 returns c =
-    rw (c.finish.ensures, c.in_ok-add_bounds.ensures, c.in_ok-add_ranges.ensures, c.in_ok-add_rhs.ensures,
-        c.in_ok-add_columns.ensures, c.in_ok-add_rows.ensures, c.new-builder.ensures, c.in_ok-own_name.ensures,
-        c.maximise.ensures, c.rows.ensures.value, c.columns.ensures.value, c.rhs.ensures.value,
-        c.ranges-2.ensures.value, c.bounds.ensures.value)
+    rw (
+      c.finish.ensures,
+      c.in_ok-add_bounds.ensures,
+      c.in_ok-add_ranges.ensures,
+      c.in_ok-add_rhs.ensures,
+      c.in_ok-add_columns.ensures,
+      c.in_ok-add_rows.ensures,
+      c.new-builder.ensures,
+      c.in_ok-own_name.ensures,
+      c.maximise.ensures,
+      c.rows.ensures.value,
+      c.columns.ensures.value,
+      c.rhs.ensures.value,
+      c.ranges-2.ensures.value,
+      c.bounds.ensures.value,
+    )
     refl

@@ -16,7 +16,7 @@ invariant-lines l = record {
   few : l.front.lines ≤ l.left;
   within : l.front.len ≤ length l.piece;
   takes : (b : Body) (cur : Current) (number : ℕ) → AwaitsIntervals l.fn.builder l.of_constraint l.left b cur
-    → TakesLines b l.piece number l.front (with_lines b l.builder b.columns cur l.front.lines);
+      → TakesLines b l.piece number l.front (with_lines b l.builder b.columns cur l.front.lines);
 }
 
 abbrev pub decreases-lines : goal.decreases-lines

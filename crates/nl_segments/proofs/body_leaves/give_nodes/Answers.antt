@@ -43,16 +43,16 @@ push-requires-clause-few c =
     let d = (goal.at.push-requires-clause-few c).In-Whole in
     let h = c.requires in
     (can_node c.args.builder.now c.args.nodes.now c.lines.nodes c.in-Whole.node c.args.before c.args.piece.now
-      c.lines.front c.in-Some.line.len c.in-Some.line.leaf h (some d) (c.lines.invariant.takes h.body h.current 1 h.is)
-      (first d) (read d)).few
+    c.lines.front c.in-Some.line.len c.in-Some.line.leaf h (some d) (c.lines.invariant.takes h.body h.current 1 h.is)
+    (first d) (read d)).few
 
 pub push-requires-clause-formed : goal.push-requires-clause-formed
 push-requires-clause-formed c =
     let d = (goal.at.push-requires-clause-formed c).In-Whole in
     let h = c.requires in
     (can_node c.args.builder.now c.args.nodes.now c.lines.nodes c.in-Whole.node c.args.before c.args.piece.now
-      c.lines.front c.in-Some.line.len c.in-Some.line.leaf h (some d) (c.lines.invariant.takes h.body h.current 1 h.is)
-      (first d) (read d)).formed
+    c.lines.front c.in-Some.line.len c.in-Some.line.leaf h (some d) (c.lines.invariant.takes h.body h.current 1 h.is)
+    (first d) (read d)).formed
 
 pub lines-smaller : goal.lines-smaller
 lines-smaller c = omega (arith, few (goal.at.lines-smaller c).In-Whole)
@@ -67,13 +67,13 @@ lines-preserved c =
       few = omega (arith, few w);
       known = subst (λ ns. All (IsNodeKnown d.counts.n_var d.definitions) ns) (sym c.in-Ok-push.ensures.ok)
           (known_next d c.args.nodes.now c.lines.nodes c.in-Whole.node c.args.before c.args.piece.now c.lines.front
-            c.in-Some.line.len leaf h (some w) (c.lines.invariant.takes h.body h.current 1 h.is) (first w) (read w));
+          c.in-Some.line.len leaf h (some w) (c.lines.invariant.takes h.body h.current 1 h.is) (first w) (read w));
       within = omega (arith, c.lines.invariant.within, (first w).first.within, length-drop c.lines.front.len c.args.piece.now);
       takes = λ b cur number is.
           subst (λ ns. TakesLines b c.args.piece.now number
-              (record { len = c.lines.front.len + c.in-Some.line.len; lines = c.lines.front.lines + 1 })
-              (with_nodes b cur ns number (c.lines.front.lines + 1))) (sym c.in-Ok-push.ensures.ok)
+          (record { len = c.lines.front.len + c.in-Some.line.len; lines = c.lines.front.lines + 1 })
+          (with_nodes b cur ns number (c.lines.front.lines + 1))) (sym c.in-Ok-push.ensures.ok)
           (node_taken d c.args.nodes.now c.lines.nodes c.in-Whole.node c.args.before b cur number c.args.piece.now
-            c.lines.front c.in-Some.line.len leaf is (some w) (c.lines.invariant.takes b cur number is) (first w)
-            (read w));
+          c.lines.front c.in-Some.line.len leaf is (some w) (c.lines.invariant.takes b cur number is) (first w)
+          (read w));
     }

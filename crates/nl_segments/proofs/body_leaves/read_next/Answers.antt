@@ -7,7 +7,7 @@ use Rattle.nl_segments.proofs.body_leaves.read_next.Goals as goal
 
 pub returns-in-Err : goal.returns-in-Err
 returns-in-Err c = λ words p. reason_before (node_form_tests c.args.builder.now.counts c.args.builder.now words)
-  ((nat_le (2 ^ 22) c.args.nodes, TooLarge) ∷ []) c.in-Err.reason (c.in-Err.ensures words p)
+    ((nat_le (2 ^ 22) c.args.nodes, TooLarge) ∷ []) c.in-Err.reason (c.in-Err.ensures words p)
 
 pub returns : goal.returns
 returns c = λ words p. (

@@ -16,8 +16,8 @@ may_bound : (m : Mps Dec) (j : ℕ) (b : KindOfBound) → j < length m.columns �
 may_bound m j b within before zero = record { within = within; new = λ i d l e. absurd (omega (arith, before i d l, e)); zero = zero }
 
 may_bound_too : (m now : Mps Dec) (j : ℕ) (b c : KindOfBound)
-  → now ≡ record m { bounds = m.bounds ++ bound_in j b ∷ [] } → j < length m.columns → All (λ b. b.column < j) m.bounds
-  → SetOtherSides b.0 c.0 → IsZeroWithout c →
+    → now ≡ record m { bounds = m.bounds ++ bound_in j b ∷ [] } → j < length m.columns → All (λ b. b.column < j) m.bounds
+    → SetOtherSides b.0 c.0 → IsZeroWithout c →
     CanAddBound now c.0 j c.1
 may_bound_too m now j b c is within before apart zero =
     let new = All-push (IsOtherBound c.0 j) m.bounds (bound_in j b) (λ i d l e. absurd (omega (arith, before i d l, e))) (λ e. apart) in
@@ -25,7 +25,7 @@ may_bound_too m now j b c is within before apart zero =
     subst (λ (x : Mps Dec). CanAddBound x c.0 j c.1) (sym is) two
 
 both_added : (m now new : Mps Dec) (b c : Bound Dec) → now ≡ record m { bounds = m.bounds ++ b ∷ [] }
-  → new ≡ record now { bounds = now.bounds ++ c ∷ [] } → new ≡ record m { bounds = m.bounds ++ b ∷ c ∷ [] }
+    → new ≡ record now { bounds = now.bounds ++ c ∷ [] } → new ≡ record m { bounds = m.bounds ++ b ∷ c ∷ [] }
 both_added m now new b c first second =
     second ∙ ap (λ (x : Mps Dec). record x { bounds = x.bounds ++ c ∷ [] }) first ∙ ap (λ (bs : List (Bound Dec)). record m { bounds = bs }) (append_assoc m.bounds (b ∷ []) (c ∷ []))
 
@@ -52,8 +52,8 @@ pub returns-clause-added : goal.returns-clause-added
 returns-clause-added c =
     let first = c.side_bounds-bounds.result.0 in
     let both = both_added c.args.builder.now c.add_bound.new.self c.add_bound-2.new.self (bound_in c.args.j first)
-      (bound_in c.args.j (c.in-Some.kind, c.in-Some.value)) c.in_ok-add_bound.ensures.ok c.in_ok-add_bound-2.ensures.ok
-      in
+    (bound_in c.args.j (c.in-Some.kind, c.in-Some.value)) c.in_ok-add_bound.ensures.ok c.in_ok-add_bound-2.ensures.ok
+    in
     two_put c.args.j c.args.builder.now.bounds c.add_bound-2.new.self.bounds (bound_in c.args.j first) (bound_in c.args.j (c.in-Some.kind, c.in-Some.value)) _ (ap (λ m. m.bounds) both) refl refl
     (ap (bounds_at c.args.j first) (sym c.in-Some.is) ∙ c.side_bounds-bounds.ensures.records c.args.j) c.requires.before
 
@@ -61,5 +61,5 @@ pub returns-clause-only : goal.returns-clause-only
 returns-clause-only c =
     only_bounds c.args.builder.now c.add_bound-2.new.self _
     (both_added c.args.builder.now c.add_bound.new.self c.add_bound-2.new.self
-      (bound_in c.args.j c.side_bounds-bounds.result.0) (bound_in c.args.j (c.in-Some.kind, c.in-Some.value))
-      c.in_ok-add_bound.ensures.ok c.in_ok-add_bound-2.ensures.ok)
+    (bound_in c.args.j c.side_bounds-bounds.result.0) (bound_in c.args.j (c.in-Some.kind, c.in-Some.value))
+    c.in_ok-add_bound.ensures.ok c.in_ok-add_bound-2.ensures.ok)

@@ -7,4 +7,4 @@ returns-then-same_value c = of_one c.args.side c.in-Some-Some.lower c.in-Some-So
 
 pub returns-else-same_value : goal.returns-else-same_value
 returns-else-same_value c = of_both c.args.side c.in-Some-Some.lower c.in-Some-Some.upper c.in-Some-Some.is-0
-  c.in-Some-Some.is-1 (λ e. (let f = sym c.if-same_value.false ∙ c.same_value.ensures.1 e in cc))
+    c.in-Some-Some.is-1 (λ e. (let f = sym c.if-same_value.false ∙ c.same_value.ensures.1 e in cc))

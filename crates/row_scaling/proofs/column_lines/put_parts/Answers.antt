@@ -23,8 +23,8 @@ parts-preserved c = record {
       let mine = part_columns (λ c. c) s (column_count s) first m c.args.buckets columns part all (omega (arith, within, all.count)) in
       let end : first + length columns ≡ c.part_end-end.result = omega (arith, size, c.part_end-end.ensures.some) in
       subst (λ n. c.put_part.new.out ++ lines_text (lines_from s place.marked place.markers n)
-          ≡ c.args.out.now ++ lines_text (lines_from s false 0 0)) end
-        (c.in_ok-place.ensures.text s h mine ∙ c.parts.invariant.text s h all);
+      ≡ c.args.out.now ++ lines_text (lines_from s false 0 0)) end
+      (c.in_ok-place.ensures.text s h mine ∙ c.parts.invariant.text s h all);
 }
 
 pub returns-clause-text : goal.returns-clause-text

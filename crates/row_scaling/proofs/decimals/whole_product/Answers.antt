@@ -11,6 +11,6 @@ returns c =
     let times : to_z w64 c.in-Some.times ≡ pos c.in-Some.times = (let few = c.in-Some.ensures.few in search rules) in
     let few : to_z w64 (of_z w64 (to_z w128 (of_z w128 c.num-num.result))) ≡ to_z w128 (of_z w128 c.num-num.result) = search rules in
     whole_product_is c.new.result (frac_value c.args.factor) (frac_value c.args.number) c.in-Some.times
-      (to_z w128 (of_z w128 c.small_product-mantissa.result)) (pos 0) c.in-Some.ensures.whole c.in-Some.ensures.times
+    (to_z w128 (of_z w128 c.small_product-mantissa.result)) (pos 0) c.in-Some.ensures.whole c.in-Some.ensures.times
     (product ∙ c.small_product-mantissa.ensures.value ∙ ap₂ (λ a b. a *ℤ b) (few ∙ num ∙ c.num-num.ensures) times)
     (subst (λ z. unsigned_abs z < 2 ^ 127) (sym product) c.small_product-mantissa.ensures.small) refl c.new.ensures

@@ -13,7 +13,7 @@ abbrev pub invariant-parts : goal.invariant-parts
 invariant-parts l = record {
   within : l.done ≤ length l.entries;
   text : (s : ScaledValue) → AreNumbers s l.numbers → All (λ t. t.0 < length (all_rows s)) l.entries
-    → l.out ++ lines_text (entry_lines value_text (all_rows s) (name_bytes l.column)
+      → l.out ++ lines_text (entry_lines value_text (all_rows s) (name_bytes l.column)
       (map entry_value (drop l.done l.entries)))
       ≡ l.initial.out ++ lines_text (entry_lines value_text (all_rows s) (name_bytes l.column) (map entry_value l.entries));
 }

@@ -13,7 +13,7 @@ abbrev pub invariant-entries : goal.invariant-entries
 invariant-entries l = record {
   within : l.left ≤ length l.entries;
   text : (s : ScaledValue) → AreNumbers s l.numbers → All (λ t. t.0 < length (all_rows s)) l.entries
-    → l.lines ≡ lines_text (entry_lines value_text (all_rows s) (name_bytes l.column)
+      → l.lines ≡ lines_text (entry_lines value_text (all_rows s) (name_bytes l.column)
       (map entry_value (drop l.left l.entries)));
   size : length l.lines ≤ (length l.entries - l.left) * 100;
 }

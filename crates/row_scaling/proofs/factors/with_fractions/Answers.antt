@@ -20,5 +20,5 @@ returns-in_default-clause-factor c = λ xs e.
     let back : to_z w128 (of_z w128 c.args.start) ≡ c.args.start = search rules in
     let i = c.loop-term.invariant in
     running_wide _ _ c.in-Some.term (terms_left c.next.new.self) (terms_left c.loop-term.term-iterator)
-      (size_above _ i.3) c.in-Some.ensures.steps (i.2 ∙ running_end _ xs (form_terms c.args.form.now) (back ∙ e))
-      c.in_default.ensures
+    (size_above _ i.3) c.in-Some.ensures.steps (i.2 ∙ running_end _ xs (form_terms c.args.form.now) (back ∙ e))
+    c.in_default.ensures

@@ -22,4 +22,4 @@ returns c =
     let some : 0 < unsigned_abs c.cofactor-cofactor.result = omega (arith, ints, c.cofactor-cofactor.ensures.above) in
     by_lcm c.lcm.result (unsigned_abs c.args.factor) (unsigned_abs c.cofactor-cofactor.result) _ some (cofactor_is c.args.number _ c.cofactor-cofactor.ensures.cofactor)
     (subst₂ (λ a b. MatchOption c.lcm.result ((m : ℕ) → IsLcm (unsigned_abs a) (unsigned_abs b) m → 2 ^ 127 ≤ m)
-        (λ m. (pos 0 <ℤ m) × IsLcm (unsigned_abs a) (unsigned_abs b) (unsigned_abs m))) back other c.lcm.ensures)
+    (λ m. (pos 0 <ℤ m) × IsLcm (unsigned_abs a) (unsigned_abs b) (unsigned_abs m))) back other c.lcm.ensures)

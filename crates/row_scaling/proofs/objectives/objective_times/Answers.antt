@@ -8,5 +8,5 @@ use Rattle.row_scaling.proofs.objectives.objective_times.Goals as goal
 pub returns-in-Err-clause-wide : goal.returns-in-Err-clause-wide
 returns-in-Err-clause-wide c =
     fault_map c.in-Err.stop (λ bad h. bad (All-tail (NumberFits (frac_value c.args.factor))
-          (form_line c.args.objective.now).constant (coefficients_in (form_terms c.args.objective.now)) h))
-      c.in-Err.ensures.wide
+    (form_line c.args.objective.now).constant (coefficients_in (form_terms c.args.objective.now)) h))
+    c.in-Err.ensures.wide

@@ -15,8 +15,8 @@ add_column-requires-clause-rising c =
     let cols = c.args.columns.items in
     let left : drop j cols ≡ c.in-Some.entries ∷ into_iter_items c.next.new.self = sym c.loop-j.invariant.1 ∙ c.in-Some.ensures.cases.0 in
     let terms : map entry_value c.in-Some.entries.items ≡ entries_in_column s j =
-      ap (λ v. map entry_value v.items) (first_left cols j c.in-Some.entries _ left)
-      ∙ c.requires.columns.terms j c.in-Some.entries (omega (arith, c.program_kinds-kinds.ensures.count)) in
+    ap (λ v. map entry_value v.items) (first_left cols j c.in-Some.entries _ left)
+    ∙ c.requires.columns.terms j c.in-Some.entries (omega (arith, c.program_kinds-kinds.ensures.count)) in
     rising_enough (λ c. c.items) s cols c.args.builder.now c.loop-j.builder j c.in-Some.entries c.loop-j.invariant.0 c.requires.rows terms
 
 pub loop-j-preserved : goal.loop-j-preserved
@@ -32,11 +32,11 @@ loop-j-preserved c =
     let first = first_left cols j c.in-Some.entries _ left in
     let terms : map entry_value c.in-Some.entries.items ≡ entries_in_column s j = ap (λ v. map entry_value v.items) first ∙ c.requires.columns.terms j c.in-Some.entries inside in (
       column_put (λ c. c.items) s cols c.loop-j.builder c.add_column.new.builder j c.in-Some.entries c.in_ok-name.name
-        c.is_whole.result c.zero.result c.in_ok-add_column.ensures c.variables-n.ensures.scaled c.args.builder.now _
-        c.loop-j.invariant.0
+          c.is_whole.result c.zero.result c.in_ok-add_column.ensures c.variables-n.ensures.scaled c.args.builder.now _
+          c.loop-j.invariant.0
           inside_cols first terms c.zero.ensures (variable_left s c.variables-n.ensures.scaled j inside) name name
-            (c.is_whole.ensures ∙ ap (λ ks. is_whole_kind (get_or ks j Continuous))
-              c.program_kinds-kinds.ensures.value),
+          (c.is_whole.ensures ∙ ap (λ ks. is_whole_kind (get_or ks j Continuous))
+          c.program_kinds-kinds.ensures.value),
       others_left cols j c.in-Some.entries _ left,
       omega (arith, c.loop-j.invariant.2, ap length steps.0, steps.1),
     )

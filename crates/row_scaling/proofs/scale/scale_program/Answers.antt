@@ -43,8 +43,8 @@ new-requires c =
     let h = subst (λ b. IsTiedOrPlain b o t) same c.in-Ok-scaled_objective.ensures.scaled in
     subst IsScaled
     (sym (same_value_of l c.in-Ok.rows.items o t r.maximise r.bounds.items r.kinds.items
-        (sym (ap (λ (p : LinearValue). p.maximise) value)) (sym (ap (λ (p : LinearValue). p.bounds) value))
-        (sym (ap (λ (p : LinearValue). p.kinds) value))))
+    (sym (ap (λ (p : LinearValue). p.maximise) value)) (sym (ap (λ (p : LinearValue). p.bounds) value))
+    (sym (ap (λ (p : LinearValue). p.kinds) value))))
     (is_scaled_program l has.linear up c.in-Ok.rows.items (c.in-Ok.ensures.scaled l has) o t h (c.in-Ok.ensures.few l has))
 
 pub returns-clause-scaled : goal.returns-clause-scaled
@@ -62,8 +62,8 @@ returns-clause-scaled c =
     (sym
     (c.in_ok-new.ensures
     ∙ same_value_of l c.in-Ok.rows.items o t r.maximise r.bounds.items r.kinds.items
-      (sym (ap (λ (p : LinearValue). p.maximise) value)) (sym (ap (λ (p : LinearValue). p.bounds) value))
-      (sym (ap (λ (p : LinearValue). p.kinds) value))))
+    (sym (ap (λ (p : LinearValue). p.maximise) value)) (sym (ap (λ (p : LinearValue). p.bounds) value))
+    (sym (ap (λ (p : LinearValue). p.kinds) value))))
     (is_scaled_of l has.linear up c.in-Ok.rows.items (c.in-Ok.ensures.scaled l has) o t h)
 
 pub returns-clause-fine : goal.returns-clause-fine

@@ -25,8 +25,8 @@ new-requires c =
     let bounds = c.in_ok-extend_from_slice.ensures.items ∙ ap (λ xs. xs ++ c.bounds.result.now) c.new-bounds.ensures.items ∙ c.bounds.ensures in
     let kinds = c.in_ok-extend_from_slice-2.ensures.items ∙ ap (λ xs. xs ++ c.kinds.result.now) c.new-kinds.ensures.items ∙ c.kinds.ensures in
     subst IsScaled (sym (same_value_of l c.in-Ok.rows.items o t c.maximise-maximise.result
-          c.extend_from_slice.new.self.items c.extend_from_slice-2.new.self.items c.maximise-maximise.ensures bounds
-          kinds))
+    c.extend_from_slice.new.self.items c.extend_from_slice-2.new.self.items c.maximise-maximise.ensures bounds
+    kinds))
     (is_scaled_program l c.objective.ensures.folded up c.in-Ok.rows.items c.in-Ok.ensures.scaled o t h c.in-Ok.ensures.few)
 
 pub returns-clause-scaled : goal.returns-clause-scaled
@@ -39,8 +39,8 @@ returns-clause-scaled c =
     let bounds = c.in_ok-extend_from_slice.ensures.items ∙ ap (λ xs. xs ++ c.bounds.result.now) c.new-bounds.ensures.items ∙ c.bounds.ensures in
     let kinds = c.in_ok-extend_from_slice-2.ensures.items ∙ ap (λ xs. xs ++ c.kinds.result.now) c.new-kinds.ensures.items ∙ c.kinds.ensures in
     subst (IsScaledOf (linear_value l)) (sym (c.in_ok-new.ensures
-          ∙ same_value_of l c.in-Ok.rows.items o t c.maximise-maximise.result c.extend_from_slice.new.self.items
-          c.extend_from_slice-2.new.self.items c.maximise-maximise.ensures bounds kinds))
+    ∙ same_value_of l c.in-Ok.rows.items o t c.maximise-maximise.result c.extend_from_slice.new.self.items
+    c.extend_from_slice-2.new.self.items c.maximise-maximise.ensures bounds kinds))
     (is_scaled_of l c.objective.ensures.folded up c.in-Ok.rows.items c.in-Ok.ensures.scaled o t h)
 
 pub returns-clause-fine : goal.returns-clause-fine

@@ -23,8 +23,8 @@ loop-con-preserved c =
     let left : drop i bodies ≡ c.in-Some.body ∷ into_iter_items c.next.new.self = sym c.loop-con.invariant.1 ∙ steps.0 in
     let within : i < length bodies = omega (arith, c.loop-con-test.true, c.requires.count) in (
       λ l h. row_moved l bodies c.args.sides.now h i c.in-Some.body _ c.index-sides-con.result left within
-        c.index-sides-con.is c.loop-con.rows.items c.push.new.self.items c.in-Ok.row (c.loop-con.invariant.0 l h)
-        c.in_ok-push.ensures.items
+          c.index-sides-con.is c.loop-con.rows.items c.push.new.self.items c.in-Ok.row (c.loop-con.invariant.0 l h)
+          c.in_ok-push.ensures.items
           (c.in-Ok.ensures.scaled l (row_there l bodies c.args.sides.now h i c.in-Some.body _ c.index-sides-con.result left within c.index-sides-con.is)) c.in-Ok.ensures.few,
       others_left bodies i c.in-Some.body _ left,
       omega (arith, c.loop-con.invariant.2, ap length steps.0, steps.1),
@@ -33,4 +33,4 @@ loop-con-preserved c =
 pub returns-clause-scaled : goal.returns-clause-scaled
 returns-clause-scaled c l h =
     all_moved l c.args.bodies.items c.args.sides.now c.loop-con.rows.items c.loop-con.con h (c.loop-con.invariant.0 l h)
-      (omega (arith, c.loop-con-test.false, c.loop-con.auto.con-end, c.requires.count))
+    (omega (arith, c.loop-con-test.false, c.loop-con.auto.con-end, c.requires.count))

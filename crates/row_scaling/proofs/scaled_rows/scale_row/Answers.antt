@@ -39,7 +39,7 @@ new-requires c =
     let p = c.in-Ok-scaled_sides.ensures in
     let xs = coefficients_in (form_terms c.args.body.now) ++ listed (frac_side c.in-Ok.less.lo) ++ listed (frac_side c.in-Ok.less.hi) in
     is_scaled (frac_value c.whole-multiplier.result) (frac_value c.constant.result) (side_value c.args.side.lo)
-      (side_value c.args.side.hi) (frac_side c.in-Ok.less.lo) (frac_side c.in-Ok.less.hi) c.args.body.now
+    (side_value c.args.side.hi) (frac_side c.in-Ok.less.lo) (frac_side c.in-Ok.less.hi) c.args.body.now
     _ c.in-Ok-scaled_sides.sides.side c.in-Ok-scaled_sides.sides.range s.2 s.3
     (multiplier_some _ xs (c.whole-multiplier.ensures ∙ ap whole (back ∙ c.in-Some.ensures.factor)))
     c.in-Some.ensures.ascending c.requires c.in-Ok-scaled_terms.ensures.scaled p.1 p.2 p.3
@@ -65,7 +65,7 @@ returns-clause-scaled c = λ n i below.
     let v : RowValue = record { terms = c.in-Ok-scaled_terms.terms; side = c.in-Ok-scaled_sides.sides.side; range = c.in-Ok-scaled_sides.sides.range } in
     let xs = coefficients_in (form_terms b) ++ listed (frac_side c.in-Ok.less.lo) ++ listed (frac_side c.in-Ok.less.hi) in
     let scaled : IsScaledRow v = is_scaled (frac_value c.whole-multiplier.result) (frac_value c.constant.result)
-      (side_value c.args.side.lo) (side_value c.args.side.hi) (frac_side c.in-Ok.less.lo) (frac_side c.in-Ok.less.hi) b
+    (side_value c.args.side.lo) (side_value c.args.side.hi) (frac_side c.in-Ok.less.lo) (frac_side c.in-Ok.less.hi) b
     _ c.in-Ok-scaled_sides.sides.side c.in-Ok-scaled_sides.sides.range s.2 s.3
     (multiplier_some _ xs (c.whole-multiplier.ensures ∙ ap whole (back ∙ c.in-Some.ensures.factor)))
     c.in-Some.ensures.ascending c.requires c.in-Ok-scaled_terms.ensures.scaled p.1 p.2 p.3 in

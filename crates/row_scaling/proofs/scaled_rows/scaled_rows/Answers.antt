@@ -12,7 +12,7 @@ loop-con-preserved c =
     let count = ap length c.bodies-bodies.ensures.bodies in
     let less : c.loop-con.con < length c.args.linear.now.bodies = omega (arith, c.loop-con-test.true, count) in
     one_row_more c.args.linear.now c.loop-con.rows.items c.push.new.self.items c.loop-con.con c.in-Ok.row
-      c.loop-con.invariant less c.in_ok-push.ensures.items c.in-Ok.ensures.scaled c.in-Ok.ensures.few
+    c.loop-con.invariant less c.in_ok-push.ensures.items c.in-Ok.ensures.scaled c.in-Ok.ensures.few
 
 pub returns-clause-scaled : goal.returns-clause-scaled
 returns-clause-scaled c =

@@ -5,7 +5,7 @@ use Rattle.row_scaling.proofs.scaled_terms.terms_times.Goals as goal
 
 pub returns-in_default-clause-wide : goal.returns-in_default-clause-wide
 returns-in_default-clause-wide c = λ h. c.in_default.ensures
-  (first_fits _ (form_terms c.args.form.now) c.in-Some.term (terms_left c.loop-term.term-iterator)
+    (first_fits _ (form_terms c.args.form.now) c.in-Some.term (terms_left c.loop-term.term-iterator)
     (terms_left c.next.new.self) c.in-Some.ensures.steps (c.loop-term.invariant.3 h))
 
 pub loop-term-preserved : goal.loop-term-preserved

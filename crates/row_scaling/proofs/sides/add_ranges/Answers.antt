@@ -13,9 +13,9 @@ pub loop-row-preserved : goal.loop-row-preserved
 loop-row-preserved c = record {
   only = ranges_only c.args.builder.now c.loop-row.builder c.add_range.new.builder c.loop-row.invariant.only c.in_ok-add_range.ensures.only;
   left = entry_put range_in (name_in (length c.args.scaled.now.rows)) c.program_rows-rows.result.now
-    c.args.builder.now.ranges c.loop-row.builder.ranges c.add_range.new.builder.ranges c.loop-row.place
-    c.loop-row.row-index c.row-item.result c.in-Some.factored _ c.loop-row.invariant.left (omega arith) c.row-item.is
-    c.in-Some.is
+      c.args.builder.now.ranges c.loop-row.builder.ranges c.add_range.new.builder.ranges c.loop-row.place
+      c.loop-row.row-index c.row-item.result c.in-Some.factored _ c.loop-row.invariant.left (omega arith) c.row-item.is
+      c.in-Some.is
       (ap side_value c.range-range.ensures.value ∙ c.range-range.ensures.row.range) c.in_ok-add_range.ensures.added;
 }
 

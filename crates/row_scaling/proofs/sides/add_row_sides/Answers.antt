@@ -10,8 +10,8 @@ pub loop-row-preserved : goal.loop-row-preserved
 loop-row-preserved c = record {
   only = rhs_only c.args.builder.now c.loop-row.builder c.add_right_side.new.builder c.loop-row.invariant.only c.in_ok-add_right_side.ensures.only;
   left = entry_put right_side_of (name_in (length c.args.scaled.now.rows)) c.program_rows-rows.result.now
-    c.args.builder.now.rhs c.loop-row.builder.rhs c.add_right_side.new.builder.rhs c.loop-row.place c.loop-row.row-index
-    c.row-item.result c.in-Some.factored _ c.loop-row.invariant.left (omega arith) c.row-item.is c.in-Some.is
+      c.args.builder.now.rhs c.loop-row.builder.rhs c.add_right_side.new.builder.rhs c.loop-row.place c.loop-row.row-index
+      c.row-item.result c.in-Some.factored _ c.loop-row.invariant.left (omega arith) c.row-item.is c.in-Some.is
       c.right_side-side.ensures c.in_ok-add_right_side.ensures.added;
 }
 

@@ -7,5 +7,5 @@ pub returns : goal.returns
 returns c =
     let lt : c.args.place < length c.args.texts.now.items = search rules in
     set_entry c.args.texts.now.items c.args.place c.index_mut.result.now
-      (record { name = c.index_mut.result.now.name; text = c.args.text }) lt
-      (ap (λ (e : Entry). string_bytes e.name) c.index_mut.ensures.value)
+    (record { name = c.index_mut.result.now.name; text = c.args.text }) lt
+    (ap (λ (e : Entry). string_bytes e.name) c.index_mut.ensures.value)

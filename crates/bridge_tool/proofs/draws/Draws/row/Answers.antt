@@ -4,7 +4,7 @@ use Rattle.bridge_tool.proofs.draws.Draws.row.Goals as goal
 pub returns-clause-state : goal.returns-clause-state
 returns-clause-state c = λ seed k at.
     next_row seed k _ _ _ _ _ (five_after seed k _ _ _ _ _ _ at c.draw-defining.ensures.state
-        c.draw-linear.ensures.state c.draw-most.ensures.state c.draw-bound.ensures.state c.draw-slope.ensures.state)
+    c.draw-linear.ensures.state c.draw-most.ensures.state c.draw-bound.ensures.state c.draw-slope.ensures.state)
 
 pub returns-clause-row : goal.returns-clause-row
 returns-clause-row c = λ seed k at.

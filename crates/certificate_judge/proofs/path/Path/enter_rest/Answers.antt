@@ -13,11 +13,25 @@ returns-clause-path c n w p =
 pub returns-clause-at : goal.returns-clause-at
 returns-clause-at c base turns form t is h =
     stepped base turns (to_second (lemma form t)) Over c.args.self.now
-      (record { lo = c.args.self.now.lo; hi = c.args.self.now.hi; added = c.push.new.self; lemmas =
-          c.args.self.now.lemmas; steps = c.push-2.new.self })
-    c.in_ok-push-2.ensures.items
-    (c.lemma_row.result, c.lemma_row.ensures.row form t is,
-      one_row (sides_of c.args.self.now) (sides_of (record { lo = c.args.self.now.lo; hi = c.args.self.now.hi; added =
-            c.push.new.self; lemmas = c.args.self.now.lemmas; steps = c.push-2.new.self })) c.lemma_row.result refl refl
-      c.in_ok-push.ensures.items refl)
+    (record {
+      lo = c.args.self.now.lo;
+      hi = c.args.self.now.hi;
+      added = c.push.new.self;
+      lemmas =
+          c.args.self.now.lemmas;
+      steps = c.push-2.new.self;
+    })
+    c.in_ok-push-2.ensures.items (
+      c.lemma_row.result,
+      c.lemma_row.ensures.row form t is,
+      one_row (sides_of c.args.self.now) (sides_of (record {
+        lo = c.args.self.now.lo;
+        hi = c.args.self.now.hi;
+        added =
+            c.push.new.self;
+        lemmas = c.args.self.now.lemmas;
+        steps = c.push-2.new.self;
+      })) c.lemma_row.result refl refl
+          c.in_ok-push.ensures.items refl,
+    )
     h

@@ -26,18 +26,18 @@ returns-then-stripped-gt-MAX_SIZE c = not_dec _ _ (decimal_is c.args.m c.args.e)
 pub of_parts-requires-2 : goal.of_parts-requires-2
 of_parts-requires-2 c =
     is_dec _ _ _ _ (to_z-of_z {w = w128} (record { sfits = c.with_sign.type_inv }) ∙ c.with_sign.ensures)
-      c.strip_zeros-stripped.ensures.shortest (omega arith) (omega (arith, ints)) (omega (arith, ints))
+    c.strip_zeros-stripped.ensures.shortest (omega arith) (omega (arith, ints)) (omega (arith, ints))
 
 pub returns : goal.returns
 returns c =
     let whole : unsigned_abs c.args.m ≡ c.strip_zeros-stripped.result.rest * 10 ^ c.strip_zeros-stripped.result.zeros = search rules in
     let sign : c.of_parts-2.result.m ≡ signed (int_lt c.args.m (pos 0)) c.strip_zeros-stripped.result.rest =
-      c.of_parts-2.ensures.mantissa ∙ to_z-of_z {w = w128} (record { sfits = c.with_sign.type_inv })
-      ∙ c.with_sign.ensures ∙ ap (λ x. signed (int_lt x (pos 0)) c.strip_zeros-stripped.result.rest)
-      (to_z-of_z c.ranges.m) in
+    c.of_parts-2.ensures.mantissa ∙ to_z-of_z {w = w128} (record { sfits = c.with_sign.type_inv })
+    ∙ c.with_sign.ensures ∙ ap (λ x. signed (int_lt x (pos 0)) c.strip_zeros-stripped.result.rest)
+    (to_z-of_z c.ranges.m) in
     same_dec_value _ _ _ _ (decimal_is c.args.m c.args.e) (shortened c.args.m c.args.e _ _
-        c.strip_zeros-stripped.result.rest c.strip_zeros-stripped.result.zeros whole sign
-        (omega (arith, ints, c.of_parts-2.ensures.exponent)))
+    c.strip_zeros-stripped.result.rest c.strip_zeros-stripped.result.zeros whole sign
+    (omega (arith, ints, c.of_parts-2.ensures.exponent)))
 
 pub returns-then-m-eq0 : goal.returns-then-m-eq0
 returns-then-m-eq0 c =

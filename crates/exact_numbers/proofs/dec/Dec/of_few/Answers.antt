@@ -16,7 +16,7 @@ pub of_parts-requires : goal.of_parts-requires
 of_parts-requires c =
     let small = le-mul_of_pos_right c.strip_few-stripped.result.rest (ten-pos c.strip_few-stripped.result.zeros) in
     is_dec _ _ _ _ (to_z-of_z {w = w128} (record { sfits = c.with_sign.type_inv }) ∙ c.with_sign.ensures)
-      c.strip_few-stripped.ensures.shortest (omega arith) (omega (arith, ints)) (omega (arith, ints))
+    c.strip_few-stripped.ensures.shortest (omega arith) (omega (arith, ints)) (omega (arith, ints))
 
 pub returns : goal.returns
 returns c =
@@ -25,5 +25,5 @@ returns c =
     let sign : c.of_parts.result.m ≡ signed s r = c.of_parts.ensures.mantissa ∙ to_z-of_z {w = w128} (record { sfits = c.with_sign.type_inv }) ∙ c.with_sign.ensures in
     ap (λ m. decimal_value m c.of_parts.result.e) sign
     ∙ same_dec_value _ _ _ _ (decimal_is (signed s c.args.size) (c.args.power))
-      (signed_moved s r c.args.size c.strip_few-stripped.result.zeros (c.args.power) c.of_parts.result.e
-        c.strip_few-stripped.ensures.whole (omega (arith, ints, c.of_parts.ensures.exponent)))
+    (signed_moved s r c.args.size c.strip_few-stripped.result.zeros (c.args.power) c.of_parts.result.e
+    c.strip_few-stripped.ensures.whole (omega (arith, ints, c.of_parts.ensures.exponent)))

@@ -10,5 +10,5 @@ returns c =
     let n = c.args.n in
     let same : signed (int_lt n (pos 0)) (unsigned_abs n) ≡ n = signed_self n in
     c.of_few.ensures ∙ ap₂ (λ m k. decimal_value (signed (int_lt m (pos 0)) k) (pos 0)) (to_z-of_z c.ranges.n)
-      (c.unsigned_abs.ensures.value ∙ ap unsigned_abs (to_z-of_z c.ranges.n)) ∙ ap (λ m. decimal_value m (pos 0)) same
-      ∙ decimal_whole n
+    (c.unsigned_abs.ensures.value ∙ ap unsigned_abs (to_z-of_z c.ranges.n)) ∙ ap (λ m. decimal_value m (pos 0)) same
+    ∙ decimal_whole n

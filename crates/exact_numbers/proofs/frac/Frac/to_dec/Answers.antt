@@ -22,8 +22,8 @@ returns-then-self-eq1 c =
 pub returns-then-fives-ne1 : goal.returns-then-fives-ne1
 returns-then-fives-ne1 c = not_dec _ _ (own_value (frac_value c.args.self)) (λ fits.
     let w = cofactor_of c.args.self.den _ _ _ _ c.args.self.spelled.above c.args.self.spelled.small
-      c.cancel-twos.ensures.within c.cancel-fives.ensures.within c.cancel-twos.ensures.whole
-      c.cancel-fives.ensures.whole c.cancel-twos.ensures.shortest c.cancel-fives.ensures.shortest in
+    c.cancel-twos.ensures.within c.cancel-fives.ensures.within c.cancel-twos.ensures.whole
+    c.cancel-fives.ensures.whole c.cancel-twos.ensures.shortest c.cancel-fives.ensures.shortest in
     c.if-fives-ne1.true (finite c.args.self.num c.args.self.den c.cancel-fives.result.rest c.args.self.spelled w.0 fits))
 
 pub returns-in_default : goal.returns-in_default

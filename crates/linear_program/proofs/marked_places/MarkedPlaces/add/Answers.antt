@@ -9,7 +9,7 @@ use Rattle.linear_program.proofs.marked_places.MarkedPlaces.add.Goals as goal
 pub returns-in_default-clause-adds : goal.returns-in_default-clause-adds
 returns-in_default-clause-adds c =
     ap (λ x. sum_fits x (frac_value c.args.factor)) (seen_place c.self.inside.places.items c.args.self.now
-        c.self.view_is c.args.variable c.index-old.result.now c.requires c.index-old.ensures) ∙ c.in_default.ensures
+    c.self.view_is c.args.variable c.index-old.result.now c.requires c.index-old.ensures) ∙ c.in_default.ensures
 
 pub invariant_of-self : goal.invariant_of-self
 invariant_of-self c =
@@ -22,7 +22,7 @@ returns-then-not-is_zero-clause-adds c = (
   ap (λ x. sum_fits x (frac_value c.args.factor)) (seen_place c.self.inside.places.items c.args.self.now c.self.view_is
       c.args.variable c.index-old.result.now c.requires c.index-old.ensures) ∙ c.in-Some.ensures.0,
   seen_write c.self.inside.places.items c.args.self.now c.self.view_is c.args.variable c.index-old.result.now c.requires
-    c.index-old.ensures c.in-Some.sum (frac_value c.args.factor) c.in-Some.ensures.1,
+      c.index-old.ensures c.in-Some.sum (frac_value c.args.factor) c.in-Some.ensures.1,
 )
 
 pub invariant_of-self-2 : goal.invariant_of-self-2
@@ -35,5 +35,5 @@ returns-clause-adds c = (
   ap (λ x. sum_fits x (frac_value c.args.factor)) (seen_place c.self.inside.places.items c.args.self.now c.self.view_is
       c.args.variable c.index-old.result.now c.requires c.index-old.ensures) ∙ c.in-Some.ensures.0,
   seen_write c.self.inside.places.items c.args.self.now c.self.view_is c.args.variable c.index-old.result.now c.requires
-    c.index-old.ensures c.in-Some.sum (frac_value c.args.factor) c.in-Some.ensures.1,
+      c.index-old.ensures c.in-Some.sum (frac_value c.args.factor) c.in-Some.ensures.1,
 )

@@ -15,8 +15,8 @@ overflow_add-front-in-columns c =
 pub returns-then-next-clause-lines : goal.returns-then-next-clause-lines
 returns-then-next-clause-lines c =
     goes_on c.args.self.now c.columns.self c.take_column_lines-next.new.self c.args.text.now c.split_at.result.1.now
-      c.columns.front c.take_column_lines-next.result.front c.columns.invariant.takes c.split_at.ensures.back
-      c.take_column_lines-next.ensures.lines
+    c.columns.front c.take_column_lines-next.result.front c.columns.invariant.takes c.split_at.ensures.back
+    c.take_column_lines-next.ensures.lines
 
 pub columns-preserved : goal.columns-preserved
 columns-preserved c =
@@ -26,8 +26,8 @@ columns-preserved c =
       within = omega (arith, c.columns.invariant.within, line.is.within, c.split_at.ensures.back_len);
       few = omega (arith, c.columns.invariant.few, more);
       takes = goes_on c.args.self.now c.columns.self c.take_column_lines-next.new.self c.args.text.now
-        c.split_at.result.1.now c.columns.front c.take_column_lines-next.result.front c.columns.invariant.takes
-        c.split_at.ensures.back line;
+          c.split_at.result.1.now c.columns.front c.take_column_lines-next.result.front c.columns.invariant.takes
+          c.split_at.ensures.back line;
       sound = c.take_column_lines-next.ensures.sound (search rules);
       begun = c.take_column_lines-next.ensures.same ∙ c.columns.invariant.begun;
     }

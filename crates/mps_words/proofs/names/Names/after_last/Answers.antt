@@ -13,8 +13,8 @@ returns-in-Some-clause-name c =
     let seen : texts_of c.in-Some.names.keys ≡ c.args.self.now = set_seen _ c.self.inside.codes _ _ (ap (option_map (λ s. texts_of s.keys)) c.in-Some.is) c.self.view_is in
     let size : length c.in-Some.names.keys ≡ length c.args.self.now = sym (length-map c.in-Some.names.keys (λ k. k.items)) ∙ ap length seen in
     name_of_last c.after_last.result c.self.inside.codes c.args.self.now
-      (as_seen _ c.self.inside.codes _ c.self.invariant c.self.view_is)
-      (subst (λ (n : ℕ). IfSome c.after_last.result (λ rest. 0 < n)) size c.after_last.ensures.some)
+    (as_seen _ c.self.inside.codes _ c.self.invariant c.self.view_is)
+    (subst (λ (n : ℕ). IfSome c.after_last.result (λ rest. 0 < n)) size c.after_last.ensures.some)
 
 pub returns-in-Some-last-clause-parts : goal.returns-in-Some-last-clause-parts
 returns-in-Some-last-clause-parts c =

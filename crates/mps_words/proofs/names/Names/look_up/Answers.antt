@@ -16,8 +16,8 @@ returns-in-None-clause-place c =
     let none = ap (option_map (λ s. texts_of s.keys)) c.in-None.is in
     let seen : map name_of c.self.inside.codes ≡ c.args.self.now = codes_seen _ c.self.inside.codes _ none c.self.view_is in
     found_place c.self.inside.codes c.args.name.now c.args.key.code c.look_up.result c.requires
-      (codes_kept _ c.self.inside.codes none c.self.invariant) (are_bytes c.args.name.now c.type_inv.name)
-      c.look_up.ensures.within c.look_up.ensures.found c.look_up.ensures.absent
+    (codes_kept _ c.self.inside.codes none c.self.invariant) (are_bytes c.args.name.now c.type_inv.name)
+    c.look_up.ensures.within c.look_up.ensures.found c.look_up.ensures.absent
     ∙ ap (λ (names : List (List ℕ)). place_of names c.args.name.now) seen
 
 pub look_up-requires : goal.look_up-requires

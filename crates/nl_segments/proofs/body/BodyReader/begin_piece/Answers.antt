@@ -34,8 +34,8 @@ pub add_nodes-requires-clause-next : goal.add_nodes-requires-clause-next
 add_nodes-requires-clause-next c =
     ap (λ (x : Body). nodes_follow x.places (BodyHead c.in-Some.first.con) (c.args.line + 1)) c.pass_head.ensures
     ∙ nodes_begin c.args.self.now.places c.in-Some.first.con c.args.line (c.args.line + 1)
-      (may (body_of c.args.self.now) c.args.head c.in-Some.first.con c.args.line c.args.text.now c.in-Some.first.len
-        c.in-Some.first.tree c.in-Some.ensures c.requires.may).owner
+    (may (body_of c.args.self.now) c.args.head c.in-Some.first.con c.args.line c.args.text.now c.in-Some.first.len
+    c.in-Some.first.tree c.in-Some.ensures c.requires.may).owner
 
 pub overflow_add-self : goal.overflow_add-self
 overflow_add-self c =

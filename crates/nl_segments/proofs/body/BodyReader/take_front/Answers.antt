@@ -16,8 +16,8 @@ overflow_add-front-in-runs c =
 pub returns-then-run-eq0 : goal.returns-then-run-eq0
 returns-then-run-eq0 c =
     goes_on (body_of c.args.self.now) (body_of c.runs.self) (body_of c.take_run-run.new.self) c.args.piece.now
-      c.split_at.result.1.now c.args.number c.runs.front c.take_run-run.result c.runs.invariant.takes
-      c.split_at.ensures.back c.take_run-run.ensures
+    c.split_at.result.1.now c.args.number c.runs.front c.take_run-run.result c.runs.invariant.takes
+    c.split_at.ensures.back c.take_run-run.ensures
 
 pub runs-preserved : goal.runs-preserved
 runs-preserved c =
@@ -27,6 +27,6 @@ runs-preserved c =
       within = omega (arith, c.runs.invariant.within, run.is.within, c.split_at.ensures.back_len);
       few = omega (arith, c.runs.invariant.few, more);
       takes = goes_on (body_of c.args.self.now) (body_of c.runs.self) (body_of c.take_run-run.new.self) c.args.piece.now
-        c.split_at.result.1.now c.args.number c.runs.front c.take_run-run.result c.runs.invariant.takes
-        c.split_at.ensures.back run;
+          c.split_at.result.1.now c.args.number c.runs.front c.take_run-run.result c.runs.invariant.takes
+          c.split_at.ensures.back run;
     }

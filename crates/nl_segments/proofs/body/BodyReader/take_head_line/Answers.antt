@@ -42,7 +42,7 @@ returns c =
     let fine : first_reason (held_head_tests b.draft.counts b.seen b.draft.suffixes b.suffixes [] h) ≡ None =
     ap (λ name. first_reason (held_head_tests b.draft.counts b.seen b.draft.suffixes b.suffixes name h)) (sym c.as_slice-name.ensures) ∙ c.in-Ok.ensures.0 in
     goes_on b (with_given_head b h c.args.number) (body_of c.begin_piece.new.self) c.args.piece.now
-      c.split_at.result.1.now c.args.number (record { len = c.in-Some.first.len; lines = 1 })
-      c.in-Some-begin_piece.behind
+    c.split_at.result.1.now c.args.number (record { len = c.in-Some.first.len; lines = 1 })
+    c.in-Some-begin_piece.behind
     (head_first b c.is_some-is_open.result c.args.piece.now c.args.number c.in-Some.first.len h c.in-Some.ensures
-        c.is_some-is_open.ensures c.if-is_open.false fine) c.split_at.ensures.back c.in-Some-begin_piece.ensures
+    c.is_some-is_open.ensures c.if-is_open.false fine) c.split_at.ensures.back c.in-Some-begin_piece.ensures

@@ -31,5 +31,5 @@ overflow_add-result-2 c =
 pub returns : goal.returns
 returns c =
     goes_on (body_of c.args.self.now) (body_of c.take_leaf_line-first.new.self) (body_of c.take_node_run-more.new.self)
-      c.args.piece.now c.split_at.result.1.now c.args.number c.take_leaf_line-first.result c.take_node_run-more.result
+    c.args.piece.now c.split_at.result.1.now c.args.number c.take_leaf_line-first.result c.take_node_run-more.result
     c.take_leaf_line-first.ensures c.split_at.ensures.back c.take_node_run-more.ensures

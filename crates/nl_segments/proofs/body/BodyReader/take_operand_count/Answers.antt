@@ -18,8 +18,8 @@ take_row-requires c =
     let b = body_of c.args.self.now in
     let q = c.in-Some-pending.pending in
     let read = count_read b (texts c.args.words.now) c.args.line c.in-Some.current q c.in-Ok.count c.in-Some.is
-      c.requires.awaited c.requires.row (sym c.pending.ensures.opcode ∙ c.in-Some-pending.is) c.pending.ensures.waits
-      c.requires.held c.in-Ok.ensures.0 c.in-Ok.ensures.1 in
+    c.requires.awaited c.requires.row (sym c.pending.ensures.opcode ∙ c.in-Some-pending.is) c.pending.ensures.waits
+    c.requires.held c.in-Ok.ensures.0 c.in-Ok.ensures.1 in
     can_take b (texts c.args.words.now) c.args.line q.line c.in-Some.current (Whole (Op q.opcode c.in-Ok.count)) c.requires.held read
 
 pub returns : goal.returns
@@ -27,8 +27,8 @@ returns c =
     let b = body_of c.args.self.now in
     let q = c.in-Some-pending.pending in
     let read = count_read b (texts c.args.words.now) c.args.line c.in-Some.current q c.in-Ok.count c.in-Some.is
-      c.requires.awaited c.requires.row (sym c.pending.ensures.opcode ∙ c.in-Some-pending.is) c.pending.ensures.waits
-      c.requires.held c.in-Ok.ensures.0 c.in-Ok.ensures.1 in
+    c.requires.awaited c.requires.row (sym c.pending.ensures.opcode ∙ c.in-Some-pending.is) c.pending.ensures.waits
+    c.requires.held c.in-Ok.ensures.0 c.in-Ok.ensures.1 in
     row_taken b (texts c.args.words.now) c.args.line q.line c.in-Some.current (Whole (Op q.opcode c.in-Ok.count)) 1
-      c.take_row.new.builder c.take_row.new.current c.take_row.new.places read refl c.in_ok-take_row.ensures.places
-      c.in_ok-take_row.ensures.settled
+    c.take_row.new.builder c.take_row.new.current c.take_row.new.places read refl c.in_ok-take_row.ensures.places
+    c.in_ok-take_row.ensures.settled

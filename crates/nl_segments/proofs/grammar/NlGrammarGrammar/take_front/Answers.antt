@@ -7,12 +7,12 @@ use Rattle.nl_segments.proofs.grammar.NlGrammarGrammar.take_front.Goals as goal
 
 pub invariant_of-self-2 : goal.invariant_of-self-2
 invariant_of-self-2 c = still_some (body_of c.in-Body.body) (body_of c.take_front.new.self) c.args.piece.now
-  c.args.number c.take_front.result c.take_front.ensures (rw c.in-Body.is at c.self.invariant)
+    c.args.number c.take_front.result c.take_front.ensures (rw c.in-Body.is at c.self.invariant)
 
 pub returns-clause-front : goal.returns-clause-front
 returns-clause-front c =
     subst (λ g. TakesFront nl_rules (λ lines. HoldsStanding (standing lines) g)
-        (λ lines. HoldsStanding (standing lines) (in_body (body_of c.take_front.new.self))) c.args.piece.now
-        c.args.number c.take_front.result)
+    (λ lines. HoldsStanding (standing lines) (in_body (body_of c.take_front.new.self))) c.args.piece.now
+    c.args.number c.take_front.result)
     (ap progress_of (sym c.in-Body.is) ∙ c.self.view_is)
     (front_taken (body_of c.in-Body.body) (body_of c.take_front.new.self) c.args.piece.now c.args.number c.take_front.result c.take_front.ensures)

@@ -18,8 +18,8 @@ reads_told text Memory h = tt
 
 -- the reader, and the same as a caller sees it
 reads_err : (s r : Reading) (stop : Stop (TextFault Refusal)) → s ≡ r
-  → ((text : List ℕ) → IsFed s text → Reads sol_rules SaysSol text (Err stop)) → (text : List ℕ) → IsFed r text
-  → ReadsSol text (Err (told_stop stop))
+    → ((text : List ℕ) → IsFed s text → Reads sol_rules SaysSol text (Err stop)) → (text : List ℕ) → IsFed r text
+    → ReadsSol text (Err (told_stop stop))
 reads_err s r stop e h = rw (← e) (λ text fed. reads_told text stop (h text fed))
 
 reads_ok : (s r : Reading) (sol : Sol) → s ≡ r → ((text : List ℕ) → IsFed s text → Reads sol_rules SaysSol text (Ok sol)) → (text : List ℕ) → IsFed r text → ReadsSol text (Ok sol)

@@ -13,7 +13,7 @@ use Rattle.text_base.proofs.lines.Lines.take_piece.Goals.{else-count-input_room-
 -- the line that has grown, where no more is known than that it goes on
 grown : (c : In-Ok) → (c.if-self.self-inside.ended ≡ false) × (c.if-self.self-inside.count + vec_len c.extend_from_slice.new.self ≤ c.if-self.self-inside.total + c.front_len-front.result)
     × (vec_len c.extend_from_slice.new.self ≤ 65536) × HasNoEnd c.extend_from_slice.new.self.items
-      × (65536 ≤ vec_capacity c.extend_from_slice.new.self) × (c.if-self.self-inside.total + c.if-ends.count ≤ 2 ^ 31)
+    × (65536 ≤ vec_capacity c.extend_from_slice.new.self) × (c.if-self.self-inside.total + c.if-ends.count ≤ 2 ^ 31)
 grown c =
     let before : IsLines c.if-self.self-inside = elim c.if-self.branch [
       | then-self w ↦ subst IsLines (sym w.self-inside-is) (record {

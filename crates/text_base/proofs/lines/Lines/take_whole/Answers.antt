@@ -7,10 +7,10 @@ returns-clause-one c = match_some _ _ _ c.take_front.result c.take_front.ensures
 
 pub returns-clause-text : goal.returns-clause-text
 returns-clause-text c = match_some _ _ _ c.take_front.result c.take_front.ensures
-  (λ w h text stands. whole_text c.args.self.now c.take_front.new.self c.args.piece.now w.line.now text w.len h.0
+    (λ w h text stands. whole_text c.args.self.now c.take_front.new.self c.args.piece.now w.line.now text w.len h.0
     stands)
 
 pub returns-clause-line : goal.returns-clause-line
 returns-clause-line c = match_some _ _ _ c.take_front.result c.take_front.ensures
-  (λ w h text stands. whole_line c.args.self.now c.take_front.new.self c.args.piece.now w.line.now text w.len h.0
+    (λ w h text stands. whole_line c.args.self.now c.take_front.new.self c.args.piece.now w.line.now text w.len h.0
     stands)

@@ -18,8 +18,8 @@ returns-clause-goes g c = λ text going.
     let number = c.next_number.result in
     let most = c.min-most.result in
     let h : TakesFront rules took now (take most c.args.piece.now) number front =
-      subst (λ bytes. TakesFront rules took now bytes number front) c.split_at.ensures.front
-      c.take_front-front.ensures.front in
+    subst (λ bytes. TakesFront rules took now bytes number front) c.split_at.ensures.front
+    c.take_front-front.ensures.front in
     let room : c.args.self.now.lines.total + front.len ≤ 2 ^ 31 = omega (arith, h.is.within, length-take most c.args.piece.now, c.min-most.ensures, c.room.ensures) in
     subst (λ s. IsGoing rules now s (text ++ take front.len c.args.piece.now)) (sym c.pass.ensures)
     (going-front rules took now c.args.self.now.lines number front most c.args.piece.now text between.0 between.1 c.next_number.ensures.value room h going)
